@@ -1,0 +1,1 @@
+-- AES with keys of 128 bits.

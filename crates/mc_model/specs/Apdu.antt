@@ -1,0 +1,1 @@
+-- Command APDUs in the short and the extended cases.

@@ -1,0 +1,1 @@
+-- The text of a program, its code, and the first refusal.

@@ -1,0 +1,1 @@
+-- Arithmetic on blocks of bytes as whole numbers, with the flags.

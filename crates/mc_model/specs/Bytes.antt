@@ -1,0 +1,69 @@
+-- Bytes, numbers of several bytes, lists changed at a place, and finite maps that are keyed by names.
+-- This project's profile: a byte is a number below 256, and every number of several bytes is big endian.
+use Rattle.std.specs.Prelude.{ℕ, zero, suc, ◌+◌, ◌-◌, ◌*◌, ◌/◌, ◌%◌, ◌^◌, Bool, true, false, cond, ◌&&◌, ◌||◌, nat_lt, ◌==◌, List, [], ◌∷◌, ◌++◌, length, take, drop, replicate, slice_index, bytes_eq, Option, Some, None}
+
+-- n divided by d, rounded up, and rounded down
+abbrev pub up : ℕ → ℕ → ℕ
+up n d = (n + (d - 1)) / d
+
+abbrev pub down : ℕ → ℕ → ℕ
+down n d = n / d
+
+abbrev pub zeros : ℕ → List ℕ
+zeros n = replicate n 0
+
+-- the number in the two bytes at i
+abbrev pub be2 : List ℕ → ℕ → ℕ
+be2 b i = 256 * slice_index b i + slice_index b (i + 1)
+
+-- the two bytes of a number below 65,536
+abbrev pub bytes2 : ℕ → List ℕ
+bytes2 n = (n / 256 % 256) ∷ (n % 256) ∷ []
+
+-- the number of a block of bytes, and the block of n bytes of a number modulo 256 ^ n
+abbrev pub num : List ℕ → ℕ
+num [] = 0
+num (b ∷ bs) = b * 256 ^ length bs + num bs
+
+abbrev pub bytes : ℕ → ℕ → List ℕ
+bytes zero v = []
+bytes (suc n) v = (v / 256 ^ n % 256) ∷ bytes n v
+
+-- the list with b in the place of what stood from `at` on
+abbrev pub splice : {A : Type 0} → List A → ℕ → List A → List A
+splice l at b = take at l ++ b ++ drop (at + length b) l
+
+-- ---- names and maps
+
+-- the order of names in maps: the first byte that differs decides, and a front comes before the whole
+abbrev pub name_before : List ℕ → List ℕ → Bool
+name_before [] [] = false
+name_before [] (y ∷ ys) = true
+name_before (x ∷ xs) [] = false
+name_before (x ∷ xs) (y ∷ ys) = nat_lt x y || (x == y && name_before xs ys)
+
+-- whether a name is in a list of names
+abbrev pub has_name : List ℕ → List (List ℕ) → Bool
+has_name n [] = false
+has_name n (k ∷ ks) = bytes_eq k n || has_name n ks
+
+-- a finite map: pairs with distinct names, ascending
+abbrev pub Map : Type 0 → Type 0
+Map A = List (List ℕ × A)
+
+abbrev pub lookup : {A : Type 0} → List (List ℕ × A) → List ℕ → Option A
+lookup [] n = None
+lookup (e ∷ es) n = cond (bytes_eq e.0 n) (Some e.1) (lookup es n)
+
+abbrev pub insert : {A : Type 0} → List (List ℕ × A) → List ℕ → A → List (List ℕ × A)
+insert [] n a = (n, a) ∷ []
+insert (e ∷ es) n a = cond (bytes_eq e.0 n) ((n, a) ∷ es) (cond (name_before n e.0) ((n, a) ∷ e ∷ es) (e ∷ insert es n a))
+
+abbrev pub remove : {A : Type 0} → List (List ℕ × A) → List ℕ → List (List ℕ × A)
+remove [] n = []
+remove (e ∷ es) n = cond (bytes_eq e.0 n) es (e ∷ remove es n)
+
+-- the first part of a value that may be missing, else the second
+abbrev pub or_else : {A : Type 0} → Option A → Option A → Option A
+or_else (Some x) y = Some x
+or_else None y = y

@@ -1,0 +1,1 @@
+-- What the words of a device mean: a map from names to applications.

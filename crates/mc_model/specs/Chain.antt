@@ -1,0 +1,1 @@
+-- A command to an application: frames that run instructions under a budget.

@@ -1,0 +1,1 @@
+-- Instructions as bytes: the table, the spelling, what stands at a place of code.

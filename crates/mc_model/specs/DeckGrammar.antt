@@ -1,0 +1,1 @@
+-- The text of a deck, its statements, and the first refusal.

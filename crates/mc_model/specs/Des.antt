@@ -1,0 +1,1 @@
+-- DES and two-key triple DES.

@@ -1,0 +1,1 @@
+-- A device that writes one word at a time, and what a write that stops may leave.

@@ -1,0 +1,1 @@
+-- Families of applications that call no other.

@@ -1,0 +1,1 @@
+-- A frame of a running application, the public segment, and the accesses to both.

@@ -1,0 +1,1 @@
+-- Decks made from a number, and the summary of a play.

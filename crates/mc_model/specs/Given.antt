@@ -1,0 +1,1 @@
+-- What a card that holds one family alone is given of a play.

@@ -1,0 +1,1 @@
+-- The words of a device as journals see them: which journal is open, what it holds, the image after its replay.

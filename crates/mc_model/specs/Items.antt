@@ -1,0 +1,1 @@
+-- The device writes of a command as items, and where a stop falls in them.

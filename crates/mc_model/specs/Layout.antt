@@ -1,0 +1,1 @@
+-- The header words that a card must hold, and the first fault of an image.

@@ -1,0 +1,1 @@
+-- The text of one instruction, and of code.

@@ -1,0 +1,1 @@
+-- The commands of the card manager: select, load, create, delete.

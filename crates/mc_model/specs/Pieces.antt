@@ -1,0 +1,1 @@
+-- Pieces of bytes that are laid over a list, in order.

@@ -1,0 +1,1 @@
+-- A deck played on a device, line by line, with cuts and refused writes.

@@ -1,0 +1,1 @@
+-- What each primitive does, and the first cause for which it abends.

@@ -1,0 +1,1 @@
+-- What each instruction does, and the first cause for which it abends.

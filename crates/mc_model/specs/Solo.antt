@@ -1,0 +1,1 @@
+-- A card that holds one family alone.

@@ -1,0 +1,1 @@
+-- How high the stack stands at each place of code.

@@ -1,0 +1,1 @@
+-- An atomic write as a list of device writes, and what stands of it after a stop at any of them.

@@ -1,0 +1,1 @@
+-- Load units: the grammar as a reader and as a relation, and the name in a DIR record.
