@@ -1,5 +1,6 @@
 pub mod Bytes
 pub mod Orders
+pub mod Counts
 pub mod Image
 pub mod Device
 pub mod Stopped
