@@ -28,7 +28,8 @@ abbrev pub total : List Kind → ℕ
 total [] = 0
 total (k ∷ ks) = size k + total ks
 
--- a row: the operands behind an instruction byte, in their order, and the instruction that they make
+-- a row: the operands behind an instruction byte, in their order, and the instruction that they make;
+-- a number in front is the condition, the set or the tag, which says whether an address or an offset follows
 pub data Form : Type 0 where
   Plain : Ins → Form
   OneByte : (ℕ → Ins) → Form
@@ -36,10 +37,11 @@ pub data Form : Type 0 where
   Word : (ℕ → Ins) → Form
   TwoWords : (ℕ → ℕ → Ins) → Form
   Near : (ℤ → Ins) → Form
+  Target : ℕ → (ℕ → Ins) → Form
   Primitive : ℕ → Form
-  Offset : (ℤ → Ins) → Form
-  ByteOffset : (ℤ → ℕ → Ins) → Form
-  WordOffset : (ℤ → ℕ → Ins) → Form
+  Offset : ℕ → (ℤ → Ins) → Form
+  ByteOffset : ℕ → (ℤ → ℕ → Ins) → Form
+  WordOffset : ℕ → (ℤ → ℕ → Ins) → Form
 
 -- what a table has at a number
 abbrev pub row_at : {A : Type 0} → ℕ → List (ℕ × A) → Option A
@@ -85,21 +87,21 @@ call_rows =
 
 -- a displacement behind a condition; there is none for condition 0
 abbrev pub near_row : (ℕ → ℤ → Ins) → ℕ → Option Form
-near_row f c = cond (c == 0) None (Some (Near (λ d. f c d)))
+near_row f c = cond (c == 0) None (Some (Near (f c)))
 
--- an address of code behind a condition: condition 0 takes it from the stack
+-- an address of code behind a condition
 abbrev pub target_row : (ℕ → ℕ → Ins) → ℕ → Option Form
-target_row f c = cond (c == 0) (Some (Plain (f 0 0))) (Some (Word (λ to. f c to)))
+target_row f c = Some (Target c (f c))
 
--- an address alone, with a byte, or with a word: tag 0 has no offset
+-- an address alone, with a byte, or with a word
 abbrev pub address_row : (ℕ → ℤ → Ins) → ℕ → Option Form
-address_row f tag = cond (tag == 0) (Some (Plain (f 0 (pos 0)))) (Some (Offset (λ off. f tag off)))
+address_row f tag = Some (Offset tag (f tag))
 
 abbrev pub byte_row : (ℕ → ℤ → ℕ → Ins) → ℕ → Option Form
-byte_row f tag = cond (tag == 0) (Some (OneByte (λ n. f 0 (pos 0) n))) (Some (ByteOffset (λ off n. f tag off n)))
+byte_row f tag = Some (ByteOffset tag (f tag))
 
 abbrev pub word_row : (ℕ → ℤ → ℕ → Ins) → ℕ → Option Form
-word_row f tag = cond (tag == 0) (Some (Word (λ w. f 0 (pos 0) w))) (Some (WordOffset (λ off w. f tag off w)))
+word_row f tag = Some (WordOffset tag (f tag))
 
 -- each op, by tag or condition
 abbrev pub rows : List (ℕ × (ℕ → Option Form))
@@ -144,6 +146,10 @@ row_of op tag = option_and_then (λ by_tag. by_tag tag) (row_at op rows)
 abbrev pub form : ℕ → Option Form
 form b = row_of (b / 8) (b % 8)
 
+-- the kinds behind a condition or a tag: condition 0 takes its address from the stack, and tag 0 has no offset
+abbrev pub behind : ℕ → Kind → List Kind
+behind n k = cond (n == 0) [] (k ∷ [])
+
 -- the operands of a row
 abbrev pub operands : Form → List Kind
 operands (Plain i) = []
@@ -152,10 +158,11 @@ operands (TwoBytes f) = U8 ∷ U8 ∷ []
 operands (Word f) = U16 ∷ []
 operands (TwoWords f) = U16 ∷ U16 ∷ []
 operands (Near f) = I8 ∷ []
+operands (Target c f) = behind c U16
 operands (Primitive set) = U8 ∷ replicate set U8
-operands (Offset f) = I16 ∷ []
-operands (ByteOffset f) = U8 ∷ I16 ∷ []
-operands (WordOffset f) = U16 ∷ I16 ∷ []
+operands (Offset tag f) = behind tag I16
+operands (ByteOffset tag f) = U8 ∷ behind tag I16
+operands (WordOffset tag f) = U16 ∷ behind tag I16
 
 -- the operands behind an instruction byte, None where it begins no instruction
 abbrev pub kinds : ℕ → Option (List Kind)
@@ -320,6 +327,13 @@ IsPast code at =
     (length code ≤ at)
     ⊎ ((ks : List Kind) × (kinds (slice_index code at) ≡ Some ks) × (length code < at + 1 + total ks))
 
+-- the address or the offset in the bytes from i on, 0 where there is none
+abbrev pub target_in : ℕ → List ℕ → ℕ
+target_in c bs = cond (c == 0) 0 (be2 bs 0)
+
+abbrev pub offset_in : ℕ → List ℕ → ℕ → ℤ
+offset_in tag bs i = cond (tag == 0) (pos 0) (cast_signed w16 (be2 bs i))
+
 -- the instruction that the bytes behind its own make
 abbrev pub made : Form → List ℕ → Ins
 made (Plain i) bs = i
@@ -328,10 +342,11 @@ made (TwoBytes f) bs = f (slice_index bs 0) (slice_index bs 1)
 made (Word f) bs = f (be2 bs 0)
 made (TwoWords f) bs = f (be2 bs 0) (be2 bs 2)
 made (Near f) bs = f (cast_signed w8 (slice_index bs 0))
+made (Target c f) bs = f (target_in c bs)
 made (Primitive set) bs = Prim set (slice_index bs 0) (take set (drop 1 bs) ++ zeros (3 - set))
-made (Offset f) bs = f (cast_signed w16 (be2 bs 0))
-made (ByteOffset f) bs = f (cast_signed w16 (be2 bs 1)) (slice_index bs 0)
-made (WordOffset f) bs = f (cast_signed w16 (be2 bs 2)) (be2 bs 0)
+made (Offset tag f) bs = f (offset_in tag bs 0)
+made (ByteOffset tag f) bs = f (offset_in tag bs 1) (slice_index bs 0)
+made (WordOffset tag f) bs = f (offset_in tag bs 2) (be2 bs 0)
 
 -- a row's instruction and its length, where there are bytes enough behind its own
 abbrev pub made_of : Option Form → List ℕ → Result (Ins × ℕ) DecodeFault
