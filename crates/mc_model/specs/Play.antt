@@ -85,6 +85,7 @@ pub record Step : Type 0 where
 
 -- ---- one command on a running card
 
+-- what a command does where nothing stops it; `done` has it, where it is answered by 9000 alone
 pub record Command : Type 0 where
   pub items : List Item
   pub outcome : Outcome
