@@ -1,0 +1,4 @@
+pub mod MapLemmas
+pub mod Agreement
+pub mod RowNames
+pub mod RunLemma
