@@ -2,3 +2,5 @@ pub mod MapLemmas
 pub mod Agreement
 pub mod RowNames
 pub mod RunLemma
+pub mod Sim
+pub mod Stops
