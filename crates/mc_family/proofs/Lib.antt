@@ -4,3 +4,8 @@ pub mod RowNames
 pub mod RunLemma
 pub mod Sim
 pub mod Stops
+pub mod OwnCommand
+pub mod OtherCommand
+pub mod LoadCommands
+pub mod Lines
+pub mod HotLines

@@ -44,11 +44,15 @@ pub record Sim (K : List (List ℕ)) (s : State) (t : Solo) : Type 0 where
   pub map : Agree K true (apps_in s) t.map
   pub selected : t.selected ≡ own_selected K (live_in s)
 
--- what one line keeps: the relation, and that both sides tell and work alike
-pub record Kept (K : List (List ℕ)) (t : Solo) (u : Step) : Type 0 where
-  pub sim : Sim K u.after (hears_all t (events_of K u u.line)).after
-  pub answer : (hears_all t (events_of K u u.line)).answer ≡ seen_if (is_seen K u u.line) u.result
-  pub work : (hears_all t (events_of K u u.line)).work ≡ work_if (is_own K u) u
+-- What a line keeps that gives these events, where its result is seen and it is the family's own as these tests say:
+-- the relation, and that both sides tell and work alike.
+pub record Keeps (K : List (List ℕ)) (t : Solo) (u : Step) (es : List Event) (seen own : Bool) : Type 0 where
+  pub sim : Sim K u.after (hears_all t es).after
+  pub answer : (hears_all t es).answer ≡ seen_if seen u.result
+  pub work : (hears_all t es).work ≡ work_if own u
+
+abbrev pub Kept : List (List ℕ) → Solo → Step → Type 0
+Kept K t u = Keeps K t u (events_of K u u.line) (is_seen K u u.line) (is_own K u)
 
 -- ---- events in a row
 
