@@ -9,3 +9,5 @@ pub mod OtherCommand
 pub mod LoadCommands
 pub mod Lines
 pub mod HotLines
+pub mod FamilyFold
+pub mod WholeLines
