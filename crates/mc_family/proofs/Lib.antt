@@ -11,3 +11,6 @@ pub mod Lines
 pub mod HotLines
 pub mod FamilyFold
 pub mod WholeLines
+pub mod FreshCommands
+pub mod CreationLast
+pub mod FreshFold
