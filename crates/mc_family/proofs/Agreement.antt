@@ -25,7 +25,7 @@ module _ (K : List (List ℕ)) (x : Bool) where
       by_test : (y : Bool) → bytes_eq n k ≡ y → bare (lookup (insert m n a) k) ≡ bare (lookup (insert d n b) k)
       by_test true is =
           subst (λ (j : List ℕ). bare (lookup (insert m n a) j) ≡ bare (lookup (insert d n b) j)) (same_name n k is)
-            (ap bare (lookup-inserted m n a) ∙ (ap (λ (c : App). Some c) e ∙ sym (ap bare (lookup-inserted d n b))))
+          (ap bare (lookup-inserted m n a) ∙ (ap (λ (c : App). Some c) e ∙ sym (ap bare (lookup-inserted d n b))))
       by_test false is = ap bare (lookup-beside m n a k is) ∙ (h k on ∙ sym (ap bare (lookup-beside d n b k is)))
 
   pub Agree-removed : (m d : List (List ℕ × App)) (n : List ℕ) → Agree K x m d → Agree K x (remove m n) (remove d n)
@@ -34,7 +34,7 @@ module _ (K : List (List ℕ)) (x : Bool) where
       by_test : (y : Bool) → bytes_eq n k ≡ y → bare (lookup (remove m n) k) ≡ bare (lookup (remove d n) k)
       by_test true is =
           subst (λ (j : List ℕ). bare (lookup (remove m n) j) ≡ bare (lookup (remove d n) j)) (same_name n k is)
-            (ap bare (lookup-removed m n) ∙ sym (ap bare (lookup-removed d n)))
+          (ap bare (lookup-removed m n) ∙ sym (ap bare (lookup-removed d n)))
       by_test false is = ap bare (lookup-left m n k is) ∙ (h k on ∙ sym (ap bare (lookup-left d n k is)))
 
   -- ---- a change of a name of the other side
@@ -86,11 +86,11 @@ module _ (K : List (List ℕ)) (x : Bool) where
   by_side true false m d n ps e is h =
       let off : has_name n K ≡ not x = is ∙ sym (ap not e) in
       Agree-joined (map_changed m n (Some ps)) m (map_changed d n (Some ps)) (Agree-changed_app m n ps (lookup m n) off)
-        (Agree-joined m d (map_changed d n (Some ps)) h (Agree-back (map_changed d n (Some ps)) d (Agree-changed_app d n ps (lookup d n) off)))
+      (Agree-joined m d (map_changed d n (Some ps)) h (Agree-back (map_changed d n (Some ps)) d (Agree-changed_app d n ps (lookup d n) off)))
   by_side false true m d n ps e is h =
       let off : has_name n K ≡ not x = is ∙ sym (ap not e) in
       Agree-joined (map_changed m n (Some ps)) m (map_changed d n (Some ps)) (Agree-changed_app m n ps (lookup m n) off)
-        (Agree-joined m d (map_changed d n (Some ps)) h (Agree-back (map_changed d n (Some ps)) d (Agree-changed_app d n ps (lookup d n) off)))
+      (Agree-joined m d (map_changed d n (Some ps)) h (Agree-back (map_changed d n (Some ps)) d (Agree-changed_app d n ps (lookup d n) off)))
 
   pub Agree-map_changed : (m d : List (List ℕ × App)) (n : List ℕ) (o : Option (List (ℕ × List ℕ))) → Agree K x m d → Agree K x (map_changed m n o) (map_changed d n o)
   Agree-map_changed m d n None h = h

@@ -1,30 +1,24 @@
 -- A creation is the last item of its line, so where it stands the map has it.
-use Rattle.std.specs.Prelude.{◌≡◌, ℕ, zero, suc, ◌-◌, Bool, true, false, cond, nat_le, ◌==◌, List, [], ◌∷◌, ◌++◌, length, map, take, drop, Option, Some, None, Result, Ok, Err, ⊤}
+use Rattle.std.specs.Prelude.{◌≡◌, ℕ, ◌-◌, Bool, true, false, cond, nat_le, ◌==◌, List, [], ◌∷◌, ◌++◌, length, map, Option, Some, None, Result, Ok, Err, ⊤}
 use Rattle.std.proofs.Common.{refl, ap, sym, subst, ◌∙◌}
 use Rattle.mc_model.specs.declared.card.Part.{Part}
 use Rattle.mc_model.specs.declared.card.Part.TheVariants as part
 use Rattle.mc_model.specs.declared.unit.AidFault.{AidFault}
-use Rattle.mc_model.specs.declared.device.Stop.{Stop}
-use Rattle.mc_model.specs.declared.device.Stop.TheVariants as stop
 use Rattle.mc_model.specs.Bytes.{zeros, lookup, insert, remove}
-use Rattle.mc_model.specs.Image.{Journal, Two}
-use Rattle.mc_model.specs.Stopped.{cost, stands, owes}
+use Rattle.mc_model.specs.Image.{Two}
+use Rattle.mc_model.specs.Stopped.{cost, stands}
 use Rattle.mc_model.specs.Apdu.{ApduParts}
 use Rattle.mc_model.specs.Units.{name_of}
 use Rattle.mc_model.specs.Card.{App, Card}
 use Rattle.mc_model.specs.Chain.{Write, map_changed, run}
 use Rattle.mc_model.specs.Items.{Change, Fixed, Created, Deleted, Item, Plain, Atomic, moves, done, StopAt, Stopped, with_item, in_flight, at_stop, Site, BankItem, Piece, Blank, Note, Commit, Enter, Remove}
 use Rattle.mc_model.specs.Items as items
-use Rattle.mc_model.specs.Manager.{Selected, Open, Seat, Route, WrongLength, WrongClass, ToSelect, ToManager, ToApplication, route, Managed, Declines, Accepts, Accepted, answered, first_status, select_done, select_refusals, select, open_refusals, open_done, open_load, load_refusals, load_done, load_part, dir_in, create_refusals, create_items, create_done, create, fresh, got_of, word_parts, delete_refusals, delete_done, delete, manage, room_on}
-use Rattle.mc_model.specs.Play.{Armed, Live, Running, Unpowered, Muted, Base, OnCard, AtFault, Warm, State, Cold, Hot, LineResult, Step, Command, item_of, atomic_of, managed, passed, by_route, command, command_step, refused, write_items, is_done, send, sent_on, select_bytes, delete_bytes, load_commands, hit_of, live_after, WornAt, step, hot_step, cold_step, card_line, power_step, power_after, stopped_power, power_moves, power_live, warmed, plays, first_worn, quiet, start}
-use Rattle.mc_model.specs.Given.{is_power, apps_in}
-use Rattle.mc_model.specs.Laws.{Sent, made_by, made_of, sent_by, sent_after, sent_after_all, made_by_all, taken, bytes_of, taken_on, taken_in, kept_sent, created_by, created_in, without_places, AllAreIn, KeepsFresh, NoStaleByte}
-use Rattle.mc_model.specs.DeckGrammar.{DeckLine}
-use Rattle.mc_model.specs.DeckGrammar as line
+use Rattle.mc_model.specs.Manager.{Selected, Open, Seat, Route, WrongLength, WrongClass, ToSelect, ToManager, ToApplication, route, Managed, Accepts, Accepted, answered, first_status, select_done, select_refusals, open_refusals, open_done, load_refusals, load_done, load_part, dir_in, create_refusals, create_done, fresh, got_of, word_parts, delete_refusals, delete_done, manage, room_on}
+use Rattle.mc_model.specs.Play.{Command, item_of, atomic_of, managed, passed, by_route, command, refused, write_items, is_done, send, sent_on}
+use Rattle.mc_model.specs.Laws.{Sent, made_by, made_of, created_in, without_places, AllAreIn}
 use Rattle.mc_family.proofs.MapLemmas.{lookup-inserted}
-use Rattle.mc_family.proofs.HotLines.{hot}
-use Rattle.mc_family.proofs.LoadCommands.{IsFiller, AreFillers, load_front, create_bytes, front-fillers}
-use Rattle.mc_family.proofs.FreshCommands.{load_sent, made_at, Fresh, AllFresh, command-fresh, send-fresh, command-all-fresh, created-append}
+use Rattle.mc_family.proofs.LoadCommands.{IsFiller, AreFillers}
+use Rattle.mc_family.proofs.FreshCommands.{load_sent, made_at, command-fresh}
 
 -- ---- a creation is the last item of its line
 
@@ -67,7 +61,7 @@ whole-last (Atomic w (Deleted n) ∷ is) k x h =
 whole-last (Atomic w (Created n a) ∷ is) k x h =
     let c = Created n a in
     cond-last (nat_le k (cost Two w)) (in_flight w c k x) (with_item (Atomic w c) (at_stop is (k - cost Two w) x)) (flight-last w c (stands Two w k x))
-      (ap (λ (js : List Item). (at_stop js (k - cost Two w) x).whole) h)
+    (ap (λ (js : List Item). (at_stop js (k - cost Two w) x).whole) h)
 
 none-then-last : (is js : List Item) → created_in is ≡ [] → LastCreates js → LastCreates (is ++ js)
 none-then-last [] js g h = h
@@ -126,8 +120,8 @@ module _ (c : Card) (seat : Seat) where
   created-last s (Some o) (Err e) = answered-last s (create_done seat (Some o) (Err e)) tt
   created-last s (Some o) (Ok n) =
       answered-last s (create_done seat (Some o) (Ok n))
-        (blanks-last (atomic_of c (Some (Created n (fresh o)))) o.site (word_parts o.site.sizes.init (zeros (o.site.sizes.fixed - o.site.sizes.init)))
-          (Note o.site n 0 ∷ Note o.site n 1 ∷ Note o.site n 2 ∷ Note o.site n 3 ∷ Enter o.site n ∷ []) refl)
+      (blanks-last (atomic_of c (Some (Created n (fresh o)))) o.site (word_parts o.site.sizes.init (zeros (o.site.sizes.fixed - o.site.sizes.init)))
+      (Note o.site n 0 ∷ Note o.site n 1 ∷ Note o.site n 2 ∷ Note o.site n 3 ∷ Enter o.site n ∷ []) refl)
 
   load-last : (p : Part) (a : ApduParts) → IsLast (load_part p seat a)
   load-last p a = loaded-last (first_status (load_refusals seat.load p a)) seat.load p a

@@ -1,19 +1,19 @@
 -- The law of isolation for a family, by induction on the lines of a play.
-use Rattle.std.specs.Prelude.{◌≡◌, ◌⊎◌, ℕ, zero, suc, ◌+◌, ◌-◌, Bool, true, false, cond, ◌&&◌, List, [], ◌∷◌, ◌++◌, take, drop, bytes_eq, Option, Some, None, ⊤}
+use Rattle.std.specs.Prelude.{◌≡◌, ◌⊎◌, ℕ, zero, suc, Bool, true, false, cond, ◌&&◌, List, [], ◌∷◌, ◌++◌, take, bytes_eq, Option, Some, None, ⊤}
 use Rattle.std.proofs.Common.{refl, ap, sym, subst, ◌∙◌, inl, inr}
 use Rattle.mc_model.specs.Bytes.{has_name, lookup}
 use Rattle.mc_model.specs.Card.{App, placed}
 use Rattle.mc_model.specs.Items.{Item, StopAt}
-use Rattle.mc_model.specs.Play.{Armed, Unpowered, Warm, State, Cold, Hot, LineResult, Step, WornAt, MayHit, Possible, step, cold_step, hit_of, power_moves, power_after, warmed, plays, last_state, start}
+use Rattle.mc_model.specs.Play.{Armed, State, Cold, Hot, LineResult, Step, WornAt, MayHit, Possible, step, cold_step, hit_of, power_moves, power_after, warmed, plays, last_state, start}
 use Rattle.mc_model.specs.Family.{ClosedPairs, Closed, is_own}
-use Rattle.mc_model.specs.Given.{Event, own_apps, apps_in, is_power, first_apps, events_of, events, given, apps_on, dump_events}
+use Rattle.mc_model.specs.Given.{Event, own_apps, apps_in, is_power, first_apps, events_of, events, given, dump_events}
 use Rattle.mc_model.specs.Solo.{Solo, Heard, silent, heard_before, hears_all, solo}
 use Rattle.mc_model.specs.View.{is_seen, seen_if, answers, rest_of, work_if, work, IsIsolated}
 use Rattle.mc_model.specs.DeckGrammar.{DeckLine}
 use Rattle.mc_model.specs.DeckGrammar as line
 use Rattle.mc_family.proofs.MapLemmas.{same_name}
 use Rattle.mc_family.proofs.Agreement.{bare, Agree}
-use Rattle.mc_family.proofs.Sim.{Sim, Keeps, Kept, hears_all-append, hears_none, rest-alike}
+use Rattle.mc_family.proofs.Sim.{Sim, Kept, hears_all-append, hears_none, rest-alike}
 use Rattle.mc_family.proofs.HotLines.{hot-kept, Powered, powered, power-keeps}
 
 -- the lone card hears of these lines what the play tells of them, and the maps agree behind them
@@ -29,8 +29,8 @@ module _ (K : List (List ℕ)) where
 
   -- a line, and those behind it
   then-alike : (t : Solo) (s : State) (u : Step) (us : List Step)
-    → (hears_all t (events_of K u u.line)).answer ≡ seen_if (is_seen K u u.line) u.result → (hears_all t (events_of K u u.line)).work ≡ work_if (is_own K u) u
-    → Alike K (hears_all t (events_of K u u.line)).after u.after us → Alike K t s (u ∷ us)
+      → (hears_all t (events_of K u u.line)).answer ≡ seen_if (is_seen K u u.line) u.result → (hears_all t (events_of K u u.line)).work ≡ work_if (is_own K u) u
+      → Alike K (hears_all t (events_of K u u.line)).after u.after us → Alike K t s (u ∷ us)
   unfolding events answers work
   then-alike t s u us told worked r =
       let h = hears_all t (events_of K u u.line) in
@@ -114,7 +114,7 @@ module _ (K : List (List ℕ)) where
   -- ---- the family's applications on the first card
 
   own_here : (x y : Bool) (e : List ℕ × App) (es : List (List ℕ × App)) (k : List ℕ) → has_name k K ≡ true → has_name e.0 K ≡ x → bytes_eq e.0 k ≡ y → bare (lookup es k) ≡ bare (lookup (own_apps K es) k)
-    → bare (cond y (Some e.1) (lookup es k)) ≡ bare (lookup (cond x ((e.0, placed 0 e.1) ∷ own_apps K es) (own_apps K es)) k)
+      → bare (cond y (Some e.1) (lookup es k)) ≡ bare (lookup (cond x ((e.0, placed 0 e.1) ∷ own_apps K es) (own_apps K es)) k)
   own_here true true e es k on p q r = ap (λ (b : Bool). bare (cond b (Some (placed 0 e.1)) (lookup (own_apps K es) k))) (sym q)
   own_here true false e es k on p q r = r ∙ ap (λ (b : Bool). bare (cond b (Some (placed 0 e.1)) (lookup (own_apps K es) k))) (sym q)
   own_here false true e es k on p q r =
@@ -136,8 +136,8 @@ module _ (K : List (List ℕ)) where
       let t = first_solo us in
       let e : hears_all t (events_of K u u.line) ≡ silent t = ap (λ (es : List Event). hears_all t es) h.none ∙ hears_none t in
       let whole : Alike K t s (u ∷ us) =
-          then-alike t s u us (ap (λ (z : Heard). z.answer) e ∙ sym (ap (λ (b : Bool). seen_if b u.result) h.seen)) (ap (λ (z : Heard). z.work) e ∙ sym (ap (λ (b : Bool). work_if b u) h.own))
-            (subst (λ (z : Heard). Alike K z.after u.after us) (sym e) r)
+      then-alike t s u us (ap (λ (z : Heard). z.answer) e ∙ sym (ap (λ (b : Bool). seen_if b u.result) h.seen)) (ap (λ (z : Heard). z.work) e ∙ sym (ap (λ (b : Bool). work_if b u) h.own))
+      (subst (λ (z : Heard). Alike K z.after u.after us) (sym e) r)
       in
       subst (λ (b : Bool). Alike K (record { map = own_apps K (cond b (apps_in u.after) (first_apps us)); selected = None }) s (u ∷ us)) (sym h.power) whole
 
@@ -153,10 +153,10 @@ module _ (K : List (List ℕ)) where
       elim (cold-step s l w tt) [
         | inl h ↦ silent-alike s u us h (cold-alike n ls ws u.after h.cold may.1 closed.1)
         | inr h ↦
-          let t : Solo = record { map = own_apps K (apps_in u.after); selected = None } in
-          let k : Kept K t u = h.kept t (own_apps-agree (apps_in u.after)) in
-          let whole : Alike K t s (u ∷ us) = then-alike t s u us k.answer k.work (warm-alike n ls ws u.after (hears_all t (events_of K u u.line)).after k.sim may.1 closed.1) in
-          subst (λ (b : Bool). Alike K (record { map = own_apps K (cond b (apps_in u.after) (first_apps us)); selected = None }) s (u ∷ us)) (sym h.power) whole
+            let t : Solo = record { map = own_apps K (apps_in u.after); selected = None } in
+            let k : Kept K t u = h.kept t (own_apps-agree (apps_in u.after)) in
+            let whole : Alike K t s (u ∷ us) = then-alike t s u us k.answer k.work (warm-alike n ls ws u.after (hears_all t (events_of K u u.line)).after k.sim may.1 closed.1) in
+            subst (λ (b : Bool). Alike K (record { map = own_apps K (cond b (apps_in u.after) (first_apps us)); selected = None }) s (u ∷ us)) (sym h.power) whole
       ]
   cold-alike n ls ws (Hot s) c may closed = absurd c
 

@@ -1,6 +1,6 @@
 -- What a command creates is what the commands of its load have sent.
-use Rattle.std.specs.Prelude.{◌≡◌, ℕ, ◌+◌, ◌-◌, Bool, true, false, cond, not, ◌&&◌, ◌||◌, nat_lt, ◌==◌, List, [], ◌∷◌, ◌++◌, length, map, is_ok, Option, Some, None, Result, Ok, Err, ⊤}
-use Rattle.std.proofs.Common.{refl, ap, sym, subst, ◌∙◌}
+use Rattle.std.specs.Prelude.{◌≡◌, ℕ, ◌-◌, Bool, true, false, cond, not, ◌&&◌, ◌==◌, List, [], ◌∷◌, ◌++◌, length, map, is_ok, Option, Some, None, Result, Ok, Err, ⊤}
+use Rattle.std.proofs.Common.{refl, ap, sym, ◌∙◌}
 use Rattle.std.proofs.lemmas.Bool.{eqb-true, and_parts}
 use Rattle.std.proofs.lemmas.List.{append_assoc, append-nil}
 use Rattle.mc_model.specs.declared.card.Part.{Part}
@@ -10,11 +10,11 @@ use Rattle.mc_model.specs.Bytes.{zeros, lookup}
 use Rattle.mc_model.specs.Apdu.{ApduParts}
 use Rattle.mc_model.specs.Units.{name_of}
 use Rattle.mc_model.specs.Card.{App, Card, placed}
-use Rattle.mc_model.specs.Chain.{Outcome, Reply, Abended, Write, run}
+use Rattle.mc_model.specs.Chain.{Write, run}
 use Rattle.mc_model.specs.Items.{Change, Fixed, Created, Deleted, Item, Plain, Atomic, Sizes, Site, BankItem, Piece, Blank, Note, Commit, Enter, Remove}
 use Rattle.mc_model.specs.Items as items
-use Rattle.mc_model.specs.Manager.{Selected, Got, Open, Seat, Route, WrongLength, WrongClass, ToSelect, ToManager, ToApplication, route, Managed, Declines, Accepts, Accepted, answered, first_status, is_empty, p1p2, select_done, select_refusals, select, sizes_in, open_refusals, open_done, open_load, got_of, size_of, with_got, word_parts, load_refusals, load_done, load_part, is_complete, dir_in, is_taken, create_refusals, create_items, create_done, create, fresh, delete_refusals, delete_done, delete, manage, room_on}
-use Rattle.mc_model.specs.Play.{Command, item_of, atomic_of, managed, passed, by_route, command, refused, write_items, is_done, send, sent_on}
+use Rattle.mc_model.specs.Manager.{Selected, Open, Seat, Route, WrongLength, WrongClass, ToSelect, ToManager, ToApplication, route, Managed, Declines, Accepts, Accepted, answered, first_status, is_empty, p1p2, select_done, select_refusals, select, sizes_in, open_refusals, open_done, open_load, got_of, word_parts, load_refusals, load_done, load_part, is_complete, dir_in, is_taken, create_refusals, create_items, create_done, create, fresh, delete_refusals, delete_done, delete, manage, room_on}
+use Rattle.mc_model.specs.Play.{Command, item_of, managed, passed, by_route, command, refused, write_items, is_done, send, sent_on}
 use Rattle.mc_model.specs.Laws.{Sent, sent_app, with_sent, sent_by, sent_after, named_app, made_of, made_by, sent_after_all, made_by_all, taken_if, taken, created_by, created_in, without_places}
 
 -- ---- lists
@@ -119,7 +119,7 @@ module _ (c : Card) (seat : Seat) (es : List (List ℕ × App)) where
   unfolding IsFresh
   open-fresh a none =
       answered-fresh (first_status (open_refusals (room_on c) c.apps a)) (open_done (room_on c) seat a) _ (status-refusal (open_refusals (room_on c) c.apps a) (refl, (refl, (refl, (refl, tt)))))
-        (record { made = sym none; sent = refl })
+      (record { made = sym none; sent = refl })
 
   loaded-fresh : (p : Part) (a : ApduParts) (o : Option Open) → es ≡ [] → IsFresh (answered (first_status (load_refusals o p a)) (load_done seat o p a)) (with_sent p a.body (load_sent o))
   unfolding IsFresh
@@ -131,7 +131,7 @@ module _ (c : Card) (seat : Seat) (es : List (List ℕ × App)) where
   loaded-fresh p a (Some o) none =
       let bs = map (λ c. Piece o.site p c.0 c.1) (word_parts (length (got_of p o.got)) a.body) in
       answered-fresh (first_status (load_refusals (Some o) p a)) (load_done seat (Some o) p a) _ (status-refusal (load_refusals (Some o) p a) (refl, (refl, (refl, tt))))
-        (record { made = ap without_places (plain-created bs) ∙ sym none; sent = refl })
+      (record { made = ap without_places (plain-created bs) ∙ sym none; sent = refl })
 
   load-fresh : (p : Part) (a : ApduParts) → es ≡ [] → IsFresh (load_part p seat a) (with_sent p a.body (load_sent seat.load))
   load-fresh p a none = loaded-fresh p a seat.load none
@@ -140,19 +140,19 @@ module _ (c : Card) (seat : Seat) (es : List (List ℕ × App)) where
   unfolding IsFresh
   delete-fresh a none =
       answered-fresh (first_status (delete_refusals c.apps seat a)) (delete_done seat a) None (status-refusal (delete_refusals c.apps seat a) (refl, (refl, (refl, (refl, tt)))))
-        (record { made = sym none; sent = refl })
+      (record { made = sym none; sent = refl })
 
   -- of a complete load: the data, and zeros behind them
   complete-app : (o : Open) → is_complete o ≡ true → placed 0 (fresh o) ≡ sent_app (record { sizes = o.site.sizes; got = o.got })
   complete-app o h =
       let e : length o.got.init ≡ o.site.sizes.init = eqb-true (length o.got.init) o.site.sizes.init (and_parts (length o.got.code == o.site.sizes.code) (length o.got.init == o.site.sizes.init)
-          (and_parts (length o.got.code == o.site.sizes.code && length o.got.init == o.site.sizes.init) (length o.got.dir == o.site.sizes.dir)
-            (and_parts (length o.got.code == o.site.sizes.code && length o.got.init == o.site.sizes.init && length o.got.dir == o.site.sizes.dir) (length o.got.fci == o.site.sizes.fci) h).0).0).1
+      (and_parts (length o.got.code == o.site.sizes.code && length o.got.init == o.site.sizes.init) (length o.got.dir == o.site.sizes.dir)
+      (and_parts (length o.got.code == o.site.sizes.code && length o.got.init == o.site.sizes.init && length o.got.dir == o.site.sizes.dir) (length o.got.fci == o.site.sizes.fci) h).0).0).1
       in
       ap (λ (k : ℕ). record (placed 0 (fresh o)) { fixed = o.got.init ++ zeros (o.site.sizes.fixed - k) }) (sym e)
 
   made-fresh : (w : ℕ) (o : Open) (n : List ℕ) → is_complete o ≡ true → es ≡ (n, sent_app (record { sizes = o.site.sizes; got = o.got })) ∷ []
-    → without_places (created_in (map (item_of (Atomic w (Created n (fresh o)))) (create_items o.site n))) ≡ es
+      → without_places (created_in (map (item_of (Atomic w (Created n (fresh o)))) (create_items o.site n))) ≡ es
   made-fresh w o n h is =
       let whole = Atomic w (Created n (fresh o)) in
       let notes = Note o.site n 0 ∷ Note o.site n 1 ∷ Note o.site n 2 ∷ Note o.site n 3 ∷ Enter o.site n ∷ [] in
@@ -160,7 +160,7 @@ module _ (c : Card) (seat : Seat) (es : List (List ℕ × App)) where
       ∙ (ap (λ (z : App). (n, z) ∷ []) (complete-app o h) ∙ sym is)
 
   created-fresh : (a : ApduParts) (o : Open) (r : Result (List ℕ) AidFault) (x y z v : Bool) → is_complete o ≡ z → is_taken c.apps r ≡ v → es ≡ named_app r (record { sizes = o.site.sizes; got = o.got })
-    → IsFresh (answered (cond x (Some 0x6A86) (cond y (Some 0x6700) (cond (not z) (Some 0x6985) (cond (not (is_ok r)) (Some 0x6A80) (cond v (Some 0x6A89) None))))) (create_done seat (Some o) r)) None
+      → IsFresh (answered (cond x (Some 0x6A86) (cond y (Some 0x6700) (cond (not z) (Some 0x6985) (cond (not (is_ok r)) (Some 0x6A80) (cond v (Some 0x6A89) None))))) (create_done seat (Some o) r)) None
   unfolding IsFresh
   created-fresh a o r true y z v h t is = declined 0x6A86 None refl
   created-fresh a o r false true z v h t is = declined 0x6700 None refl
@@ -257,7 +257,7 @@ pub record AllFresh (seat : Seat) (r : Command) (bs : List (List ℕ)) : Type 0 
   pub sent : load_sent r.seat.load ≡ sent_after_all (load_sent seat.load) bs
 
 then-fresh : (seat : Seat) (x : Bool) (b : List ℕ) (r rest : Command) (bs : List (List ℕ)) → is_done r.outcome ≡ x → Fresh seat r (made_by (load_sent seat.load) (route b)) (sent_after (load_sent seat.load) (route b)) → AllFresh r.seat rest bs
-  → AllFresh seat (sent_on x r rest) (taken_if x b bs)
+    → AllFresh seat (sent_on x r rest) (taken_if x b bs)
 then-fresh seat true b r rest bs e h g =
     let s = load_sent seat.load in
     let made : without_places (created_in r.items) ≡ made_by s (route b) = h.made ∙ ap (λ (x : Bool). made_at x (made_by s (route b))) e in

@@ -1,14 +1,13 @@
 -- No new application has a stale byte, for every front of a play.
-use Rattle.std.specs.Prelude.{◌≡◌, ℕ, zero, suc, Bool, true, false, cond, nat_le, List, [], ◌∷◌, take, drop, Option, Some, None, ⊤}
+use Rattle.std.specs.Prelude.{◌≡◌, ℕ, zero, suc, Bool, true, false, nat_le, List, [], ◌∷◌, take, drop, Option, Some, None, ⊤}
 use Rattle.std.proofs.Common.{refl, ap, sym, subst, ◌∙◌}
 use Rattle.mc_model.specs.declared.device.Stop.{Stop}
 use Rattle.mc_model.specs.declared.device.Stop.TheVariants as stop
-use Rattle.mc_model.specs.Image.{Journal, One}
-use Rattle.mc_model.specs.Stopped.{stands}
-use Rattle.mc_model.specs.Card.{App, Card}
+use Rattle.mc_model.specs.Image.{Journal}
+use Rattle.mc_model.specs.Card.{Card}
 use Rattle.mc_model.specs.Items.{Item, moves, StopAt, at_stop}
 use Rattle.mc_model.specs.Manager.{Seat}
-use Rattle.mc_model.specs.Play.{Armed, Unarmed, ArmedCut, ArmedFail, Live, Running, Unpowered, Muted, Base, OnCard, AtFault, Warm, State, Cold, Hot, LineResult, Step, Command, command, command_step, send, select_bytes, delete_bytes, load_commands, line_command, hit_of, live_after, WornAt, step, hot_step, cold_step, card_line, power_step, power_after, stopped_power, power_moves, power_live, warmed, plays, first_worn, quiet, without_card, start}
+use Rattle.mc_model.specs.Play.{Armed, Live, Running, Unpowered, Muted, Base, OnCard, AtFault, Warm, State, Cold, Hot, Step, Command, command_step, select_bytes, delete_bytes, load_commands, line_command, hit_of, live_after, WornAt, step, hot_step, cold_step, card_line, power_after, stopped_power, power_moves, power_live, warmed, plays, first_worn, start}
 use Rattle.mc_model.specs.Given.{is_power, apps_in}
 use Rattle.mc_model.specs.Laws.{Sent, sent_after_all, made_by_all, taken, bytes_of, taken_on, taken_in, kept_sent, created_in, without_places, AllAreIn, KeepsFresh, NoStaleByte}
 use Rattle.mc_model.specs.DeckGrammar.{DeckLine}
@@ -74,7 +73,7 @@ nothing-fresh s u e items whole next =
 -- ---- lines of commands
 
 command-step-fresh : (n : ℕ) (l : DeckLine) (c : Card) (o : ℕ) (j : Journal) (seat : Seat) (g : ℕ) (a : Armed) (r : Command) (t : Option StopAt) (s : Option Sent)
-  → is_power l ≡ false → AllFresh seat r (taken c seat g (bytes_of l)) → LastCreates r.items → s ≡ load_sent seat.load → FreshStep s (command_step n l (hot (OnCard c) o j (Running seat) g a) c r t)
+    → is_power l ≡ false → AllFresh seat r (taken c seat g (bytes_of l)) → LastCreates r.items → s ≡ load_sent seat.load → FreshStep s (command_step n l (hot (OnCard c) o j (Running seat) g a) c r t)
 command-step-fresh n l c o j seat g a r None s p h last e =
     let bs = taken c seat g (bytes_of l) in
     record {
@@ -91,8 +90,8 @@ command-step-fresh n l c o j seat g a r (Some t) s p h last e =
 module _ (n : ℕ) (o : ℕ) (j : Journal) (g : ℕ) (a : Armed) (s : Option Sent) where
   -- a card line other than power
   card-fresh : (l : DeckLine) (b : Base) (v : Live) (w : Option WornAt) → is_power l ≡ false
-    → ((c : Card) (seat : Seat) → AllFresh seat (line_command c seat g l) (taken c seat g (bytes_of l))) → ((c : Card) (seat : Seat) → LastCreates (line_command c seat g l).items)
-    → SentOn s v → FreshStep s (card_line n l (hot b o j v g a) v b w)
+      → ((c : Card) (seat : Seat) → AllFresh seat (line_command c seat g l) (taken c seat g (bytes_of l))) → ((c : Card) (seat : Seat) → LastCreates (line_command c seat g l).items)
+      → SentOn s v → FreshStep s (card_line n l (hot b o j v g a) v b w)
   card-fresh l (OnCard c) (Running seat) w p h last e =
       let r = line_command c seat g l in
       command-step-fresh n l c o j seat g a r (hit_of a (moves r.items) w) s p (h c seat) (last c seat) e
@@ -114,7 +113,7 @@ module _ (n : ℕ) (o : ℕ) (j : Journal) (g : ℕ) (a : Armed) (s : Option Sen
       nothing-fresh s (hot_step n line.Power z w) (none-taken v b g line.Power refl) refl refl (power_after-sent z (hit_of a (power_moves z) w))
   hot-fresh (line.Load u fixed session) b v w e =
       card-fresh (line.Load u fixed session) b v w refl (λ c seat. send-fresh c seat g (load_commands u fixed session))
-        (λ c seat. send-last c seat g (load_front u fixed session) create_bytes (front-fillers u fixed session)) e
+      (λ c seat. send-last c seat g (load_front u fixed session) create_bytes (front-fillers u fixed session)) e
   hot-fresh (line.Select x) b v w e = card-fresh (line.Select x) b v w refl (λ c seat. command-all-fresh c seat (select_bytes x) g) (λ c seat. command-last c seat (select_bytes x) g) e
   hot-fresh (line.Delete x) b v w e = card-fresh (line.Delete x) b v w refl (λ c seat. command-all-fresh c seat (delete_bytes x) g) (λ c seat. command-last c seat (delete_bytes x) g) e
   hot-fresh (line.Apdu x) b v w e = card-fresh (line.Apdu x) b v w refl (λ c seat. command-all-fresh c seat x g) (λ c seat. command-last c seat x g) e

@@ -1,26 +1,23 @@
 -- Every line of a play past its first power line keeps the relation: a case for each kind of line.
-use Rattle.std.specs.Prelude.{◌≡◌, ℕ, ◌+◌, ◌-◌, ◌≤◌, Bool, true, false, cond, ◌&&◌, nat_le, List, [], ◌∷◌, ◌++◌, is_some, Option, Some, None, ⊤}
+use Rattle.std.specs.Prelude.{◌≡◌, ℕ, ◌-◌, ◌≤◌, Bool, true, false, cond, ◌&&◌, nat_le, List, [], ◌∷◌, Option, Some, None}
 use Rattle.std.proofs.Common.{refl, ap, sym, subst, ◌∙◌, arith}
-use Rattle.mc_model.specs.declared.device.Stop.{Stop}
-use Rattle.mc_model.specs.declared.device.Stop.TheVariants as stop
 use Rattle.mc_model.specs.Bytes.{has_name, lookup}
-use Rattle.mc_model.specs.Image.{Journal, One, Two}
+use Rattle.mc_model.specs.Image.{Journal, One}
 use Rattle.mc_model.specs.Stopped.{stands}
 use Rattle.mc_model.specs.Card.{App, Card}
-use Rattle.mc_model.specs.Units.{UnitParts}
-use Rattle.mc_model.specs.Items.{Item, moves, done, StopAt}
-use Rattle.mc_model.specs.Manager.{Selected, Seat, route, empty_seat}
-use Rattle.mc_model.specs.Play.{Armed, Unarmed, ArmedCut, ArmedFail, Live, Running, Unpowered, Muted, Base, OnCard, AtFault, Warm, State, Cold, Hot, LineResult, NoCard, Silenced, Answered, Step, Command, command, command_step, select_bytes, delete_bytes, load_commands, send, hit_of, live_after, WornAt, MayHit, moves_of, step, hot_step, quiet, power_step, power_after, stopped_power, power_live, migrated, power_moves, without_card, dumped, static_of, line_command}
+use Rattle.mc_model.specs.Items.{moves, StopAt}
+use Rattle.mc_model.specs.Manager.{Seat, route}
+use Rattle.mc_model.specs.Play.{Armed, Unarmed, ArmedCut, ArmedFail, Live, Running, Unpowered, Muted, Base, OnCard, AtFault, Warm, State, Hot, LineResult, NoCard, Silenced, Step, command, select_bytes, delete_bytes, load_commands, send, hit_of, WornAt, MayHit, moves_of, step, hot_step, quiet, power_step, power_after, stopped_power, power_live, migrated, power_moves, without_card, static_of}
 use Rattle.mc_model.specs.Family.{ClosedPairs, routes_in, command_of, is_own, is_own_command, live_in, is_running}
-use Rattle.mc_model.specs.Given.{Event, Dumps, Leaves, apps_on, told, is_left, left_if, events_of, line_events, dump_events, is_done_reply, is_foreign_select}
+use Rattle.mc_model.specs.Given.{Event, Dumps, Leaves, apps_on, left_if, line_events, dump_events, is_done_reply, is_foreign_select}
 use Rattle.mc_model.specs.Solo.{Solo, Heard, silent, hears, hears_all}
-use Rattle.mc_model.specs.View.{is_seen, seen_if}
+use Rattle.mc_model.specs.View.{seen_if}
 use Rattle.mc_model.specs.DeckGrammar.{DeckLine}
 use Rattle.mc_model.specs.DeckGrammar as line
 use Rattle.mc_family.proofs.Agreement.{Agree}
-use Rattle.mc_family.proofs.Sim.{own_of, own_selected, IsRunnable, Sim, Keeps, Kept, hears_none, hears_leave, static_alike}
+use Rattle.mc_family.proofs.Sim.{own_selected, IsRunnable, Sim, Keeps, Kept, hears_none, hears_leave, static_alike}
 use Rattle.mc_family.proofs.Stops.{WornWithin}
-use Rattle.mc_family.proofs.OtherCommand.{Other, Aside, aside_other, command-aside, send-aside}
+use Rattle.mc_family.proofs.OtherCommand.{aside_other, command-aside, send-aside}
 use Rattle.mc_family.proofs.LoadCommands.{load-managers, delete-manager}
 use Rattle.mc_family.proofs.Lines.{stopped-runs, no_selection, running, command-keeps, other-keeps}
 
@@ -32,8 +29,8 @@ still-keeps K t u h = record { sim = subst (λ (z : Heard). Sim K u.after z.afte
 
 -- a line that makes no write, is no command of the family and no done SELECT
 quiet-keeps : (K : List (List ℕ)) (t : Solo) (n : ℕ) (l : DeckLine) (before : State) (o : Option LineResult) (after : State)
-  → is_own_command K (live_in before) (command_of l) ≡ false → (is_running (live_in before) && is_foreign_select K (command_of l) && is_done_reply o) ≡ false → Sim K after t
-  → let u = quiet n l before o after in Keeps K t u (line_events (is_own K u) K u) (is_own K u) (is_own K u)
+    → is_own_command K (live_in before) (command_of l) ≡ false → (is_running (live_in before) && is_foreign_select K (command_of l) && is_done_reply o) ≡ false → Sim K after t
+    → let u = quiet n l before o after in Keeps K t u (line_events (is_own K u) K u) (is_own K u) (is_own K u)
 quiet-keeps K t n l before o after own left sim =
     let u = quiet n l before o after in
     let no_events : line_events false K u ≡ [] = ap left_if left in
@@ -85,7 +82,7 @@ powered K s (Some t) = stopped-powered K s t (nat_le t.at s.owed)
 
 -- a power line of a play in any state, in which the family has these applications already
 pub power-keeps : (K : List (List ℕ)) (t : Solo) (n : ℕ) (before : State) (s : Warm) (st : Option StopAt) → is_own_command K (live_in before) None ≡ false → Agree K true (apps_on s.base) t.map
-  → Kept K t (power_step n before s st)
+    → Kept K t (power_step n before s st)
 power-keeps K t n before s st own h =
     let u = power_step n before s st in
     let p : Powered K s (power_after s st) = powered K s st in
@@ -105,7 +102,7 @@ unfolding hears_all hears
 hears_dump t n = refl
 
 dump_at : (K : List (List ℕ)) (t : Solo) (u : Step) (n : List ℕ) (b : Bool) (r : LineResult) → Sim K u.after t → u.result ≡ Some r → (b ≡ true → static_of (lookup t.map n) ≡ r)
-  → Keeps K t u (dump_events b n) b false
+    → Keeps K t u (dump_events b n) b false
 dump_at K t u n true r sim is same =
     let e = hears_dump t n in
     record {
@@ -136,7 +133,7 @@ module _ (K : List (List ℕ)) (t : Solo) (n : ℕ) (o : ℕ) (j : Journal) (g :
   dump-kept : (b : Base) (v : Live) (x : List ℕ) → let u = hot_step n (line.Dump x) (hot b o j v g a) None in Sim K (Hot (hot b o j v g a)) t → Kept K t u
   dump-kept (OnCard c) (Running seat) x sim =
       dump_at K t (hot_step n (line.Dump x) (hot (OnCard c) o j (Running seat) g a) None) x (has_name x K && true) (static_of (lookup c.apps x)) sim refl
-        (λ h. sym (static_alike (lookup c.apps x) (lookup t.map x) (sim.map x (and_true (has_name x K) true h))))
+      (λ h. sym (static_alike (lookup c.apps x) (lookup t.map x) (sim.map x (and_true (has_name x K) true h))))
   dump-kept (AtFault cause p) (Running seat) x sim = absurd sim.warm
   dump-kept b Unpowered x sim = dump_at K t (hot_step n (line.Dump x) (hot b o j Unpowered g a) None) x (has_name x K && false) NoCard sim refl (λ h. absurd (and_false (has_name x K) h))
   dump-kept b Muted x sim = dump_at K t (hot_step n (line.Dump x) (hot b o j Muted g a) None) x (has_name x K && false) Silenced sim refl (λ h. absurd (and_false (has_name x K) h))
@@ -151,10 +148,10 @@ module _ (K : List (List ℕ)) (t : Solo) (n : ℕ) (o : ℕ) (j : Journal) (g :
 
   -- a card line where no card runs
   no-card-kept : (l : DeckLine) (b : Base) (v : Live) → is_own_command K v (command_of l) ≡ false → is_running v ≡ false → Sim K (Hot (hot b o j v g a)) t
-    → let u = quiet n l (Hot (hot b o j v g a)) (Some (without_card v)) (Hot (hot b o j v g Unarmed)) in Keeps K t u (line_events (is_own K u) K u) (is_own K u) (is_own K u)
+      → let u = quiet n l (Hot (hot b o j v g a)) (Some (without_card v)) (Hot (hot b o j v g Unarmed)) in Keeps K t u (line_events (is_own K u) K u) (is_own K u) (is_own K u)
   no-card-kept l b v own off sim =
       quiet-keeps K t n l (Hot (hot b o j v g a)) (Some (without_card v)) (Hot (hot b o j v g Unarmed)) own
-        (ap (λ (x : Bool). x && is_foreign_select K (command_of l) && is_done_reply (Some (without_card v))) off) (record { warm = sim.warm; map = sim.map; selected = sim.selected })
+      (ap (λ (x : Bool). x && is_foreign_select K (command_of l) && is_done_reply (Some (without_card v))) off) (record { warm = sim.warm; map = sim.map; selected = sim.selected })
 
   pub hot-kept : (l : DeckLine) (w : Option WornAt) (b : Base) (v : Live) → let s = hot b o j v g a in Sim K (Hot s) t → MayHit (Hot s) (n, l) w → ClosedPairs K (hot_step n l s w).pairs → Kept K t (hot_step n l s w)
   hot-kept line.Format w b v sim may closed = quiet-keeps K t n line.Format (Hot (hot b o j v g a)) None (Hot (hot b o j v g a)) (no_own K v) (no_left v _) sim
@@ -182,13 +179,13 @@ module _ (K : List (List ℕ)) (t : Solo) (n : ℕ) (o : ℕ) (j : Journal) (g :
   hot-kept (line.Delete x) w b Muted sim may closed = no-card-kept (line.Delete x) b Muted refl refl sim
   hot-kept (line.Select x) w (OnCard c) (Running seat) sim may closed =
       command-keeps K c o j seat g a t n (line.Select x) (select_bytes x) w (routes_in K seat (route (select_bytes x))) refl sim
-        (worn-within (Hot (running c o j seat g a)) (n, line.Select x) (moves (command c seat (select_bytes x) g).items) w (moves-select c seat x) may) refl closed
+      (worn-within (Hot (running c o j seat g a)) (n, line.Select x) (moves (command c seat (select_bytes x) g).items) w (moves-select c seat x) may) refl closed
   hot-kept (line.Select x) w (AtFault cause p) (Running seat) sim may closed = absurd sim.warm
   hot-kept (line.Select x) w b Unpowered sim may closed = no-card-kept (line.Select x) b Unpowered refl refl sim
   hot-kept (line.Select x) w b Muted sim may closed = no-card-kept (line.Select x) b Muted refl refl sim
   hot-kept (line.Apdu x) w (OnCard c) (Running seat) sim may closed =
       command-keeps K c o j seat g a t n (line.Apdu x) x w (routes_in K seat (route x)) refl sim
-        (worn-within (Hot (running c o j seat g a)) (n, line.Apdu x) (moves (command c seat x g).items) w (moves-apdu c seat x) may) refl closed
+      (worn-within (Hot (running c o j seat g a)) (n, line.Apdu x) (moves (command c seat x g).items) w (moves-apdu c seat x) may) refl closed
   hot-kept (line.Apdu x) w (AtFault cause p) (Running seat) sim may closed = absurd sim.warm
   hot-kept (line.Apdu x) w b Unpowered sim may closed = no-card-kept (line.Apdu x) b Unpowered refl refl sim
   hot-kept (line.Apdu x) w b Muted sim may closed = no-card-kept (line.Apdu x) b Muted refl refl sim

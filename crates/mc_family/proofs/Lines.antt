@@ -1,22 +1,20 @@
 -- One line of a play on a running card keeps the relation, and both sides tell and work alike.
-use Rattle.std.specs.Prelude.{◌≡◌, ℕ, ◌+◌, ◌≤◌, Bool, true, false, cond, ◌&&◌, ◌||◌, List, [], ◌∷◌, ◌++◌, is_some, Option, Some, None, ⊤}
-use Rattle.std.proofs.Common.{refl, ap, sym, subst, ◌∙◌, arith}
+use Rattle.std.specs.Prelude.{◌≡◌, ℕ, Bool, true, false, ◌&&◌, List, [], ◌∷◌, ◌++◌, Option, Some, None}
+use Rattle.std.proofs.Common.{refl, ap, sym, subst, ◌∙◌}
 use Rattle.mc_model.specs.declared.device.Stop.{Stop}
 use Rattle.mc_model.specs.declared.device.Stop.TheVariants as stop
-use Rattle.mc_model.specs.Bytes.{has_name, lookup}
-use Rattle.mc_model.specs.Image.{Journal, Two}
+use Rattle.mc_model.specs.Image.{Journal}
 use Rattle.mc_model.specs.Card.{App, Card}
-use Rattle.mc_model.specs.Chain.{Outcome}
-use Rattle.mc_model.specs.Items.{Item, moves, done, card_done, StopAt, Stopped, at_stop}
+use Rattle.mc_model.specs.Items.{moves, done, card_done, StopAt, at_stop}
 use Rattle.mc_model.specs.Manager.{Selected, Seat, route}
-use Rattle.mc_model.specs.Play.{Armed, Live, Running, Unpowered, Muted, Base, OnCard, AtFault, Warm, State, Hot, LineResult, Answered, Step, Command, command, command_step, line_after, line_says, whole_items, hit_of, live_after, result_of_stop, WornAt}
-use Rattle.mc_model.specs.Family.{ClosedPairs, routes_in, command_of, is_own}
-use Rattle.mc_model.specs.Given.{Event, Commands, Leaves, given_stop, told, is_left, left_if, is_done_reply, is_foreign_select, line_events, command_event}
-use Rattle.mc_model.specs.Solo.{Solo, SoloCommand, Heard, silent, hears, heard_before, hears_all, hits, solo_hit, heard_command, solo_command}
+use Rattle.mc_model.specs.Play.{Armed, Running, Base, OnCard, Warm, Hot, Answered, Command, command, command_step, hit_of, live_after, WornAt}
+use Rattle.mc_model.specs.Family.{ClosedPairs, routes_in, command_of}
+use Rattle.mc_model.specs.Given.{Event, Commands, given_stop, told, is_left, left_if, is_done_reply, is_foreign_select, line_events, command_event}
+use Rattle.mc_model.specs.Solo.{Solo, SoloCommand, Heard, silent, hears, heard_before, hears_all, solo_hit, heard_command, solo_command}
 use Rattle.mc_model.specs.DeckGrammar.{DeckLine}
 use Rattle.mc_family.proofs.Agreement.{Agree, Agree-done}
-use Rattle.mc_family.proofs.Sim.{own_of, own_selected, IsRunnable, Sim, Keeps, hears_all-append, hears_none, hears_leave}
-use Rattle.mc_family.proofs.Stops.{WornWithin, hits-given, AreOthers, whole-others, Told, told-alike}
+use Rattle.mc_family.proofs.Sim.{own_selected, IsRunnable, Sim, Keeps, hears_all-append, hears_none, hears_leave}
+use Rattle.mc_family.proofs.Stops.{WornWithin, hits-given, whole-others, Told, told-alike}
 use Rattle.mc_family.proofs.OwnCommand.{alone, own_command}
 use Rattle.mc_family.proofs.OtherCommand.{unless, Other, other_command}
 
@@ -41,8 +39,8 @@ running c owed by seat budget armed = record { base = OnCard c; owed = owed; by 
 module _ (K : List (List ℕ)) (c : Card) (owed : ℕ) (by : Journal) (seat : Seat) (budget : ℕ) (armed : Armed) (t : Solo) where
   -- what the lone card hears of a command that does what it does in the play, hit by this stop
   hit-keeps : (n : ℕ) (l : DeckLine) (r : Command) (s : Option StopAt) (es : List Event) → Agree K true c.apps t.map
-    → hears_all t es ≡ heard_before (solo_hit t (alone K r) s) (silent (solo_hit t (alone K r) s).after)
-    → Keeps K t (command_step n l (running c owed by seat budget armed) c r s) es true true
+      → hears_all t es ≡ heard_before (solo_hit t (alone K r) s) (silent (solo_hit t (alone K r) s).after)
+      → Keeps K t (command_step n l (running c owed by seat budget armed) c r s) es true true
   hit-keeps n l r None es agree e =
       record {
         sim = subst (λ (h : Heard). Sim K (command_step n l (running c owed by seat budget armed) c r None).after h.after) (sym e) (record { warm = tt; map = Agree-done K true r.items c.apps t.map agree; selected = refl });
@@ -60,18 +58,18 @@ module _ (K : List (List ℕ)) (c : Card) (owed : ℕ) (by : Journal) (seat : Se
 
   -- the events of a line that is the family's
   own-keeps : (n : ℕ) (l : DeckLine) (bytes : List ℕ) (w : Option WornAt) → let r = command c seat bytes budget in
-    Sim K (Hot (running c owed by seat budget armed)) t → WornWithin (moves r.items) w → routes_in K seat (route bytes) ≡ true → ClosedPairs K r.pairs
-    → let s = hit_of armed (moves r.items) w in Keeps K t (command_step n l (running c owed by seat budget armed) c r s) (Commands bytes budget (given_stop armed s) ∷ []) true true
+      Sim K (Hot (running c owed by seat budget armed)) t → WornWithin (moves r.items) w → routes_in K seat (route bytes) ≡ true → ClosedPairs K r.pairs
+      → let s = hit_of armed (moves r.items) w in Keeps K t (command_step n l (running c owed by seat budget armed) c r s) (Commands bytes budget (given_stop armed s) ∷ []) true true
   own-keeps n l bytes w sim within own closed =
       let r = command c seat bytes budget in
       let s = hit_of armed (moves r.items) w in
       let same : solo_command t bytes budget ≡ alone K r = own_command K c seat t sim.selected bytes budget own sim.map closed in
       let hit : heard_command t (solo_command t bytes budget) (given_stop armed s) ≡ solo_hit t (alone K r) s =
-          ap (λ (z : SoloCommand). heard_command t z (given_stop armed s)) same
-          ∙ ap (λ (z : Option StopAt). solo_hit t (alone K r) z) (hits-given armed (moves r.items) w within)
+      ap (λ (z : SoloCommand). heard_command t z (given_stop armed s)) same
+      ∙ ap (λ (z : Option StopAt). solo_hit t (alone K r) z) (hits-given armed (moves r.items) w within)
       in
       hit-keeps n l r s (Commands bytes budget (given_stop armed s) ∷ []) sim.map
-        (hears_command t bytes budget (given_stop armed s) ∙ ap (λ (h : Heard). heard_before h (silent h.after)) hit)
+      (hears_command t bytes budget (given_stop armed s) ∙ ap (λ (h : Heard). heard_before h (silent h.after)) hit)
 
   -- ---- a line that is none of the family's
 
@@ -87,8 +85,8 @@ module _ (K : List (List ℕ)) (c : Card) (owed : ℕ) (by : Journal) (seat : Se
 
   -- where a line changes others' applications alone
   pub other-keeps : (n : ℕ) (l : DeckLine) (r : Command) (s : Option StopAt) → Sim K (Hot (running c owed by seat budget armed)) t
-    → Other K seat (is_foreign_select K (command_of l) && is_done_reply (Some (Answered r.outcome))) r
-    → let u = command_step n l (running c owed by seat budget armed) c r s in Keeps K t u (told K u.whole ++ left_if (is_left K u)) false false
+      → Other K seat (is_foreign_select K (command_of l) && is_done_reply (Some (Answered r.outcome))) r
+      → let u = command_step n l (running c owed by seat budget armed) c r s in Keeps K t u (told K u.whole ++ left_if (is_left K u)) false false
   other-keeps n l r None sim h =
       let u = command_step n l (running c owed by seat budget armed) c r None in
       let told_all : Told K t (done c.apps r.items) (told K r.items) = told-alike K r.items t c.apps h.others sim.map in
@@ -115,9 +113,9 @@ module _ (K : List (List ℕ)) (c : Card) (owed : ℕ) (by : Journal) (seat : Se
   -- ---- one command, of the family or not
 
   pub command-keeps : (n : ℕ) (l : DeckLine) (bytes : List ℕ) (w : Option WornAt) (own : Bool) → let r = command c seat bytes budget in
-    let u = command_step n l (running c owed by seat budget armed) c r (hit_of armed (moves r.items) w) in
-    command_of l ≡ Some bytes → Sim K (Hot (running c owed by seat budget armed)) t → WornWithin (moves r.items) w → routes_in K seat (route bytes) ≡ own → ClosedPairs K r.pairs
-    → Keeps K t u (line_events own K u) own own
+      let u = command_step n l (running c owed by seat budget armed) c r (hit_of armed (moves r.items) w) in
+      command_of l ≡ Some bytes → Sim K (Hot (running c owed by seat budget armed)) t → WornWithin (moves r.items) w → routes_in K seat (route bytes) ≡ own → ClosedPairs K r.pairs
+      → Keeps K t u (line_events own K u) own own
   command-keeps n l bytes w true e sim within own closed =
       let r = command c seat bytes budget in
       let u = command_step n l (running c owed by seat budget armed) c r (hit_of armed (moves r.items) w) in

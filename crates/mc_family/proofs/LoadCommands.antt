@@ -1,8 +1,8 @@
 -- The commands of a load and of a deletion reach the manager, and of a load only the last one creates.
 use Rattle.std.specs.Prelude.{◌≡◌, ℕ, zero, suc, ◌+◌, Bool, true, false, cond, ◌==◌, List, [], ◌∷◌, ◌++◌, length, take, drop, option_map, Option, Some, None, ⊤}
-use Rattle.std.proofs.Common.{refl, ap, sym, subst, ◌∙◌}
+use Rattle.std.proofs.Common.{refl, ap, ◌∙◌}
 use Rattle.mc_model.specs.Bytes.{bytes2}
-use Rattle.mc_model.specs.Apdu.{ApduParts, Rest, rest_read, apdu_read}
+use Rattle.mc_model.specs.Apdu.{Rest, rest_read, apdu_read}
 use Rattle.mc_model.specs.Units.{UnitParts}
 use Rattle.mc_model.specs.Manager.{Route, WrongLength, WrongClass, ToSelect, ToManager, ToApplication, routed, route}
 use Rattle.mc_model.specs.Play.{delete_bytes, piece_commands, section_commands, load_commands}
@@ -99,11 +99,12 @@ front-fillers u fixed session =
     let init = section_commands 0x26 u.init in
     let dir = section_commands 0x20 u.dir in
     let fci = section_commands 0x22 u.fci in
-    let open_bytes = 0xBE ∷ 0x12 ∷ 0x00 ∷ 0x00 ∷ 12 ∷ (bytes2 (length u.code) ++ bytes2 fixed ++ bytes2 (length u.init) ++ bytes2 session ++ bytes2 (length u.dir) ++ bytes2 (length u.fci)) in
-    (of-filler 0x12 (route open_bytes) refl refl (class-manager 0x12 _ _ _),
-     AreFillers-append ((code ++ init) ++ dir) fci
-       (AreFillers-append (code ++ init) dir (AreFillers-append code init (section-fillers 0x24 refl refl u.code) (section-fillers 0x26 refl refl u.init)) (section-fillers 0x20 refl refl u.dir))
-       (section-fillers 0x22 refl refl u.fci))
+    let open_bytes = 0xBE ∷ 0x12 ∷ 0x00 ∷ 0x00 ∷ 12 ∷ (bytes2 (length u.code) ++ bytes2 fixed ++ bytes2 (length u.init) ++ bytes2 session ++ bytes2 (length u.dir) ++ bytes2 (length u.fci)) in (
+      of-filler 0x12 (route open_bytes) refl refl (class-manager 0x12 _ _ _),
+      AreFillers-append ((code ++ init) ++ dir) fci
+          (AreFillers-append (code ++ init) dir (AreFillers-append code init (section-fillers 0x24 refl refl u.code) (section-fillers 0x26 refl refl u.init)) (section-fillers 0x20 refl refl u.dir))
+          (section-fillers 0x22 refl refl u.fci),
+    )
 
 pub create-manager : IsManagerOf 0x16 (route create_bytes)
 create-manager = class-manager 0x16 0 0 []

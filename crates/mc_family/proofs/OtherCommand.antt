@@ -1,6 +1,6 @@
 -- A command that is none of a family leaves its applications as they are, and its selection, but for a SELECT that is done.
-use Rattle.std.specs.Prelude.{◌≡◌, ℕ, Bool, true, false, cond, not, ◌&&◌, ◌||◌, ◌==◌, List, [], ◌∷◌, ◌++◌, map, is_none, Option, Some, None, Result, Ok, Err, ⊤}
-use Rattle.std.proofs.Common.{refl, ap, sym, subst, ◌∙◌}
+use Rattle.std.specs.Prelude.{◌≡◌, ℕ, Bool, true, false, cond, not, ◌&&◌, ◌||◌, ◌==◌, List, [], ◌∷◌, map, is_none, Option, Some, None, Result, Ok, Err, ⊤}
+use Rattle.std.proofs.Common.{refl, ap, sym, ◌∙◌}
 use Rattle.mc_model.specs.declared.card.Part.{Part}
 use Rattle.mc_model.specs.declared.card.Part.TheVariants as part
 use Rattle.mc_model.specs.declared.unit.AidFault.{AidFault}
@@ -8,10 +8,10 @@ use Rattle.mc_model.specs.Bytes.{zeros, has_name, lookup}
 use Rattle.mc_model.specs.Apdu.{ApduParts}
 use Rattle.mc_model.specs.Units.{name_of}
 use Rattle.mc_model.specs.Card.{App, Card}
-use Rattle.mc_model.specs.Chain.{Outcome, Reply, Abended, run}
+use Rattle.mc_model.specs.Chain.{run}
 use Rattle.mc_model.specs.Items.{Change, Fixed, Created, Deleted, Item, Plain, Atomic, Sizes, BankItem, Piece, Blank, Note, Commit, Enter, Remove}
-use Rattle.mc_model.specs.Manager.{Selected, Open, Seat, Route, WrongLength, WrongClass, ToSelect, ToManager, ToApplication, route, Managed, Declines, Accepts, Accepted, answered, first_status, is_empty, select_done, select, open_refusals, open_done, load_refusals, load_done, create_refusals, create_done, delete_refusals, delete_done, manage, room_on, dir_in, open_load, load_part, create, delete}
-use Rattle.mc_model.specs.Play.{Command, LineResult, Answered, item_of, atomic_of, managed, passed, by_route, command, refused, send, sent_on, is_done, with_items}
+use Rattle.mc_model.specs.Manager.{Selected, Open, Seat, Route, WrongLength, WrongClass, ToSelect, ToManager, ToApplication, route, Managed, Declines, Accepted, answered, first_status, is_empty, select_done, select, open_refusals, open_done, load_refusals, load_done, create_refusals, create_done, delete_refusals, delete_done, manage, room_on, dir_in, open_load, load_part, create, delete}
+use Rattle.mc_model.specs.Play.{Command, Answered, item_of, atomic_of, managed, passed, by_route, command, send, sent_on, is_done}
 use Rattle.mc_model.specs.Items as items
 use Rattle.mc_model.specs.Family.{ClosedPairs, routes_in, selects_in}
 use Rattle.mc_model.specs.Given.{is_done_reply, selects_foreign, is_foreign_select}
@@ -105,14 +105,14 @@ module _ (K : List (List ℕ)) (c : Card) (seat : Seat) where
 
   -- a SELECT of a name outside the family
   select_at : (a : ApduParts) (x y : Bool) (o : Option App) → has_name a.body K ≡ false
-    → let r = managed c seat (answered (first_status ((0x6A86, x) ∷ (0x6700, y) ∷ (0x6A82, is_none o) ∷ [])) (select_done seat a o)) in Other K seat (is_done_reply (Some (Answered r.outcome))) r
+      → let r = managed c seat (answered (first_status ((0x6A86, x) ∷ (0x6700, y) ∷ (0x6A82, is_none o) ∷ [])) (select_done seat a o)) in Other K seat (is_done_reply (Some (Answered r.outcome))) r
   select_at a true y o h = record { others = tt; selected = refl }
   select_at a false true o h = record { others = tt; selected = refl }
   select_at a false false None h = record { others = tt; selected = refl }
   select_at a false false (Some app) h = record { others = tt; selected = ap (λ (b : Bool). cond b (Some (record { name = a.body; session = zeros app.session })) None) h }
 
   other_select : (a : ApduParts) (b : Bool) → has_name a.body K ≡ b → b ≡ false
-    → let r = managed c seat (select c.apps seat a) in Other K seat (not b && is_done_reply (Some (Answered r.outcome))) r
+      → let r = managed c seat (select c.apps seat a) in Other K seat (not b && is_done_reply (Some (Answered r.outcome))) r
   other_select a true h e = absurd (cc e)
   other_select a false h e = select_at a (not (a.p2 == 0 || a.p2 == 0x0C)) (is_empty a.body) (lookup c.apps a.body) h
 
@@ -131,7 +131,7 @@ module _ (K : List (List ℕ)) (c : Card) (seat : Seat) where
   aside_other r h = record { others = h.others; selected = ap (own_of K) h.selected }
 
   other_routed : (budget : ℕ) (r : Route) → routes_in K seat r ≡ false → ClosedPairs K (by_route c seat budget r).pairs
-    → Other K seat (selects_foreign K r && is_done_reply (Some (Answered (by_route c seat budget r).outcome))) (by_route c seat budget r)
+      → Other K seat (selects_foreign K r && is_done_reply (Some (Answered (by_route c seat budget r).outcome))) (by_route c seat budget r)
   unfolding IsAside
   other_routed budget WrongLength h closed = record { others = tt; selected = refl }
   other_routed budget WrongClass h closed = record { others = tt; selected = refl }
@@ -140,7 +140,7 @@ module _ (K : List (List ℕ)) (c : Card) (seat : Seat) where
   other_routed budget (ToApplication a) h closed = other_passed a budget seat.selected refl h closed
 
   pub other_command : (bytes : List ℕ) (budget : ℕ) → routes_in K seat (route bytes) ≡ false → ClosedPairs K (command c seat bytes budget).pairs
-    → Other K seat (is_foreign_select K (Some bytes) && is_done_reply (Some (Answered (command c seat bytes budget).outcome))) (command c seat bytes budget)
+      → Other K seat (is_foreign_select K (Some bytes) && is_done_reply (Some (Answered (command c seat bytes budget).outcome))) (command c seat bytes budget)
   unfolding command
   other_command bytes budget h closed = other_routed budget (route bytes) h closed
 

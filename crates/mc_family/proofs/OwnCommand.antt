@@ -1,11 +1,11 @@
 -- A command of a family does on a card of its own what it does in the play.
-use Rattle.std.specs.Prelude.{◌≡◌, ℕ, Bool, true, false, cond, not, ◌||◌, ◌==◌, List, [], ◌∷◌, is_none, Option, Some, None}
-use Rattle.std.proofs.Common.{refl, ap, sym, subst, ◌∙◌}
+use Rattle.std.specs.Prelude.{◌≡◌, ℕ, Bool, true, cond, not, ◌||◌, ◌==◌, List, [], ◌∷◌, is_none, Option, Some, None}
+use Rattle.std.proofs.Common.{refl, ap, sym, ◌∙◌}
 use Rattle.mc_model.specs.Bytes.{zeros, has_name, lookup}
 use Rattle.mc_model.specs.Apdu.{ApduParts}
 use Rattle.mc_model.specs.Card.{App, Card, placed}
-use Rattle.mc_model.specs.Chain.{Outcome, Reply, Ran, run}
-use Rattle.mc_model.specs.Manager.{Selected, Seat, Route, WrongLength, WrongClass, ToSelect, ToManager, ToApplication, route, Managed, answered, first_status, is_empty, select_body, select_done, select}
+use Rattle.mc_model.specs.Chain.{Reply, Ran, run}
+use Rattle.mc_model.specs.Manager.{Selected, Seat, Route, WrongLength, WrongClass, ToSelect, ToManager, ToApplication, route, answered, first_status, is_empty, select_body, select_done, select}
 use Rattle.mc_model.specs.Play.{Command, managed, passed, by_route, command}
 use Rattle.mc_model.specs.Family.{ClosedPairs, routes_in, selects_in}
 use Rattle.mc_model.specs.Solo.{Solo, SoloCommand, solo_selected, solo_ran, solo_passed, solo_routed, solo_command}
@@ -26,7 +26,7 @@ select_status a missing = first_status ((0x6A86, not (a.p2 == 0 || a.p2 == 0x0C)
 
 module _ (K : List (List ℕ)) (c : Card) (seat : Seat) (t : Solo) (same : t.selected ≡ own_of K seat.selected) where
   select_at : (a : ApduParts) (status : Option ℕ) (o p : Option App) → has_name a.body K ≡ true → bare o ≡ bare p
-    → solo_selected t (answered status (select_done (record { selected = t.selected; load = None }) a p)) ≡ alone K (managed c seat (answered status (select_done seat a o)))
+      → solo_selected t (answered status (select_done (record { selected = t.selected; load = None }) a p)) ≡ alone K (managed c seat (answered status (select_done seat a o)))
   select_at a (Some sw) o p h e = ap (λ (s : Option Selected). record { items = []; outcome = Reply [] sw; selected = s }) same
   select_at a None None None h e = ap (λ (s : Option Selected). record { items = []; outcome = Reply [] 0x9000; selected = s }) same
   select_at a None None (Some g) h e = absurd (cc e)
@@ -43,7 +43,7 @@ module _ (K : List (List ℕ)) (c : Card) (seat : Seat) (t : Solo) (same : t.sel
   missing_alike (Some f) (Some g) e = refl
 
   own_select : (a : ApduParts) → has_name a.body K ≡ true → Agree K true c.apps t.map
-    → solo_selected t (select t.map (record { selected = t.selected; load = None }) a) ≡ alone K (managed c seat (select c.apps seat a))
+      → solo_selected t (select t.map (record { selected = t.selected; load = None }) a) ≡ alone K (managed c seat (select c.apps seat a))
   own_select a h agree =
       let o = lookup c.apps a.body in
       let p = lookup t.map a.body in
@@ -52,17 +52,17 @@ module _ (K : List (List ℕ)) (c : Card) (seat : Seat) (t : Solo) (same : t.sel
       ∙ select_at a (select_status a (is_none o)) o p h (agree a.body h)
 
   own_passed : (a : ApduParts) (budget : ℕ) (o : Option Selected) → own_of K seat.selected ≡ own_of K o → selects_in K o ≡ true → Agree K true c.apps t.map → ClosedPairs K (passed c seat o a budget).pairs
-    → solo_passed t t.selected a budget ≡ alone K (passed c seat o a budget)
+      → solo_passed t t.selected a budget ≡ alone K (passed c seat o a budget)
   own_passed a budget None e h agree closed = absurd (cc h)
   own_passed a budget (Some s) e h agree closed =
       let r : RunAlike K true (run c.apps s.name s.session a budget) (run t.map s.name s.session a budget) = run-alike K true c.apps t.map s.name s.session a budget closed agree h in
       ap (λ (o : Option Selected). solo_passed t o a budget) (same ∙ (e ∙ own_of-named K s h))
       ∙ (ap (λ (z : Ran). solo_ran s.name z) r.same
       ∙ ap (λ (o : Option Selected). record { items = (solo_ran s.name (run c.apps s.name s.session a budget)).items; outcome = (run c.apps s.name s.session a budget).outcome; selected = o })
-          (sym (own_of-named K (record { name = s.name; session = (run c.apps s.name s.session a budget).session }) h)))
+      (sym (own_of-named K (record { name = s.name; session = (run c.apps s.name s.session a budget).session }) h)))
 
   own_routed : (budget : ℕ) (r : Route) → routes_in K seat r ≡ true → Agree K true c.apps t.map → ClosedPairs K (by_route c seat budget r).pairs
-    → solo_routed t budget r ≡ alone K (by_route c seat budget r)
+      → solo_routed t budget r ≡ alone K (by_route c seat budget r)
   own_routed budget WrongLength h agree closed = absurd (cc h)
   own_routed budget WrongClass h agree closed = absurd (cc h)
   own_routed budget (ToSelect a) h agree closed = own_select a h agree
@@ -70,6 +70,6 @@ module _ (K : List (List ℕ)) (c : Card) (seat : Seat) (t : Solo) (same : t.sel
   own_routed budget (ToApplication a) h agree closed = own_passed a budget seat.selected refl h agree closed
 
   pub own_command : (bytes : List ℕ) (budget : ℕ) → routes_in K seat (route bytes) ≡ true → Agree K true c.apps t.map → ClosedPairs K (command c seat bytes budget).pairs
-    → solo_command t bytes budget ≡ alone K (command c seat bytes budget)
+      → solo_command t bytes budget ≡ alone K (command c seat bytes budget)
   unfolding command solo_command
   own_command bytes budget h agree closed = own_routed budget (route bytes) h agree closed

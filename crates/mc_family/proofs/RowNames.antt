@@ -1,12 +1,12 @@
 -- A row leaves the name of its frame as it was.
-use Rattle.std.specs.Prelude.{◌≡◌, ℕ, Bool, true, false, cond, ◌+◌, ◌||◌, nat_le, ◌==◌, List, [], ◌∷◌, length, slice_index, position, Option, Some, None, ⊤}
+use Rattle.std.specs.Prelude.{◌≡◌, ℕ, Bool, true, false, cond, ◌+◌, ◌||◌, nat_le, ◌==◌, List, [], length, slice_index, position, Option, Some, None, ⊤}
 use Rattle.std.proofs.Common.{refl, ◌∙◌}
 use Rattle.mc_model.specs.declared.instruction.Ins.{Ins}
 use Rattle.mc_model.specs.declared.instruction.Ins.TheVariants as ins
 use Rattle.mc_model.specs.declared.machine.Abend.{Abend}
 use Rattle.mc_model.specs.Bytes.{num}
-use Rattle.mc_model.specs.Frame.{Frame, Effect, Place, Static, Dynamic, Public, static_written, stacked, bytes_at, written_in, where_is, written, popped, entered, protect, static_bytes, committed}
-use Rattle.mc_model.specs.Primitives.{Around, Done, Primitive, CheckCase, LoadCcr, StoreCcr, Lookup, MemoryCompare, MemoryCopy, DelegateTo, DelegatorAid, Digest, CompareFixed, CopyFixed, SetProtection, Encipher, Decipher, Sign, BitByte, ShiftLeft, ShiftRight, BitWord, named, count_at, framed, looked_up, delegator_told, prim_effect, prim_done, primitive}
+use Rattle.mc_model.specs.Frame.{Frame, Effect, Place, Static, Dynamic, Public, static_written, stacked, bytes_at, written_in, where_is, written, popped, protect, static_bytes, committed}
+use Rattle.mc_model.specs.Primitives.{Around, Done, Primitive, CheckCase, LoadCcr, StoreCcr, Lookup, MemoryCompare, MemoryCopy, DelegateTo, DelegatorAid, Digest, CompareFixed, CopyFixed, SetProtection, Encipher, Decipher, Sign, BitByte, ShiftLeft, ShiftRight, BitWord, named, count_at, looked_up, delegator_told, prim_effect, prim_done, primitive}
 use Rattle.mc_model.specs.Row.{gone, called, without_target, effect, RowEnd, Abends, Does, judged, causes, first_cause, row}
 
 -- ---- accesses

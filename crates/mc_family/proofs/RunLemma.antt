@@ -1,5 +1,5 @@
 -- The run of a chain reads and writes on one side of a closed family alone: over two maps that agree there, it is the same run.
-use Rattle.std.specs.Prelude.{◌≡◌, ℕ, zero, suc, Bool, true, false, cond, not, ◌||◌, nat_lt, nat_le, List, [], ◌∷◌, ◌++◌, length, unwrap_or, Option, Some, None, Result, Ok, Err, ⊤}
+use Rattle.std.specs.Prelude.{◌≡◌, ℕ, zero, suc, Bool, true, false, cond, ◌||◌, nat_lt, nat_le, List, [], ◌∷◌, ◌++◌, unwrap_or, Option, Some, None, Result, Ok, Err, ⊤}
 use Rattle.std.proofs.Common.{refl, ap, sym, subst, ◌∙◌}
 use Rattle.mc_model.specs.declared.instruction.Ins.{Ins}
 use Rattle.mc_model.specs.declared.instruction.DecodeFault.{DecodeFault}
@@ -11,7 +11,7 @@ use Rattle.mc_model.specs.Card.{App, placed}
 use Rattle.mc_model.specs.Frame.{Frame, Effect, la_of}
 use Rattle.mc_model.specs.Primitives.{Then, Goes, Exits, Delegates, Done}
 use Rattle.mc_model.specs.Row.{RowEnd, Abends, Does, row}
-use Rattle.mc_model.specs.Chain.{Outcome, Write, Turn, Chain, Ran, Acted, Follows, Continues, Ends, code_in, map_changed, write_of, settled, is_active, depth_of, entered_app, called_app, called, last_exit, exited, follows, pair_of, done_turn, row_turn, fetched, stepped, around, acted, ends_with, goes_on, ran_on, chain_session, ran, start_app, start, no_app, run, end_of, told_frame, words_of_write}
+use Rattle.mc_model.specs.Chain.{Outcome, Write, Chain, Ran, Acted, Follows, Continues, Ends, code_in, map_changed, write_of, settled, is_active, depth_of, entered_app, called_app, called, exited, follows, pair_of, done_turn, row_turn, fetched, stepped, around, acted, ends_with, goes_on, ran_on, chain_session, ran, start_app, start, no_app, run}
 use Rattle.mc_model.specs.Family.{ClosedPairs}
 use Rattle.mc_family.proofs.Agreement.{bare, Agree, Agree-map_changed}
 use Rattle.mc_family.proofs.RowNames.{KeepsName, row-name}
@@ -124,9 +124,9 @@ module _ (K : List (List ℕ)) (x : Bool) where
       let s = settled ch d.effect in
       let n = map_changed m ch.frame.name d.effect.changes in
       let f : FollowAlike K x (follows s d.next) (follows (over s n) d.next) =
-          follows-alike s n d.next (subst (λ (k : List ℕ). ClosedPairs K (pair_of k d.next)) (sym name) closed)
-            (Agree-map_changed K x ch.map m ch.frame.name d.effect.changes h)
-            (record { running = ap (λ (k : List ℕ). has_name k K) name ∙ on.running; below = on.below })
+      follows-alike s n d.next (subst (λ (k : List ℕ). ClosedPairs K (pair_of k d.next)) (sym name) closed)
+      (Agree-map_changed K x ch.map m ch.frame.name d.effect.changes h)
+      (record { running = ap (λ (k : List ℕ). has_name k K) name ∙ on.running; below = on.below })
       in
       record {
         same = turn-alike ch i d.effect (follows s d.next) (follows (over s n) d.next) (pair_of ch.frame.name d.next) f;
@@ -154,14 +154,14 @@ module _ (K : List (List ℕ)) (x : Bool) where
       let n = ch.frame.name in
       let code : code_in (lookup ch.map n) ≡ code_in (lookup m n) = sym (code-bare (lookup ch.map n)) ∙ (ap code_in (h n on.running) ∙ code-bare (lookup m n)) in
       subst (λ (c : List ℕ). ActAlike K x (fetched ch (decoded (code_in (lookup ch.map n)) ch.frame.at)) (fetched (over ch m) (decoded c ch.frame.at))) code
-        (fetched-alike ch m (decoded (code_in (lookup ch.map n)) ch.frame.at) closed h on)
+      (fetched-alike ch m (decoded (code_in (lookup ch.map n)) ch.frame.at) closed h on)
 
   -- ---- runs
 
   ran_on-alike : (a b : Acted) (s : List ℕ) (f g : Follows) (rest : Chain → Ran)
-    → b ≡ record a { follows = b.follows } → WritesOn K x a.writes → FollowAlike K x f g
-    → ((ch : Chain) (m : List (List ℕ × App)) → ClosedPairs K (rest ch).pairs → Agree K x ch.map m → On K x ch → RunAlike K x (rest ch) (rest (over ch m)))
-    → ClosedPairs K (ran_on a s f rest).pairs → RunAlike K x (ran_on a s f rest) (ran_on b s g rest)
+      → b ≡ record a { follows = b.follows } → WritesOn K x a.writes → FollowAlike K x f g
+      → ((ch : Chain) (m : List (List ℕ × App)) → ClosedPairs K (rest ch).pairs → Agree K x ch.map m → On K x ch → RunAlike K x (rest ch) (rest (over ch m)))
+      → ClosedPairs K (ran_on a s f rest).pairs → RunAlike K x (ran_on a s f rest) (ran_on b s g rest)
   ran_on-alike a b s (Ends o) (Ends p) rest same mine h again closed =
       record { same = ap (λ (z : Acted). ends_with z s p) same ∙ ap (λ (z : Outcome). ends_with a s z) (sym h); mine = mine }
   ran_on-alike a b s (Continues c) (Continues d) rest same mine h again closed =
@@ -180,7 +180,7 @@ module _ (K : List (List ℕ)) (x : Bool) where
   ran-alike (suc n) ch m closed h on =
       let t : ActAlike K x (acted ch) (acted (over ch m)) = acted-alike ch m (Closed-act K (acted ch) (chain_session ch) (acted ch).follows (λ c. ran n c) closed) h on in
       ran_on-alike (acted ch) (acted (over ch m)) (chain_session ch) (acted ch).follows (acted (over ch m)).follows (λ c. ran n c) t.same t.mine t.follows
-        (λ c d. ran-alike n c d) closed
+      (λ c d. ran-alike n c d) closed
 
   found-alike : (o p : Option App) → bare o ≡ bare p → placed 0 (unwrap_or o no_app) ≡ placed 0 (unwrap_or p no_app)
   found-alike None None e = refl
@@ -195,4 +195,4 @@ module _ (K : List (List ℕ)) (x : Bool) where
       let e = found-alike (lookup m first) (lookup d first) (h first is) in
       let same : start d first session a ≡ over (start m first session a) d = ap (λ (z : App). start_app d first session a z) (sym e) in
       subst (λ (ch : Chain). RunAlike K x (run m first session a budget) (ran budget ch)) (sym same)
-        (ran-alike budget (start m first session a) d closed h (record { running = is; below = tt }))
+      (ran-alike budget (start m first session a) d closed h (record { running = is; below = tt }))

@@ -1,12 +1,12 @@
 -- The relation between a state of a play and a card that holds one family alone, and what one line is to keep of it.
-use Rattle.std.specs.Prelude.{◌≡◌, ℕ, Bool, true, false, cond, ◌||◌, List, [], ◌∷◌, ◌++◌, map, bytes_eq, Option, Some, None, ⊤}
-use Rattle.std.proofs.Common.{refl, ap, sym, subst, ◌∙◌}
+use Rattle.std.specs.Prelude.{◌≡◌, ℕ, Bool, true, false, cond, ◌||◌, List, [], ◌∷◌, ◌++◌, bytes_eq, Option, Some, None, ⊤}
+use Rattle.std.proofs.Common.{refl, ap, sym, ◌∙◌}
 use Rattle.std.proofs.lemmas.List.{append_assoc}
 use Rattle.mc_model.specs.Bytes.{has_name, lookup}
-use Rattle.mc_model.specs.Card.{App, placed}
+use Rattle.mc_model.specs.Card.{App}
 use Rattle.mc_model.specs.Items.{Item, StopAt}
-use Rattle.mc_model.specs.Manager.{Selected, Seat}
-use Rattle.mc_model.specs.Play.{Live, Running, Unpowered, Muted, Base, OnCard, AtFault, Warm, State, Cold, Hot, LineResult, Step, static_of}
+use Rattle.mc_model.specs.Manager.{Selected}
+use Rattle.mc_model.specs.Play.{Live, Running, Unpowered, Muted, Base, OnCard, AtFault, State, Cold, Hot, LineResult, Step, static_of}
 use Rattle.mc_model.specs.Family.{live_in, is_own}
 use Rattle.mc_model.specs.Given.{Event, Leaves, apps_in, events_of}
 use Rattle.mc_model.specs.Solo.{Solo, Heard, silent, hears, heard_before, hears_all}

@@ -1,18 +1,17 @@
 -- Stops and items: the stop that is given hits the lone card where it hit the play, and items of others touch no application of the family.
-use Rattle.std.specs.Prelude.{◌≡◌, ℕ, ◌+◌, ◌-◌, ◌≤◌, Bool, true, false, cond, not, nat_le, ◌==◌, List, [], ◌∷◌, ◌++◌, length, Option, Some, None, ⊤}
-use Rattle.std.proofs.Common.{refl, ap, sym, subst, ◌∙◌, arith}
+use Rattle.std.specs.Prelude.{◌≡◌, ℕ, ◌-◌, ◌≤◌, Bool, true, false, cond, nat_le, ◌==◌, List, [], ◌∷◌, ◌++◌, Option, Some, None, ⊤}
+use Rattle.std.proofs.Common.{refl, ap, ◌∙◌}
 use Rattle.std.proofs.lemmas.Bool.{le-leb}
-use Rattle.mc_model.specs.declared.device.Stop.{Stop}
 use Rattle.mc_model.specs.declared.device.Stop.TheVariants as stop
 use Rattle.mc_model.specs.Bytes.{has_name, lookup, insert, remove}
 use Rattle.mc_model.specs.Image.{Two}
-use Rattle.mc_model.specs.Stopped.{cost, stands, owes}
+use Rattle.mc_model.specs.Stopped.{cost, stands}
 use Rattle.mc_model.specs.Card.{App, placed}
 use Rattle.mc_model.specs.Chain.{Write, map_changed}
-use Rattle.mc_model.specs.Items.{Change, Fixed, Created, Deleted, Item, Plain, Atomic, changed, done, StopAt, Stopped, with_item, in_flight, at_stop}
+use Rattle.mc_model.specs.Items.{Change, Fixed, Created, Deleted, Item, Plain, Atomic, done, StopAt, Stopped, with_item, in_flight, at_stop}
 use Rattle.mc_model.specs.Manager.{Selected}
 use Rattle.mc_model.specs.Play.{Armed, Unarmed, ArmedCut, ArmedFail, WornAt, hit_of, write_items}
-use Rattle.mc_model.specs.Given.{Event, Arrives, Departs, armed_stop, given_stop, told, told_event, event_of}
+use Rattle.mc_model.specs.Given.{Event, Arrives, Departs, given_stop, told}
 use Rattle.mc_model.specs.Solo.{Solo, Heard, silent, hears, heard_before, hears_all, hits}
 use Rattle.mc_family.proofs.Agreement.{Agree, Agree-inserted, Agree-removed, Agree-beside, Agree-left, Agree-changed_app, Agree-joined}
 use Rattle.mc_family.proofs.RunLemma.{WritesOn}
@@ -31,7 +30,7 @@ no_hit_where : (b : Bool) (s : StopAt) (o : Option StopAt) → b ≡ false → c
 no_hit_where b s o h = ap (λ (c : Bool). cond c (Some s) o) h
 
 cut-given : (b : Bool) (m k : ℕ) (x : List ℕ) → nat_le k m ≡ b
-  → hits m (given_stop (ArmedCut k x) (cond b (Some (record { kind = stop.Off; at = k; left = x })) None)) ≡ cond b (Some (record { kind = stop.Off; at = k; left = x })) None
+    → hits m (given_stop (ArmedCut k x) (cond b (Some (record { kind = stop.Off; at = k; left = x })) None)) ≡ cond b (Some (record { kind = stop.Off; at = k; left = x })) None
 cut-given true m k x h = hit_where (nat_le k m) (record { kind = stop.Off; at = k; left = x }) None h
 cut-given false m k x h = no_hit_where (nat_le k m) (record { kind = stop.Off; at = k; left = x }) None h
 
@@ -81,7 +80,7 @@ whole-others K [] k x h = tt
 whole-others K (Plain ∷ is) k x h = plain-others K (k == 1) (at_stop is (k - 1) x) (whole-others K is (k - 1) x h.1)
 whole-others K (Atomic w c ∷ is) k x h =
     atomic-others K (nat_le k (cost Two w)) w c (in_flight w c k x) (at_stop is (k - cost Two w) x) h.0
-      (in_flight-others K w c (stands Two w k x) h.0) (whole-others K is (k - cost Two w) x h.1)
+    (in_flight-others K w c (stands Two w k x) h.0) (whole-others K is (k - cost Two w) x h.1)
 
 -- ---- the lone card is told of creations and deletions
 
@@ -113,17 +112,17 @@ then-told K t s m e es f same r =
     }
 
 creation-told : (K : List (List ℕ)) (b : Bool) (t : Solo) (m : List (List ℕ × App)) (n : List ℕ) (a : App) (es : List Event) (last : List (List ℕ × App)) → has_name n K ≡ b → Agree K true m t.map
-  → ((s : Solo) → Agree K true (insert m n a) s.map → Told K s last es) → Told K t last (cond b (Arrives n (placed 0 a) ∷ []) [] ++ es)
+    → ((s : Solo) → Agree K true (insert m n a) s.map → Told K s last es) → Told K t last (cond b (Arrives n (placed 0 a) ∷ []) [] ++ es)
 creation-told K true t m n a es last is h again =
     then-told K t (record t { map = insert t.map n (placed 0 a) }) last (Arrives n (placed 0 a)) es (hears_arrival t n (placed 0 a)) refl
-      (again (record t { map = insert t.map n (placed 0 a) }) (Agree-inserted K true m t.map n a (placed 0 a) refl h))
+    (again (record t { map = insert t.map n (placed 0 a) }) (Agree-inserted K true m t.map n a (placed 0 a) refl h))
 creation-told K false t m n a es last is h again = again t (Agree-joined K true (insert m n a) m t.map (Agree-beside K true m n a is) h)
 
 deletion-told : (K : List (List ℕ)) (b : Bool) (t : Solo) (m : List (List ℕ × App)) (n : List ℕ) (es : List Event) (last : List (List ℕ × App)) → has_name n K ≡ b → Agree K true m t.map
-  → ((s : Solo) → Agree K true (remove m n) s.map → Told K s last es) → Told K t last (cond b (Departs n ∷ []) [] ++ es)
+    → ((s : Solo) → Agree K true (remove m n) s.map → Told K s last es) → Told K t last (cond b (Departs n ∷ []) [] ++ es)
 deletion-told K true t m n es last is h again =
     then-told K t (record t { map = remove t.map n }) last (Departs n) es (hears_departure t n) refl
-      (again (record t { map = remove t.map n }) (Agree-removed K true m t.map n h))
+    (again (record t { map = remove t.map n }) (Agree-removed K true m t.map n h))
 deletion-told K false t m n es last is h again = again t (Agree-joined K true (remove m n) m t.map (Agree-left K true m n is) h)
 
 nothing-told : (t : Solo) → hears_all t [] ≡ silent t
@@ -135,7 +134,7 @@ told-alike K [] t m o h = record { map = t.map; heard = nothing-told t; agree = 
 told-alike K (Plain ∷ is) t m o h = told-alike K is t m o.1 h
 told-alike K (Atomic w (Fixed n ps) ∷ is) t m o h =
     told-alike K is t (map_changed m n (Some ps)) o.1
-      (Agree-joined K true (map_changed m n (Some ps)) m t.map (Agree-changed_app K true m n ps (lookup m n) o.0) h)
+    (Agree-joined K true (map_changed m n (Some ps)) m t.map (Agree-changed_app K true m n ps (lookup m n) o.0) h)
 told-alike K (Atomic w (Created n a) ∷ is) t m o h =
     creation-told K (has_name n K) t m n a (told K is) (done (insert m n a) is) refl h (λ s g. told-alike K is s (insert m n a) o.1 g)
 told-alike K (Atomic w (Deleted n) ∷ is) t m o h =

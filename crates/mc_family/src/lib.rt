@@ -8,5 +8,4 @@ ghost use Rattle.mc_model.specs.Laws.{IsolationLaw};
 /// application has a stale byte. The law speaks of this project's definitions; no standard has one like it.
 pub fn isolation()
     ensures { IsolationLaw }
-{
-}
+{}

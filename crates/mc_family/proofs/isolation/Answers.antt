@@ -1,6 +1,4 @@
-use Rattle.std.specs.Prelude.{take}
-use Rattle.mc_model.specs.Laws.{IsolationLaw, HoldsOf}
-use Rattle.mc_model.specs.Play.{plays, start}
+use Rattle.mc_model.specs.Play.{start}
 use Rattle.mc_family.proofs.FamilyFold.{isolated}
 use Rattle.mc_family.proofs.WholeLines.{whole_lines}
 use Rattle.mc_family.proofs.FreshFold.{no_stale_byte}
