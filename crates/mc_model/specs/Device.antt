@@ -10,7 +10,7 @@ use Rattle.mc_model.specs.Counts.{last_count, Rose}
 pub record Entry : Type 0 where
   pub at : ℕ
   pub left : List ℕ
-  pub «end» : Option Stop
+  pub end : Option Stop
 
 -- what every device means; the tape is told or it is not
 pub record DeviceState : Type 0 where
@@ -33,15 +33,15 @@ Grows None e (Some u) = ⊥
 Grows (Some t) e (Some u) = u ≡ t ++ e ∷ []
 
 -- a write that was done
-pub record Done (d : DeviceState) (at : ℕ) (word : List ℕ) (e : DeviceState) : Type 0 where
+pub record WriteDone (d : DeviceState) (at : ℕ) (word : List ℕ) (e : DeviceState) : Type 0 where
   pub words : e.words ≡ slice_set d.words at word
   pub power : e.on ≡ true
   pub cuts : e.cuts ≡ d.cuts
   pub faults : e.faults ≡ d.faults
-  pub tape : Grows d.tape (record { at = at; left = word; «end» = None }) e.tape
+  pub tape : Grows d.tape (record { at = at; left = word; end = None }) e.tape
 
 -- a write in which power went
-pub record Cut (d : DeviceState) (at : ℕ) (e : DeviceState) : Type 0 where
+pub record WriteCut (d : DeviceState) (at : ℕ) (e : DeviceState) : Type 0 where
   pub left : List ℕ
   pub size : length left ≡ 8
   pub words : e.words ≡ slice_set d.words at left
@@ -49,10 +49,10 @@ pub record Cut (d : DeviceState) (at : ℕ) (e : DeviceState) : Type 0 where
   pub cuts : Rose d.cuts e.cuts
   pub falls_not : d.cuts ≤ e.cuts
   pub faults : e.faults ≡ d.faults
-  pub tape : Grows d.tape (record { at = at; left = left; «end» = Some Off }) e.tape
+  pub tape : Grows d.tape (record { at = at; left = left; end = Some Off }) e.tape
 
 -- a write that the device refused
-pub record Refused (d : DeviceState) (at : ℕ) (e : DeviceState) : Type 0 where
+pub record WriteWorn (d : DeviceState) (at : ℕ) (e : DeviceState) : Type 0 where
   pub left : List ℕ
   pub size : length left ≡ 8
   pub words : e.words ≡ slice_set d.words at left
@@ -60,13 +60,13 @@ pub record Refused (d : DeviceState) (at : ℕ) (e : DeviceState) : Type 0 where
   pub cuts : e.cuts ≡ d.cuts
   pub faults : Rose d.faults e.faults
   pub falls_not : d.faults ≤ e.faults
-  pub tape : Grows d.tape (record { at = at; left = left; «end» = Some Worn }) e.tape
+  pub tape : Grows d.tape (record { at = at; left = left; end = Some Worn }) e.tape
 
 -- one write on any device, where power is on
 abbrev pub Wrote : DeviceState → ℕ → List ℕ → Answer → DeviceState → Type 0
-Wrote d at w (Ok u) e = Done d at w e
-Wrote d at w (Err Off) e = Cut d at e
-Wrote d at w (Err Worn) e = Refused d at e
+Wrote d at w (Ok u) e = WriteDone d at w e
+Wrote d at w (Err Off) e = WriteCut d at e
+Wrote d at w (Err Worn) e = WriteWorn d at e
 
 -- a list of writes, pairs of place and word, by the relation of one write
 abbrev pub Makes : {D : Type 0} → (D → ℕ → List ℕ → Answer → D → Type 0) → D → List (ℕ × List ℕ) → Answer → D → Type 0
