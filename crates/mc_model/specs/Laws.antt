@@ -4,11 +4,12 @@ use Rattle.std.specs.Prelude.{◌≡◌, ℕ, ◌-◌, Bool, true, false, cond, 
 use Rattle.mc_model.specs.declared.unit.AidFault.{AidFault}
 use Rattle.mc_model.specs.declared.card.Part.{Part}
 use Rattle.mc_model.specs.declared.card.Part.TheVariants as part
+use Rattle.mc_model.specs.declared.card.Sizes.{Sizes}
 use Rattle.mc_model.specs.Bytes.{zeros, lookup}
 use Rattle.mc_model.specs.Apdu.{ApduParts}
 use Rattle.mc_model.specs.Units.{name_of}
 use Rattle.mc_model.specs.Card.{App, Card, placed}
-use Rattle.mc_model.specs.Items.{Change, Fixed, Created, Deleted, Item, Plain, Atomic, done, StopAt, Stopped, at_stop, Sizes}
+use Rattle.mc_model.specs.Items.{Change, Fixed, Created, Deleted, Item, Plain, Atomic, done, StopAt, Stopped, at_stop}
 use Rattle.mc_model.specs.Manager.{Seat, Route, WrongLength, WrongClass, ToSelect, ToManager, ToApplication, route, Got, got_of, with_got, sizes_in}
 use Rattle.mc_model.specs.Play.{Live, Running, Unpowered, Muted, Base, OnCard, AtFault, Warm, State, Cold, Hot, Step, Command, command, is_done, load_commands, plays, start, Possible, WornAt, select_bytes, delete_bytes}
 use Rattle.mc_model.specs.Items as items
