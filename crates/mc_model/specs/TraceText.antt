@@ -1,6 +1,6 @@
 -- The line of each executed instruction, and the transcript with those lines.
 -- This project's profile.
-use Rattle.std.specs.Prelude.{ℕ, ◌+◌, ◌-◌, ◌/◌, ◌%◌, Bool, true, false, cond, nat_le, List, [], ◌∷◌, ◌++◌, Option, Some, None, codes}
+use Rattle.std.specs.Prelude.{ℕ, ◌+◌, ◌-◌, Bool, cond, nat_le, List, [], ◌∷◌, ◌++◌, Option, Some, None, codes}
 use Rattle.mc_model.specs.declared.instruction.Ins.{Ins}
 use Rattle.mc_model.specs.Bytes.{bytes2}
 use Rattle.mc_model.specs.Image.{Two}

@@ -6,3 +6,5 @@ mod assembly_texts;
 mod broken_decks;
 mod deck_refusals;
 mod listings;
+mod plays;
+mod stack_shape;
