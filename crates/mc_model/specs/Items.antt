@@ -2,6 +2,7 @@
 -- This project's profile.
 use Rattle.std.specs.Prelude.{◌≡◌, ℕ, ◌+◌, ◌-◌, ◌*◌, Bool, true, false, cond, ◌&&◌, nat_le, ◌==◌, List, [], ◌∷◌, ◌++◌, length, option_map, Option, Some, None}
 use Rattle.mc_model.specs.declared.card.Part.{Part}
+use Rattle.mc_model.specs.declared.card.Sizes.{Sizes}
 use Rattle.mc_model.specs.declared.device.Stop.{Stop}
 use Rattle.mc_model.specs.Bytes.{lookup, insert, remove}
 use Rattle.mc_model.specs.Image.{Journal, Two}
@@ -71,16 +72,6 @@ at_stop (Plain ∷ is) k x = cond (k == 1) (record { whole = []; owed = 0 }) (wi
 at_stop (Atomic w c ∷ is) k x = cond (nat_le k (cost Two w)) (in_flight w c k x) (with_item (Atomic w c) (at_stop is (k - cost Two w) x))
 
 -- ---- a bank
-
--- the six lengths of a load, and its access list; `init` is the length of the data
-pub record Sizes : Type 0 where
-  pub code : ℕ
-  pub fixed : ℕ
-  pub init : ℕ
-  pub session : ℕ
-  pub dir : ℕ
-  pub fci : ℕ
-  pub deny : ℕ
 
 -- where an open load fills its sections: its sizes, and its place on a bank that has places
 pub record Site : Type 0 where

@@ -3,13 +3,14 @@
 use Rattle.std.specs.Prelude.{ℕ, zero, suc, ◌+◌, ◌-◌, ◌*◌, ◌%◌, Bool, true, false, cond, not, ◌&&◌, ◌||◌, nat_lt, nat_le, ◌==◌, min, List, [], ◌∷◌, ◌++◌, length, take, drop, map, slice_index, bytes_eq, is_some, is_none, is_ok, unwrap_or, Option, Some, None, Result, Ok, Err}
 use Rattle.mc_model.specs.declared.card.Part.{Part}
 use Rattle.mc_model.specs.declared.card.Part.TheVariants as part
+use Rattle.mc_model.specs.declared.card.Sizes.{Sizes}
 use Rattle.mc_model.specs.declared.unit.AidFault.{AidFault}
 use Rattle.mc_model.specs.Bytes.{be2, zeros, lookup}
 use Rattle.mc_model.specs.Apdu.{ApduParts, apdu_read}
 use Rattle.mc_model.specs.Units.{name_of}
 use Rattle.mc_model.specs.Card.{App, Card, needed_of}
 use Rattle.mc_model.specs.Layout.{gaps, first_fitting}
-use Rattle.mc_model.specs.Items.{Change, Created, Deleted, Sizes, Site, BankItem, Piece, Blank, Note, Enter, Remove}
+use Rattle.mc_model.specs.Items.{Change, Created, Deleted, Site, BankItem, Piece, Blank, Note, Enter, Remove}
 
 -- ---- state
 

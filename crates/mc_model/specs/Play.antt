@@ -85,6 +85,7 @@ pub record Step : Type 0 where
 
 -- ---- one command on a running card
 
+-- what a command does where nothing stops it; `done` has it, where it is answered by 9000 alone
 pub record Command : Type 0 where
   pub items : List Item
   pub outcome : Outcome
@@ -495,7 +496,8 @@ steady_at (ArmedCut k x) l m = None
 unfoldable pub steady_worn : State → List (ℕ × DeckLine) → List (Option WornAt)
 steady_worn s [] = []
 steady_worn s (l ∷ ls) =
-    let w = steady_at (armed_in s) l.1 (moves_of s l) in
+    let m = moves_of s l in
+    let w = steady_at (armed_in s) l.1 m in
     w ∷ steady_worn (step s l w).after ls
 
 abbrev pub ends_tape : Option Stop → Bool
