@@ -1,11 +1,11 @@
 -- The text that a deck's text writes when it is played on a blank device.
 -- This project's profile.
-use Rattle.std.specs.Prelude.{ℕ, List, [], ◌++◌, replicate, Result, Ok, Err}
+use Rattle.std.specs.Prelude.{ℕ, List, [], ◌++◌, replicate, codes, Result, Ok, Err}
 use Rattle.std.specs.Fmt.{digits}
 use Rattle.sha1.specs.Sha1.{sha1, digest_bytes, hash_after, compress, rounds, schedule, first_words}
 use Rattle.mc_model.specs.declared.deck.DeckCause.{DeckCause}
 use Rattle.mc_model.specs.Bytes.{zeros}
-use Rattle.mc_model.specs.Units.{name_of}
+use Rattle.mc_model.specs.Units.{name_of, unit_bytes, made_dir, made_fci}
 use Rattle.mc_model.specs.Apdu.{apdu_read}
 use Rattle.mc_model.specs.Pieces.{touched}
 use Rattle.mc_model.specs.Des.{des_encipher, des_decipher, tdes_encipher, tdes_decipher, des_signature, tdes_signature}
@@ -19,9 +19,15 @@ use Rattle.mc_model.specs.Row.{causes, effect, row}
 use Rattle.mc_model.specs.Chain.{acted, ran}
 use Rattle.mc_model.specs.Manager.{manage}
 use Rattle.mc_model.specs.Play.{State, Step, start, command, send, warmed, step, plays, moves_of, steady_worn}
-use Rattle.mc_model.specs.Transcript.{transcript}
+use Rattle.mc_model.specs.Transcript.{hex_text, transcript}
 use Rattle.mc_model.specs.TraceText.{turn_line, traced}
 use Rattle.mc_model.specs.DeckGrammar.{DeckLine, deck_read}
+use Rattle.mc_model_rows.specs.Written.{hex}
+
+-- the line `unit NAME HEX` of a made unit, from its name, and its AID, code and data in hexadecimal
+abbrev pub unit_line : List ℕ → List ℕ → List ℕ → List ℕ → List ℕ
+unit_line name aid code init =
+    codes "unit " ++ name ++ codes " " ++ hex_text (unit_bytes (hex code) (hex init) (made_dir (hex aid)) (made_fci (hex aid))) ++ codes "\n"
 
 -- a device of so many blank words
 abbrev pub blank_words : ℕ → List (List ℕ)
