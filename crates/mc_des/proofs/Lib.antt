@@ -1,0 +1,3 @@
+pub mod TablesLemmas
+pub mod BitsLemmas
+pub mod CipherFunction

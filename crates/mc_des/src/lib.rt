@@ -1,0 +1,5 @@
+#![tactic(auto)]
+
+mod permute;
+mod rounds;
+mod tables;
