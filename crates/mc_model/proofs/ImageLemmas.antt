@@ -41,24 +41,24 @@ covers (p ∷ ps) i = (p.0 == i) || covers ps i
 pub set-point : (m n : List (List ℕ)) (k i : ℕ) (w : List ℕ) → length m ≡ length n → (k ≢ i → word_at m i ≡ word_at n i) → word_at (slice_set m k w) i ≡ word_at (slice_set n k w) i
 set-point m n k i w same h =
     elim (eqb_tells k i) [
-      | inl yes ↦ elim (cases_lt i (length m)) [
-          | inl below ↦ subst (λ (t : ℕ). word_at (slice_set m t w) i ≡ word_at (slice_set n t w) i) (sym yes.1)
+      | inl here ↦ elim (cases_lt i (length m)) [
+          | inl below ↦ subst (λ (t : ℕ). word_at (slice_set m t w) i ≡ word_at (slice_set n t w) i) (sym here.1)
               (get_or-set_same m i w [] below ∙ sym (get_or-set_same n i w [] (subst (λ (t : ℕ). i < t) same below)))
           | inr past ↦ get_or_past (slice_set m k w) i [] (subst (λ (t : ℕ). t ≤ i) (sym (length-set m k w)) past)
               ∙ sym (get_or_past (slice_set n k w) i [] (subst (λ (t : ℕ). t ≤ i) (same ∙ sym (length-set n k w)) past))
         ]
-      | inr no ↦ get_or-set_other m k i w [] (λ e. no.1 (sym e)) ∙ h no.1 ∙ sym (get_or-set_other n k i w [] (λ e. no.1 (sym e)))
+      | inr apart ↦ get_or-set_other m k i w [] (λ e. apart.1 (sym e)) ∙ h apart.1 ∙ sym (get_or-set_other n k i w [] (λ e. apart.1 (sym e)))
     ]
 
 covers-other : (p : ℕ × List ℕ) (ps : List (ℕ × List ℕ)) (i : ℕ) → p.0 ≢ i → covers ps i ≡ false → covers (p ∷ ps) i ≡ false
-covers-other p ps i no h = elim (eqb_tells p.0 i) [ inl yes ↦ absurd (no yes.1) | inr n ↦ ap (λ (b : Bool). b || covers ps i) n.0 ∙ h ]
+covers-other p ps i apart h = elim (eqb_tells p.0 i) [ inl here ↦ absurd (apart here.1) | inr n ↦ ap (λ (b : Bool). b || covers ps i) n.0 ∙ h ]
 
 -- what the pairs cover does not depend on the words before
 pub laid-point : (m n : List (List ℕ)) (ps : List (ℕ × List ℕ)) (i : ℕ) → length m ≡ length n → (covers ps i ≡ false → word_at m i ≡ word_at n i) → word_at (laid m ps) i ≡ word_at (laid n ps) i
 laid-point m n [] i same h = h refl
 laid-point m n (p ∷ ps) i same h =
     laid-point (slice_set m p.0 p.1) (slice_set n p.0 p.1) ps i (length-set m p.0 p.1 ∙ same ∙ sym (length-set n p.0 p.1))
-      (λ free. set-point m n p.0 i p.1 same (λ no. h (covers-other p ps i no free)))
+      (λ free. set-point m n p.0 i p.1 same (λ apart. h (covers-other p ps i apart free)))
 
 pub laid-same : (m n : List (List ℕ)) (ps : List (ℕ × List ℕ)) → length m ≡ length n → ((i : ℕ) → covers ps i ≡ false → word_at m i ≡ word_at n i) → laid m ps ≡ laid n ps
 laid-same m n ps same h =
@@ -69,15 +69,15 @@ pub uncovered : (ps : List (ℕ × List ℕ)) (i : ℕ) → covers ps i ≡ fals
 uncovered [] i h = tt
 uncovered (p ∷ ps) i h =
     elim (eqb_tells p.0 i) [
-      | inl yes ↦ absurd (cc (sym (ap (λ (b : Bool). b || covers ps i) yes.0) ∙ h))
-      | inr no ↦ (no.1, uncovered ps i (sym (ap (λ (b : Bool). b || covers ps i) no.0) ∙ h))
+      | inl here ↦ absurd (cc (sym (ap (λ (b : Bool). b || covers ps i) here.0) ∙ h))
+      | inr apart ↦ (apart.1, uncovered ps i (sym (ap (λ (b : Bool). b || covers ps i) apart.0) ∙ h))
     ]
 
 pub covers-append : (xs ys : List (ℕ × List ℕ)) (i : ℕ) → covers (xs ++ ys) i ≡ (covers xs i || covers ys i)
 covers-append [] ys i = refl
 covers-append (x ∷ xs) ys i = elim (eqb_tells x.0 i) [
-    | inl yes ↦ ap (λ (b : Bool). b || covers (xs ++ ys) i) yes.0 ∙ sym (ap (λ (b : Bool). (b || covers xs i) || covers ys i) yes.0)
-    | inr no ↦ ap (λ (b : Bool). b || covers (xs ++ ys) i) no.0 ∙ covers-append xs ys i ∙ sym (ap (λ (b : Bool). (b || covers xs i) || covers ys i) no.0)
+    | inl here ↦ ap (λ (b : Bool). b || covers (xs ++ ys) i) here.0 ∙ sym (ap (λ (b : Bool). (b || covers xs i) || covers ys i) here.0)
+    | inr apart ↦ ap (λ (b : Bool). b || covers (xs ++ ys) i) apart.0 ∙ covers-append xs ys i ∙ sym (ap (λ (b : Bool). (b || covers xs i) || covers ys i) apart.0)
   ]
 
 -- the image as every list of pairs leaves it, when one of them is the last
@@ -91,7 +91,7 @@ Ascends least (p ∷ ps) = (least ≤ p.0) × Ascends (p.0 + 1) ps
 
 pub ascends-other : (least : ℕ) (ps : List (ℕ × List ℕ)) (i : ℕ) → Ascends least ps → i < least → AllByRecursion (λ p. p.0 ≢ i) ps
 ascends-other least [] i a lt = tt
-ascends-other least (p ∷ ps) i a lt = let low : least ≤ p.0 = a.0 in (λ e. absurd (omega (arith, e))) , ascends-other (p.0 + 1) ps i a.1 (omega arith)
+ascends-other least (p ∷ ps) i a lt = let low : least ≤ p.0 = a.0 in ((λ e. absurd (omega (arith, e))), ascends-other (p.0 + 1) ps i a.1 (omega arith))
 
 -- the words stand in their places
 abbrev pub Holds : List (List ℕ) → List (ℕ × List ℕ) → Type 0

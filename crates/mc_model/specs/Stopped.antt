@@ -1,8 +1,9 @@
 -- An atomic write as a list of device writes, and what stands of it after a stop at any of them.
 -- This project's profile.
-use Rattle.std.specs.Prelude.{ℕ, zero, suc, ◌+◌, ◌*◌, Bool, cond, not, ◌&&◌, ◌||◌, nat_lt, nat_le, ◌==◌, List, [], ◌∷◌, ◌++◌, length, take, drop, map, bytes_eq}
+use Rattle.std.specs.Prelude.{◌≡◌, ◌≢◌, ◌⊎◌, ℕ, zero, suc, ◌+◌, ◌-◌, ◌*◌, ◌≤◌, Bool, true, false, cond, not, ◌&&◌, ◌||◌, nat_lt, nat_le, ◌==◌, List, [], ◌∷◌, ◌++◌, length, take, drop, map, slice_set, bytes_eq}
+use Rattle.std.specs.List.{AllByRecursion}
 use Rattle.mc_model.specs.Bytes.{up, zeros, bytes2}
-use Rattle.mc_model.specs.Image.{Journal, One, Two, opening, shut, gate}
+use Rattle.mc_model.specs.Image.{Journal, One, Two, opening, shut, gate, word_at, ascend, laid, after_j, owed_j, Words}
 
 -- the number of device writes of an atomic write of w words, and which of them opens the gate
 abbrev pub cost : Journal → ℕ → ℕ
@@ -65,3 +66,58 @@ replay j list = list ++ (gate j, shut) ∷ []
 -- an atomic write: targets and values, the head, the gate is opened, and then as a recovery
 abbrev pub writes : Journal → List (ℕ × List ℕ) → List (ℕ × List ℕ)
 writes j list = entries j list ++ (2, numbered (length list)) ∷ (gate j, opening j) ∷ replay j list
+
+-- a list for an atomic write on a device of so many words: 1 to 64 targets that ascend, each word 0 or in the heap
+pub record IsAtomic (size : ℕ) (list : List (ℕ × List ℕ)) : Type 0 where
+  pub low : 1 ≤ length list
+  pub high : length list ≤ 64
+  pub targets : ascend size 0 (map (λ p. p.0) list) ≡ true
+
+-- ---- what a stop leaves
+
+-- the words after a list of writes that was stopped at its write k, from 1 on, which left x
+abbrev pub torn : List (List ℕ) → List (ℕ × List ℕ) → ℕ → List ℕ → List (List ℕ)
+torn m [] k x = m
+torn m (p ∷ ps) zero x = m
+torn m (p ∷ ps) (suc zero) x = slice_set m p.0 x
+torn m (p ∷ ps) (suc (suc k)) x = torn (slice_set m p.0 p.1) ps (suc k) x
+
+-- the new words where the write stands, else the old ones
+abbrev pub stood : Bool → List (List ℕ) → List (ℕ × List ℕ) → List (List ℕ)
+stood true m list = laid m list
+stood false m list = m
+
+-- the places of a journal
+abbrev pub Inside : Journal → ℕ → Type 0
+Inside One i = (1 ≤ i) × (i ≤ 130)
+Inside Two i = ((2 ≤ i) × (i ≤ 82)) ⊎ (i ≡ 130)
+
+-- the same words in every place outside a journal
+pub record SameOutside (j : Journal) (a b : List (List ℕ)) : Type 0 where
+  pub size : length a ≡ length b
+  pub words : (i : ℕ) → (Inside j i → ⊥) → word_at a i ≡ word_at b i
+
+-- the same words in every place but one
+pub record SameBut (k : ℕ) (a b : List (List ℕ)) : Type 0 where
+  pub size : length a ≡ length b
+  pub words : (i : ℕ) → i ≢ k → word_at a i ≡ word_at b i
+
+-- an image that owes n writes of journal j, and means t outside it
+pub record Leaves (j : Journal) (m : List (List ℕ)) (n : ℕ) (t : List (List ℕ)) : Type 0 where
+  pub owed : owed_j j m ≡ n
+  pub after : List (List ℕ)
+  pub is : after_j j m ≡ Words after
+  pub same : SameOutside j after t
+
+-- an image that owes n writes of journal j, and means t but for the gate
+pub record Resumes (j : Journal) (m : List (List ℕ)) (n : ℕ) (t : List (List ℕ)) : Type 0 where
+  pub owed : owed_j j m ≡ n
+  pub after : List (List ℕ)
+  pub is : after_j j m ≡ Words after
+  pub same : SameBut (gate j) after t
+
+-- an atomic write that was not stopped: the gate is shut, the targets hold their words, the rest stays
+pub record Stands (j : Journal) (old : List (List ℕ)) (list : List (ℕ × List ℕ)) (new : List (List ℕ)) : Type 0 where
+  pub gate : word_at new (gate j) ≡ shut
+  pub targets : AllByRecursion (λ p. word_at new p.0 ≡ p.1) list
+  pub same : SameOutside j new (laid old list)
