@@ -6,3 +6,4 @@ pub mod WrittenLemmas
 pub mod GeometryLemmas
 pub mod StoppedLemmas
 pub mod RecoveryLemmas
+pub mod CallLemmas
