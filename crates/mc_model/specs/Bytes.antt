@@ -64,9 +64,10 @@ abbrev pub insert : {A : Type 0} → List (List ℕ × A) → List ℕ → A →
 insert [] n a = (n, a) ∷ []
 insert (e ∷ es) n a = cond (bytes_eq e.0 n) ((n, a) ∷ es) (cond (name_before n e.0) ((n, a) ∷ e ∷ es) (e ∷ insert es n a))
 
+-- no entry of the name is left
 abbrev pub remove : {A : Type 0} → List (List ℕ × A) → List ℕ → List (List ℕ × A)
 remove [] n = []
-remove (e ∷ es) n = cond (bytes_eq e.0 n) es (e ∷ remove es n)
+remove (e ∷ es) n = cond (bytes_eq e.0 n) (remove es n) (e ∷ remove es n)
 
 -- the first part of a value that may be missing, else the second
 abbrev pub or_else : {A : Type 0} → Option A → Option A → Option A
