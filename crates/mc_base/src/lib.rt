@@ -3,12 +3,20 @@
 // Bytes in and out, and the names and counts that every other crate speaks of.
 mod aid;
 mod ledger;
+mod memory;
+mod outside;
 mod refusals;
+mod sink;
+mod source;
 
 pub use aid::Aid;
 pub use ledger::Steps;
 pub use mc_model::Stop;
-pub use refusals::{Failed, NoMemory, WriteFault};
+pub use memory::{MemSink, MemSource};
+pub use outside::{StdSink, StdSource};
+pub use refusals::{Failed, NoMemory, ReadAll, WriteFault};
+pub use sink::{Sink, put_all};
+pub use source::{Source, read_all};
 
 /// What one place of a device holds: eight bytes, all numbers big endian.
 pub type Word = [u8; 8];

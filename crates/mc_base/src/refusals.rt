@@ -12,8 +12,47 @@ pub struct NoMemory;
 #[derive(Clone, Copy, Debug, PartialEq, Eq)]
 pub struct WriteFault;
 
+/// Why a source was not read to its end.
+#[derive(Clone, Copy, Debug, PartialEq, Eq)]
+pub enum ReadAll {
+    /// The source failed.
+    ReadFault,
+    /// More bytes came than the limit allows.
+    TooLong,
+    /// Memory that was asked for was not there.
+    NoMemory,
+}
+
 impl From<AllocError> for NoMemory {
     fn from(_error: AllocError) -> Self {
         NoMemory
+    }
+}
+
+impl From<Failed> for WriteFault {
+    fn from(_error: Failed) -> Self {
+        WriteFault
+    }
+}
+
+impl From<Failed> for ReadAll {
+    ghost use Rattle.std.specs.Prelude.{◌≡◌};
+    ghost use Rattle.mc_base.specs.declared.refusals.ReadAll.TheVariants.{ReadFault};
+
+    ghost from_gives = { λ f e. e ≡ ReadFault };
+
+    fn from(_error: Failed) -> Self {
+        ReadAll::ReadFault
+    }
+}
+
+impl From<AllocError> for ReadAll {
+    ghost use Rattle.std.specs.Prelude.{◌≡◌};
+    ghost use Rattle.mc_base.specs.declared.refusals.ReadAll.TheVariants.{NoMemory};
+
+    ghost from_gives = { λ f e. e ≡ NoMemory };
+
+    fn from(_error: AllocError) -> Self {
+        ReadAll::NoMemory
     }
 }

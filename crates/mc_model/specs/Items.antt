@@ -2,6 +2,7 @@
 -- This project's profile.
 use Rattle.std.specs.Prelude.{◌≡◌, ℕ, ◌+◌, ◌-◌, ◌*◌, Bool, true, false, cond, ◌&&◌, nat_le, ◌==◌, List, [], ◌∷◌, ◌++◌, length, option_map, Option, Some, None}
 use Rattle.mc_model.specs.declared.card.Part.{Part}
+use Rattle.mc_model.specs.declared.card.Sizes.{Sizes}
 use Rattle.mc_model.specs.declared.device.Stop.{Stop}
 use Rattle.mc_model.specs.Bytes.{lookup, insert, remove}
 use Rattle.mc_model.specs.Image.{Journal, Two}
@@ -25,22 +26,26 @@ abbrev pub weight : Item → ℕ
 weight Plain = 1
 weight (Atomic w c) = cost Two w
 
+-- how many device writes items make
 abbrev pub moves : List Item → ℕ
 moves [] = 0
 moves (i ∷ is) = weight i + moves is
 
 -- ---- the applications after items
 
+-- the applications after a change
 abbrev pub changed : Change → List (List ℕ × App) → List (List ℕ × App)
 changed (Fixed n ps) map = map_changed map n (Some ps)
 changed (Created n a) map = insert map n a
 changed (Deleted n) map = remove map n
 
+-- the applications after items that are whole
 abbrev pub done : List (List ℕ × App) → List Item → List (List ℕ × App)
 done map [] = map
 done map (Plain ∷ is) = done map is
 done map (Atomic w c ∷ is) = done (changed c map) is
 
+-- the card after items that are whole
 abbrev pub card_done : Card → List Item → Card
 card_done card is = record card { apps = done card.apps is }
 
@@ -57,6 +62,7 @@ pub record Stopped : Type 0 where
   pub whole : List Item
   pub owed : ℕ
 
+-- a whole item before those of a stop
 abbrev pub with_item : Item → Stopped → Stopped
 with_item i s = record s { whole = i ∷ s.whole }
 
@@ -71,16 +77,6 @@ at_stop (Plain ∷ is) k x = cond (k == 1) (record { whole = []; owed = 0 }) (wi
 at_stop (Atomic w c ∷ is) k x = cond (nat_le k (cost Two w)) (in_flight w c k x) (with_item (Atomic w c) (at_stop is (k - cost Two w) x))
 
 -- ---- a bank
-
--- the six lengths of a load, and its access list; `init` is the length of the data
-pub record Sizes : Type 0 where
-  pub code : ℕ
-  pub fixed : ℕ
-  pub init : ℕ
-  pub session : ℕ
-  pub dir : ℕ
-  pub fci : ℕ
-  pub deny : ℕ
 
 -- where an open load fills its sections: its sizes, and its place on a bank that has places
 pub record Site : Type 0 where

@@ -1,0 +1,13 @@
+use Rattle.std.proofs.Common.{◌≤◌, vec_len}
+use Rattle.mc_base.specs.Streams.{Took}
+use Rattle.mc_base.proofs.source.read_all.Given as goal
+
+abbrev pub invariant-loop-turn : goal.invariant-loop-turn
+invariant-loop-turn g l =
+    let left = g.S.Source.left in
+    let faults = g.S.Source.faults in
+    record {
+      fits : vec_len l.bytes ≤ l.limit;
+      took : Took (left l.fn.source) (left l.source) l.bytes.items;
+      counted : faults l.fn.source ≤ faults l.source;
+    }

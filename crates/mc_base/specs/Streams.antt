@@ -1,0 +1,46 @@
+-- What calls do to the bytes that a source tells it has left and a sink tells it has taken. A stream that tells
+-- nothing is held to nothing here, and one that tells goes on telling. This project's profile.
+use Rattle.std.specs.Prelude.{◌≡◌, ℕ, ◌<◌, ◌≤◌, List, [], ◌++◌, length, Option, Some, None, ⊤}
+
+-- these bytes came from the front of what was left
+abbrev pub Took : Option (List ℕ) → Option (List ℕ) → List ℕ → Type 0
+Took None new bs = ⊤
+Took (Some xs) None bs = ⊥
+Took (Some xs) (Some ys) bs = xs ≡ bs ++ ys
+
+-- no byte is left
+abbrev pub AtEnd : Option (List ℕ) → Type 0
+AtEnd None = ⊤
+AtEnd (Some xs) = xs ≡ []
+
+-- these bytes were added behind what was taken
+abbrev pub Grew : Option (List ℕ) → Option (List ℕ) → List ℕ → Type 0
+Grew None new bs = ⊤
+Grew (Some xs) None bs = ⊥
+Grew (Some xs) (Some ys) bs = ys ≡ xs ++ bs
+
+-- what is told stays as it was
+abbrev pub Stays : Option (List ℕ) → Option (List ℕ) → Type 0
+Stays None new = ⊤
+Stays (Some xs) None = ⊥
+Stays (Some xs) (Some ys) = ys ≡ xs
+
+-- some front of what was left was taken, of at most so many bytes
+pub record TookAtMost (old new : Option (List ℕ)) (most : ℕ) : Type 0 where
+  pub front : List ℕ
+  pub took : Took old new front
+  pub bound : length front ≤ most
+
+-- some front of what was left was taken, of more bytes than so many
+pub record TookMore (old new : Option (List ℕ)) (limit : ℕ) : Type 0 where
+  pub front : List ℕ
+  pub took : Took old new front
+  pub over : limit < length front
+
+-- a front of these bytes was added, and not all of them
+pub record GrewByPart (old new : Option (List ℕ)) (bs : List ℕ) : Type 0 where
+  pub front : List ℕ
+  pub rest : List ℕ
+  pub parts : bs ≡ front ++ rest
+  pub some_left : 0 < length rest
+  pub grew : Grew old new front

@@ -1,0 +1,55 @@
+ghost use Rattle.std.specs.Prelude.{◌≡◌, ℕ, ◌+◌, ◌<◌, ◌≤◌, List, length, take, Option, IfOk, OnOk, OnErr, IsErrOf, vec_len};
+ghost use Rattle.mc_model.specs.Counts.{Rose};
+ghost use Rattle.mc_base.specs.Streams.{Took, AtEnd, Stays, TookAtMost, TookMore};
+
+use crate::refusals::{Failed, ReadAll};
+use std::alloc::Global;
+
+/// Where bytes come from. A source may tell the bytes that it has left; its count of faults never falls.
+pub trait Source {
+    /// The bytes that are left, where the source tells them.
+    ghost left: { Self → Option (List ℕ) };
+
+    /// How many calls failed.
+    ghost faults: { Self → ℕ };
+
+    /// Takes the next bytes into a front of `into` and says how many they are. Into a slice that is not empty, 0 bytes
+    /// are the end of the input. A call that fails takes nothing.
+    fn take(&mut self, into: &mut [u8]) -> Result<usize, Failed>
+        ensures bound { IfOk result (λ n. n ≤ length into.new) }
+        ensures bytes { IfOk result (λ n. Took (left self.old) (left self.new) (take n into.new)) }
+        ensures end { IfOk result (λ n. n ≡ 0 → 0 < length into.new → AtEnd (left self.new)) }
+        ensures failed { OnErr result (Rose (faults self.old) (faults self.new)) }
+        ensures kept { OnErr result (Stays (left self.old) (left self.new)) }
+        ensures counted { faults self.old ≤ faults self.new };
+}
+
+// How many bytes are asked for at once.
+const CHUNK: usize = 4096;
+
+/// Reads a source to its end. More than `limit` bytes are refused, as soon as one byte more has come.
+pub fn read_all<S: Source>(alloc: Global, source: &mut S, limit: usize) -> Result<Vec<u8>, ReadAll>
+    ensures bytes { IfOk result (λ v. Took (S.left source.old) (S.left source.new) v.items) }
+    ensures end { OnOk result (AtEnd (S.left source.new)) }
+    ensures fits { IfOk result (λ v. vec_len v ≤ limit) }
+    ensures fault { IsErrOf result ReadAll.ReadFault → Rose (S.faults source.old) (S.faults source.new) }
+    ensures long { IsErrOf result ReadAll.TooLong → TookMore (S.left source.old) (S.left source.new) limit }
+    ensures ends { TookAtMost (S.left source.old) (S.left source.new) (limit + 1) }
+    ensures counted { S.faults source.old ≤ S.faults source.new }
+{
+    let mut bytes = Vec::new(alloc);
+    let mut chunk = [0; CHUNK];
+    // Each turn but the last takes a byte at least, and no `Vec` holds as many bytes as there are turns.
+    for _turn in 0..usize::MAX {
+        let wanted = (limit - bytes.len()).min(CHUNK - 1) + 1;
+        let count = source.take(&mut chunk[..wanted])?;
+        if count == 0 {
+            return Ok(bytes);
+        }
+        if count > limit - bytes.len() {
+            return Err(ReadAll::TooLong);
+        }
+        bytes.extend_from_slice(&chunk[..count])?;
+    }
+    Err(ReadAll::NoMemory)
+}
