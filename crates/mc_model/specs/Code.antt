@@ -1,6 +1,7 @@
 -- Instructions as bytes: the table of instruction bytes, the spelling, and what stands at a place of code.
 -- This project's profile: an instruction byte is op * 8 + tag, its operands follow, and then two bytes of signed offset where an address has a tag other than 0.
-use Rattle.std.specs.Prelude.{◌≡◌, ℕ, ◌+◌, ◌-◌, ◌*◌, ◌/◌, ◌%◌, ◌<◌, ◌≤◌, ◌⊎◌, Bool, true, false, cond, ◌==◌, nat_le, ℤ, pos, FitsSigned, List, [], ◌∷◌, ◌++◌, length, take, drop, replicate, slice_index, All, Option, Some, None, option_map, option_and_then, Result, Ok, Err}
+use Rattle.std.specs.Prelude.{◌≡◌, ℕ, ◌+◌, ◌-◌, ◌*◌, ◌/◌, ◌%◌, ◌<◌, ◌≤◌, ◌⊎◌, Bool, true, false, cond, ◌==◌, nat_le, ℤ, pos, FitsSigned, List, [], ◌∷◌, ◌++◌, length, take, drop, replicate, slice_index, Option, Some, None, option_map, option_and_then, Result, Ok, Err}
+use Rattle.std.specs.List.{AllByRecursion}
 use Rattle.std.specs.Int.{w8, w16, cast_signed, cast_unsigned}
 use Rattle.mc_model.specs.Bytes.{be2, bytes2, zeros}
 use Rattle.mc_model.specs.declared.instruction.DecodeFault.{DecodeFault}
@@ -254,7 +255,7 @@ pub record IsPrimitive (set number : ℕ) (args : List ℕ) : Type 0 where
   pub sets : set < 4
   pub byte : number < 256
   pub three : length args ≡ 3
-  pub bytes : All (λ b. b < 256) args
+  pub bytes : AllByRecursion (λ b. b < 256) args
   pub rest : drop set args ≡ zeros (3 - set)
 
 -- the fields of an instruction are in their ranges
@@ -326,6 +327,12 @@ abbrev pub IsPast : List ℕ → ℕ → Type 0
 IsPast code at =
     (length code ≤ at)
     ⊎ ((ks : List Kind) × (kinds (slice_index code at) ≡ Some ks) × (length code < at + 1 + total ks))
+
+-- what an answer says of a place: the instruction and the place behind it, or why none stands there
+abbrev pub Stands : List ℕ → ℕ → Result (Ins × ℕ) DecodeFault → Type 0
+Stands code at (Ok p) = Decodes code at p.0 p.1
+Stands code at (Err Undefined) = IsUndefined code at
+Stands code at (Err Past) = IsPast code at
 
 -- the address or the offset in the bytes from i on, 0 where there is none
 abbrev pub target_in : ℕ → List ℕ → ℕ

@@ -32,5 +32,6 @@ pub mod Text
 pub mod DeckGrammar
 pub mod Assembly
 pub mod Generator
+pub mod StackRows
 pub mod StackShape
 pub mod TraceText

@@ -1,0 +1,5 @@
+use Rattle.mc_model.specs.Laws.{IsolationLaw}
+use Rattle.mc_family.proofs.isolation.Goals as goal
+
+pub returns : goal.returns
+returns c = ?

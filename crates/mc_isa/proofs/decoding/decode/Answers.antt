@@ -1,0 +1,27 @@
+-- What stands at the place follows from the computed answer, since the code consists of bytes.
+use Rattle.std.proofs.Common.{arith, ◌≡◌, ℕ, ◌+◌, ◌-◌, ◌≤◌, sym, ◌∙◌, subst, length, take, drop, get_or, length-take, Result, Ok}
+use Rattle.std.proofs.lemmas.Grind.{common_steps}
+use Rattle.mc_model.specs.Code.{decoded, form, Stands}
+use Rattle.mc_model.specs.declared.instruction.DecodeFault.{DecodeFault}
+use Rattle.mc_model.specs.declared.instruction.Ins.{Ins}
+use Rattle.mc_isa.proofs.PlaceLemmas.{all_bytes, decoded_stands}
+use Rattle.mc_isa.proofs.ReadingLemmas.{made_of_inside}
+use Rattle.mc_isa.proofs.decoding.decode.Goals as goal
+
+pub overflow_add-result : goal.overflow_add-result
+overflow_add-result c =
+    let rest = take (length c.args.code.now - (c.args.at + 1)) (drop (c.args.at + 1) c.args.code.now) in
+    let h = made_of_inside (form (get_or c.args.code.now c.args.at 0)) rest c.in_ok-ins.ins c.in_ok-ins.size (sym c.instruction.ensures ∙ c.in_ok-ins.was) in
+    let l : length rest ≤ length c.args.code.now - (c.args.at + 1) = simp length-take (omega arith) in
+    omega (arith, h, l)
+
+pub returns-in_err-ins-clause-stands : goal.returns-in_err-ins-clause-stands
+returns-in_err-ins-clause-stands c =
+    let e : decoded c.args.code.now c.args.at ≡ c.from_residual.result = grind (arith, common_steps) in
+    subst (λ (r : Result (Ins × ℕ) DecodeFault). Stands c.args.code.now c.args.at r) e (decoded_stands c.args.code.now c.args.at (all_bytes c.args.code.now c.type_inv.code))
+
+pub returns-clause-stands : goal.returns-clause-stands
+returns-clause-stands c =
+    let answer : Result (Ins × ℕ) DecodeFault = Ok (c.in_ok-ins.ins, c.args.at + c.in_ok-ins.size) in
+    let e : decoded c.args.code.now c.args.at ≡ answer = grind (arith, common_steps) in
+    subst (λ (r : Result (Ins × ℕ) DecodeFault). Stands c.args.code.now c.args.at r) e (decoded_stands c.args.code.now c.args.at (all_bytes c.args.code.now c.type_inv.code))

@@ -1,0 +1,4 @@
+pub use Rattle.mc_model.specs.Code
+pub use Rattle.mc_model.specs.Listing
+pub mod Reading
+pub mod Rows

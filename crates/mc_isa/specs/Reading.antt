@@ -1,0 +1,10 @@
+-- Operands that are read from the bytes behind an instruction byte.
+-- This project's profile.
+use Rattle.std.specs.Prelude.{◌≡◌, ℕ, true, false, nat_le, List, length, Result, Ok, Err}
+use Rattle.mc_model.specs.declared.instruction.DecodeFault.{DecodeFault}
+use Rattle.mc_model.specs.declared.instruction.DecodeFault.TheVariants.{Past}
+
+-- the value is read where the n bytes that it takes are there
+abbrev pub Reads : {V : Type 0} → Result V DecodeFault → ℕ → List ℕ → V → Type 0
+Reads (Ok v) n bs w = (nat_le n (length bs) ≡ true) × (v ≡ w)
+Reads (Err e) n bs w = (nat_le n (length bs) ≡ false) × (e ≡ Past)

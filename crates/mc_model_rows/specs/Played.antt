@@ -1,0 +1,61 @@
+-- The text that a deck's text writes when it is played on a blank device.
+-- This project's profile.
+use Rattle.std.specs.Prelude.{ℕ, List, [], ◌++◌, replicate, codes, Result, Ok, Err}
+use Rattle.std.specs.Fmt.{digits}
+use Rattle.sha1.specs.Sha1.{sha1, digest_bytes, hash_after, compress, rounds, schedule, first_words}
+use Rattle.mc_model.specs.declared.deck.DeckCause.{DeckCause}
+use Rattle.mc_model.specs.Bytes.{zeros}
+use Rattle.mc_model.specs.Units.{name_of, unit_bytes, made_dir, made_fci}
+use Rattle.mc_model.specs.Apdu.{apdu_read}
+use Rattle.mc_model.specs.Pieces.{touched}
+use Rattle.mc_model.specs.Des.{des_encipher, des_decipher, tdes_encipher, tdes_decipher, des_signature, tdes_signature}
+use Rattle.mc_model.specs.Aes.{aes_encipher, aes_decipher, aes_signature}
+use Rattle.mc_model.specs.Image.{targets_1, targets_2, pairs}
+use Rattle.mc_model.specs.Card.{blocks_from, apps_of}
+use Rattle.mc_model.specs.Layout.{layout, step_of, bad_block, bad_record}
+use Rattle.mc_model.specs.Frame.{bytes_at, written, too_many}
+use Rattle.mc_model.specs.Primitives.{later_causes, prim_effect}
+use Rattle.mc_model.specs.Row.{causes, effect, row}
+use Rattle.mc_model.specs.Chain.{acted, ran}
+use Rattle.mc_model.specs.Manager.{manage}
+use Rattle.mc_model.specs.Play.{State, Step, start, command, send, warmed, step, plays, moves_of, steady_worn}
+use Rattle.mc_model.specs.Transcript.{hex_text, transcript}
+use Rattle.mc_model.specs.TraceText.{turn_line, traced}
+use Rattle.mc_model.specs.DeckGrammar.{DeckLine, deck_read}
+use Rattle.mc_model_rows.specs.Written.{hex}
+
+-- the line `unit NAME HEX` of a made unit, from its name, and its AID, code and data in hexadecimal
+abbrev pub unit_line : List ℕ → List ℕ → List ℕ → List ℕ → List ℕ
+unit_line name aid code init =
+    codes "unit " ++ name ++ codes " " ++ hex_text (unit_bytes (hex code) (hex init) (made_dir (hex aid)) (made_fci (hex aid))) ++ codes "\n"
+
+-- a device of so many blank words
+abbrev pub blank_words : ℕ → List (List ℕ)
+blank_words size = replicate size (zeros 8)
+
+-- the play of numbered lines on some words, on a device that refuses just the writes of `fail` lines
+unfoldable pub steps_on : List (List ℕ) → List (ℕ × DeckLine) → List Step
+unfolding name_of apdu_read touched des_encipher des_decipher tdes_encipher tdes_decipher des_signature tdes_signature aes_encipher aes_decipher aes_signature sha1 digest_bytes hash_after compress rounds schedule first_words targets_1 targets_2 pairs blocks_from apps_of layout step_of bad_block bad_record bytes_at written too_many later_causes prim_effect causes effect row acted ran manage command send warmed step plays moves_of steady_worn
+steps_on words ls = plays (start words) ls (steady_worn (start words) ls)
+
+abbrev pub transcript_of : List (List ℕ) → Result (List (ℕ × DeckLine)) (ℕ × DeckCause) → Result (List ℕ) (ℕ × DeckCause)
+transcript_of words (Ok ls) = Ok (transcript (steps_on words ls))
+transcript_of words (Err e) = Err e
+
+abbrev pub trace_of : List (List ℕ) → Result (List (ℕ × DeckLine)) (ℕ × DeckCause) → Result (List ℕ) (ℕ × DeckCause)
+trace_of words (Ok ls) = Ok (traced (steps_on words ls))
+trace_of words (Err e) = Err e
+
+-- what a deck's text writes on a blank device of 8,192 words, and on one of so many
+unfoldable pub played : List ℕ → Result (List ℕ) (ℕ × DeckCause)
+unfolding deck_read steps_on transcript digits
+played text = transcript_of (blank_words 8192) (deck_read text)
+
+unfoldable pub played_on : ℕ → List ℕ → Result (List ℕ) (ℕ × DeckCause)
+unfolding deck_read steps_on transcript digits
+played_on size text = transcript_of (blank_words size) (deck_read text)
+
+-- the same with the lines of its instructions
+unfoldable pub trace : List ℕ → Result (List ℕ) (ℕ × DeckCause)
+unfolding deck_read steps_on traced turn_line digits
+trace text = trace_of (blank_words 8192) (deck_read text)
