@@ -1,6 +1,6 @@
 -- The text that a deck's text writes when it is played on a blank device.
 -- This project's profile.
-use Rattle.std.specs.Prelude.{ℕ, List, [], ◌++◌, replicate, codes, Result, Ok, Err}
+use Rattle.std.specs.Prelude.{ℕ, List, ◌++◌, replicate, codes, Result, Ok, Err}
 use Rattle.std.specs.Fmt.{digits}
 use Rattle.sha1.specs.Sha1.{sha1, digest_bytes, hash_after, compress, rounds, schedule, first_words}
 use Rattle.mc_model.specs.declared.deck.DeckCause.{DeckCause}
@@ -18,10 +18,11 @@ use Rattle.mc_model.specs.Primitives.{later_causes, prim_effect}
 use Rattle.mc_model.specs.Row.{causes, effect, row}
 use Rattle.mc_model.specs.Chain.{acted, ran}
 use Rattle.mc_model.specs.Manager.{manage}
-use Rattle.mc_model.specs.Play.{State, Step, start, command, send, warmed, step, plays, moves_of, steady_worn}
+use Rattle.mc_model.specs.Play.{Step, start, command, send, warmed, step, plays, moves_of, steady_worn}
 use Rattle.mc_model.specs.Transcript.{hex_text, transcript}
 use Rattle.mc_model.specs.TraceText.{turn_line, traced}
 use Rattle.mc_model.specs.DeckGrammar.{DeckLine, deck_read}
+use Rattle.mc_model.specs.Generator.{summary}
 use Rattle.mc_model_rows.specs.Written.{hex}
 
 -- the line `unit NAME HEX` of a made unit, from its name, and its AID, code and data in hexadecimal
@@ -59,3 +60,12 @@ played_on size text = transcript_of (blank_words size) (deck_read text)
 unfoldable pub trace : List ℕ → Result (List ℕ) (ℕ × DeckCause)
 unfolding deck_read steps_on traced turn_line digits
 trace text = trace_of (blank_words 8192) (deck_read text)
+
+-- the summary of a deck's text
+abbrev pub summary_in : List (List ℕ) → Result (List (ℕ × DeckLine)) (ℕ × DeckCause) → Result (List ℕ) (ℕ × DeckCause)
+summary_in words (Ok ls) = Ok (summary (steps_on words ls))
+summary_in words (Err e) = Err e
+
+unfoldable pub summarised : List ℕ → Result (List ℕ) (ℕ × DeckCause)
+unfolding deck_read steps_on summary digits
+summarised text = summary_in (blank_words 8192) (deck_read text)
