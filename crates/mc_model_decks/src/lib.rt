@@ -8,3 +8,4 @@ mod no_cut_1;
 mod no_cut_2;
 mod one_cut;
 mod traces;
+mod verdicts;

@@ -40,13 +40,13 @@ pub fn deck_of_2_cuts_6_abends_43_answers()
         codes "power\napdu 0001010002BB46\napdu 00020102000005A47F72F4B50000\ndump A000000003\ndump A000000001\n" ++
         codes "dump A0000000040102\n")
         ≡ Ok (
-            codes "29 ready 0\n30 9000\n31 6A89\n32 ready 0\n33 6E00\n34 9000\n35 9000\n37 off at write 1\n" ++
-            codes "39 ready 0\n41 ready 0\n42 ready 0\n43 9000\n44 6A82\n45 9000\n46 6A82\n47 ready 0\n48 9000\n" ++
-            codes "50 abend 03\n52 abend 06\n54 ready 0\n55 ready 0\n56 9000\n57 9000\n59 abend 06\n60 ready 0\n" ++
-            codes "61 ready 0\n62 6A89\n63 6985\n64 9000\n65 abend 03\n66 abend 06\n68 off at write 4\n" ++
-            codes "69 ready 0\n70 6A89\n71 9000\n72 abend 06\n74 ready 0\n75 ready 0\n76 6985\n77 6985\n" ++
-            codes "78 absent\n79 static 05A00000000900000000000000\n" ++
-            codes "80 static 01A0000000050102030405060708090A0B00\n") }
+        codes "29 ready 0\n30 9000\n31 6A89\n32 ready 0\n33 6E00\n34 9000\n35 9000\n37 off at write 1\n" ++
+        codes "39 ready 0\n41 ready 0\n42 ready 0\n43 9000\n44 6A82\n45 9000\n46 6A82\n47 ready 0\n48 9000\n" ++
+        codes "50 abend 03\n52 abend 06\n54 ready 0\n55 ready 0\n56 9000\n57 9000\n59 abend 06\n60 ready 0\n" ++
+        codes "61 ready 0\n62 6A89\n63 6985\n64 9000\n65 abend 03\n66 abend 06\n68 off at write 4\n" ++
+        codes "69 ready 0\n70 6A89\n71 9000\n72 abend 06\n74 ready 0\n75 ready 0\n76 6985\n77 6985\n" ++
+        codes "78 absent\n79 static 05A00000000900000000000000\n" ++
+        codes "80 static 01A0000000050102030405060708090A0B00\n") }
 {}
 
 /// 5 applications, 5 loads, 2 cuts, an abend, a deletion.
@@ -91,14 +91,14 @@ pub fn deck_of_2_cuts_one_abend_42_answers()
         codes "apdu 8001000204\npower\nfail 2\nselect A000000003\npower\ndump A000000009\ndump A000000002\n" ++
         codes "dump A000000001\n")
         ≡ Ok (
-            codes "2 formatted\n87 ready 0\n88 9000\n89 9000\n90 9000\n91 6A89\n92 6A89\n93 ready 0\n94 9000\n" ++
-            codes "96 6D00\n97 9000\n99 000000009000\n101 6D00\n103 6D00\n104 ready 0\n105 9000\n106 abend 03\n" ++
-            codes "107 ready 0\n108 9000\n109 6A86\n110 6985\n111 9000\n112 9000\n114 6D00\n116 000000009000\n" ++
-            codes "118 6D00\n119 ready 0\n120 9000\n122 off at write 6\n124 ready 0\n125 ready 0\n126 6985\n" ++
-            codes "127 6985\n129 9000\n131 off at write 2\n132 off\n133 ready 0\n135 6A82\n136 ready 0\n" ++
-            codes "137 static 05A000000009000000000000000000000000000000000000000000000000000000000000\n" ++
-            codes "138 static 05A0006735A2AEAD22352323BFCD639865DBB500000000000700\n" ++
-            codes "139 static DF8C718C1CA4CA6F8823CF44980000\n") }
+        codes "2 formatted\n87 ready 0\n88 9000\n89 9000\n90 9000\n91 6A89\n92 6A89\n93 ready 0\n94 9000\n" ++
+        codes "96 6D00\n97 9000\n99 000000009000\n101 6D00\n103 6D00\n104 ready 0\n105 9000\n106 abend 03\n" ++
+        codes "107 ready 0\n108 9000\n109 6A86\n110 6985\n111 9000\n112 9000\n114 6D00\n116 000000009000\n" ++
+        codes "118 6D00\n119 ready 0\n120 9000\n122 off at write 6\n124 ready 0\n125 ready 0\n126 6985\n" ++
+        codes "127 6985\n129 9000\n131 off at write 2\n132 off\n133 ready 0\n135 6A82\n136 ready 0\n" ++
+        codes "137 static 05A000000009000000000000000000000000000000000000000000000000000000000000\n" ++
+        codes "138 static 05A0006735A2AEAD22352323BFCD639865DBB500000000000700\n" ++
+        codes "139 static DF8C718C1CA4CA6F8823CF44980000\n") }
 {}
 
 /// 2 applications, 4 loads, 3 cuts, 5 abends.
@@ -130,13 +130,13 @@ pub fn deck_of_3_cuts_5_abends_50_answers()
         codes "cut 2 1FA58FB868840D76\napdu 8001000010\ncut 6 4F50454E2D322D2D\napdu 80020001028959\npower\n" ++
         codes "dump A0000000040102\ndump A0000000050102030405060708090A0B\ndump A000000003\n")
         ≡ Ok (
-            codes "8 ready 0\n9 9000\n10 9000\n11 9000\n12 abend 03\n13 ready 0\n14 9000\n15 6A89\n16 ready 0\n" ++
-            codes "17 6985\n18 9000\n19 9000\n21 abend 03\n22 9000\n23 A6D574419000\n24 9000\n25 abend 03\n" ++
-            codes "26 ready 0\n27 6985\n28 9000\n29 9000\n30 ready 0\n31 9000\n32 abend 06\n34 9000\n36 ready 0\n" ++
-            codes "38 ready 0\n39 ready 0\n40 9000\n41 9000\n43 off at write 6\n44 off\n45 off\n47 6581\n" ++
-            codes "48 ready 4\n49 9000\n51 off at write 5\n52 off\n54 off\n55 ready 0\n56 6A89\n57 ready 0\n" ++
-            codes "58 9000\n59 abend 06\n61 off at write 2\n63 off\n64 ready 0\n" ++
-            codes "65 static 29E2DCFBB16F63BB0254DF7585A15BB6FB5E927D\n66 absent\n67 static\n") }
+        codes "8 ready 0\n9 9000\n10 9000\n11 9000\n12 abend 03\n13 ready 0\n14 9000\n15 6A89\n16 ready 0\n" ++
+        codes "17 6985\n18 9000\n19 9000\n21 abend 03\n22 9000\n23 A6D574419000\n24 9000\n25 abend 03\n" ++
+        codes "26 ready 0\n27 6985\n28 9000\n29 9000\n30 ready 0\n31 9000\n32 abend 06\n34 9000\n36 ready 0\n" ++
+        codes "38 ready 0\n39 ready 0\n40 9000\n41 9000\n43 off at write 6\n44 off\n45 off\n47 6581\n" ++
+        codes "48 ready 4\n49 9000\n51 off at write 5\n52 off\n54 off\n55 ready 0\n56 6A89\n57 ready 0\n" ++
+        codes "58 9000\n59 abend 06\n61 off at write 2\n63 off\n64 ready 0\n" ++
+        codes "65 static 29E2DCFBB16F63BB0254DF7585A15BB6FB5E927D\n66 absent\n67 static\n") }
 {}
 
 /// 4 applications, 3 loads, 4 cuts, 2 abends.
@@ -181,16 +181,16 @@ pub fn deck_of_4_cuts_2_abends_60_answers()
         codes "cut 5 D3441BAA52A1CEEF\npower\npower\npower\ndump A0000000050102030405060708090A0B\n" ++
         codes "dump A000000003\ndump A0000000040102\ndump A000000009\n")
         ≡ Ok (
-            codes "2 formatted\n129 ready 0\n130 9000\n132 off at write 1\n133 off\n134 off\n136 off\n137 off\n" ++
-            codes "139 ready 0\n141 ready 0\n142 ready 0\n144 9000\n146 6A80\n147 ready 0\n148 6985\n149 9000\n" ++
-            codes "151 abend 03\n152 ready 0\n153 6985\n154 6985\n155 6A82\n156 ready 0\n157 9000\n159 6A80\n" ++
-            codes "160 ready 0\n161 6985\n162 9000\n163 9000\n164 9800D40F6A82\n165 absent\n166 86E300006A82\n" ++
-            codes "168 000000006A82\n170 6A82\n172 abend 03\n173 9000\n174 9000\n176 ready 0\n178 ready 0\n" ++
-            codes "179 ready 0\n180 9000\n181 9000\n182 9000\n184 off at write 3\n186 ready 0\n187 ready 0\n" ++
-            codes "188 9000\n190 off at write 4\n191 off\n192 ready 2\n193 9000\n195 off at write 3\n196 off\n" ++
-            codes "198 off\n200 ready 0\n201 ready 0\n202 ready 0\n203 static 05A06300000943000000000000000000\n" ++
-            codes "204 static 05A000000002FD000000000000000000000000000000000000000007000000000000000000\n" ++
-            codes "205 absent\n206 absent\n") }
+        codes "2 formatted\n129 ready 0\n130 9000\n132 off at write 1\n133 off\n134 off\n136 off\n137 off\n" ++
+        codes "139 ready 0\n141 ready 0\n142 ready 0\n144 9000\n146 6A80\n147 ready 0\n148 6985\n149 9000\n" ++
+        codes "151 abend 03\n152 ready 0\n153 6985\n154 6985\n155 6A82\n156 ready 0\n157 9000\n159 6A80\n" ++
+        codes "160 ready 0\n161 6985\n162 9000\n163 9000\n164 9800D40F6A82\n165 absent\n166 86E300006A82\n" ++
+        codes "168 000000006A82\n170 6A82\n172 abend 03\n173 9000\n174 9000\n176 ready 0\n178 ready 0\n" ++
+        codes "179 ready 0\n180 9000\n181 9000\n182 9000\n184 off at write 3\n186 ready 0\n187 ready 0\n" ++
+        codes "188 9000\n190 off at write 4\n191 off\n192 ready 2\n193 9000\n195 off at write 3\n196 off\n" ++
+        codes "198 off\n200 ready 0\n201 ready 0\n202 ready 0\n203 static 05A06300000943000000000000000000\n" ++
+        codes "204 static 05A000000002FD000000000000000000000000000000000000000007000000000000000000\n" ++
+        codes "205 absent\n206 absent\n") }
 {}
 
 /// One application, a load, 2 cuts, 2 abends.
@@ -217,10 +217,10 @@ pub fn deck_of_2_cuts_2_abends_20_answers()
         codes "select A000000001\ncut 19 534855542D2D2D2D\napdu 8001000108E88A7F5D44B5FBD3\n" ++
         codes "cut 1 D8916B19A3DFD253\npower\nfail 4\npower\npower\nselect A000000001\npower\ndump A000000001\n")
         ≡ Ok (
-            codes "37 ready 0\n38 6A89\n39 6985\n40 9000\n42 off at write 7\n43 ready 3\n44 9000\n46 abend 09\n" ++
-            codes "47 ready 0\n48 9000\n50 off at write 2\n51 ready 0\n52 9000\n54 abend 03\n56 ready 0\n" ++
-            codes "58 ready 0\n59 ready 0\n60 9000\n61 ready 0\n" ++
-            codes "62 static 66E981C8E9D3C65D0DB9761A2A84F87F64F02CCD618A0000000000000000\n") }
+        codes "37 ready 0\n38 6A89\n39 6985\n40 9000\n42 off at write 7\n43 ready 3\n44 9000\n46 abend 09\n" ++
+        codes "47 ready 0\n48 9000\n50 off at write 2\n51 ready 0\n52 9000\n54 abend 03\n56 ready 0\n" ++
+        codes "58 ready 0\n59 ready 0\n60 9000\n61 ready 0\n" ++
+        codes "62 static 66E981C8E9D3C65D0DB9761A2A84F87F64F02CCD618A0000000000000000\n") }
 {}
 
 /// 3 applications, 5 loads, 3 cuts, 2 abends, a deletion.
@@ -250,14 +250,14 @@ pub fn deck_of_3_cuts_2_abends_56_answers()
         codes "power\ndump A000000001\ndump A0000000040102\ndump A000000002\n" ++
         codes "dump A0000000050102030405060708090A0B\n")
         ≡ Ok (
-            codes "2 formatted\n6 ready 0\n7 9000\n8 9000\n9 6A89\n10 6A89\n11 9000\n13 off at write 5\n" ++
-            codes "15 off at write 2\n16 ready 2\n17 9000\n18 6A82\n19 6A82\n21 6985\n22 ready 0\n23 6985\n" ++
-            codes "24 9000\n25 9000\n27 6581\n28 ready 0\n29 9000\n30 9000\n32 9000\n34 off at write 5\n" ++
-            codes "35 ready 0\n36 6A89\n37 absent\n38 9000\n39 6A82\n40 9000\n42 ready 0\n43 ready 0\n44 6A82\n" ++
-            codes "45 6985\n47 6A82\n48 6985\n49 6A82\n50 6985\n52 ready 0\n53 ready 0\n55 6985\n57 6985\n" ++
-            codes "58 9000\n59 ready 0\n60 6A82\n61 9000\n62 abend 03\n63 9000\n64 abend 03\n65 ready 0\n" ++
-            codes "66 9000\n67 ready 0\n68 static 1006070809050707080905080708090A0B0000\n69 absent\n70 absent\n" ++
-            codes "71 absent\n") }
+        codes "2 formatted\n6 ready 0\n7 9000\n8 9000\n9 6A89\n10 6A89\n11 9000\n13 off at write 5\n" ++
+        codes "15 off at write 2\n16 ready 2\n17 9000\n18 6A82\n19 6A82\n21 6985\n22 ready 0\n23 6985\n" ++
+        codes "24 9000\n25 9000\n27 6581\n28 ready 0\n29 9000\n30 9000\n32 9000\n34 off at write 5\n" ++
+        codes "35 ready 0\n36 6A89\n37 absent\n38 9000\n39 6A82\n40 9000\n42 ready 0\n43 ready 0\n44 6A82\n" ++
+        codes "45 6985\n47 6A82\n48 6985\n49 6A82\n50 6985\n52 ready 0\n53 ready 0\n55 6985\n57 6985\n" ++
+        codes "58 9000\n59 ready 0\n60 6A82\n61 9000\n62 abend 03\n63 9000\n64 abend 03\n65 ready 0\n" ++
+        codes "66 9000\n67 ready 0\n68 static 1006070809050707080905080708090A0B0000\n69 absent\n70 absent\n" ++
+        codes "71 absent\n") }
 {}
 
 /// 2 applications, 3 loads, 3 cuts, 3 abends, 2 deletions.
@@ -292,13 +292,13 @@ pub fn deck_of_3_cuts_3_abends_67_answers()
         codes "apdu 8005000202FEB108\ncut 6 4D454C0120000083\napdu 8005000210DEBE5589CA6B6D5A6225FAD4ED120F9308\n" ++
         codes "apdu 80030000019B\npower\ndump A000000003\ndump A000000001\ndump A0000000040102\ndump A000000002\n")
         ≡ Ok (
-            codes "2 formatted\n5 ready 0\n6 9000\n7 9000\n8 ready 0\n9 9000\n10 abend 04\n12 abend 03\n" ++
-            codes "14 off at write 4\n15 ready 2\n16 9000\n17 6985\n18 6A82\n20 6985\n21 6985\n22 6985\n" ++
-            codes "23 ready 0\n24 9000\n25 6D00\n27 6581\n29 ready 0\n30 ready 0\n31 6A89\n32 6A82\n33 9000\n" ++
-            codes "35 9000\n36 6D00\n38 off at write 2\n40 ready 0\n41 ready 0\n43 6985\n44 9000\n45 6D00\n" ++
-            codes "47 ready 0\n48 ready 0\n49 6A82\n51 6985\n52 ready 0\n53 6A82\n55 6985\n56 ready 0\n57 9000\n" ++
-            codes "58 9000\n59 6D00\n60 abend 06\n61 6A82\n63 6D00\n64 ready 0\n65 9000\n66 6A82\n68 6D00\n" ++
-            codes "69 ready 0\n70 ready 0\n71 6985\n72 ready 0\n73 static 01A0000000020000000006000000\n74 6A82\n" ++
-            codes "75 6985\n76 9000\n78 6D00\n80 off at write 6\n81 off\n82 ready 0\n83 absent\n" ++
-            codes "84 static 01A0000000020000000008000000\n85 absent\n86 absent\n") }
+        codes "2 formatted\n5 ready 0\n6 9000\n7 9000\n8 ready 0\n9 9000\n10 abend 04\n12 abend 03\n" ++
+        codes "14 off at write 4\n15 ready 2\n16 9000\n17 6985\n18 6A82\n20 6985\n21 6985\n22 6985\n" ++
+        codes "23 ready 0\n24 9000\n25 6D00\n27 6581\n29 ready 0\n30 ready 0\n31 6A89\n32 6A82\n33 9000\n" ++
+        codes "35 9000\n36 6D00\n38 off at write 2\n40 ready 0\n41 ready 0\n43 6985\n44 9000\n45 6D00\n" ++
+        codes "47 ready 0\n48 ready 0\n49 6A82\n51 6985\n52 ready 0\n53 6A82\n55 6985\n56 ready 0\n57 9000\n" ++
+        codes "58 9000\n59 6D00\n60 abend 06\n61 6A82\n63 6D00\n64 ready 0\n65 9000\n66 6A82\n68 6D00\n" ++
+        codes "69 ready 0\n70 ready 0\n71 6985\n72 ready 0\n73 static 01A0000000020000000006000000\n74 6A82\n" ++
+        codes "75 6985\n76 9000\n78 6D00\n80 off at write 6\n81 off\n82 ready 0\n83 absent\n" ++
+        codes "84 static 01A0000000020000000008000000\n85 absent\n86 absent\n") }
 {}

@@ -45,17 +45,17 @@ pub fn one_abend_manager_commands_77_answers()
         codes "apdu 9002000205673BF8BC75\npower\ndump A000000009\ndump A000000001\ndump A000000002\n" ++
         codes "dump A000000003\n")
         ≡ Ok (
-            codes "2 formatted\n6 ready 0\n7 9000\n8 9000\n9 9000\n10 9000\n12 6D00\n13 9000\n14 9000\n15 6D00\n" ++
-            codes "17 ready 0\n18 ready 0\n19 9000\n21 6581\n22 ready 0\n23 6985\n24 9000\n25 6A89\n26 9000\n" ++
-            codes "27 9000\n28 9000\n29 9000\n30 6A89\n31 9000\n33 6D00\n35 9001\n36 ready 0\n37 ready 0\n" ++
-            codes "38 static 9300000000000000\n39 6700\n40 6985\n41 6985\n42 9000\n43 9000\n45 6D00\n46 6D00\n" ++
-            codes "48 9000\n49 ready 0\n51 9000\n52 9000\n53 ready 0\n54 9000\n55 abend 04\n56 6D00\n57 ready 0\n" ++
-            codes "58 6985\n59 6985\n60 6985\n61 9000\n63 9000\n65 9000\n66 9000\n67 9000\n68 9000\n69 9000\n" ++
-            codes "70 9000\n71 9000\n72 9000\n73 9000\n74 9000\n75 9000\n76 9000\n77 9000\n78 9000\n79 9000\n" ++
-            codes "80 9000\n81 9000\n82 6A80\n83 6985\n84 6985\n85 9000\n86 6D00\n87 ready 0\n" ++
-            codes "88 static 10A0000000050102030407060708090A07E3C1FF7EF554E47E00CF610000000000\n" ++
-            codes "89 static 9300000000000000\n90 static 10A0000000050102030405060708090A0B07A0000000040102\n" ++
-            codes "91 absent\n") }
+        codes "2 formatted\n6 ready 0\n7 9000\n8 9000\n9 9000\n10 9000\n12 6D00\n13 9000\n14 9000\n15 6D00\n" ++
+        codes "17 ready 0\n18 ready 0\n19 9000\n21 6581\n22 ready 0\n23 6985\n24 9000\n25 6A89\n26 9000\n" ++
+        codes "27 9000\n28 9000\n29 9000\n30 6A89\n31 9000\n33 6D00\n35 9001\n36 ready 0\n37 ready 0\n" ++
+        codes "38 static 9300000000000000\n39 6700\n40 6985\n41 6985\n42 9000\n43 9000\n45 6D00\n46 6D00\n" ++
+        codes "48 9000\n49 ready 0\n51 9000\n52 9000\n53 ready 0\n54 9000\n55 abend 04\n56 6D00\n57 ready 0\n" ++
+        codes "58 6985\n59 6985\n60 6985\n61 9000\n63 9000\n65 9000\n66 9000\n67 9000\n68 9000\n69 9000\n" ++
+        codes "70 9000\n71 9000\n72 9000\n73 9000\n74 9000\n75 9000\n76 9000\n77 9000\n78 9000\n79 9000\n" ++
+        codes "80 9000\n81 9000\n82 6A80\n83 6985\n84 6985\n85 9000\n86 6D00\n87 ready 0\n" ++
+        codes "88 static 10A0000000050102030407060708090A07E3C1FF7EF554E47E00CF610000000000\n" ++
+        codes "89 static 9300000000000000\n90 static 10A0000000050102030405060708090A0B07A0000000040102\n" ++
+        codes "91 absent\n") }
 {}
 
 /// 5 applications, 6 loads, 4 abends, 26 manager commands.
@@ -100,16 +100,16 @@ pub fn deck_of_4_abends_manager_commands_58_answers()
         codes "dump A000000001\nselect A000000001\ncut 6 4D454C0120000083\napdu 8001000010\npower\nload u1 9 0\n" ++
         codes "power\ndump A000000002\ndump A000000001\n")
         ≡ Ok (
-            codes "2 formatted\n61 ready 0\n62 ready 0\n63 9000\n64 6A89\n65 9000\n66 6A89\n67 6A89\n68 9000\n" ++
-            codes "69 abend 04\n71 ready 0\n72 ready 0\n73 9000\n74 9000\n75 9000\n76 9000\n77 9000\n78 9000\n" ++
-            codes "79 9000\n80 9000\n81 9000\n82 9000\n83 9000\n84 9000\n85 9000\n86 9000\n87 9000\n88 9000\n" ++
-            codes "89 9000\n90 9000\n91 9000\n92 9000\n93 6A89\n94 9000\n95 9000\n96 9000\n97 9000\n98 6A89\n" ++
-            codes "99 9000\n101 9000\n103 abend 04\n104 ready 0\n105 6985\n106 9000\n107 9000\n109 abend 04\n" ++
-            codes "111 ready 0\n113 ready 0\n114 ready 0\n" ++
-            codes "115 static 05A00000000310A0000000050102030405060708090A0B000000000000000000\n" ++
-            codes "116 static 31D9DA31D08D5F8A00\n117 9000\n119 abend 04\n120 ready 0\n121 6A89\n122 ready 0\n" ++
-            codes "123 static 05A00000000310A0000000050102030405060708090A0B000000000000000000\n" ++
-            codes "124 static 31D9DA31D08D5F8A00\n") }
+        codes "2 formatted\n61 ready 0\n62 ready 0\n63 9000\n64 6A89\n65 9000\n66 6A89\n67 6A89\n68 9000\n" ++
+        codes "69 abend 04\n71 ready 0\n72 ready 0\n73 9000\n74 9000\n75 9000\n76 9000\n77 9000\n78 9000\n" ++
+        codes "79 9000\n80 9000\n81 9000\n82 9000\n83 9000\n84 9000\n85 9000\n86 9000\n87 9000\n88 9000\n" ++
+        codes "89 9000\n90 9000\n91 9000\n92 9000\n93 6A89\n94 9000\n95 9000\n96 9000\n97 9000\n98 6A89\n" ++
+        codes "99 9000\n101 9000\n103 abend 04\n104 ready 0\n105 6985\n106 9000\n107 9000\n109 abend 04\n" ++
+        codes "111 ready 0\n113 ready 0\n114 ready 0\n" ++
+        codes "115 static 05A00000000310A0000000050102030405060708090A0B000000000000000000\n" ++
+        codes "116 static 31D9DA31D08D5F8A00\n117 9000\n119 abend 04\n120 ready 0\n121 6A89\n122 ready 0\n" ++
+        codes "123 static 05A00000000310A0000000050102030405060708090A0B000000000000000000\n" ++
+        codes "124 static 31D9DA31D08D5F8A00\n") }
 {}
 
 /// 5 applications, 5 loads, a deletion.
@@ -157,9 +157,9 @@ pub fn deck_of_23_answers()
         codes "apdu 8003000210193F1DEFC6759EBB8B8C6C16C6C0BB3208\npower\ndump A000000003\napdu 0005000208\n" ++
         codes "dump A000000003\n")
         ≡ Ok (
-            codes "111 ready 0\n112 ready 0\n113 6A89\n114 6A89\n115 6A89\n116 6A89\n117 6A89\n118 9000\n" ++
-            codes "119 6A82\n120 6985\n121 6A82\n123 6985\n124 6985\n126 ready 0\n128 ready 0\n129 ready 0\n" ++
-            codes "130 6A86\n131 6A82\n132 6985\n133 ready 0\n134 absent\n135 6985\n136 absent\n") }
+        codes "111 ready 0\n112 ready 0\n113 6A89\n114 6A89\n115 6A89\n116 6A89\n117 6A89\n118 9000\n" ++
+        codes "119 6A82\n120 6985\n121 6A82\n123 6985\n124 6985\n126 ready 0\n128 ready 0\n129 ready 0\n" ++
+        codes "130 6A86\n131 6A82\n132 6985\n133 ready 0\n134 absent\n135 6985\n136 absent\n") }
 {}
 
 /// 4 applications, 3 loads, 2 abends.
@@ -185,10 +185,10 @@ pub fn deck_of_2_abends_24_answers()
         codes "select A000000003\ncut 118 0000000000000000\nfail 4\ndump A000000003\ndump A0000000040102\n" ++
         codes "dump A000000002\ndump A0000000050102030405060708090A0B\ndump A000000001\n")
         ≡ Ok (
-            codes "2 formatted\n28 ready 0\n29 ready 0\n30 9000\n31 9000\n32 9000\n34 6985\n35 9000\n36 ready 0\n" ++
-            codes "37 9000\n38 6A82\n39 static 05A000000002040000\n40 6A86\n41 abend 06\n43 9000\n44 abend 07\n" ++
-            codes "45 9000\n47 ready 0\n48 9000\n51 static 05A000000002\n52 absent\n53 absent\n" ++
-            codes "54 static 05A000000002040000\n55 static 01A000000001E8\n") }
+        codes "2 formatted\n28 ready 0\n29 ready 0\n30 9000\n31 9000\n32 9000\n34 6985\n35 9000\n36 ready 0\n" ++
+        codes "37 9000\n38 6A82\n39 static 05A000000002040000\n40 6A86\n41 abend 06\n43 9000\n44 abend 07\n" ++
+        codes "45 9000\n47 ready 0\n48 9000\n51 static 05A000000002\n52 absent\n53 absent\n" ++
+        codes "54 static 05A000000002040000\n55 static 01A000000001E8\n") }
 {}
 
 /// 2 applications, 2 loads, a deletion.
@@ -215,10 +215,10 @@ pub fn deck_of_36_answers()
         codes "power\ndump A000000009\ndump A000000003\ndump A0000000040102\n" ++
         codes "dump A0000000050102030405060708090A0B\n")
         ≡ Ok (
-            codes "2 formatted\n4 ready 0\n5 6A80\n6 ready 0\n7 ready 0\n8 6A82\n9 6A82\n10 ready 0\n11 ready 0\n" ++
-            codes "13 6985\n14 ready 0\n15 6A82\n16 ready 0\n17 absent\n18 6A82\n20 6985\n21 ready 0\n22 6A82\n" ++
-            codes "23 6A82\n24 ready 0\n25 6985\n26 6A82\n28 6985\n29 6985\n30 ready 0\n31 6A82\n32 6A80\n" ++
-            codes "34 6985\n35 6A82\n36 6A82\n37 6A82\n38 ready 0\n39 absent\n40 absent\n41 absent\n42 absent\n") }
+        codes "2 formatted\n4 ready 0\n5 6A80\n6 ready 0\n7 ready 0\n8 6A82\n9 6A82\n10 ready 0\n11 ready 0\n" ++
+        codes "13 6985\n14 ready 0\n15 6A82\n16 ready 0\n17 absent\n18 6A82\n20 6985\n21 ready 0\n22 6A82\n" ++
+        codes "23 6A82\n24 ready 0\n25 6985\n26 6A82\n28 6985\n29 6985\n30 ready 0\n31 6A82\n32 6A80\n" ++
+        codes "34 6985\n35 6A82\n36 6A82\n37 6A82\n38 ready 0\n39 absent\n40 absent\n41 absent\n42 absent\n") }
 {}
 
 /// 3 applications, 2 loads, 2 abends, a deletion.
@@ -252,10 +252,10 @@ pub fn deck_of_2_abends_21_answers()
         codes "apdu 8002000004\nfail 1\napdu 8003000204\npower\npower\ndump A0000000050102030405060708090A0B\n" ++
         codes "dump A000000002\ndump A0000000040102\ndump A000000001\ndump A000000003\n")
         ≡ Ok (
-            codes "10 ready 0\n11 9000\n12 9000\n14 6985\n15 9000\n16 absent\n17 abend 03\n18 absent\n" ++
-            codes "20 00006A82\n21 6985\n22 4100029001\n23 9000\n24 abend 03\n26 6581\n27 ready 0\n28 ready 0\n" ++
-            codes "29 static 10A0000000050102030405060708090A0B88688CE6D2CD4B7CB05BBEA7ED\n30 absent\n" ++
-            codes "31 static 07A000000004010205A000000001000000000000000000\n32 absent\n33 absent\n") }
+        codes "10 ready 0\n11 9000\n12 9000\n14 6985\n15 9000\n16 absent\n17 abend 03\n18 absent\n" ++
+        codes "20 00006A82\n21 6985\n22 4100029001\n23 9000\n24 abend 03\n26 6581\n27 ready 0\n28 ready 0\n" ++
+        codes "29 static 10A0000000050102030405060708090A0B88688CE6D2CD4B7CB05BBEA7ED\n30 absent\n" ++
+        codes "31 static 07A000000004010205A000000001000000000000000000\n32 absent\n33 absent\n") }
 {}
 
 /// 4 applications, a load, 14 manager commands, 3 deletions.
@@ -298,14 +298,14 @@ pub fn manager_commands_67_answers()
         codes "dump A000000002\napdu 00020101FF\ndump A0000000040102\ndump A000000002\n" ++
         codes "dump A0000000050102030405060708090A0B\ndump A000000003\n")
         ≡ Ok (
-            codes "2 formatted\n22 ready 0\n24 6581\n25 ready 0\n26 9000\n27 9000\n28 9000\n29 9000\n30 9000\n" ++
-            codes "31 9000\n32 9000\n33 9000\n34 9000\n35 9000\n36 9000\n37 9000\n38 9000\n39 9000\n40 6700\n" ++
-            codes "41 6A82\n42 6A82\n43 6985\n44 6A82\n45 6985\n46 6985\n47 ready 0\n48 ready 0\n49 6A82\n" ++
-            codes "51 6985\n52 ready 0\n53 6A82\n54 6A82\n55 6985\n56 ready 0\n57 6A82\n58 6985\n59 6985\n" ++
-            codes "60 6A82\n61 6985\n62 6985\n63 ready 0\n64 6985\n65 6985\n66 6A82\n67 6A82\n68 6A82\n69 6A82\n" ++
-            codes "71 6985\n72 ready 0\n73 6A82\n74 6A82\n76 6985\n77 6A82\n79 6985\n81 6985\n82 ready 0\n" ++
-            codes "83 6A82\n84 6A82\n85 6A82\n87 6985\n88 ready 0\n89 absent\n90 6985\n91 absent\n92 absent\n" ++
-            codes "93 static 07A000000004010200\n94 absent\n") }
+        codes "2 formatted\n22 ready 0\n24 6581\n25 ready 0\n26 9000\n27 9000\n28 9000\n29 9000\n30 9000\n" ++
+        codes "31 9000\n32 9000\n33 9000\n34 9000\n35 9000\n36 9000\n37 9000\n38 9000\n39 9000\n40 6700\n" ++
+        codes "41 6A82\n42 6A82\n43 6985\n44 6A82\n45 6985\n46 6985\n47 ready 0\n48 ready 0\n49 6A82\n" ++
+        codes "51 6985\n52 ready 0\n53 6A82\n54 6A82\n55 6985\n56 ready 0\n57 6A82\n58 6985\n59 6985\n" ++
+        codes "60 6A82\n61 6985\n62 6985\n63 ready 0\n64 6985\n65 6985\n66 6A82\n67 6A82\n68 6A82\n69 6A82\n" ++
+        codes "71 6985\n72 ready 0\n73 6A82\n74 6A82\n76 6985\n77 6A82\n79 6985\n81 6985\n82 ready 0\n" ++
+        codes "83 6A82\n84 6A82\n85 6A82\n87 6985\n88 ready 0\n89 absent\n90 6985\n91 absent\n92 absent\n" ++
+        codes "93 static 07A000000004010200\n94 absent\n") }
 {}
 
 /// 5 applications, 7 loads, an abend.
@@ -353,12 +353,12 @@ pub fn one_abend_mute_card_44_answers()
         codes "cut 5 0000000000000000\npower\npower\npower\ndump A0000000040102\ndump A000000003\n" ++
         codes "dump A000000009\n")
         ≡ Ok (
-            codes "115 ready 0\n116 ready 0\n118 6581\n119 mute\n120 mute\n121 mute\n122 mute\n123 mute\n" ++
-            codes "125 mute\n127 ready 0\n129 ready 0\n130 ready 0\n131 6985\n132 6985\n133 6A82\n134 6985\n" ++
-            codes "136 6985\n138 6985\n139 ready 0\n140 6985\n141 6A82\n142 6985\n143 ready 0\n144 6A86\n" ++
-            codes "147 6A82\n149 6985\n150 6985\n151 ready 0\n154 6985\n155 9000\n156 6A89\n157 6985\n158 9000\n" ++
-            codes "160 9000\n161 abend 03\n163 6581\n165 ready 0\n167 ready 0\n169 ready 0\n170 ready 0\n" ++
-            codes "171 ready 0\n172 absent\n173 static 5800000000000000\n174 absent\n") }
+        codes "115 ready 0\n116 ready 0\n118 6581\n119 mute\n120 mute\n121 mute\n122 mute\n123 mute\n" ++
+        codes "125 mute\n127 ready 0\n129 ready 0\n130 ready 0\n131 6985\n132 6985\n133 6A82\n134 6985\n" ++
+        codes "136 6985\n138 6985\n139 ready 0\n140 6985\n141 6A82\n142 6985\n143 ready 0\n144 6A86\n" ++
+        codes "147 6A82\n149 6985\n150 6985\n151 ready 0\n154 6985\n155 9000\n156 6A89\n157 6985\n158 9000\n" ++
+        codes "160 9000\n161 abend 03\n163 6581\n165 ready 0\n167 ready 0\n169 ready 0\n170 ready 0\n" ++
+        codes "171 ready 0\n172 absent\n173 static 5800000000000000\n174 absent\n") }
 {}
 
 /// 5 applications, 3 loads.
@@ -398,10 +398,10 @@ pub fn deck_of_19_answers()
         codes "cut 1 4F50454E2D312D2D\napdu 8001000008A6CAAFC466A504F2\ncut 2 FFFFFFFFFFFFFFFF\napdu 8003000104\n" ++
         codes "power\ndump A000000009\npower\ndump A000000009\n")
         ≡ Ok (
-            codes "2 formatted\n106 ready 0\n107 9000\n108 6A89\n109 6A89\n110 9000\n111 9000\n113 9000\n" ++
-            codes "114 6A80\n115 ready 0\n118 6985\n119 ready 0\n120 9000\n122 6A80\n124 9000\n125 ready 0\n" ++
-            codes "126 static 05A000000003C33A7A51C834821B00000000000000\n127 ready 0\n" ++
-            codes "128 static 05A000000003C33A7A51C834821B00000000000000\n") }
+        codes "2 formatted\n106 ready 0\n107 9000\n108 6A89\n109 6A89\n110 9000\n111 9000\n113 9000\n" ++
+        codes "114 6A80\n115 ready 0\n118 6985\n119 ready 0\n120 9000\n122 6A80\n124 9000\n125 ready 0\n" ++
+        codes "126 static 05A000000003C33A7A51C834821B00000000000000\n127 ready 0\n" ++
+        codes "128 static 05A000000003C33A7A51C834821B00000000000000\n") }
 {}
 
 /// 3 applications, a load, an abend, 14 manager commands.
@@ -439,12 +439,12 @@ pub fn one_abend_manager_commands_33_answers()
         codes "apdu 8002000108FB0FE36A9F29972208\npower\ndump A000000001\ndump A000000003\ndump A000000009\n" ++
         codes "dump A000000002\ndump A0000000050102030405060708090A0B\n")
         ≡ Ok (
-            codes "2 formatted\n91 ready 0\n92 9000\n93 9000\n94 ready 0\n95 6985\n96 9000\n97 9000\n98 9000\n" ++
-            codes "99 9000\n100 9000\n101 6700\n102 9000\n103 9000\n104 9000\n105 9000\n106 9000\n107 9000\n" ++
-            codes "108 9000\n109 9000\n110 9000\n111 9000\n112 9000\n114 abend 04\n115 9000\n116 ready 0\n" ++
-            codes "117 6985\n118 ready 0\n" ++
-            codes "119 static 010000000000000000000000000000000000000000000000000000000000\n120 absent\n" ++
-            codes "121 static 05A00000000169F59145655F01BD35E69C3596\n122 absent\n123 absent\n") }
+        codes "2 formatted\n91 ready 0\n92 9000\n93 9000\n94 ready 0\n95 6985\n96 9000\n97 9000\n98 9000\n" ++
+        codes "99 9000\n100 9000\n101 6700\n102 9000\n103 9000\n104 9000\n105 9000\n106 9000\n107 9000\n" ++
+        codes "108 9000\n109 9000\n110 9000\n111 9000\n112 9000\n114 abend 04\n115 9000\n116 ready 0\n" ++
+        codes "117 6985\n118 ready 0\n" ++
+        codes "119 static 010000000000000000000000000000000000000000000000000000000000\n120 absent\n" ++
+        codes "121 static 05A00000000169F59145655F01BD35E69C3596\n122 absent\n123 absent\n") }
 {}
 
 /// 3 applications, 2 loads, 5 abends, 15 manager commands, 3 deletions.
@@ -499,15 +499,15 @@ pub fn deck_of_5_abends_mute_card_manager_commands_67_answers()
         codes "apdu BE22000803040102\napdu BE160000\napdu 8002000108\npower\ndump A000000003\ndump A000000009\n" ++
         codes "dump A000000002\ndump A0000000040102\ndump A000000001\n")
         ≡ Ok (
-            codes "88 ready 5\n89 ready 0\n90 9000\n91 6985\n92 6A82\n93 6A82\n95 6985\n97 ready 0\n98 ready 0\n" ++
-            codes "99 6985\n100 6A82\n101 6A82\n103 6985\n104 6985\n105 6A82\n106 6985\n108 ready 0\n" ++
-            codes "110 ready 0\n112 ready 0\n113 ready 0\n114 9000\n116 abend 03\n117 ready 0\n118 6A82\n" ++
-            codes "119 9000\n121 abend 04\n123 abend 03\n125 abend 03\n126 ready 0\n127 6A82\n128 9000\n" ++
-            codes "130 9000\n132 00009000\n133 abend 03\n134 ready 0\n135 6A82\n136 6A82\n138 6985\n140 6985\n" ++
-            codes "141 6A82\n143 6985\n145 ready 0\n146 ready 0\n147 9000\n148 6A82\n149 9000\n150 9000\n" ++
-            codes "151 9000\n153 6581\n154 mute\n155 mute\n156 mute\n157 mute\n158 mute\n159 mute\n160 mute\n" ++
-            codes "161 mute\n162 mute\n163 mute\n164 mute\n165 mute\n166 ready 0\n167 absent\n168 absent\n" ++
-            codes "169 absent\n170 static 05A00000000272DCB0FBB6A9AC68\n171 absent\n") }
+        codes "88 ready 5\n89 ready 0\n90 9000\n91 6985\n92 6A82\n93 6A82\n95 6985\n97 ready 0\n98 ready 0\n" ++
+        codes "99 6985\n100 6A82\n101 6A82\n103 6985\n104 6985\n105 6A82\n106 6985\n108 ready 0\n" ++
+        codes "110 ready 0\n112 ready 0\n113 ready 0\n114 9000\n116 abend 03\n117 ready 0\n118 6A82\n" ++
+        codes "119 9000\n121 abend 04\n123 abend 03\n125 abend 03\n126 ready 0\n127 6A82\n128 9000\n" ++
+        codes "130 9000\n132 00009000\n133 abend 03\n134 ready 0\n135 6A82\n136 6A82\n138 6985\n140 6985\n" ++
+        codes "141 6A82\n143 6985\n145 ready 0\n146 ready 0\n147 9000\n148 6A82\n149 9000\n150 9000\n" ++
+        codes "151 9000\n153 6581\n154 mute\n155 mute\n156 mute\n157 mute\n158 mute\n159 mute\n160 mute\n" ++
+        codes "161 mute\n162 mute\n163 mute\n164 mute\n165 mute\n166 ready 0\n167 absent\n168 absent\n" ++
+        codes "169 absent\n170 static 05A00000000272DCB0FBB6A9AC68\n171 absent\n") }
 {}
 
 /// 5 applications, 6 loads, 4 abends, 9 manager commands, a deletion.
@@ -552,13 +552,13 @@ pub fn deck_of_4_abends_mute_card_manager_commands_57_answers()
         codes "apdu 8004000204\ncut 4 0000000000000001\npower\npower\npower\n" ++
         codes "dump A0000000050102030405060708090A0B\ndump A000000002\ndump A000000001\n")
         ≡ Ok (
-            codes "2 formatted\n30 ready 0\n31 9000\n32 6A80\n33 6A89\n34 6A89\n35 6A89\n36 9000\n38 6581\n" ++
-            codes "40 mute\n42 mute\n43 ready 2\n44 9000\n46 6D00\n48 abend 03\n50 abend 03\n52 ready 0\n" ++
-            codes "53 ready 0\n54 6985\n55 6A89\n56 ready 0\n57 9000\n58 6A82\n59 absent\n60 9000\n61 abend 03\n" ++
-            codes "62 ready 0\n63 9000\n65 6D00\n66 ready 0\n67 9000\n68 9000\n69 9000\n70 9000\n71 9000\n" ++
-            codes "72 9000\n73 9000\n74 9000\n75 6A89\n76 9000\n78 6581\n80 ready 0\n82 ready 0\n83 ready 0\n" ++
-            codes "84 6A82\n85 6985\n87 absent\n88 6985\n89 9000\n91 abend 03\n92 6D00\n94 ready 0\n95 ready 0\n" ++
-            codes "96 ready 0\n97 static 0003\n98 absent\n99 absent\n") }
+        codes "2 formatted\n30 ready 0\n31 9000\n32 6A80\n33 6A89\n34 6A89\n35 6A89\n36 9000\n38 6581\n" ++
+        codes "40 mute\n42 mute\n43 ready 2\n44 9000\n46 6D00\n48 abend 03\n50 abend 03\n52 ready 0\n" ++
+        codes "53 ready 0\n54 6985\n55 6A89\n56 ready 0\n57 9000\n58 6A82\n59 absent\n60 9000\n61 abend 03\n" ++
+        codes "62 ready 0\n63 9000\n65 6D00\n66 ready 0\n67 9000\n68 9000\n69 9000\n70 9000\n71 9000\n" ++
+        codes "72 9000\n73 9000\n74 9000\n75 6A89\n76 9000\n78 6581\n80 ready 0\n82 ready 0\n83 ready 0\n" ++
+        codes "84 6A82\n85 6985\n87 absent\n88 6985\n89 9000\n91 abend 03\n92 6D00\n94 ready 0\n95 ready 0\n" ++
+        codes "96 ready 0\n97 static 0003\n98 absent\n99 absent\n") }
 {}
 
 /// 3 applications, 4 loads, 2 abends.
@@ -580,9 +580,9 @@ pub fn deck_of_2_abends_21_answers_2()
         codes "apdu 8004000108\ncut 3 0000000000000000\nselect A000000009\napdu 9001010008\npower\nload u2 7 8\n" ++
         codes "power\ndump A000000001\ndump A000000009\n")
         ≡ Ok (
-            codes "2 formatted\n38 ready 0\n39 ready 0\n40 9000\n41 6A89\n42 6A89\n43 absent\n44 9000\n" ++
-            codes "45 abend 03\n46 6D00\n48 ready 0\n49 ready 0\n50 6985\n52 6985\n54 9000\n55 abend 03\n" ++
-            codes "56 ready 0\n57 6A89\n58 ready 0\n59 absent\n60 static 01000000000000\n") }
+        codes "2 formatted\n38 ready 0\n39 ready 0\n40 9000\n41 6A89\n42 6A89\n43 absent\n44 9000\n" ++
+        codes "45 abend 03\n46 6D00\n48 ready 0\n49 ready 0\n50 6985\n52 6985\n54 9000\n55 abend 03\n" ++
+        codes "56 ready 0\n57 6A89\n58 ready 0\n59 absent\n60 static 01000000000000\n") }
 {}
 
 /// One application, 4 loads, 11 abends.
@@ -607,13 +607,13 @@ pub fn deck_of_11_abends_56_answers()
         codes "cut 10 4F50454E2D322D2D\napdu 8005000104\npower\npower\ndump A000000009\ndump A000000001\n" ++
         codes "dump A000000003\ndump A0000000050102030405060708090A0B\n")
         ≡ Ok (
-            codes "2 formatted\n31 ready 0\n32 9000\n33 6A89\n34 6985\n35 6985\n36 9000\n37 abend 03\n38 9000\n" ++
-            codes "40 abend 03\n41 9000\n43 abend 03\n44 ready 0\n45 ready 0\n47 9000\n49 abend 03\n51 abend 03\n" ++
-            codes "53 ready 0\n54 ready 0\n55 ready 0\n56 ready 0\n57 6A82\n58 6985\n59 6700\n60 ready 0\n" ++
-            codes "61 6985\n62 9000\n63 9000\n64 9000\n65 abend 03\n66 9000\n67 abend 03\n68 abend 03\n" ++
-            codes "70 ready 0\n71 ready 0\n72 6985\n73 6A89\n74 ready 0\n75 6A82\n76 6A89\n77 6985\n78 6700\n" ++
-            codes "79 6985\n81 6985\n82 9000\n84 abend 03\n85 9000\n87 abend 03\n88 9000\n90 abend 03\n" ++
-            codes "91 ready 0\n92 ready 0\n93 static\n94 absent\n95 absent\n96 absent\n") }
+        codes "2 formatted\n31 ready 0\n32 9000\n33 6A89\n34 6985\n35 6985\n36 9000\n37 abend 03\n38 9000\n" ++
+        codes "40 abend 03\n41 9000\n43 abend 03\n44 ready 0\n45 ready 0\n47 9000\n49 abend 03\n51 abend 03\n" ++
+        codes "53 ready 0\n54 ready 0\n55 ready 0\n56 ready 0\n57 6A82\n58 6985\n59 6700\n60 ready 0\n" ++
+        codes "61 6985\n62 9000\n63 9000\n64 9000\n65 abend 03\n66 9000\n67 abend 03\n68 abend 03\n" ++
+        codes "70 ready 0\n71 ready 0\n72 6985\n73 6A89\n74 ready 0\n75 6A82\n76 6A89\n77 6985\n78 6700\n" ++
+        codes "79 6985\n81 6985\n82 9000\n84 abend 03\n85 9000\n87 abend 03\n88 9000\n90 abend 03\n" ++
+        codes "91 ready 0\n92 ready 0\n93 static\n94 absent\n95 absent\n96 absent\n") }
 {}
 
 /// 4 applications, 4 loads, an abend, 16 manager commands.
@@ -659,8 +659,8 @@ pub fn one_abend_mute_card_manager_commands_36_answers()
         codes "apdu BE24004808FE4602000019005A\napdu BE240050080600040022000028\napdu BE2400580707042102252D01\n" ++
         codes "apdu BE160000\npower\ndump A000000009\n")
         ≡ Ok (
-            codes "64 ready 0\n65 6A89\n66 6A89\n68 6581\n69 mute\n70 mute\n72 mute\n74 mute\n75 mute\n76 mute\n" ++
-            codes "78 ready 0\n79 ready 0\n80 9000\n81 abend 03\n82 ready 0\n83 6A82\n84 6985\n85 9000\n86 9000\n" ++
-            codes "87 9000\n88 9000\n89 9000\n90 9000\n91 9000\n92 9000\n93 9000\n94 9000\n95 9000\n96 9000\n" ++
-            codes "97 9000\n98 9000\n99 9000\n100 9000\n101 6A89\n102 ready 0\n103 static\n") }
+        codes "64 ready 0\n65 6A89\n66 6A89\n68 6581\n69 mute\n70 mute\n72 mute\n74 mute\n75 mute\n76 mute\n" ++
+        codes "78 ready 0\n79 ready 0\n80 9000\n81 abend 03\n82 ready 0\n83 6A82\n84 6985\n85 9000\n86 9000\n" ++
+        codes "87 9000\n88 9000\n89 9000\n90 9000\n91 9000\n92 9000\n93 9000\n94 9000\n95 9000\n96 9000\n" ++
+        codes "97 9000\n98 9000\n99 9000\n100 9000\n101 6A89\n102 ready 0\n103 static\n") }
 {}

@@ -50,16 +50,16 @@ pub fn deck_of_3_abends_mute_card_64_answers()
         codes "apdu 00A4040C05A00000000220\ndump A000000009\ndump A000000003\ndump A000000001\n" ++
         codes "dump A0000000050102030405060708090A0B\n")
         ≡ Ok (
-            codes "2 formatted\n8 ready 0\n9 9000\n10 9000\n11 6A89\n12 6A89\n13 9000\n14 9000\n16 00009000\n" ++
-            codes "18 90F59000\n20 00009000\n21 ready 0\n22 9000\n23 67039000\n24 45189000\n26 abend 03\n" ++
-            codes "28 ready 0\n29 ready 0\n30 6985\n31 6985\n32 6985\n33 ready 0\n34 6A82\n35 9000\n37 6581\n" ++
-            codes "39 ready 0\n41 ready 0\n42 ready 0\n44 6985\n45 9000\n47 abend 03\n48 ready 0\n49 6985\n" ++
-            codes "50 6985\n52 6581\n54 mute\n56 mute\n57 mute\n59 mute\n60 mute\n61 ready 0\n62 9000\n63 9000\n" ++
-            codes "64 00009000\n66 ready 0\n68 ready 0\n69 ready 0\n70 6985\n71 9000\n72 C64C9000\n73 ready 0\n" ++
-            codes "74 9000\n76 abend 03\n78 ready 0\n79 ready 0\n80 6985\n" ++
-            codes "81 static 05A000000003C927C4BBC8E2DBFA\n82 9000\n83 6A89\n84 6A82\n85 static\n86 absent\n" ++
-            codes "87 static 05A000000003C927C4BBC8E2DBFA\n" ++
-            codes "88 static 10A0000000050102030405060708090A0B05A000000009AAEBF27E4B9B9721000000000000000000\n") }
+        codes "2 formatted\n8 ready 0\n9 9000\n10 9000\n11 6A89\n12 6A89\n13 9000\n14 9000\n16 00009000\n" ++
+        codes "18 90F59000\n20 00009000\n21 ready 0\n22 9000\n23 67039000\n24 45189000\n26 abend 03\n" ++
+        codes "28 ready 0\n29 ready 0\n30 6985\n31 6985\n32 6985\n33 ready 0\n34 6A82\n35 9000\n37 6581\n" ++
+        codes "39 ready 0\n41 ready 0\n42 ready 0\n44 6985\n45 9000\n47 abend 03\n48 ready 0\n49 6985\n" ++
+        codes "50 6985\n52 6581\n54 mute\n56 mute\n57 mute\n59 mute\n60 mute\n61 ready 0\n62 9000\n63 9000\n" ++
+        codes "64 00009000\n66 ready 0\n68 ready 0\n69 ready 0\n70 6985\n71 9000\n72 C64C9000\n73 ready 0\n" ++
+        codes "74 9000\n76 abend 03\n78 ready 0\n79 ready 0\n80 6985\n" ++
+        codes "81 static 05A000000003C927C4BBC8E2DBFA\n82 9000\n83 6A89\n84 6A82\n85 static\n86 absent\n" ++
+        codes "87 static 05A000000003C927C4BBC8E2DBFA\n" ++
+        codes "88 static 10A0000000050102030405060708090A0B05A000000009AAEBF27E4B9B9721000000000000000000\n") }
 {}
 
 /// 2 applications, 3 loads, 8 abends, 8 manager commands, 2 deletions.
@@ -108,15 +108,15 @@ pub fn deck_of_8_abends_manager_commands_62_answers()
         codes "dump A000000002\npower\ndump A0000000040102\ndump A0000000050102030405060708090A0B\n" ++
         codes "dump A000000002\ndump A000000003\n")
         ≡ Ok (
-            codes "8 ready 0\n9 9000\n10 6A89\n11 ready 0\n12 9000\n13 9000\n14 9000\n15 9000\n16 9000\n17 9000\n" ++
-            codes "18 9000\n19 9000\n20 6985\n21 9000\n23 abend 03\n25 abend 03\n27 ready 0\n29 ready 0\n" ++
-            codes "30 ready 0\n31 6985\n33 ready 0\n34 9000\n36 abend 03\n38 ready 0\n39 ready 0\n40 ready 0\n" ++
-            codes "41 6A82\n42 6A82\n43 6985\n44 6985\n45 6A89\n46 9000\n48 abend 03\n49 9000\n50 abend 03\n" ++
-            codes "52 ready 0\n53 ready 0\n54 ready 0\n55 ready 0\n56 9000\n57 ready 0\n58 6985\n59 ready 0\n" ++
-            codes "60 9000\n62 abend 04\n64 ready 0\n65 ready 0\n66 9000\n67 9000\n69 abend 03\n71 6A82\n" ++
-            codes "72 9000\n74 abend 03\n76 ready 0\n77 ready 0\n78 6985\n79 static 05A000000001B100\n" ++
-            codes "80 ready 0\n81 absent\n82 absent\n83 static 05A000000001B100\n" ++
-            codes "84 static 05A000000002000000000000000000000000000000000000000000000000000000000000\n") }
+        codes "8 ready 0\n9 9000\n10 6A89\n11 ready 0\n12 9000\n13 9000\n14 9000\n15 9000\n16 9000\n17 9000\n" ++
+        codes "18 9000\n19 9000\n20 6985\n21 9000\n23 abend 03\n25 abend 03\n27 ready 0\n29 ready 0\n" ++
+        codes "30 ready 0\n31 6985\n33 ready 0\n34 9000\n36 abend 03\n38 ready 0\n39 ready 0\n40 ready 0\n" ++
+        codes "41 6A82\n42 6A82\n43 6985\n44 6985\n45 6A89\n46 9000\n48 abend 03\n49 9000\n50 abend 03\n" ++
+        codes "52 ready 0\n53 ready 0\n54 ready 0\n55 ready 0\n56 9000\n57 ready 0\n58 6985\n59 ready 0\n" ++
+        codes "60 9000\n62 abend 04\n64 ready 0\n65 ready 0\n66 9000\n67 9000\n69 abend 03\n71 6A82\n" ++
+        codes "72 9000\n74 abend 03\n76 ready 0\n77 ready 0\n78 6985\n79 static 05A000000001B100\n" ++
+        codes "80 ready 0\n81 absent\n82 absent\n83 static 05A000000001B100\n" ++
+        codes "84 static 05A000000002000000000000000000000000000000000000000000000000000000000000\n") }
 {}
 
 /// 4 applications, 5 loads, an abend.
@@ -146,10 +146,10 @@ pub fn one_abend_24_answers()
         codes "dump A0000000050102030405060708090A0B\ndump A000000009\ndump A000000002\ndump A0000000040102\n" ++
         codes "dump A000000001\n")
         ≡ Ok (
-            codes "2 formatted\n39 ready 0\n40 9000\n41 9000\n42 9000\n43 9000\n44 ready 0\n45 6985\n46 9000\n" ++
-            codes "47 9000\n49 9000\n50 ready 0\n51 6A89\n52 ready 0\n53 9000\n54 abend 03\n55 9000\n56 9000\n" ++
-            codes "57 ready 0\n58 absent\n59 static 05A00000000305A0000000014069F1D86AC9BAC15E2D30B55100\n" ++
-            codes "60 static 8008CBD4C921D88300000000000000\n61 static 0000\n62 static 07A000000136D802\n") }
+        codes "2 formatted\n39 ready 0\n40 9000\n41 9000\n42 9000\n43 9000\n44 ready 0\n45 6985\n46 9000\n" ++
+        codes "47 9000\n49 9000\n50 ready 0\n51 6A89\n52 ready 0\n53 9000\n54 abend 03\n55 9000\n56 9000\n" ++
+        codes "57 ready 0\n58 absent\n59 static 05A00000000305A0000000014069F1D86AC9BAC15E2D30B55100\n" ++
+        codes "60 static 8008CBD4C921D88300000000000000\n61 static 0000\n62 static 07A000000136D802\n") }
 {}
 
 /// 5 applications, 7 loads, an abend, 20 manager commands.
@@ -187,13 +187,13 @@ pub fn one_abend_mute_card_manager_commands_45_answers()
         codes "apdu 80010002201E6F85F0775DF746AE6BA5BDC95A3435A8D54200BB46FAEF92C315A059B4630E08\npower\npower\n" ++
         codes "select A000000003\npower\npower\ndump A000000003\ndump A000000001\n")
         ≡ Ok (
-            codes "2 formatted\n36 ready 0\n37 9000\n38 9000\n39 6A89\n41 6A89\n42 6A89\n43 6700\n44 6A89\n" ++
-            codes "45 9000\n46 6A82\n47 9000\n48 6A89\n49 9000\n50 9000\n51 9000\n52 9000\n54 9000\n55 9000\n" ++
-            codes "56 9000\n57 9000\n58 9000\n59 9000\n60 9000\n61 9000\n62 9000\n63 9000\n64 9000\n65 9000\n" ++
-            codes "66 9000\n67 9000\n68 9000\n69 6A89\n70 9000\n71 abend 06\n72 9000\n74 6581\n76 mute\n" ++
-            codes "77 ready 0\n78 ready 0\n79 9000\n80 ready 0\n81 ready 0\n" ++
-            codes "82 static BE46E517EF77CDC00000000000000000\n" ++
-            codes "83 static 05A000000001C3000000000000000000000000000000000000000000000000000000000000\n") }
+        codes "2 formatted\n36 ready 0\n37 9000\n38 9000\n39 6A89\n41 6A89\n42 6A89\n43 6700\n44 6A89\n" ++
+        codes "45 9000\n46 6A82\n47 9000\n48 6A89\n49 9000\n50 9000\n51 9000\n52 9000\n54 9000\n55 9000\n" ++
+        codes "56 9000\n57 9000\n58 9000\n59 9000\n60 9000\n61 9000\n62 9000\n63 9000\n64 9000\n65 9000\n" ++
+        codes "66 9000\n67 9000\n68 9000\n69 6A89\n70 9000\n71 abend 06\n72 9000\n74 6581\n76 mute\n" ++
+        codes "77 ready 0\n78 ready 0\n79 9000\n80 ready 0\n81 ready 0\n" ++
+        codes "82 static BE46E517EF77CDC00000000000000000\n" ++
+        codes "83 static 05A000000001C3000000000000000000000000000000000000000000000000000000000000\n") }
 {}
 
 /// 4 applications.
@@ -243,11 +243,11 @@ pub fn deck_of_36_answers_2()
         codes "power\ndump A000000003\ndump A000000002\ndump A000000001\ndump A000000009\n" ++
         codes "dump A0000000050102030405060708090A0B\n")
         ≡ Ok (
-            codes "103 ready 6\n105 6700\n106 6A82\n107 6985\n108 absent\n109 6A82\n111 6985\n112 ready 0\n" ++
-            codes "113 6A82\n115 6985\n116 6985\n118 ready 0\n119 ready 0\n120 6985\n121 6985\n122 6985\n" ++
-            codes "123 6A82\n124 6985\n126 6985\n128 ready 0\n129 ready 0\n130 6A82\n131 6985\n133 6985\n" ++
-            codes "135 6985\n136 ready 0\n137 6A82\n138 6A82\n139 6A82\n140 6A82\n142 ready 0\n143 absent\n" ++
-            codes "144 absent\n145 absent\n146 absent\n147 absent\n") }
+        codes "103 ready 6\n105 6700\n106 6A82\n107 6985\n108 absent\n109 6A82\n111 6985\n112 ready 0\n" ++
+        codes "113 6A82\n115 6985\n116 6985\n118 ready 0\n119 ready 0\n120 6985\n121 6985\n122 6985\n" ++
+        codes "123 6A82\n124 6985\n126 6985\n128 ready 0\n129 ready 0\n130 6A82\n131 6985\n133 6985\n" ++
+        codes "135 6985\n136 ready 0\n137 6A82\n138 6A82\n139 6A82\n140 6A82\n142 ready 0\n143 absent\n" ++
+        codes "144 absent\n145 absent\n146 absent\n147 absent\n") }
 {}
 
 /// 4 applications, a manager command.
@@ -289,11 +289,11 @@ pub fn manager_commands_36_answers()
         codes "select A000000003\napdu 80010100FF\ndump A000000003\ndump A000000009\n" ++
         codes "dump A0000000050102030405060708090A0B\n")
         ≡ Ok (
-            codes "2 formatted\n120 ready 0\n121 6A82\n122 6A82\n123 6A82\n125 6985\n126 ready 0\n127 6A82\n" ++
-            codes "129 6985\n130 ready 0\n131 6985\n132 6A82\n134 6985\n136 6985\n137 6A82\n138 6985\n" ++
-            codes "139 ready 0\n140 6985\n141 6985\n142 6985\n143 6A82\n145 6985\n146 ready 0\n148 ready 0\n" ++
-            codes "149 6A82\n150 6700\n151 ready 0\n152 6985\n153 6A82\n154 6985\n155 ready 0\n156 6A82\n" ++
-            codes "157 6985\n158 absent\n159 absent\n160 absent\n") }
+        codes "2 formatted\n120 ready 0\n121 6A82\n122 6A82\n123 6A82\n125 6985\n126 ready 0\n127 6A82\n" ++
+        codes "129 6985\n130 ready 0\n131 6985\n132 6A82\n134 6985\n136 6985\n137 6A82\n138 6985\n" ++
+        codes "139 ready 0\n140 6985\n141 6985\n142 6985\n143 6A82\n145 6985\n146 ready 0\n148 ready 0\n" ++
+        codes "149 6A82\n150 6700\n151 ready 0\n152 6985\n153 6A82\n154 6985\n155 ready 0\n156 6A82\n" ++
+        codes "157 6985\n158 absent\n159 absent\n160 absent\n") }
 {}
 
 /// One application.
@@ -312,7 +312,7 @@ pub fn deck_of_24_answers()
         codes "cut 24 386303E097627BF4\nselect A0000000050102030405060708090A0B\napdu 8002000110\npower\n" ++
         codes "select A000000009\npower\ndump A0000000050102030405060708090A0B\ndump A000000009\n")
         ≡ Ok (
-            codes "2 formatted\n4 ready 0\n5 ready 0\n6 6A82\n7 6A82\n9 6985\n10 6985\n12 6985\n13 ready 0\n" ++
-            codes "14 6A82\n15 6985\n16 6A82\n18 6985\n19 ready 0\n20 ready 0\n21 6985\n22 6985\n24 6A82\n" ++
-            codes "25 6985\n26 ready 0\n27 6A82\n28 ready 0\n29 absent\n30 absent\n") }
+        codes "2 formatted\n4 ready 0\n5 ready 0\n6 6A82\n7 6A82\n9 6985\n10 6985\n12 6985\n13 ready 0\n" ++
+        codes "14 6A82\n15 6985\n16 6A82\n18 6985\n19 ready 0\n20 ready 0\n21 6985\n22 6985\n24 6A82\n" ++
+        codes "25 6985\n26 ready 0\n27 6A82\n28 ready 0\n29 absent\n30 absent\n") }
 {}

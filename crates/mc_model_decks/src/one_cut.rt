@@ -33,11 +33,11 @@ pub fn one_cut_4_abends_37_answers()
         codes "cut 68 FA8AD071F0B938A9\napdu 00A4040C10A0000000050102030405060708090A0B00\nselect A000000009\n" ++
         codes "power\ndump A000000002\ndump A000000009\ndump A000000001\n")
         ≡ Ok (
-            codes "3 off\n34 ready 0\n36 ready 0\n37 6A82\n38 6985\n39 9000\n41 abend 06\n42 9000\n44 abend 03\n" ++
-            codes "45 ready 0\n46 6985\n47 9000\n48 9000\n50 abend 03\n52 ready 0\n53 ready 0\n54 9000\n" ++
-            codes "55 ready 0\n56 6985\n58 off at write 4\n59 off\n60 off\n61 off\n63 off\n64 ready 0\n65 9000\n" ++
-            codes "66 9000\n67 abend 03\n68 ready 0\n69 9000\n70 6700\n72 6A82\n73 9000\n74 ready 0\n75 absent\n" ++
-            codes "76 static D7F509F20607CA990000\n77 absent\n") }
+        codes "3 off\n34 ready 0\n36 ready 0\n37 6A82\n38 6985\n39 9000\n41 abend 06\n42 9000\n44 abend 03\n" ++
+        codes "45 ready 0\n46 6985\n47 9000\n48 9000\n50 abend 03\n52 ready 0\n53 ready 0\n54 9000\n" ++
+        codes "55 ready 0\n56 6985\n58 off at write 4\n59 off\n60 off\n61 off\n63 off\n64 ready 0\n65 9000\n" ++
+        codes "66 9000\n67 abend 03\n68 ready 0\n69 9000\n70 6700\n72 6A82\n73 9000\n74 ready 0\n75 absent\n" ++
+        codes "76 static D7F509F20607CA990000\n77 absent\n") }
 {}
 
 /// 4 applications, 6 loads, a cut, an abend.
@@ -74,9 +74,9 @@ pub fn one_cut_one_abend_19_answers()
         codes "select A0000000050102030405060708090A0B\napdu 80020000016D\npower\n" ++
         codes "dump A0000000050102030405060708090A0B\n")
         ≡ Ok (
-            codes "2 formatted\n81 ready 0\n82 9000\n83 6A89\n84 6A89\n85 6A89\n86 6A89\n87 6A89\n88 9000\n" ++
-            codes "89 6A80\n90 abend 03\n91 ready 0\n92 9000\n94 off at write 2\n95 ready 0\n96 9000\n97 6A80\n" ++
-            codes "98 ready 0\n99 static 05A0000000038D0000000000000000\n") }
+        codes "2 formatted\n81 ready 0\n82 9000\n83 6A89\n84 6A89\n85 6A89\n86 6A89\n87 6A89\n88 9000\n" ++
+        codes "89 6A80\n90 abend 03\n91 ready 0\n92 9000\n94 off at write 2\n95 ready 0\n96 9000\n97 6A80\n" ++
+        codes "98 ready 0\n99 static 05A0000000038D0000000000000000\n") }
 {}
 
 /// 7 applications, a load, a cut, 4 abends, 6 manager commands, a deletion.
@@ -146,11 +146,11 @@ pub fn one_cut_4_abends_mute_card_manager_commands_32_answers()
         codes "apdu 0002000108C52974E7841DDF3008\ncut 2 0000000000000001\ndump A000000009\ndump A0000000040102\n" ++
         codes "dump A000000001\n")
         ≡ Ok (
-            codes "3 off\n147 6581\n149 mute\n150 ready 5\n152 static 05A0000000098A7E134F45ADD17D195566FA26\n" ++
-            codes "153 ready 0\n154 9000\n155 9000\n156 9000\n157 9000\n158 9000\n159 9000\n160 6985\n161 9000\n" ++
-            codes "162 6700\n164 9000\n166 abend 03\n167 abend 03\n168 9000\n170 off at write 7\n171 ready 4\n" ++
-            codes "172 ready 0\n175 9000\n176 abend 03\n178 abend 03\n180 6A80\n181 ready 0\n182 ready 0\n" ++
-            codes "184 6985\n186 static 29\n187 absent\n188 static 0547711816E91D6FF059BBBF2BF58E0FD3FA26\n") }
+        codes "3 off\n147 6581\n149 mute\n150 ready 5\n152 static 05A0000000098A7E134F45ADD17D195566FA26\n" ++
+        codes "153 ready 0\n154 9000\n155 9000\n156 9000\n157 9000\n158 9000\n159 9000\n160 6985\n161 9000\n" ++
+        codes "162 6700\n164 9000\n166 abend 03\n167 abend 03\n168 9000\n170 off at write 7\n171 ready 4\n" ++
+        codes "172 ready 0\n175 9000\n176 abend 03\n178 abend 03\n180 6A80\n181 ready 0\n182 ready 0\n" ++
+        codes "184 6985\n186 static 29\n187 absent\n188 static 0547711816E91D6FF059BBBF2BF58E0FD3FA26\n") }
 {}
 
 /// 2 applications, 2 loads, a cut, a deletion.
@@ -181,12 +181,12 @@ pub fn one_cut_40_answers()
         codes "select A000000001\nselect A000000001\ncut 4 0000000000000000\napdu 800100010835154DCDE10C1194\n" ++
         codes "power\ndump A000000001\ndump A000000002\ndump A0000000040102\n")
         ≡ Ok (
-            codes "2 formatted\n4 ready 0\n5 ready 0\n6 9000\n7 9000\n9 6D00\n11 off at write 1\n12 off\n" ++
-            codes "14 ready 0\n15 ready 0\n16 6700\n17 9000\n18 9000\n20 6A80\n21 ready 0\n22 9000\n23 6A82\n" ++
-            codes "24 6985\n25 ready 0\n26 6A82\n27 6985\n28 ready 0\n29 6A82\n31 6985\n32 6985\n33 ready 0\n" ++
-            codes "34 6985\n35 9000\n76 ready 0\n77 ready 0\n78 6985\n80 6985\n81 6A82\n82 9000\n83 9000\n" ++
-            codes "85 6A80\n86 ready 0\n87 static 07A0000000040102034D49122A3D03A5411C71851E000000000000000000\n" ++
-            codes "88 absent\n89 absent\n") }
+        codes "2 formatted\n4 ready 0\n5 ready 0\n6 9000\n7 9000\n9 6D00\n11 off at write 1\n12 off\n" ++
+        codes "14 ready 0\n15 ready 0\n16 6700\n17 9000\n18 9000\n20 6A80\n21 ready 0\n22 9000\n23 6A82\n" ++
+        codes "24 6985\n25 ready 0\n26 6A82\n27 6985\n28 ready 0\n29 6A82\n31 6985\n32 6985\n33 ready 0\n" ++
+        codes "34 6985\n35 9000\n76 ready 0\n77 ready 0\n78 6985\n80 6985\n81 6A82\n82 9000\n83 9000\n" ++
+        codes "85 6A80\n86 ready 0\n87 static 07A0000000040102034D49122A3D03A5411C71851E000000000000000000\n" ++
+        codes "88 absent\n89 absent\n") }
 {}
 
 /// 2 applications, 2 loads, a cut.
@@ -204,9 +204,9 @@ pub fn one_cut_15_answers()
         codes "apdu 800300020000085FDEE020AF4E8BDF\ncut 3 534855542D2D2D2D\napdu 00A4040C05A000000002\n" ++
         codes "cut 6 4D454C0120000083\npower\ndump A000000002\n")
         ≡ Ok (
-            codes "2 formatted\n5 ready 0\n6 ready 0\n7 6A80\n8 9000\n9 9000\n11 off at write 2\n13 off\n" ++
-            codes "14 ready 0\n15 6985\n16 6A82\n17 6985\n19 9000\n21 ready 0\n" ++
-            codes "22 static 10A0000000050102030405060708090A0B05A00000000900\n") }
+        codes "2 formatted\n5 ready 0\n6 ready 0\n7 6A80\n8 9000\n9 9000\n11 off at write 2\n13 off\n" ++
+        codes "14 ready 0\n15 6985\n16 6A82\n17 6985\n19 9000\n21 ready 0\n" ++
+        codes "22 static 10A0000000050102030405060708090A0B05A00000000900\n") }
 {}
 
 /// 3 applications, 2 loads, a cut.
@@ -235,9 +235,9 @@ pub fn one_cut_mute_card_24_answers()
         codes "end\napdu 9002000120E6ECB0519F9287DC3F872A436F0407C22309732EAF155800CD8A4C9C618B7F2708\n" ++
         codes "dump A000000009\ndump A000000001\ndump A0000000050102030405060708090A0B\n")
         ≡ Ok (
-            codes "2 formatted\n5 ready 0\n6 9000\n7 6A89\n8 6A82\n9 6985\n10 9000\n11 9000\n13 off at write 1\n" ++
-            codes "14 ready 0\n15 6700\n16 6985\n17 6985\n18 9000\n19 ready 0\n20 6985\n21 6985\n22 ready 0\n" ++
-            codes "23 ready 0\n24 9000\n37 6581\n38 mute\n39 mute\n40 mute\n") }
+        codes "2 formatted\n5 ready 0\n6 9000\n7 6A89\n8 6A82\n9 6985\n10 9000\n11 9000\n13 off at write 1\n" ++
+        codes "14 ready 0\n15 6700\n16 6985\n17 6985\n18 9000\n19 ready 0\n20 6985\n21 6985\n22 ready 0\n" ++
+        codes "23 ready 0\n24 9000\n37 6581\n38 mute\n39 mute\n40 mute\n") }
 {}
 
 /// 2 applications, 3 loads, a cut.
@@ -263,9 +263,9 @@ pub fn one_cut_23_answers()
         codes "power\npower\npower\napdu 9003000005682703BF20\nload u0 6 1\napdu 80010102\napdu A41C3D\npower\n" ++
         codes "dump A000000001\ndump A0000000050102030405060708090A0B\n")
         ≡ Ok (
-            codes "2 formatted\n54 ready 0\n55 ready 0\n56 9000\n58 off at write 2\n59 off\n61 off\n62 off\n" ++
-            codes "63 off\n64 ready 0\n65 6A82\n67 6985\n69 ready 0\n70 ready 0\n71 ready 0\n72 ready 0\n" ++
-            codes "73 6985\n74 6A89\n75 6985\n76 6700\n77 ready 0\n78 absent\n79 static 05A000000001\n") }
+        codes "2 formatted\n54 ready 0\n55 ready 0\n56 9000\n58 off at write 2\n59 off\n61 off\n62 off\n" ++
+        codes "63 off\n64 ready 0\n65 6A82\n67 6985\n69 ready 0\n70 ready 0\n71 ready 0\n72 ready 0\n" ++
+        codes "73 6985\n74 6A89\n75 6985\n76 6700\n77 ready 0\n78 absent\n79 static 05A000000001\n") }
 {}
 
 /// One application, a cut.
@@ -290,8 +290,8 @@ pub fn one_cut_12_answers()
         codes "apdu 8002000004\nselect A000000002\nselect A000000002\nselect A000000002\ncut 1 4D454C0220000083\n" ++
         codes "apdu 80020001\npower\npower\napdu 80010002\ndump A000000002\n")
         ≡ Ok (
-            codes "42 ready 0\n43 ready 0\n44 6985\n45 6985\n46 9000\n47 9000\n48 9000\n50 off at write 1\n" ++
-            codes "51 ready 0\n52 ready 0\n53 6985\n54 static 05A00000000905A0000000010000000000000000\n") }
+        codes "42 ready 0\n43 ready 0\n44 6985\n45 6985\n46 9000\n47 9000\n48 9000\n50 off at write 1\n" ++
+        codes "51 ready 0\n52 ready 0\n53 6985\n54 static 05A00000000905A0000000010000000000000000\n") }
 {}
 
 /// 2 applications, 3 loads, a cut, 2 abends, 46 manager commands, a deletion.
@@ -345,16 +345,16 @@ pub fn one_cut_2_abends_manager_commands_79_answers()
         codes "apdu 8005000008\npower\ndump A000000003\ndump A0000000050102030405060708090A0B\ndump A000000002\n" ++
         codes "dump A000000009\ndump A000000001\n")
         ≡ Ok (
-            codes "2 formatted\n138 ready 0\n139 9000\n140 9000\n141 9000\n142 9000\n144 9000\n" ++
-            codes "146 off at write 6\n147 ready 0\n148 6985\n149 6985\n150 9000\n152 abend 06\n153 ready 0\n" ++
-            codes "154 absent\n155 ready 0\n156 9000\n157 6985\n158 9000\n160 abend 03\n161 ready 0\n162 9000\n" ++
-            codes "163 9000\n164 9000\n165 9000\n166 9000\n167 9000\n168 6A80\n169 6A89\n170 6985\n171 6985\n" ++
-            codes "172 6985\n173 9000\n174 9000\n175 9000\n176 9000\n177 9000\n178 9000\n179 9000\n180 9000\n" ++
-            codes "181 9000\n182 9000\n183 9000\n184 9000\n185 9000\n186 9000\n187 9000\n188 9000\n189 9000\n" ++
-            codes "190 9000\n191 9000\n192 9000\n193 9000\n194 9000\n195 9000\n196 9000\n197 9000\n198 9000\n" ++
-            codes "199 9000\n200 ready 0\n201 6985\n202 6985\n203 6985\n204 6985\n205 6985\n206 6985\n207 6985\n" ++
-            codes "208 6985\n209 6985\n210 6985\n211 6985\n212 6985\n213 6985\n214 ready 0\n215 absent\n" ++
-            codes "216 absent\n217 absent\n218 static 287EEC5DE800175C07CE84D69A0000000000000000\n219 absent\n") }
+        codes "2 formatted\n138 ready 0\n139 9000\n140 9000\n141 9000\n142 9000\n144 9000\n" ++
+        codes "146 off at write 6\n147 ready 0\n148 6985\n149 6985\n150 9000\n152 abend 06\n153 ready 0\n" ++
+        codes "154 absent\n155 ready 0\n156 9000\n157 6985\n158 9000\n160 abend 03\n161 ready 0\n162 9000\n" ++
+        codes "163 9000\n164 9000\n165 9000\n166 9000\n167 9000\n168 6A80\n169 6A89\n170 6985\n171 6985\n" ++
+        codes "172 6985\n173 9000\n174 9000\n175 9000\n176 9000\n177 9000\n178 9000\n179 9000\n180 9000\n" ++
+        codes "181 9000\n182 9000\n183 9000\n184 9000\n185 9000\n186 9000\n187 9000\n188 9000\n189 9000\n" ++
+        codes "190 9000\n191 9000\n192 9000\n193 9000\n194 9000\n195 9000\n196 9000\n197 9000\n198 9000\n" ++
+        codes "199 9000\n200 ready 0\n201 6985\n202 6985\n203 6985\n204 6985\n205 6985\n206 6985\n207 6985\n" ++
+        codes "208 6985\n209 6985\n210 6985\n211 6985\n212 6985\n213 6985\n214 ready 0\n215 absent\n" ++
+        codes "216 absent\n217 absent\n218 static 287EEC5DE800175C07CE84D69A0000000000000000\n219 absent\n") }
 {}
 
 /// 6 applications, 6 loads, a cut, 4 abends, 11 manager commands.
@@ -404,14 +404,14 @@ pub fn one_cut_4_abends_manager_commands_58_answers()
         codes "load u5 24 8\napdu 80010100056F500C34F2\nbudget 5\npower\ndump A000000009\ndump A0000000040102\n" ++
         codes "dump A000000003\ndump A0000000050102030405060708090A0B\ndump A000000002\n")
         ≡ Ok (
-            codes "2 formatted\n8 ready 0\n9 9000\n10 6A89\n11 6A80\n12 6A89\n13 9000\n14 6985\n15 6985\n" ++
-            codes "16 6985\n17 9000\n19 6D00\n21 off at write 7\n23 6581\n24 ready 4\n25 9000\n27 6D00\n" ++
-            codes "28 abend 03\n30 6D00\n31 ready 0\n32 6985\n34 6985\n35 6985\n36 absent\n37 ready 0\n38 9000\n" ++
-            codes "39 6D00\n40 absent\n41 6D00\n42 9000\n44 abend 03\n45 ready 0\n46 9000\n48 9000\n50 abend 06\n" ++
-            codes "52 abend 04\n53 ready 0\n54 6700\n55 6985\n56 6A86\n57 6985\n58 6985\n59 6985\n60 6985\n" ++
-            codes "61 6985\n62 6985\n63 6985\n64 6985\n65 6985\n66 6985\n67 6A80\n68 6985\n70 ready 0\n" ++
-            codes "71 static 000000006D7AAA7D2BCCA4A8758B398AB7617839203C828A000000000000\n" ++
-            codes "72 static 01A0000000033D5ADDD0474FE94700\n73 absent\n74 absent\n75 absent\n") }
+        codes "2 formatted\n8 ready 0\n9 9000\n10 6A89\n11 6A80\n12 6A89\n13 9000\n14 6985\n15 6985\n" ++
+        codes "16 6985\n17 9000\n19 6D00\n21 off at write 7\n23 6581\n24 ready 4\n25 9000\n27 6D00\n" ++
+        codes "28 abend 03\n30 6D00\n31 ready 0\n32 6985\n34 6985\n35 6985\n36 absent\n37 ready 0\n38 9000\n" ++
+        codes "39 6D00\n40 absent\n41 6D00\n42 9000\n44 abend 03\n45 ready 0\n46 9000\n48 9000\n50 abend 06\n" ++
+        codes "52 abend 04\n53 ready 0\n54 6700\n55 6985\n56 6A86\n57 6985\n58 6985\n59 6985\n60 6985\n" ++
+        codes "61 6985\n62 6985\n63 6985\n64 6985\n65 6985\n66 6985\n67 6A80\n68 6985\n70 ready 0\n" ++
+        codes "71 static 000000006D7AAA7D2BCCA4A8758B398AB7617839203C828A000000000000\n" ++
+        codes "72 static 01A0000000033D5ADDD0474FE94700\n73 absent\n74 absent\n75 absent\n") }
 {}
 
 /// 5 applications, 3 loads, a cut, 5 abends.
@@ -452,13 +452,13 @@ pub fn one_cut_5_abends_44_answers()
         codes "cut 82 4D454C0120000083\nselect A000000009\npower\npower\ndump A000000009\n" ++
         codes "dump A0000000050102030405060708090A0B\ndump A000000002\n")
         ≡ Ok (
-            codes "2 formatted\n37 ready 0\n38 ready 0\n39 9000\n40 9000\n41 9000\n42 abend 03\n44 ready 0\n" ++
-            codes "46 ready 0\n47 ready 0\n48 9000\n49 6A80\n51 ready 0\n53 ready 0\n54 ready 0\n55 9000\n" ++
-            codes "57 abend 06\n59 abend 06\n60 ready 0\n63 6985\n64 9000\n66 abend 06\n67 6A80\n68 6D00\n" ++
-            codes "70 ready 0\n71 ready 0\n72 static EC5FE5EEC7E86F19000000000000000000\n73 9000\n74 abend 04\n" ++
-            codes "76 ready 0\n78 ready 0\n80 ready 0\n81 ready 0\n83 off at write 24\n84 off\n85 off\n86 off\n" ++
-            codes "88 off\n91 off\n92 ready 0\n93 ready 0\n94 static EC5FE5EEC7E86F19000000000000000000\n" ++
-            codes "95 static 93000000000000000000\n96 absent\n") }
+        codes "2 formatted\n37 ready 0\n38 ready 0\n39 9000\n40 9000\n41 9000\n42 abend 03\n44 ready 0\n" ++
+        codes "46 ready 0\n47 ready 0\n48 9000\n49 6A80\n51 ready 0\n53 ready 0\n54 ready 0\n55 9000\n" ++
+        codes "57 abend 06\n59 abend 06\n60 ready 0\n63 6985\n64 9000\n66 abend 06\n67 6A80\n68 6D00\n" ++
+        codes "70 ready 0\n71 ready 0\n72 static EC5FE5EEC7E86F19000000000000000000\n73 9000\n74 abend 04\n" ++
+        codes "76 ready 0\n78 ready 0\n80 ready 0\n81 ready 0\n83 off at write 24\n84 off\n85 off\n86 off\n" ++
+        codes "88 off\n91 off\n92 ready 0\n93 ready 0\n94 static EC5FE5EEC7E86F19000000000000000000\n" ++
+        codes "95 static 93000000000000000000\n96 absent\n") }
 {}
 
 /// 4 applications, 4 loads, a cut, 3 abends.
@@ -501,10 +501,10 @@ pub fn one_cut_3_abends_23_answers()
         codes "apdu 800500000174\napdu 80010001089816332EC8BEC07008\ncut 5 4F50454E2D322D2D\npower\npower\n" ++
         codes "dump A000000002\n")
         ≡ Ok (
-            codes "2 formatted\n119 ready 0\n120 9000\n121 6A89\n122 6A89\n123 6A89\n124 6A82\n127 9000\n" ++
-            codes "128 6A82\n129 ready 0\n131 9000\n133 AC006A82\n135 off at write 5\n136 ready 2\n137 9000\n" ++
-            codes "138 9000\n139 9000\n140 abend 06\n142 abend 06\n143 abend 06\n145 ready 0\n146 ready 0\n" ++
-            codes "147 static 02A0000000050102030405060708090A0B0000000000000000\n") }
+        codes "2 formatted\n119 ready 0\n120 9000\n121 6A89\n122 6A89\n123 6A89\n124 6A82\n127 9000\n" ++
+        codes "128 6A82\n129 ready 0\n131 9000\n133 AC006A82\n135 off at write 5\n136 ready 2\n137 9000\n" ++
+        codes "138 9000\n139 9000\n140 abend 06\n142 abend 06\n143 abend 06\n145 ready 0\n146 ready 0\n" ++
+        codes "147 static 02A0000000050102030405060708090A0B0000000000000000\n") }
 {}
 
 /// 3 applications, 4 loads, a cut, 3 abends.
@@ -534,10 +534,10 @@ pub fn one_cut_3_abends_29_answers()
         codes "select A000000003\nfail 7\napdu 80010002\npower\nselect A000000003\n" ++
         codes "apdu 8005000008AB8642773D629C8408\npower\ndump A000000003\ndump A000000009\n")
         ≡ Ok (
-            codes "2 formatted\n64 ready 0\n65 9000\n66 6A89\n67 6A89\n68 6A86\n69 6A89\n70 6985\n72 9000\n" ++
-            codes "73 abend 03\n75 off at write 2\n76 ready 0\n77 9000\n78 9000\n79 9000\n81 abend 03\n" ++
-            codes "82 ready 0\n83 ready 0\n84 9000\n85 9000\n86 abend 03\n87 9000\n89 6581\n90 ready 3\n91 9000\n" ++
-            codes "92 AB869000\n93 ready 0\n" ++
-            codes "94 static 056C279742E8C488910000050102030406060708090A0B83446C279742E8C4889100BC1D0000\n" ++
-            codes "95 absent\n") }
+        codes "2 formatted\n64 ready 0\n65 9000\n66 6A89\n67 6A89\n68 6A86\n69 6A89\n70 6985\n72 9000\n" ++
+        codes "73 abend 03\n75 off at write 2\n76 ready 0\n77 9000\n78 9000\n79 9000\n81 abend 03\n" ++
+        codes "82 ready 0\n83 ready 0\n84 9000\n85 9000\n86 abend 03\n87 9000\n89 6581\n90 ready 3\n91 9000\n" ++
+        codes "92 AB869000\n93 ready 0\n" ++
+        codes "94 static 056C279742E8C488910000050102030406060708090A0B83446C279742E8C4889100BC1D0000\n" ++
+        codes "95 absent\n") }
 {}

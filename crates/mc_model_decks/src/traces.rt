@@ -22,15 +22,15 @@ pub fn deck_of_15_turns()
         codes "0100002D010001BA000961074F05A00000000100096F078405A00000000100000000\npower\n" ++
         codes "dump A0000000050102030405060708090A0B\ndump A0000000040102\ndump A000000009\ndump A000000001\n")
         ≡ Ok (
-            codes "2 formatted\n45 ready 6\n46 ready 0\n47 9000\n48 6985\n49 9000\n" ++
-            codes "> 1 0000 CMPB PT[-12],1 8000 00\n> 1 0004 JUMP NE,0x0021 8000 00\n> 1 0021 NOP 8000 00\n" ++
-            codes "> 1 0022 CMPB PT[-12],2 8000 01\n> 1 0026 JUMP NE,0x0049 8000 01\n" ++
-            codes "> 1 0029 LOAD SB[8],4 8004 01\n> 1 002D CMPN PB[0],4 8004 00\n> 1 0031 POPN 4 8000 00\n" ++
-            codes "> 1 0033 PUSHW 0x0000 8002 00\n> 1 0036 PRIM 7 8000 00\n> 1 0038 LOAD PT[-2],2 8002 00\n" ++
-            codes "> 1 003C STORE PB[3],2 8000 00\n> 1 0040 LOAD SB[0],4 8004 00\n" ++
-            codes "> 1 0044 STORE PB[0],4 8000 00\n> 1 0048 EXIT 8000 00\n51 6A82\n52 ready 0\n53 ready 0\n" ++
-            codes "54 6700\n55 6A86\n57 ready 0\n58 absent\n59 absent\n60 absent\n" ++
-            codes "61 static 10A0000000050102030405060708090A0B000000000000000000\n") }
+        codes "2 formatted\n45 ready 6\n46 ready 0\n47 9000\n48 6985\n49 9000\n" ++
+        codes "> 1 0000 CMPB PT[-12],1 8000 00\n> 1 0004 JUMP NE,0x0021 8000 00\n> 1 0021 NOP 8000 00\n" ++
+        codes "> 1 0022 CMPB PT[-12],2 8000 01\n> 1 0026 JUMP NE,0x0049 8000 01\n" ++
+        codes "> 1 0029 LOAD SB[8],4 8004 01\n> 1 002D CMPN PB[0],4 8004 00\n> 1 0031 POPN 4 8000 00\n" ++
+        codes "> 1 0033 PUSHW 0x0000 8002 00\n> 1 0036 PRIM 7 8000 00\n> 1 0038 LOAD PT[-2],2 8002 00\n" ++
+        codes "> 1 003C STORE PB[3],2 8000 00\n> 1 0040 LOAD SB[0],4 8004 00\n" ++
+        codes "> 1 0044 STORE PB[0],4 8000 00\n> 1 0048 EXIT 8000 00\n51 6A82\n52 ready 0\n53 ready 0\n" ++
+        codes "54 6700\n55 6A86\n57 ready 0\n58 absent\n59 absent\n60 absent\n" ++
+        codes "61 static 10A0000000050102030405060708090A0B000000000000000000\n") }
 {}
 
 /// One application, and 22 turns.
@@ -56,16 +56,16 @@ pub fn deck_of_22_turns()
         codes "apdu 80010101FF\nselect A000000002\napdu 8004010108\nselect A000000002\n" ++
         codes "dump A0000000050102030405060708090A0B\ndump A000000002\ndump A000000003\n")
         ≡ Ok (
-            codes "37 ready 0\n38 6985\n39 9000\n40 9000\n> 1 0000 CMPB PT[-12],1 8008 00\n" ++
-            codes "> 1 0004 JUMP NE,0x0029 8008 00\n> 1 0029 NOP 8008 00\n> 1 002A CMPB PT[-12],2 8008 00\n" ++
-            codes "> 1 002E JUMP NE,0x0064 8008 00\n> 1 0064 NOP 8008 00\n> 1 0065 CMPB PT[-12],3 8008 00\n" ++
-            codes "> 1 0069 JUMP NE,0x0093 8008 00\n> 1 0093 NOP 8008 00\n> 1 0094 CMPW SB[21],0x66AB 8008 10\n" ++
-            codes "> 1 0099 EXITSW 0x6D00 8008 10\n41 6D00\n42 ready 0\n43 6985\n44 9000\n" ++
-            codes "> 1 0000 CMPB PT[-12],1 8008 00\n> 1 0004 JUMP NE,0x0029 8008 00\n> 1 0029 NOP 8008 00\n" ++
-            codes "> 1 002A CMPB PT[-12],2 8008 00\n> 1 002E JUMP NE,0x0064 8008 00\n> 1 0064 NOP 8008 00\n" ++
-            codes "> 1 0065 CMPB PT[-12],3 8008 00\n> 1 0069 JUMP NE,0x0093 8008 00\n> 1 0093 NOP 8008 00\n" ++
-            codes "> 1 0094 CMPW SB[21],0x66AB 8008 10\n> 1 0099 EXITSW 0x6D00 8008 10\n45 6D00\n46 9000\n" ++
-            codes "47 absent\n48 static 05A000000003A789607C91F1A925931870081E00000000000000\n49 absent\n") }
+        codes "37 ready 0\n38 6985\n39 9000\n40 9000\n> 1 0000 CMPB PT[-12],1 8008 00\n" ++
+        codes "> 1 0004 JUMP NE,0x0029 8008 00\n> 1 0029 NOP 8008 00\n> 1 002A CMPB PT[-12],2 8008 00\n" ++
+        codes "> 1 002E JUMP NE,0x0064 8008 00\n> 1 0064 NOP 8008 00\n> 1 0065 CMPB PT[-12],3 8008 00\n" ++
+        codes "> 1 0069 JUMP NE,0x0093 8008 00\n> 1 0093 NOP 8008 00\n> 1 0094 CMPW SB[21],0x66AB 8008 10\n" ++
+        codes "> 1 0099 EXITSW 0x6D00 8008 10\n41 6D00\n42 ready 0\n43 6985\n44 9000\n" ++
+        codes "> 1 0000 CMPB PT[-12],1 8008 00\n> 1 0004 JUMP NE,0x0029 8008 00\n> 1 0029 NOP 8008 00\n" ++
+        codes "> 1 002A CMPB PT[-12],2 8008 00\n> 1 002E JUMP NE,0x0064 8008 00\n> 1 0064 NOP 8008 00\n" ++
+        codes "> 1 0065 CMPB PT[-12],3 8008 00\n> 1 0069 JUMP NE,0x0093 8008 00\n> 1 0093 NOP 8008 00\n" ++
+        codes "> 1 0094 CMPW SB[21],0x66AB 8008 10\n> 1 0099 EXITSW 0x6D00 8008 10\n45 6D00\n46 9000\n" ++
+        codes "47 absent\n48 static 05A000000003A789607C91F1A925931870081E00000000000000\n49 absent\n") }
 {}
 
 /// 3 applications, 2 loads, 2 abends, and 52 turns.
@@ -103,29 +103,29 @@ pub fn deck_of_52_turns()
         codes "cut 3 534855542D2D2D2D\npower\npower\nselect A000000003\nselect A000000003\napdu 8002000104\n" ++
         codes "fail 2\npower\nfail 4\npower\npower\napdu 90010101000001390000\ndump A000000003\ndump A000000002\n")
         ≡ Ok (
-            codes "53 ready 0\n54 ready 0\n55 6A89\n56 6A89\n57 6985\n58 9000\n59 9000\n" ++
-            codes "> 1 0000 CMPB PT[-12],1 8001 00\n> 1 0004 JUMP NE,0x0012 8001 00\n> 1 0012 NOP 8001 00\n" ++
-            codes "> 1 0013 CMPB PT[-12],2 8001 00\n> 1 0017 JUMP NE,0x0067 8001 00\n> 1 0067 NOP 8001 00\n" ++
-            codes "> 1 0068 LOAD PB[6],1 8002 00\n> 1 006C STORE LB[0],1 8002 00\n61 abend 03\n" ++
-            codes "> 1 0000 CMPB PT[-12],1 8001 00\n> 1 0004 JUMP NE,0x0012 8001 00\n> 1 0012 NOP 8001 00\n" ++
-            codes "> 1 0013 CMPB PT[-12],2 8001 00\n> 1 0017 JUMP NE,0x0067 8001 00\n> 1 0067 NOP 8001 00\n" ++
-            codes "> 1 0068 LOAD PB[6],1 8002 00\n> 1 006C STORE LB[0],1 8002 00\n63 abend 03\n" ++
-            codes "> 1 0000 CMPB PT[-12],1 8001 01\n> 1 0004 JUMP NE,0x0012 8001 01\n" ++
-            codes "> 1 0007 LOAD SB[0],4 8005 01\n> 1 000B STORE PB[0],4 8001 01\n" ++
-            codes "> 1 000F EXITSW 0x6A80 8001 01\n65 6A80\n67 ready 0\n68 ready 0\n69 9000\n70 9000\n" ++
-            codes "> 1 0000 CMPB PT[-12],1 8001 00\n> 1 0004 JUMP NE,0x0012 8001 00\n> 1 0012 NOP 8001 00\n" ++
-            codes "> 1 0013 CMPB PT[-12],2 8001 01\n> 1 0017 JUMP NE,0x0067 8001 01\n" ++
-            codes "> 1 001A INCN DB[0],1 8001 00\n> 1 001E LOAD DB[0],1 8002 00\n> 1 0022 STORE SB[0],1 8001 00\n" ++
-            codes "> 1 0026 SETSWLA 0x6985,0x0002 8001 00\n> 1 002B PUSHW 0x0003 8003 00\n" ++
-            codes "> 1 002E PUSHW 0xC000 8005 00\n> 1 0031 PUSHW 0xC000 8007 00\n> 1 0034 PRIM 9 8001 00\n" ++
-            codes "> 1 0036 CALL ALL,0x0071 8005 00\n> 1 0071 PUSHB 0 8006 00\n> 1 0073 INCN SB[0],1 8006 00\n" ++
-            codes "> 1 0077 RET 8001 00\n> 1 0039 PUSHW 0x0000 8003 00\n> 1 003C PUSHW 0xC005 8005 00\n" ++
-            codes "> 1 003F PRIM 1,9 8001 10\n> 1 0042 PUSHW 0xBBA8 8003 10\n> 1 0045 PRIM 1,2,214 8003 10\n" ++
-            codes "> 1 0049 STORE PB[0],2 8001 10\n> 1 004D PUSHW 0x0002 8003 10\n> 1 0050 PUSHW 0xC000 8005 10\n" ++
-            codes "> 1 0053 PUSHW 0xC000 8007 10\n> 1 0056 PUSHW 0x0000 8009 10\n> 1 0059 PRIM 8,16 8001 10\n" ++
-            codes "> 1 005C LOAD SB[0],4 8005 10\n> 1 0060 STORE PB[0],4 8001 10\n" ++
-            codes "> 1 0064 EXITSW 0x6A80 8001 10\n71 02006A80\n73 ready 0\n75 ready 0\n76 ready 0\n77 6985\n" ++
-            codes "78 static 02000000000000000000\n79 static 07A00000000401025A\n") }
+        codes "53 ready 0\n54 ready 0\n55 6A89\n56 6A89\n57 6985\n58 9000\n59 9000\n" ++
+        codes "> 1 0000 CMPB PT[-12],1 8001 00\n> 1 0004 JUMP NE,0x0012 8001 00\n> 1 0012 NOP 8001 00\n" ++
+        codes "> 1 0013 CMPB PT[-12],2 8001 00\n> 1 0017 JUMP NE,0x0067 8001 00\n> 1 0067 NOP 8001 00\n" ++
+        codes "> 1 0068 LOAD PB[6],1 8002 00\n> 1 006C STORE LB[0],1 8002 00\n61 abend 03\n" ++
+        codes "> 1 0000 CMPB PT[-12],1 8001 00\n> 1 0004 JUMP NE,0x0012 8001 00\n> 1 0012 NOP 8001 00\n" ++
+        codes "> 1 0013 CMPB PT[-12],2 8001 00\n> 1 0017 JUMP NE,0x0067 8001 00\n> 1 0067 NOP 8001 00\n" ++
+        codes "> 1 0068 LOAD PB[6],1 8002 00\n> 1 006C STORE LB[0],1 8002 00\n63 abend 03\n" ++
+        codes "> 1 0000 CMPB PT[-12],1 8001 01\n> 1 0004 JUMP NE,0x0012 8001 01\n" ++
+        codes "> 1 0007 LOAD SB[0],4 8005 01\n> 1 000B STORE PB[0],4 8001 01\n" ++
+        codes "> 1 000F EXITSW 0x6A80 8001 01\n65 6A80\n67 ready 0\n68 ready 0\n69 9000\n70 9000\n" ++
+        codes "> 1 0000 CMPB PT[-12],1 8001 00\n> 1 0004 JUMP NE,0x0012 8001 00\n> 1 0012 NOP 8001 00\n" ++
+        codes "> 1 0013 CMPB PT[-12],2 8001 01\n> 1 0017 JUMP NE,0x0067 8001 01\n" ++
+        codes "> 1 001A INCN DB[0],1 8001 00\n> 1 001E LOAD DB[0],1 8002 00\n> 1 0022 STORE SB[0],1 8001 00\n" ++
+        codes "> 1 0026 SETSWLA 0x6985,0x0002 8001 00\n> 1 002B PUSHW 0x0003 8003 00\n" ++
+        codes "> 1 002E PUSHW 0xC000 8005 00\n> 1 0031 PUSHW 0xC000 8007 00\n> 1 0034 PRIM 9 8001 00\n" ++
+        codes "> 1 0036 CALL ALL,0x0071 8005 00\n> 1 0071 PUSHB 0 8006 00\n> 1 0073 INCN SB[0],1 8006 00\n" ++
+        codes "> 1 0077 RET 8001 00\n> 1 0039 PUSHW 0x0000 8003 00\n> 1 003C PUSHW 0xC005 8005 00\n" ++
+        codes "> 1 003F PRIM 1,9 8001 10\n> 1 0042 PUSHW 0xBBA8 8003 10\n> 1 0045 PRIM 1,2,214 8003 10\n" ++
+        codes "> 1 0049 STORE PB[0],2 8001 10\n> 1 004D PUSHW 0x0002 8003 10\n> 1 0050 PUSHW 0xC000 8005 10\n" ++
+        codes "> 1 0053 PUSHW 0xC000 8007 10\n> 1 0056 PUSHW 0x0000 8009 10\n> 1 0059 PRIM 8,16 8001 10\n" ++
+        codes "> 1 005C LOAD SB[0],4 8005 10\n> 1 0060 STORE PB[0],4 8001 10\n" ++
+        codes "> 1 0064 EXITSW 0x6A80 8001 10\n71 02006A80\n73 ready 0\n75 ready 0\n76 ready 0\n77 6985\n" ++
+        codes "78 static 02000000000000000000\n79 static 07A00000000401025A\n") }
 {}
 
 /// One application, 2 loads, an image of layout 1, 3 abends, a deletion, and 12 turns.
@@ -140,14 +140,14 @@ pub fn deck_of_12_turns()
         codes "delete A0000000040102\nselect A000000001\nfail 12\napdu 8002000110\npower\npower\n" ++
         codes "dump A0000000040102\ndump A000000003\ndump A000000001\n")
         ≡ Ok (
-            codes "7 ready 6\n8 9000\n10 ready 0\n11 9000\n> 1 0000 CMPB PT[-12],1 8010 00\n" ++
-            codes "> 1 0004 JUMP NE,0x001F 8010 00\n> 1 001F NOP 8010 00\n> 1 0020 CLEARN SB[18],40 8010 00\n" ++
-            codes "13 abend 03\n> 1 0000 CMPB PT[-12],1 8010 00\n> 1 0004 JUMP NE,0x001F 8010 00\n" ++
-            codes "> 1 001F NOP 8010 00\n> 1 0020 CLEARN SB[18],40 8010 00\n15 abend 03\n16 ready 0\n17 ready 0\n" ++
-            codes "18 6A89\n19 6A82\n20 9000\n> 1 0000 CMPB PT[-12],1 8010 00\n> 1 0004 JUMP NE,0x001F 8010 00\n" ++
-            codes "> 1 001F NOP 8010 00\n> 1 0020 CLEARN SB[18],40 8010 00\n22 abend 03\n23 ready 0\n24 ready 0\n" ++
-            codes "25 absent\n26 absent\n" ++
-            codes "27 static 10A0000000050102030405060708090A0B05A000000003675D58A669EC1DBF0000\n") }
+        codes "7 ready 6\n8 9000\n10 ready 0\n11 9000\n> 1 0000 CMPB PT[-12],1 8010 00\n" ++
+        codes "> 1 0004 JUMP NE,0x001F 8010 00\n> 1 001F NOP 8010 00\n> 1 0020 CLEARN SB[18],40 8010 00\n" ++
+        codes "13 abend 03\n> 1 0000 CMPB PT[-12],1 8010 00\n> 1 0004 JUMP NE,0x001F 8010 00\n" ++
+        codes "> 1 001F NOP 8010 00\n> 1 0020 CLEARN SB[18],40 8010 00\n15 abend 03\n16 ready 0\n17 ready 0\n" ++
+        codes "18 6A89\n19 6A82\n20 9000\n> 1 0000 CMPB PT[-12],1 8010 00\n> 1 0004 JUMP NE,0x001F 8010 00\n" ++
+        codes "> 1 001F NOP 8010 00\n> 1 0020 CLEARN SB[18],40 8010 00\n22 abend 03\n23 ready 0\n24 ready 0\n" ++
+        codes "25 absent\n26 absent\n" ++
+        codes "27 static 10A0000000050102030405060708090A0B05A000000003675D58A669EC1DBF0000\n") }
 {}
 
 /// 2 applications, 3 loads, a cut, an abend, 20 manager commands, and 40 turns.
@@ -179,29 +179,29 @@ pub fn deck_of_40_turns()
         codes "apdu 80010002109093249628723D3C2C825E6F3B82D783\npower\npower\ndump A000000009\n" ++
         codes "dump A0000000050102030405060708090A0B\ndump A000000002\ndump A000000003\ndump A000000001\n")
         ≡ Ok (
-            codes "2 formatted\n5 ready 0\n6 9000\n7 9000\n8 6A86\n9 6985\n10 6985\n11 6985\n13 6985\n14 6985\n" ++
-            codes "15 6985\n16 6985\n17 6985\n18 6985\n19 6985\n20 6985\n21 6985\n22 9000\n23 9000\n" ++
-            codes "> 1 0000 CMPB PT[-12],1 8008 00\n> 1 0004 JUMP NE,0x0052 8008 00\n> 1 0052 NOP 8008 00\n" ++
-            codes "> 1 0053 CMPB PT[-12],2 8008 00\n> 1 0057 JUMP NE,0x005D 8008 00\n> 1 005D NOP 8008 00\n" ++
-            codes "> 1 005E CMPB PT[-12],3 8008 00\n> 1 0062 JUMP NE,0x0083 8008 00\n> 1 0083 NOP 8008 00\n" ++
-            codes "25 off at write 3\n27 off\n28 off\n29 off\n30 ready 0\n31 6A89\n32 9000\n33 9000\n34 9000\n" ++
-            codes "35 9000\n36 9000\n37 9000\n38 6A89\n39 ready 0\n40 9000\n> 1 0000 CMPB PT[-12],1 8008 00\n" ++
-            codes "> 1 0004 JUMP NE,0x0052 8008 00\n> 1 0052 NOP 8008 00\n> 1 0053 CMPB PT[-12],2 8008 00\n" ++
-            codes "> 1 0057 JUMP NE,0x005D 8008 00\n> 1 005D NOP 8008 00\n> 1 005E CMPB PT[-12],3 8008 01\n" ++
-            codes "> 1 0062 JUMP NE,0x0083 8008 01\n> 1 0065 INCN DB[0],1 8008 00\n" ++
-            codes "> 1 0069 LOAD DB[0],1 8009 00\n> 1 006D STORE PB[0],1 8008 00\n" ++
-            codes "> 1 0071 CMPW SB[4],0xC226 8008 10\n> 1 0076 LOAD SB[0],4 800C 10\n" ++
-            codes "> 1 007A STORE PB[0],4 8008 10\n> 1 007E EXITSWLA 0x9001,0x0003 8008 10\n42 9001\n43 9000\n" ++
-            codes "> 1 0000 CMPB PT[-12],1 8008 01\n> 1 0004 JUMP NE,0x0052 8008 01\n" ++
-            codes "> 1 0007 INCN DB[0],1 8008 00\n> 1 000B LOAD DB[0],1 8009 00\n> 1 000F STORE SB[0],1 8008 00\n" ++
-            codes "> 1 0013 SETW PT[-2],0x805B 8008 00\n> 1 0018 INCN DB[6],1 8008 00\n" ++
-            codes "> 1 001C LOAD DB[0],1 8009 00\n> 1 0020 STORE PB[2],1 8008 00\n" ++
-            codes "> 1 0024 CALL GT,0x008B 800C 00\n> 1 008B PUSHB 8 800D 00\n> 1 008D POPB 800C 00\n" ++
-            codes "> 1 008E RET 8008 00\n> 1 0027 PUSHB 80 8009 00\n> 1 0029 PUSHW 0x0001 800B 00\n" ++
-            codes "> 1 002C PRIM 4 800B 00\n44 abend 03\n45 ready 0\n46 ready 0\n47 absent\n48 absent\n" ++
-            codes "49 static 01A00000000305A00000000162DE45C8923CD726000000000000000000\n" ++
-            codes "50 static 03C2AA5B19410CD1894CADC48D0000000000000000000000000000000000000000000000000000000000" ++
-            codes "00\n51 absent\n") }
+        codes "2 formatted\n5 ready 0\n6 9000\n7 9000\n8 6A86\n9 6985\n10 6985\n11 6985\n13 6985\n14 6985\n" ++
+        codes "15 6985\n16 6985\n17 6985\n18 6985\n19 6985\n20 6985\n21 6985\n22 9000\n23 9000\n" ++
+        codes "> 1 0000 CMPB PT[-12],1 8008 00\n> 1 0004 JUMP NE,0x0052 8008 00\n> 1 0052 NOP 8008 00\n" ++
+        codes "> 1 0053 CMPB PT[-12],2 8008 00\n> 1 0057 JUMP NE,0x005D 8008 00\n> 1 005D NOP 8008 00\n" ++
+        codes "> 1 005E CMPB PT[-12],3 8008 00\n> 1 0062 JUMP NE,0x0083 8008 00\n> 1 0083 NOP 8008 00\n" ++
+        codes "25 off at write 3\n27 off\n28 off\n29 off\n30 ready 0\n31 6A89\n32 9000\n33 9000\n34 9000\n" ++
+        codes "35 9000\n36 9000\n37 9000\n38 6A89\n39 ready 0\n40 9000\n> 1 0000 CMPB PT[-12],1 8008 00\n" ++
+        codes "> 1 0004 JUMP NE,0x0052 8008 00\n> 1 0052 NOP 8008 00\n> 1 0053 CMPB PT[-12],2 8008 00\n" ++
+        codes "> 1 0057 JUMP NE,0x005D 8008 00\n> 1 005D NOP 8008 00\n> 1 005E CMPB PT[-12],3 8008 01\n" ++
+        codes "> 1 0062 JUMP NE,0x0083 8008 01\n> 1 0065 INCN DB[0],1 8008 00\n" ++
+        codes "> 1 0069 LOAD DB[0],1 8009 00\n> 1 006D STORE PB[0],1 8008 00\n" ++
+        codes "> 1 0071 CMPW SB[4],0xC226 8008 10\n> 1 0076 LOAD SB[0],4 800C 10\n" ++
+        codes "> 1 007A STORE PB[0],4 8008 10\n> 1 007E EXITSWLA 0x9001,0x0003 8008 10\n42 9001\n43 9000\n" ++
+        codes "> 1 0000 CMPB PT[-12],1 8008 01\n> 1 0004 JUMP NE,0x0052 8008 01\n" ++
+        codes "> 1 0007 INCN DB[0],1 8008 00\n> 1 000B LOAD DB[0],1 8009 00\n> 1 000F STORE SB[0],1 8008 00\n" ++
+        codes "> 1 0013 SETW PT[-2],0x805B 8008 00\n> 1 0018 INCN DB[6],1 8008 00\n" ++
+        codes "> 1 001C LOAD DB[0],1 8009 00\n> 1 0020 STORE PB[2],1 8008 00\n" ++
+        codes "> 1 0024 CALL GT,0x008B 800C 00\n> 1 008B PUSHB 8 800D 00\n> 1 008D POPB 800C 00\n" ++
+        codes "> 1 008E RET 8008 00\n> 1 0027 PUSHB 80 8009 00\n> 1 0029 PUSHW 0x0001 800B 00\n" ++
+        codes "> 1 002C PRIM 4 800B 00\n44 abend 03\n45 ready 0\n46 ready 0\n47 absent\n48 absent\n" ++
+        codes "49 static 01A00000000305A00000000162DE45C8923CD726000000000000000000\n" ++
+        codes "50 static 03C2AA5B19410CD1894CADC48D0000000000000000000000000000000000000000000000000000000000" ++
+        codes "00\n51 absent\n") }
 {}
 
 /// 4 applications, 4 loads, an image of layout 1, a cut, and 27 turns.
@@ -232,19 +232,19 @@ pub fn deck_of_27_turns()
         codes "apdu 80050001089B689B0954E6462A08\ncut 5 4F50454E2D322D2D\npower\nfail 3\npower\n" ++
         codes "cut 4 0000000000000001\npower\npower\napdu 80010001\ndump A000000002\n")
         ≡ Ok (
-            codes "57 ready 6\n58 ready 0\n59 9000\n61 off at write 4\n62 off\n63 off\n64 off\n66 off\n67 off\n" ++
-            codes "69 off\n70 ready 0\n71 9000\n> 1 0000 CMPB PT[-12],1 8100 01\n" ++
-            codes "> 1 0004 JUMP NE,0x0012 8100 01\n> 1 0007 LOAD SB[0],4 8104 01\n" ++
-            codes "> 1 000B STORE PB[0],4 8100 01\n> 1 000F EXITSW 0x6A80 8100 01\n73 6A80\n" ++
-            codes "> 1 0000 CMPB PT[-12],1 8100 00\n> 1 0004 JUMP NE,0x0012 8100 00\n> 1 0012 NOP 8100 00\n" ++
-            codes "> 1 0013 CMPB PT[-12],2 8100 00\n> 1 0017 JUMP NE,0x001F 8100 00\n> 1 001F NOP 8100 00\n" ++
-            codes "> 1 0020 PUSHW 0x0000 8102 00\n> 1 0023 PRIM 7 8100 00\n> 1 0025 LOAD PT[-2],2 8102 00\n" ++
-            codes "> 1 0029 STORE PB[5],2 8100 00\n> 1 002D EXITLA 0x0002 8100 00\n75 6A82\n76 9000\n" ++
-            codes "> 1 0000 CMPB PT[-12],1 8100 00\n> 1 0004 JUMP NE,0x0012 8100 00\n> 1 0012 NOP 8100 00\n" ++
-            codes "> 1 0013 CMPB PT[-12],2 8100 00\n> 1 0017 JUMP NE,0x001F 8100 00\n> 1 001F NOP 8100 00\n" ++
-            codes "> 1 0020 PUSHW 0x0000 8102 00\n> 1 0023 PRIM 7 8100 00\n> 1 0025 LOAD PT[-2],2 8102 00\n" ++
-            codes "> 1 0029 STORE PB[5],2 8100 00\n> 1 002D EXITLA 0x0002 8100 00\n78 9B686A82\n80 ready 0\n" ++
-            codes "82 ready 0\n84 ready 0\n85 ready 0\n86 6985\n87 static 05A0000000090000000000000000\n") }
+        codes "57 ready 6\n58 ready 0\n59 9000\n61 off at write 4\n62 off\n63 off\n64 off\n66 off\n67 off\n" ++
+        codes "69 off\n70 ready 0\n71 9000\n> 1 0000 CMPB PT[-12],1 8100 01\n" ++
+        codes "> 1 0004 JUMP NE,0x0012 8100 01\n> 1 0007 LOAD SB[0],4 8104 01\n" ++
+        codes "> 1 000B STORE PB[0],4 8100 01\n> 1 000F EXITSW 0x6A80 8100 01\n73 6A80\n" ++
+        codes "> 1 0000 CMPB PT[-12],1 8100 00\n> 1 0004 JUMP NE,0x0012 8100 00\n> 1 0012 NOP 8100 00\n" ++
+        codes "> 1 0013 CMPB PT[-12],2 8100 00\n> 1 0017 JUMP NE,0x001F 8100 00\n> 1 001F NOP 8100 00\n" ++
+        codes "> 1 0020 PUSHW 0x0000 8102 00\n> 1 0023 PRIM 7 8100 00\n> 1 0025 LOAD PT[-2],2 8102 00\n" ++
+        codes "> 1 0029 STORE PB[5],2 8100 00\n> 1 002D EXITLA 0x0002 8100 00\n75 6A82\n76 9000\n" ++
+        codes "> 1 0000 CMPB PT[-12],1 8100 00\n> 1 0004 JUMP NE,0x0012 8100 00\n> 1 0012 NOP 8100 00\n" ++
+        codes "> 1 0013 CMPB PT[-12],2 8100 00\n> 1 0017 JUMP NE,0x001F 8100 00\n> 1 001F NOP 8100 00\n" ++
+        codes "> 1 0020 PUSHW 0x0000 8102 00\n> 1 0023 PRIM 7 8100 00\n> 1 0025 LOAD PT[-2],2 8102 00\n" ++
+        codes "> 1 0029 STORE PB[5],2 8100 00\n> 1 002D EXITLA 0x0002 8100 00\n78 9B686A82\n80 ready 0\n" ++
+        codes "82 ready 0\n84 ready 0\n85 ready 0\n86 6985\n87 static 05A0000000090000000000000000\n") }
 {}
 
 /// 2 applications, 2 loads, and 58 turns.
@@ -268,32 +268,32 @@ pub fn deck_of_58_turns()
         codes "apdu 8003000101F1\npower\ncut 27 0000000000000000\napdu 90020001\nselect A0000000040102\npower\n" ++
         codes "dump A000000003\ndump A000000002\ndump A0000000040102\ndump A0000000050102030405060708090A0B\n")
         ≡ Ok (
-            codes "2 formatted\n44 ready 0\n45 ready 0\n46 9000\n47 9000\n48 9000\n" ++
-            codes "> 1 0000 CMPB PT[-12],1 8008 01\n> 1 0004 JUMP NE,0x0014 8008 01\n" ++
-            codes "> 1 0007 LOAD SB[0],4 800C 01\n> 1 000B STORE PB[0],4 8008 01\n" ++
-            codes "> 1 000F EXITSWLA 0x9001,0x0003 8008 01\n49 9001\n> 1 0000 CMPB PT[-12],1 8008 00\n" ++
-            codes "> 1 0004 JUMP NE,0x0014 8008 00\n> 1 0014 NOP 8008 00\n> 1 0015 CMPB PT[-12],2 8008 01\n" ++
-            codes "> 1 0019 JUMP NE,0x0050 8008 01\n> 1 001C INCN DB[0],1 8008 00\n" ++
-            codes "> 1 0020 LOAD DB[0],1 8009 00\n> 1 0024 STORE PB[0],1 8008 00\n> 1 0028 PRIM 3,3 8008 00\n" ++
-            codes "> 1 002B SETB SB[5],21 8008 00\n> 1 002F SETW SB[2],0x5155 8008 00\n" ++
-            codes "> 1 0034 SETW SB[2],0x725A 8008 00\n> 1 0039 SETB SB[0],200 8008 00\n" ++
-            codes "> 1 003D LOAD PB[0],8 8010 00\n> 1 0041 STORE SB[5],8 8008 00\n> 1 0045 PRIM 3,1 8008 00\n" ++
-            codes "> 1 0048 SETW SB[12],0xE380 8008 00\n> 1 004D EXITLA 0x0004 8008 00\n50 9000\n51 9000\n" ++
-            codes "> 1 0000 CMPB PT[-12],1 8001 00\n> 1 0004 JUMP NE,0x0023 8001 00\n> 1 0023 NOP 8001 00\n" ++
-            codes "> 1 0024 CMPB PT[-12],2 8001 01\n> 1 0028 JUMP NE,0x0035 8001 01\n" ++
-            codes "> 1 002B PUSHW 0x0000 8003 01\n> 1 002E PRIM 7 8001 01\n> 1 0030 PUSHB 1 8002 01\n" ++
-            codes "> 1 0032 PRIM 3 8001 01\n> 1 0034 EXIT 8001 01\n52 6A82\n> 1 0000 CMPB PT[-12],1 8001 01\n" ++
-            codes "> 1 0004 JUMP NE,0x0023 8001 01\n> 1 0007 PUSHW 0x0000 8003 01\n> 1 000A PRIM 7 8001 01\n" ++
-            codes "> 1 000C PUSHW 0x0000 8003 01\n> 1 000F PRIM 7 8001 01\n> 1 0011 PUSHW 0x0000 8003 01\n" ++
-            codes "> 1 0014 PRIM 7 8001 01\n> 1 0016 LOAD PT[-2],2 8003 01\n> 1 001A STORE PB[5],2 8001 01\n" ++
-            codes "> 1 001E EXITSWLA 0x9001,0x0003 8001 01\n54 9001\n> 1 0000 CMPB PT[-12],1 8001 00\n" ++
-            codes "> 1 0004 JUMP NE,0x0023 8001 00\n> 1 0023 NOP 8001 00\n> 1 0024 CMPB PT[-12],2 8001 00\n" ++
-            codes "> 1 0028 JUMP NE,0x0035 8001 00\n> 1 0035 NOP 8001 00\n> 1 0036 CMPB PT[-12],3 8001 01\n" ++
-            codes "> 1 003A JUMP NE,0x0050 8001 01\n> 1 003D PUSHW 0x0008 8003 01\n" ++
-            codes "> 1 0040 PUSHW 0x0002 8005 01\n> 1 0043 PUSHW 0xC000 8007 01\n> 1 0046 PRIM 6 8001 01\n" ++
-            codes "> 1 0048 SUBW SB[4],0x54A9 8001 10\n> 1 004D EXITLA 0x0004 8001 10\n55 9000\n56 ready 0\n" ++
-            codes "58 6985\n59 9000\n60 ready 0\n61 static C8A0725A0001AA941E9C552DE380\n62 absent\n" ++
-            codes "63 static 05A0F100AB5700000000DC9BDC7495FDFC05FF00\n64 absent\n") }
+        codes "2 formatted\n44 ready 0\n45 ready 0\n46 9000\n47 9000\n48 9000\n" ++
+        codes "> 1 0000 CMPB PT[-12],1 8008 01\n> 1 0004 JUMP NE,0x0014 8008 01\n" ++
+        codes "> 1 0007 LOAD SB[0],4 800C 01\n> 1 000B STORE PB[0],4 8008 01\n" ++
+        codes "> 1 000F EXITSWLA 0x9001,0x0003 8008 01\n49 9001\n> 1 0000 CMPB PT[-12],1 8008 00\n" ++
+        codes "> 1 0004 JUMP NE,0x0014 8008 00\n> 1 0014 NOP 8008 00\n> 1 0015 CMPB PT[-12],2 8008 01\n" ++
+        codes "> 1 0019 JUMP NE,0x0050 8008 01\n> 1 001C INCN DB[0],1 8008 00\n" ++
+        codes "> 1 0020 LOAD DB[0],1 8009 00\n> 1 0024 STORE PB[0],1 8008 00\n> 1 0028 PRIM 3,3 8008 00\n" ++
+        codes "> 1 002B SETB SB[5],21 8008 00\n> 1 002F SETW SB[2],0x5155 8008 00\n" ++
+        codes "> 1 0034 SETW SB[2],0x725A 8008 00\n> 1 0039 SETB SB[0],200 8008 00\n" ++
+        codes "> 1 003D LOAD PB[0],8 8010 00\n> 1 0041 STORE SB[5],8 8008 00\n> 1 0045 PRIM 3,1 8008 00\n" ++
+        codes "> 1 0048 SETW SB[12],0xE380 8008 00\n> 1 004D EXITLA 0x0004 8008 00\n50 9000\n51 9000\n" ++
+        codes "> 1 0000 CMPB PT[-12],1 8001 00\n> 1 0004 JUMP NE,0x0023 8001 00\n> 1 0023 NOP 8001 00\n" ++
+        codes "> 1 0024 CMPB PT[-12],2 8001 01\n> 1 0028 JUMP NE,0x0035 8001 01\n" ++
+        codes "> 1 002B PUSHW 0x0000 8003 01\n> 1 002E PRIM 7 8001 01\n> 1 0030 PUSHB 1 8002 01\n" ++
+        codes "> 1 0032 PRIM 3 8001 01\n> 1 0034 EXIT 8001 01\n52 6A82\n> 1 0000 CMPB PT[-12],1 8001 01\n" ++
+        codes "> 1 0004 JUMP NE,0x0023 8001 01\n> 1 0007 PUSHW 0x0000 8003 01\n> 1 000A PRIM 7 8001 01\n" ++
+        codes "> 1 000C PUSHW 0x0000 8003 01\n> 1 000F PRIM 7 8001 01\n> 1 0011 PUSHW 0x0000 8003 01\n" ++
+        codes "> 1 0014 PRIM 7 8001 01\n> 1 0016 LOAD PT[-2],2 8003 01\n> 1 001A STORE PB[5],2 8001 01\n" ++
+        codes "> 1 001E EXITSWLA 0x9001,0x0003 8001 01\n54 9001\n> 1 0000 CMPB PT[-12],1 8001 00\n" ++
+        codes "> 1 0004 JUMP NE,0x0023 8001 00\n> 1 0023 NOP 8001 00\n> 1 0024 CMPB PT[-12],2 8001 00\n" ++
+        codes "> 1 0028 JUMP NE,0x0035 8001 00\n> 1 0035 NOP 8001 00\n> 1 0036 CMPB PT[-12],3 8001 01\n" ++
+        codes "> 1 003A JUMP NE,0x0050 8001 01\n> 1 003D PUSHW 0x0008 8003 01\n" ++
+        codes "> 1 0040 PUSHW 0x0002 8005 01\n> 1 0043 PUSHW 0xC000 8007 01\n> 1 0046 PRIM 6 8001 01\n" ++
+        codes "> 1 0048 SUBW SB[4],0x54A9 8001 10\n> 1 004D EXITLA 0x0004 8001 10\n55 9000\n56 ready 0\n" ++
+        codes "58 6985\n59 9000\n60 ready 0\n61 static C8A0725A0001AA941E9C552DE380\n62 absent\n" ++
+        codes "63 static 05A0F100AB5700000000DC9BDC7495FDFC05FF00\n64 absent\n") }
 {}
 
 /// 2 applications, 2 loads, an image of layout 1, an abend, 2 deletions, and 21 turns.
@@ -329,17 +329,17 @@ pub fn deck_of_21_turns()
         codes "apdu 9005010010C537C660867438DDC7DE5D5E4153FB5F02\ndump A000000001\ndump A000000003\n" ++
         codes "dump A000000009\ndump A000000002\ndump A0000000040102\n")
         ≡ Ok (
-            codes "103 ready 11\n104 ready 0\n105 9000\n106 6A89\n107 6A82\n108 ready 0\n109 9000\n110 6A82\n" ++
-            codes "> 1 0000 CMPB PT[-12],1 8001 00\n> 1 0004 JUMP NE,0x0019 8001 00\n> 1 0019 NOP 8001 00\n" ++
-            codes "> 1 001A CMPB PT[-12],2 8001 00\n> 1 001E JUMP NE,0x0035 8001 00\n> 1 0035 NOP 8001 00\n" ++
-            codes "> 1 0036 CMPB PT[-12],3 8001 00\n> 1 003A JUMP NE,0x004B 8001 00\n> 1 004B NOP 8001 00\n" ++
-            codes "> 1 004C CMPB PT[-12],4 8001 01\n> 1 0050 JUMP NE,0x0084 8001 01\n" ++
-            codes "> 1 0053 INCN DB[0],1 8001 00\n> 1 0057 LOAD DB[0],1 8002 00\n> 1 005B STORE PB[0],1 8001 00\n" ++
-            codes "> 1 005F PUSHW 0x0000 8003 00\n> 1 0062 PRIM 8 8001 01\n" ++
-            codes "> 1 0064 SETSWLA 0x6985,0x0004 8001 01\n> 1 0069 INCN DB[0],1 8001 00\n" ++
-            codes "> 1 006D LOAD DB[0],1 8002 00\n> 1 0071 STORE PB[3],1 8001 00\n> 1 0075 JUMP 8001 00\n" ++
-            codes "111 abend 04\n112 ready 0\n113 6985\n114 static 9900000000000000\n115 absent\n116 absent\n" ++
-            codes "117 static 05A00000000905A000000002FA0000\n118 static 05A0000000028E9969C89D6C890D\n") }
+        codes "103 ready 11\n104 ready 0\n105 9000\n106 6A89\n107 6A82\n108 ready 0\n109 9000\n110 6A82\n" ++
+        codes "> 1 0000 CMPB PT[-12],1 8001 00\n> 1 0004 JUMP NE,0x0019 8001 00\n> 1 0019 NOP 8001 00\n" ++
+        codes "> 1 001A CMPB PT[-12],2 8001 00\n> 1 001E JUMP NE,0x0035 8001 00\n> 1 0035 NOP 8001 00\n" ++
+        codes "> 1 0036 CMPB PT[-12],3 8001 00\n> 1 003A JUMP NE,0x004B 8001 00\n> 1 004B NOP 8001 00\n" ++
+        codes "> 1 004C CMPB PT[-12],4 8001 01\n> 1 0050 JUMP NE,0x0084 8001 01\n" ++
+        codes "> 1 0053 INCN DB[0],1 8001 00\n> 1 0057 LOAD DB[0],1 8002 00\n> 1 005B STORE PB[0],1 8001 00\n" ++
+        codes "> 1 005F PUSHW 0x0000 8003 00\n> 1 0062 PRIM 8 8001 01\n" ++
+        codes "> 1 0064 SETSWLA 0x6985,0x0004 8001 01\n> 1 0069 INCN DB[0],1 8001 00\n" ++
+        codes "> 1 006D LOAD DB[0],1 8002 00\n> 1 0071 STORE PB[3],1 8001 00\n> 1 0075 JUMP 8001 00\n" ++
+        codes "111 abend 04\n112 ready 0\n113 6985\n114 static 9900000000000000\n115 absent\n116 absent\n" ++
+        codes "117 static 05A00000000905A000000002FA0000\n118 static 05A0000000028E9969C89D6C890D\n") }
 {}
 
 /// 4 applications, a load, 6 manager commands, and 14 turns.
@@ -387,15 +387,15 @@ pub fn deck_of_14_turns()
         codes "apdu BE2000000861094F07A0000000\napdu BE20000803040102\napdu BE160000\npower\n" ++
         codes "dump A0000000040102\ndump A000000001\ndump A000000002\ndump A000000003\n")
         ≡ Ok (
-            codes "76 ready 0\n77 9000\n78 ready 0\n79 9000\n> 1 0000 CMPB PT[-12],1 8100 00\n" ++
-            codes "> 1 0004 JUMP NE,0x0033 8100 00\n> 1 0033 NOP 8100 00\n> 1 0034 CMPB PT[-12],2 8100 00\n" ++
-            codes "> 1 0038 JUMP NE,0x0057 8100 00\n> 1 0057 NOP 8100 00\n> 1 0058 CMPB PT[-12],3 8100 00\n" ++
-            codes "> 1 005C JUMP NE,0x007D 8100 00\n> 1 007D NOP 8100 00\n> 1 007E PUSHW 0x0014 8102 00\n" ++
-            codes "> 1 0081 PUSHW 0xC000 8104 00\n> 1 0084 PUSHW 0x000A 8106 00\n> 1 0087 PRIM 9 8100 00\n" ++
-            codes "> 1 0089 EXIT 8100 00\n80 9000\n81 ready 0\n82 6985\n84 6985\n85 9000\n86 9000\n87 9000\n" ++
-            codes "88 9000\n89 9000\n90 9000\n91 ready 0\n92 static 05A000000003\n" ++
-            codes "93 static 10A000000005010203046768033E216468247BD031A0A2D9876D79818F8F0000\n94 absent\n" ++
-            codes "95 static 05A000000003\n") }
+        codes "76 ready 0\n77 9000\n78 ready 0\n79 9000\n> 1 0000 CMPB PT[-12],1 8100 00\n" ++
+        codes "> 1 0004 JUMP NE,0x0033 8100 00\n> 1 0033 NOP 8100 00\n> 1 0034 CMPB PT[-12],2 8100 00\n" ++
+        codes "> 1 0038 JUMP NE,0x0057 8100 00\n> 1 0057 NOP 8100 00\n> 1 0058 CMPB PT[-12],3 8100 00\n" ++
+        codes "> 1 005C JUMP NE,0x007D 8100 00\n> 1 007D NOP 8100 00\n> 1 007E PUSHW 0x0014 8102 00\n" ++
+        codes "> 1 0081 PUSHW 0xC000 8104 00\n> 1 0084 PUSHW 0x000A 8106 00\n> 1 0087 PRIM 9 8100 00\n" ++
+        codes "> 1 0089 EXIT 8100 00\n80 9000\n81 ready 0\n82 6985\n84 6985\n85 9000\n86 9000\n87 9000\n" ++
+        codes "88 9000\n89 9000\n90 9000\n91 ready 0\n92 static 05A000000003\n" ++
+        codes "93 static 10A000000005010203046768033E216468247BD031A0A2D9876D79818F8F0000\n94 absent\n" ++
+        codes "95 static 05A000000003\n") }
 {}
 
 /// 3 applications, 2 loads, a deletion, and 14 turns.
@@ -420,13 +420,13 @@ pub fn deck_of_14_turns_2()
         codes "select A000000003\napdu FF020002\napdu 8001000010D5BF9488991A99C8918582864C6698B8\n" ++
         codes "delete A000000002\npower\ndump A000000003\ndump A000000002\ndump A000000009\n")
         ≡ Ok (
-            codes "2 formatted\n53 ready 0\n54 9000\n55 9000\n57 9000\n> 1 0000 CMPB PT[-12],1 8004 01\n" ++
-            codes "> 1 0004 JUMP NE,0x0014 8004 01\n> 1 0007 PUSHB 3 8005 01\n> 1 0009 PRIM 1 8004 00\n" ++
-            codes "> 1 000B PRIM 2 8005 00\n> 1 000D STORE PB[3],1 8004 00\n> 1 0011 EXITSW 0x6A80 8004 00\n" ++
-            codes "58 6A80\n59 ready 0\n60 9000\n61 9000\n62 6E00\n> 1 0000 CMPB PT[-12],1 8010 01\n" ++
-            codes "> 1 0004 JUMP NE,0x0011 8010 01\n> 1 0007 PUSHW 0x0000 8012 01\n> 1 000A PRIM 7 8010 01\n" ++
-            codes "> 1 000C PUSHB 0 8011 01\n> 1 000E PRIM 3 8010 00\n> 1 0010 EXIT 8010 00\n63 6A82\n64 9000\n" ++
-            codes "65 ready 0\n66 static 07A0000000040102\n67 absent\n68 absent\n") }
+        codes "2 formatted\n53 ready 0\n54 9000\n55 9000\n57 9000\n> 1 0000 CMPB PT[-12],1 8004 01\n" ++
+        codes "> 1 0004 JUMP NE,0x0014 8004 01\n> 1 0007 PUSHB 3 8005 01\n> 1 0009 PRIM 1 8004 00\n" ++
+        codes "> 1 000B PRIM 2 8005 00\n> 1 000D STORE PB[3],1 8004 00\n> 1 0011 EXITSW 0x6A80 8004 00\n" ++
+        codes "58 6A80\n59 ready 0\n60 9000\n61 9000\n62 6E00\n> 1 0000 CMPB PT[-12],1 8010 01\n" ++
+        codes "> 1 0004 JUMP NE,0x0011 8010 01\n> 1 0007 PUSHW 0x0000 8012 01\n> 1 000A PRIM 7 8010 01\n" ++
+        codes "> 1 000C PUSHB 0 8011 01\n> 1 000E PRIM 3 8010 00\n> 1 0010 EXIT 8010 00\n63 6A82\n64 9000\n" ++
+        codes "65 ready 0\n66 static 07A0000000040102\n67 absent\n68 absent\n") }
 {}
 
 /// 2 applications, 2 loads, a cut, 4 abends, 15 manager commands, and 42 turns.
@@ -452,26 +452,26 @@ pub fn deck_of_42_turns()
         codes "apdu BE220008080501020304050607\napdu BE2200100408090A0B\napdu BE160000\npower\ndump A000000002\n" ++
         codes "dump A0000000040102\ndump A000000003\ndump A0000000050102030405060708090A0B\ndump A000000009\n")
         ≡ Ok (
-            codes "2 formatted\n5 ready 0\n6 9000\n7 9000\n8 6985\n9 9000\n> 1 0000 CMPB PT[-12],1 8001 01\n" ++
-            codes "> 1 0004 JUMP NE,0x0025 8001 01\n> 1 0007 LOAD DB[0],9 8001 01\n10 abend 03\n11 ready 0\n" ++
-            codes "12 9000\n> 1 0000 CMPB PT[-12],1 8008 01\n> 1 0004 JUMP NE,0x0038 8008 01\n" ++
-            codes "> 1 0007 PUSHW 0x0000 800A 01\n> 1 000A PRIM 7 8008 01\n> 1 000C PUSHW 0xC000 800A 01\n" ++
-            codes "> 1 000F PUSHW 0xC000 800C 01\n> 1 0012 PUSHW 0x0000 800E 01\n> 1 0015 PUSHW 0xC010 8010 01\n" ++
-            codes "> 1 0018 PRIM 12,24 8010 01\n14 abend 06\n> 1 0000 CMPB PT[-12],1 8008 01\n" ++
-            codes "> 1 0004 JUMP NE,0x0038 8008 01\n> 1 0007 PUSHW 0x0000 800A 01\n> 1 000A PRIM 7 8008 01\n" ++
-            codes "> 1 000C PUSHW 0xC000 800A 01\n> 1 000F PUSHW 0xC000 800C 01\n> 1 0012 PUSHW 0x0000 800E 01\n" ++
-            codes "> 1 0015 PUSHW 0xC010 8010 01\n> 1 0018 PRIM 12,24 8010 01\n15 abend 06\n16 ready 0\n17 9000\n" ++
-            codes "18 9000\n> 1 0000 CMPB PT[-12],1 8008 01\n> 1 0004 JUMP NE,0x0038 8008 01\n" ++
-            codes "> 1 0007 PUSHW 0x0000 800A 01\n> 1 000A PRIM 7 8008 01\n> 1 000C PUSHW 0xC000 800A 01\n" ++
-            codes "> 1 000F PUSHW 0xC000 800C 01\n> 1 0012 PUSHW 0x0000 800E 01\n> 1 0015 PUSHW 0xC010 8010 01\n" ++
-            codes "> 1 0018 PRIM 12,24 8010 01\n19 abend 06\n> 1 0000 CMPB PT[-12],1 8008 00\n" ++
-            codes "> 1 0004 JUMP NE,0x0038 8008 00\n> 1 0038 NOP 8008 00\n> 1 0039 CMPB PT[-12],2 8008 00\n" ++
-            codes "> 1 003D JUMP NE,0x005A 8008 00\n> 1 005A NOP 8008 00\n> 1 005B CMPB PT[-12],3 8008 00\n" ++
-            codes "> 1 005F JUMP NE,0x0093 8008 00\n> 1 0093 NOP 8008 00\n> 1 0094 PUSHW 0x0002 800A 00\n" ++
-            codes "> 1 0097 PUSHW 0x000A 800C 00\n> 1 009A PUSHW 0xC000 800E 00\n21 off at write 1\n22 ready 0\n" ++
-            codes "23 6985\n24 6985\n25 6985\n26 6985\n27 6985\n28 6985\n29 6985\n30 6985\n31 6985\n32 6985\n" ++
-            codes "33 6985\n34 6985\n35 6985\n36 6985\n37 ready 0\n38 static 05A00000000300000000000000\n" ++
-            codes "39 static 07A000000004010214000000000000000000\n40 absent\n41 absent\n42 absent\n") }
+        codes "2 formatted\n5 ready 0\n6 9000\n7 9000\n8 6985\n9 9000\n> 1 0000 CMPB PT[-12],1 8001 01\n" ++
+        codes "> 1 0004 JUMP NE,0x0025 8001 01\n> 1 0007 LOAD DB[0],9 8001 01\n10 abend 03\n11 ready 0\n" ++
+        codes "12 9000\n> 1 0000 CMPB PT[-12],1 8008 01\n> 1 0004 JUMP NE,0x0038 8008 01\n" ++
+        codes "> 1 0007 PUSHW 0x0000 800A 01\n> 1 000A PRIM 7 8008 01\n> 1 000C PUSHW 0xC000 800A 01\n" ++
+        codes "> 1 000F PUSHW 0xC000 800C 01\n> 1 0012 PUSHW 0x0000 800E 01\n> 1 0015 PUSHW 0xC010 8010 01\n" ++
+        codes "> 1 0018 PRIM 12,24 8010 01\n14 abend 06\n> 1 0000 CMPB PT[-12],1 8008 01\n" ++
+        codes "> 1 0004 JUMP NE,0x0038 8008 01\n> 1 0007 PUSHW 0x0000 800A 01\n> 1 000A PRIM 7 8008 01\n" ++
+        codes "> 1 000C PUSHW 0xC000 800A 01\n> 1 000F PUSHW 0xC000 800C 01\n> 1 0012 PUSHW 0x0000 800E 01\n" ++
+        codes "> 1 0015 PUSHW 0xC010 8010 01\n> 1 0018 PRIM 12,24 8010 01\n15 abend 06\n16 ready 0\n17 9000\n" ++
+        codes "18 9000\n> 1 0000 CMPB PT[-12],1 8008 01\n> 1 0004 JUMP NE,0x0038 8008 01\n" ++
+        codes "> 1 0007 PUSHW 0x0000 800A 01\n> 1 000A PRIM 7 8008 01\n> 1 000C PUSHW 0xC000 800A 01\n" ++
+        codes "> 1 000F PUSHW 0xC000 800C 01\n> 1 0012 PUSHW 0x0000 800E 01\n> 1 0015 PUSHW 0xC010 8010 01\n" ++
+        codes "> 1 0018 PRIM 12,24 8010 01\n19 abend 06\n> 1 0000 CMPB PT[-12],1 8008 00\n" ++
+        codes "> 1 0004 JUMP NE,0x0038 8008 00\n> 1 0038 NOP 8008 00\n> 1 0039 CMPB PT[-12],2 8008 00\n" ++
+        codes "> 1 003D JUMP NE,0x005A 8008 00\n> 1 005A NOP 8008 00\n> 1 005B CMPB PT[-12],3 8008 00\n" ++
+        codes "> 1 005F JUMP NE,0x0093 8008 00\n> 1 0093 NOP 8008 00\n> 1 0094 PUSHW 0x0002 800A 00\n" ++
+        codes "> 1 0097 PUSHW 0x000A 800C 00\n> 1 009A PUSHW 0xC000 800E 00\n21 off at write 1\n22 ready 0\n" ++
+        codes "23 6985\n24 6985\n25 6985\n26 6985\n27 6985\n28 6985\n29 6985\n30 6985\n31 6985\n32 6985\n" ++
+        codes "33 6985\n34 6985\n35 6985\n36 6985\n37 ready 0\n38 static 05A00000000300000000000000\n" ++
+        codes "39 static 07A000000004010214000000000000000000\n40 absent\n41 absent\n42 absent\n") }
 {}
 
 /// 4 applications, 4 loads, an image of layout 1, and 23 turns.
@@ -503,19 +503,19 @@ pub fn deck_of_23_turns()
         codes "apdu 8004000110D395590DA15C9A7476A6B53ACC2F374E\npower\npower\nselect A000000003\npower\n" ++
         codes "dump A000000001\ndump A000000003\ndump A000000002\ndump A000000009\n")
         ≡ Ok (
-            codes "2 formatted\n23 ready 6\n24 ready 0\n25 9000\n26 6A89\n27 9000\n28 6A89\n29 6985\n30 6700\n" ++
-            codes "31 9000\n> 1 0000 CMPB PT[-12],1 8001 01\n> 1 0004 JUMP NE,0x0015 8001 01\n" ++
-            codes "> 1 0007 SETB SB[28],189 8001 01\n> 1 000B INCN SB[34],1 8001 00\n" ++
-            codes "> 1 000F CALL ALL,0x001F 8005 00\n> 1 001F PUSHB 2 8006 00\n> 1 0021 POPB 8005 00\n" ++
-            codes "> 1 0022 RET 8001 00\n> 1 0012 EXITLA 0x0004 8001 00\n32 9000\n34 ready 0\n36 ready 0\n" ++
-            codes "37 ready 0\n38 9000\n> 1 0000 CMPB PT[-12],1 8004 00\n> 1 0004 JUMP NE,0x001A 8004 00\n" ++
-            codes "> 1 001A NOP 8004 00\n> 1 001B INCN DB[2],1 8004 00\n> 1 001F LOAD DB[0],1 8005 00\n" ++
-            codes "> 1 0023 STORE PB[1],1 8004 00\n> 1 0027 EXITLA 0x0002 8004 00\n40 9000\n41 9000\n" ++
-            codes "> 1 0000 CMPB PT[-12],1 8004 00\n> 1 0004 JUMP NE,0x001A 8004 00\n> 1 001A NOP 8004 00\n" ++
-            codes "> 1 001B INCN DB[2],1 8004 00\n> 1 001F LOAD DB[0],1 8005 00\n> 1 0023 STORE PB[1],1 8004 00\n" ++
-            codes "> 1 0027 EXITLA 0x0002 8004 00\n43 9000\n44 ready 0\n45 ready 0\n46 9000\n47 ready 0\n" ++
-            codes "48 absent\n" ++
-            codes "49 static 10A0000000050102030405060708090A0B05A0000000029E48659044B95CE40000000000000000\n" ++
-            codes "50 static 05A000000002A4000000000000000000000000000000000000000000BD0000000000010000\n" ++
-            codes "51 absent\n") }
+        codes "2 formatted\n23 ready 6\n24 ready 0\n25 9000\n26 6A89\n27 9000\n28 6A89\n29 6985\n30 6700\n" ++
+        codes "31 9000\n> 1 0000 CMPB PT[-12],1 8001 01\n> 1 0004 JUMP NE,0x0015 8001 01\n" ++
+        codes "> 1 0007 SETB SB[28],189 8001 01\n> 1 000B INCN SB[34],1 8001 00\n" ++
+        codes "> 1 000F CALL ALL,0x001F 8005 00\n> 1 001F PUSHB 2 8006 00\n> 1 0021 POPB 8005 00\n" ++
+        codes "> 1 0022 RET 8001 00\n> 1 0012 EXITLA 0x0004 8001 00\n32 9000\n34 ready 0\n36 ready 0\n" ++
+        codes "37 ready 0\n38 9000\n> 1 0000 CMPB PT[-12],1 8004 00\n> 1 0004 JUMP NE,0x001A 8004 00\n" ++
+        codes "> 1 001A NOP 8004 00\n> 1 001B INCN DB[2],1 8004 00\n> 1 001F LOAD DB[0],1 8005 00\n" ++
+        codes "> 1 0023 STORE PB[1],1 8004 00\n> 1 0027 EXITLA 0x0002 8004 00\n40 9000\n41 9000\n" ++
+        codes "> 1 0000 CMPB PT[-12],1 8004 00\n> 1 0004 JUMP NE,0x001A 8004 00\n> 1 001A NOP 8004 00\n" ++
+        codes "> 1 001B INCN DB[2],1 8004 00\n> 1 001F LOAD DB[0],1 8005 00\n> 1 0023 STORE PB[1],1 8004 00\n" ++
+        codes "> 1 0027 EXITLA 0x0002 8004 00\n43 9000\n44 ready 0\n45 ready 0\n46 9000\n47 ready 0\n" ++
+        codes "48 absent\n" ++
+        codes "49 static 10A0000000050102030405060708090A0B05A0000000029E48659044B95CE40000000000000000\n" ++
+        codes "50 static 05A000000002A4000000000000000000000000000000000000000000BD0000000000010000\n" ++
+        codes "51 absent\n") }
 {}
