@@ -1,2 +1,11 @@
 pub mod OrdersLemmas
 pub mod ModesLemmas
+pub mod ImageLemmas
+pub mod DeviceLemmas
+pub mod LookLemmas
+pub mod WrittenLemmas
+pub mod GeometryLemmas
+pub mod StoppedLemmas
+pub mod RecoveryLemmas
+pub mod CallLemmas
+pub mod LoopLemmas

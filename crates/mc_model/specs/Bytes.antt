@@ -6,9 +6,11 @@ use Rattle.std.specs.Prelude.{ℕ, zero, suc, ◌+◌, ◌-◌, ◌*◌, ◌/◌
 abbrev pub up : ℕ → ℕ → ℕ
 up n d = (n + (d - 1)) / d
 
+-- n divided by d, rounded down
 abbrev pub down : ℕ → ℕ → ℕ
 down n d = n / d
 
+-- n zero bytes
 abbrev pub zeros : ℕ → List ℕ
 zeros n = replicate n 0
 
@@ -25,6 +27,7 @@ abbrev pub num : List ℕ → ℕ
 num [] = 0
 num (b ∷ bs) = b * 256 ^ length bs + num bs
 
+-- the block of n bytes of a number modulo 256 ^ n
 abbrev pub bytes : ℕ → ℕ → List ℕ
 bytes zero v = []
 bytes (suc n) v = (v / 256 ^ n % 256) ∷ bytes n v
@@ -51,17 +54,20 @@ has_name n (k ∷ ks) = bytes_eq k n || has_name n ks
 abbrev pub Map : Type 0 → Type 0
 Map A = List (List ℕ × A)
 
+-- the value under a name
 abbrev pub lookup : {A : Type 0} → List (List ℕ × A) → List ℕ → Option A
 lookup [] n = None
 lookup (e ∷ es) n = cond (bytes_eq e.0 n) (Some e.1) (lookup es n)
 
+-- the map with a value under a name, in the place of an earlier one
 abbrev pub insert : {A : Type 0} → List (List ℕ × A) → List ℕ → A → List (List ℕ × A)
 insert [] n a = (n, a) ∷ []
 insert (e ∷ es) n a = cond (bytes_eq e.0 n) ((n, a) ∷ es) (cond (name_before n e.0) ((n, a) ∷ e ∷ es) (e ∷ insert es n a))
 
+-- no entry of the name is left
 abbrev pub remove : {A : Type 0} → List (List ℕ × A) → List ℕ → List (List ℕ × A)
 remove [] n = []
-remove (e ∷ es) n = cond (bytes_eq e.0 n) es (e ∷ remove es n)
+remove (e ∷ es) n = cond (bytes_eq e.0 n) (remove es n) (e ∷ remove es n)
 
 -- the first part of a value that may be missing, else the second
 abbrev pub or_else : {A : Type 0} → Option A → Option A → Option A

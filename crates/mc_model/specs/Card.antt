@@ -15,6 +15,7 @@ pub record App : Type 0 where
   pub fci : List ℕ
   pub place : ℕ
 
+-- a card: its words, the version of its layout, and its applications by their names
 pub record Card : Type 0 where
   pub size : ℕ
   pub layout : ℕ
@@ -28,6 +29,7 @@ placed p a = record a { place = p }
 abbrev pub needed_of : ℕ → ℕ → ℕ → ℕ → ℕ
 needed_of code fixed dir fci = 5 + up code 8 + up fixed 8 + up dir 8 + up fci 8
 
+-- how many words an application takes
 abbrev pub needed : App → ℕ
 needed a = needed_of (length a.code) (length a.fixed) (length a.dir) (length a.fci)
 
@@ -44,6 +46,7 @@ pub record Block : Type 0 where
 abbrev pub used_tag : ℕ
 used_tag = 0x55
 
+-- the first byte of the header of a hole
 abbrev pub hole_tag : ℕ
 hole_tag = 0x48
 
@@ -57,6 +60,7 @@ is_header x =
     (slice_index x 0 == used_tag || slice_index x 0 == hole_tag) && slice_index x 1 == 0
     && nat_le 1 (be2 x 2) && slice_index x 6 == 0 && slice_index x 7 == 0
 
+-- the block whose header stands at p, if one does
 abbrev pub header : ℕ → List ℕ → Option Block
 header p x =
     cond (is_header x) (Some (record { place = p; used = slice_index x 0 == used_tag; words = be2 x 2; link = be2 x 4 })) None
@@ -75,6 +79,7 @@ blocks_from (suc n) m p = block_and (length m) (header p (word m p)) (λ q. bloc
 abbrev pub heap_start : ℕ
 heap_start = 131
 
+-- the blocks of the heap
 abbrev pub blocks : List (List ℕ) → List Block
 blocks m = blocks_from (length m) m heap_start
 
@@ -93,9 +98,11 @@ section m p n = take n (cells m p (up n 8))
 abbrev pub record_at : List (List ℕ) → ℕ → List ℕ
 record_at m p = cells m (p + 1) 4
 
+-- the name in a record
 abbrev pub name_in : List ℕ → List ℕ
 name_in r = take (slice_index r 16) r
 
+-- the name in the record of the block at p
 abbrev pub name_at : List (List ℕ) → ℕ → List ℕ
 name_at m p = name_in (record_at m p)
 
@@ -116,6 +123,7 @@ app_of m p r =
       place = p;
     }
 
+-- the application of the block at p
 abbrev pub app_at : List (List ℕ) → ℕ → App
 app_at m p = app_of m p (record_at m p)
 

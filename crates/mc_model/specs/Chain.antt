@@ -68,9 +68,11 @@ abbrev pub delegator_in : List Frame → Option (List ℕ)
 delegator_in [] = None
 delegator_in (f ∷ fs) = Some f.name
 
+-- what a row of the running frame knows besides it
 abbrev pub around : Chain → Around
 around ch = record { case = apdu_case ch.apdu; delegator = delegator_in ch.below }
 
+-- the number of frames
 abbrev pub depth_of : Chain → ℕ
 depth_of ch = length ch.below + 1
 
@@ -79,26 +81,32 @@ abbrev pub first_frame : Frame → List Frame → Frame
 first_frame f [] = f
 first_frame f (g ∷ gs) = first_frame g gs
 
+-- the session bytes of the first frame
 abbrev pub chain_session : Chain → List ℕ
 chain_session ch = session_of (first_frame ch.frame ch.below)
 
 -- ---- static changes reach the map
 
+-- an application whose static bytes have these pieces laid over them
 abbrev pub with_pieces : List (ℕ × List ℕ) → App → App
 with_pieces ps a = record a { fixed = laid_pieces a.fixed ps }
 
+-- the map with pieces laid over the static bytes of a name that it has
 abbrev pub changed_app : List (List ℕ × App) → List ℕ → List (ℕ × List ℕ) → Option App → List (List ℕ × App)
 changed_app map n ps None = map
 changed_app map n ps (Some a) = insert map n (with_pieces ps a)
 
+-- the map after a list of static changes, if there is one
 abbrev pub map_changed : List (List ℕ × App) → List ℕ → Option (List (ℕ × List ℕ)) → List (List ℕ × App)
 map_changed map n None = map
 map_changed map n (Some ps) = changed_app map n ps (lookup map n)
 
+-- the atomic write of a list of static changes
 abbrev pub write_of : List ℕ → Option (List (ℕ × List ℕ)) → List Write
 write_of n None = []
 write_of n (Some ps) = record { name = n; pieces = ps; words = length (touched ps) } ∷ []
 
+-- how many words it has
 abbrev pub words_of_write : Option (List (ℕ × List ℕ)) → Option ℕ
 words_of_write None = None
 words_of_write (Some ps) = Some (length (touched ps))
@@ -110,6 +118,7 @@ settled ch e =
 
 -- ---- delegation and exit
 
+-- a name that a frame of the chain runs
 abbrev pub is_active : List ℕ → Frame → List Frame → Bool
 is_active n f [] = bytes_eq f.name n
 is_active n f (g ∷ gs) = bytes_eq f.name n || is_active n g gs
@@ -147,11 +156,13 @@ abbrev pub exited : Chain → List Frame → Follows
 exited ch [] = last_exit ch
 exited ch (f ∷ fs) = Continues (record ch { frame = f; below = fs })
 
+-- what follows an instruction in a settled chain
 abbrev pub follows : Chain → Then → Follows
 follows ch Goes = Continues ch
 follows ch Exits = exited ch ch.below
 follows ch (Delegates n) = Continues (called ch n (lookup ch.map n))
 
+-- the pair of a delegation: who named whom
 abbrev pub pair_of : List ℕ → Then → List (List ℕ × List ℕ)
 pair_of n Goes = []
 pair_of n Exits = []
@@ -167,6 +178,7 @@ pub record Acted : Type 0 where
   pub pairs : List (List ℕ × List ℕ)
   pub follows : Follows
 
+-- the outcome with which a turn ends the chain
 abbrev pub end_of : Follows → Option Outcome
 end_of (Continues ch) = None
 end_of (Ends o) = Some o
@@ -200,6 +212,7 @@ done_turn ch i e next pairs =
       follows = next;
     }
 
+-- a turn by the end of its row
 abbrev pub row_turn : Chain → Ins → RowEnd → Acted
 row_turn ch i (Abends cause) = abends_at ch (Some i) 1 cause
 row_turn ch i (Does d) = done_turn ch i d.effect (follows (settled ch d.effect) d.next) (pair_of ch.frame.name d.next)
@@ -239,6 +252,7 @@ abbrev pub goes_on : Acted → Ran → Ran
 goes_on t r =
     record { turns = t.turn ∷ r.turns; count = t.count + r.count; writes = t.writes ++ r.writes; pairs = t.pairs ++ r.pairs; session = r.session; outcome = r.outcome }
 
+-- a turn, and the rest where the chain goes on
 abbrev pub ran_on : Acted → List ℕ → Follows → (Chain → Ran) → Ran
 ran_on t session (Ends o) rest = ends_with t session o
 ran_on t session (Continues ch) rest = goes_on t (rest ch)
@@ -257,6 +271,7 @@ start_app map first session apdu a =
 abbrev pub no_app : App
 no_app = record { code = []; fixed = []; session = 0; deny = 0; dir = []; fci = []; place = 0 }
 
+-- the chain of a command to an application
 abbrev pub start : List (List ℕ × App) → List ℕ → List ℕ → ApduParts → Chain
 start map first session apdu = start_app map first session apdu (unwrap_or (lookup map first) no_app)
 

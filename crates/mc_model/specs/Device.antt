@@ -72,6 +72,29 @@ Wrote d at w (Err Worn) e = WriteWorn d at e
 abbrev pub Makes : {D : Type 0} → (D → ℕ → List ℕ → Answer → D → Type 0) → D → List (ℕ × List ℕ) → Answer → D → Type 0
 Makes wrote = InOrder (λ d p a e. wrote d p.0 p.1 a e)
 
+-- how a call that writes ended: the power it leaves, and the counts, of which one rose where it stopped
+abbrev pub Ended : Answer → DeviceState → DeviceState → Type 0
+Ended (Ok u) d e = (e.on ≡ true) × (e.cuts ≡ d.cuts) × (e.faults ≡ d.faults)
+Ended (Err Off) d e = (e.on ≡ false) × Rose d.cuts e.cuts × (d.cuts ≤ e.cuts) × (e.faults ≡ d.faults)
+Ended (Err Worn) d e = (e.on ≡ true) × Rose d.faults e.faults × (d.faults ≤ e.faults) × (e.cuts ≡ d.cuts)
+
+-- a tape with these entries more, or one that is told no longer
+abbrev pub GrowsBy : Option (List Entry) → List Entry → Option (List Entry) → Type 0
+GrowsBy t es None = Unit {0}
+GrowsBy None es (Some u) = ⊥
+GrowsBy (Some t) es (Some u) = u ≡ t ++ es
+
+-- the entries of a list of writes that was done, and of one that stopped at its write k, which left x
+abbrev pub done_entries : List (ℕ × List ℕ) → List Entry
+done_entries [] = []
+done_entries (p ∷ ps) = record { at = p.0; left = p.1; end = None } ∷ done_entries ps
+
+abbrev pub torn_entries : List (ℕ × List ℕ) → ℕ → List ℕ → Stop → List Entry
+torn_entries [] k x s = []
+torn_entries (p ∷ ps) zero x s = []
+torn_entries (p ∷ ps) (suc zero) x s = record { at = p.0; left = x; end = Some s } ∷ []
+torn_entries (p ∷ ps) (suc (suc k)) x s = record { at = p.0; left = p.1; end = None } ∷ torn_entries ps (suc k) x s
+
 -- ---- benches
 
 -- a count one higher; at its last value it stays

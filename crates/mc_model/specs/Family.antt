@@ -25,6 +25,7 @@ command_of (line.Select n) = Some (select_bytes n)
 command_of (line.Apdu b) = Some b
 command_of _ = None
 
+-- the selected application is of the family
 abbrev pub selects_in : List (List ℕ) → Option Selected → Bool
 selects_in K None = false
 selects_in K (Some s) = has_name s.name K
@@ -37,15 +38,18 @@ routes_in K seat (ToSelect a) = has_name a.body K
 routes_in K seat (ToManager a) = false
 routes_in K seat (ToApplication a) = selects_in K seat.selected
 
+-- whether a card runs in a state
 abbrev pub live_in : State → Live
 live_in (Cold m b a) = Unpowered
 live_in (Hot s) = s.live
 
+-- a card runs
 abbrev pub is_running : Live → Bool
 is_running (Running seat) = true
 is_running Unpowered = false
 is_running Muted = false
 
+-- a command of the family, on a running card
 abbrev pub is_own_command : List (List ℕ) → Live → Option (List ℕ) → Bool
 is_own_command K (Running seat) (Some bytes) = routes_in K seat (route bytes)
 is_own_command K (Running seat) None = false

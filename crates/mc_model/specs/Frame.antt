@@ -23,15 +23,19 @@ pub record Frame : Type 0 where
 
 -- ---- addresses
 
+-- DB, where the dynamic segment begins
 abbrev pub dynamic_base : ℕ
 dynamic_base = 0x8000
 
+-- where the dynamic segment ends at the most
 abbrev pub dynamic_end : ℕ
 dynamic_end = 0x8200
 
+-- PB, where the public segment begins
 abbrev pub public_base : ℕ
 public_base = 0xC000
 
+-- PT, where the public segment ends
 abbrev pub public_end : ℕ
 public_end = 0xC411
 
@@ -80,6 +84,7 @@ resolve f tag off = moved (register f tag) off
 abbrev pub static_bytes : Frame → List ℕ
 static_bytes f = laid_pieces f.fixed f.pieces
 
+-- n bytes at a place of a segment
 abbrev pub bytes_in : Frame → List ℕ → ℕ → Option Place → List ℕ
 bytes_in f public n None = []
 bytes_in f public n (Some (Static i)) = take n (drop i (static_bytes f))
@@ -116,6 +121,7 @@ static_written false f public i b =
 static_written true f public i b =
     record { frame = record f { pieces = f.pieces ++ (i, b) ∷ [] }; public = public; changes = None }
 
+-- some bytes are written at a place of a segment
 abbrev pub written_in : Frame → List ℕ → List ℕ → Option Place → Effect
 written_in f public b None = record { frame = f; public = public; changes = None }
 written_in f public b (Some (Static i)) = static_written f.protected f public i b
@@ -134,6 +140,7 @@ passes_limit true f (Some (Public i)) n = false
 passes_limit true f None n = false
 passes_limit false f place n = false
 
+-- abend 08 at an address
 unfoldable pub too_many : Frame → ℕ → ℕ → Bool
 too_many f a n = passes_limit f.protected f (where_is f a n) n
 
@@ -147,9 +154,11 @@ is_under f n = nat_lt f.dt (floor f + n)
 abbrev pub is_over : Frame → ℕ → Bool
 is_over f n = nat_lt dynamic_end (f.dt + n)
 
+-- bytes on top of the stack
 abbrev pub pushed : Frame → List ℕ → Frame
 pushed f b = record f { dyn = splice f.dyn (f.dt - dynamic_base) b; dt = f.dt + length b }
 
+-- the stack without its top n bytes
 abbrev pub popped : Frame → ℕ → Frame
 popped f n = record f { dt = f.dt - n }
 
@@ -157,6 +166,7 @@ popped f n = record f { dt = f.dt - n }
 abbrev pub stacked : Frame → ℕ → ℕ → List ℕ
 stacked f k n = take n (drop (f.dt - k - dynamic_base) f.dyn)
 
+-- the top n bytes of the stack
 abbrev pub top : Frame → ℕ → List ℕ
 top f n = stacked f n n
 
@@ -164,6 +174,7 @@ top f n = stacked f n n
 abbrev pub topped : Frame → List ℕ → Frame
 topped f b = record f { dyn = splice f.dyn (f.dt - length b - dynamic_base) b }
 
+-- the flags C and Z are set
 abbrev pub flagged : Frame → Bool → Bool → Frame
 flagged f c z = record f { c = c; z = z }
 
@@ -237,14 +248,18 @@ new_public a =
     a.body ++ zeros (1028 - length a.body) ++ a.cla ∷ a.ins ∷ a.p1 ∷ a.p2 ∷ a.p3
     ∷ (bytes2 (length a.body) ++ bytes2 (unwrap_or a.le 0) ++ 0 ∷ 0 ∷ 0x90 ∷ 0 ∷ [])
 
+-- the public segment with this status
 abbrev pub with_sw : List ℕ → ℕ → List ℕ
 with_sw public sw = splice public 1039 (bytes2 sw)
 
+-- the public segment with this length of the reply
 abbrev pub with_la : List ℕ → ℕ → List ℕ
 with_la public la = splice public 1037 (bytes2 la)
 
+-- the status in the public segment
 abbrev pub sw_of : List ℕ → ℕ
 sw_of public = be2 public 1039
 
+-- the length of the reply in the public segment
 abbrev pub la_of : List ℕ → ℕ
 la_of public = be2 public 1037

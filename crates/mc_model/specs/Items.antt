@@ -26,22 +26,26 @@ abbrev pub weight : Item → ℕ
 weight Plain = 1
 weight (Atomic w c) = cost Two w
 
+-- how many device writes items make
 abbrev pub moves : List Item → ℕ
 moves [] = 0
 moves (i ∷ is) = weight i + moves is
 
 -- ---- the applications after items
 
+-- the applications after a change
 abbrev pub changed : Change → List (List ℕ × App) → List (List ℕ × App)
 changed (Fixed n ps) map = map_changed map n (Some ps)
 changed (Created n a) map = insert map n a
 changed (Deleted n) map = remove map n
 
+-- the applications after items that are whole
 abbrev pub done : List (List ℕ × App) → List Item → List (List ℕ × App)
 done map [] = map
 done map (Plain ∷ is) = done map is
 done map (Atomic w c ∷ is) = done (changed c map) is
 
+-- the card after items that are whole
 abbrev pub card_done : Card → List Item → Card
 card_done card is = record card { apps = done card.apps is }
 
@@ -58,6 +62,7 @@ pub record Stopped : Type 0 where
   pub whole : List Item
   pub owed : ℕ
 
+-- a whole item before those of a stop
 abbrev pub with_item : Item → Stopped → Stopped
 with_item i s = record s { whole = i ∷ s.whole }
 

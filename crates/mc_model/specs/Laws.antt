@@ -31,10 +31,12 @@ abbrev pub IsDoneFrom : State → List Item → State → Type 0
 IsDoneFrom (Cold m b a) is after = is ≡ []
 IsDoneFrom (Hot s) is after = apps_in after ≡ done (apps_on s.base) is
 
+-- a line has the whole items of its stop, and leaves the card with them
 pub record KeepsLine (t : Step) : Type 0 where
   pub whole : t.whole ≡ whole_of t.items t.stop
   pub apps : IsDoneFrom t.before t.whole t.after
 
+-- each line does
 abbrev pub KeepsLines : List Step → Type 0
 KeepsLines [] = ⊤
 KeepsLines (t ∷ ts) = KeepsLine t × KeepsLines ts
@@ -59,6 +61,7 @@ sent_app s =
       place = 0;
     }
 
+-- a section is sent these bytes more
 abbrev pub with_sent : Part → List ℕ → Option Sent → Option Sent
 with_sent p b None = None
 with_sent p b (Some s) = Some (record s { got = with_got p b s.got })
@@ -74,6 +77,7 @@ sent_by s a =
     )
     )
 
+-- what is sent after a command that was done
 abbrev pub sent_after : Option Sent → Route → Option Sent
 sent_after s (ToManager a) = sent_by s a
 sent_after s WrongLength = s
@@ -86,10 +90,12 @@ abbrev pub named_app : Result (List ℕ) AidFault → Sent → List (List ℕ ×
 named_app (Ok n) s = (n, sent_app s) ∷ []
 named_app (Err e) s = []
 
+-- the application of a load that was sent
 abbrev pub made_of : Option Sent → List (List ℕ × App)
 made_of None = []
 made_of (Some s) = named_app (name_of s.got.dir) s
 
+-- the application of a command that is a CREATE
 abbrev pub made_by : Option Sent → Route → List (List ℕ × App)
 made_by s (ToManager a) = cond (a.ins == 0x16) (made_of s) []
 made_by s WrongLength = []
@@ -102,6 +108,7 @@ abbrev pub sent_after_all : Option Sent → List (List ℕ) → Option Sent
 sent_after_all s [] = s
 sent_after_all s (b ∷ bs) = sent_after_all (sent_after s (route b)) bs
 
+-- the applications of commands that were done
 abbrev pub made_by_all : Option Sent → List (List ℕ) → List (List ℕ × App)
 made_by_all s [] = []
 made_by_all s (b ∷ bs) = made_by s (route b) ++ made_by_all (sent_after s (route b)) bs
@@ -111,6 +118,7 @@ abbrev pub taken_if : Bool → List ℕ → List (List ℕ) → List (List ℕ)
 taken_if true b rest = b ∷ rest
 taken_if false b rest = []
 
+-- the commands in turn that are answered by 9000 alone, up to the first that is not
 unfoldable pub taken : Card → Seat → ℕ → List (List ℕ) → List (List ℕ)
 taken c seat budget [] = []
 taken c seat budget (b ∷ bs) =
@@ -118,6 +126,7 @@ taken c seat budget (b ∷ bs) =
     let rest = taken (items.card_done c r.items) r.seat budget bs in
     taken_if (is_done r.outcome) b rest
 
+-- the commands of a line
 abbrev pub bytes_of : DeckLine → List (List ℕ)
 bytes_of (line.Select n) = select_bytes n ∷ []
 bytes_of (line.Delete n) = delete_bytes n ∷ []
@@ -125,10 +134,12 @@ bytes_of (line.Apdu b) = b ∷ []
 bytes_of (line.Load u fixed session) = load_commands u fixed session
 bytes_of _ = []
 
+-- the commands of a line that a running card takes
 abbrev pub taken_on : Live → Base → ℕ → DeckLine → List (List ℕ)
 taken_on (Running seat) (OnCard c) budget l = taken c seat budget (bytes_of l)
 taken_on live base budget l = []
 
+-- the commands of a line that are taken in a state
 abbrev pub taken_in : State → DeckLine → List (List ℕ)
 taken_in (Cold m b a) l = []
 taken_in (Hot s) l = taken_on s.live s.base s.budget l
@@ -146,10 +157,12 @@ created_by (Atomic w (Fixed n ps)) = []
 created_by (Atomic w (Created n a)) = (n, a) ∷ []
 created_by (Atomic w (Deleted n)) = []
 
+-- the creations among items
 abbrev pub created_in : List Item → List (List ℕ × App)
 created_in [] = []
 created_in (i ∷ is) = created_by i ++ created_in is
 
+-- applications wherever they lie
 abbrev pub without_places : List (List ℕ × App) → List (List ℕ × App)
 without_places [] = []
 without_places (e ∷ es) = (e.0, placed 0 e.1) ∷ without_places es
@@ -159,12 +172,14 @@ abbrev pub AllAreIn : List (List ℕ × App) → List (List ℕ × App) → Type
 AllAreIn map [] = ⊤
 AllAreIn map (e ∷ es) = (lookup map e.0 ≡ Some e.1) × AllAreIn map es
 
+-- a new application has what its own load sent, and nothing else
 pub record KeepsFresh (sent : Option Sent) (t : Step) : Type 0 where
   -- what a line creates is what its load's own commands sent
   pub made : without_places (created_in t.items) ≡ made_by_all sent (taken_in t.before t.line)
   -- and where the creation stands, the map has it
   pub stands : AllAreIn (apps_in t.after) (created_in t.whole)
 
+-- each new application of a play has
 abbrev pub NoStaleByte : Option Sent → List Step → Type 0
 NoStaleByte sent [] = ⊤
 NoStaleByte sent (t ∷ ts) =
@@ -172,6 +187,7 @@ NoStaleByte sent (t ∷ ts) =
 
 -- ---- the law
 
+-- the law for one front of a play
 pub record HoldsOf (m : List (List ℕ)) (steps : List Step) : Type 0 where
   pub family : (K : List (List ℕ)) → Closed K steps → IsIsolated K (start m) steps
   pub each_line : KeepsLines steps

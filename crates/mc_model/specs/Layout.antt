@@ -20,6 +20,7 @@ abbrev pub spans_of : List (List ℕ × App) → List (ℕ × ℕ)
 spans_of [] = []
 spans_of (e ∷ es) = put_at (e.1).place (needed e.1) (spans_of es)
 
+-- the places of the applications of a card and how many words they take, ascending
 abbrev pub spans : Card → List (ℕ × ℕ)
 spans card = spans_of card.apps
 
@@ -48,9 +49,11 @@ first_fitting n (g ∷ gs) = cond (nat_le n g.1) (Some g.0) (first_fitting n gs)
 
 -- ---- header words
 
+-- the header of a hole of n words, with the place of the next
 abbrev pub hole_header : ℕ → ℕ → List ℕ
 hole_header n link = hole_tag ∷ 0 ∷ (bytes2 n ++ bytes2 link ++ 0 ∷ 0 ∷ [])
 
+-- the header of a used block of n words
 abbrev pub used_header : ℕ → List ℕ
 used_header n = used_tag ∷ 0 ∷ (bytes2 n ++ zeros 4)
 
@@ -73,6 +76,7 @@ unfoldable pub layout : Card → List (ℕ × List ℕ)
 layout card =
     (0, root card.layout card.size (first_place (gaps card))) ∷ with_used (spans card) (chained (gaps card))
 
+-- two places with the same word
 abbrev pub same_pair : ℕ × List ℕ → ℕ × List ℕ → Bool
 same_pair a b = a.0 == b.0 && bytes_eq a.1 b.1
 
@@ -93,14 +97,17 @@ abbrev pub bad_header : ℕ → Bool → Option Block → Bool
 bad_header size after_hole None = true
 bad_header size after_hole (Some b) = nat_lt size (b.place + b.words) || (after_hole && not b.used)
 
+-- the place behind a block
 abbrev pub next_block : ℕ → Option Block → ℕ
 next_block size None = size
 next_block size (Some b) = b.place + b.words
 
+-- a block that is a hole
 abbrev pub is_hole : Option Block → Bool
 is_hole None = false
 is_hole (Some b) = not b.used
 
+-- the first header that is bad, from p on
 unfoldable pub bad_block : ℕ → List (List ℕ) → ℕ → Bool → Option ℕ
 bad_block zero m p after_hole = None
 bad_block (suc n) m p after_hole =
@@ -138,9 +145,11 @@ abbrev pub bad_link : List Block → Option ℕ
 bad_link [] = None
 bad_link (b ∷ bs) = cond (b.link == cond b.used 0 (first_hole bs)) (bad_link bs) (Some b.place)
 
+-- the first link that is wrong, that of the root first
 abbrev pub bad_chain : List (List ℕ) → List Block → Option ℕ
 bad_chain m bs = or_else (cond (be2 (word m 0) 6 == first_hole bs) None (Some 0)) (bad_link bs)
 
+-- a place as a fault with this cause
 abbrev pub by_cause : Cause → Option ℕ → Option (Cause × ℕ)
 by_cause cause None = None
 by_cause cause (Some p) = Some (cause, p)
@@ -154,6 +163,7 @@ words_fault m =
     )
     )
 
+-- the first fault of an image whose journals were looked at
 abbrev pub fault_of : Look → List (List ℕ) → Option (Cause × ℕ)
 fault_of (Refused p) m = Some (BadJournal, p)
 fault_of Closed m = words_fault m

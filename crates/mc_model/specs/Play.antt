@@ -46,6 +46,7 @@ pub record Warm : Type 0 where
   pub budget : ℕ
   pub armed : Armed
 
+-- a play before its first power line, and from it on
 pub data State : Type 0 where
   Cold : (image : List (List ℕ)) (budget : ℕ) (armed : Armed) → State
   Hot : (warm : Warm) → State
@@ -93,6 +94,7 @@ pub record Command : Type 0 where
   pub pairs : List (List ℕ × List ℕ)
   pub turns : List Turn
 
+-- a reply that is a status alone
 abbrev pub status : ℕ → Outcome
 status sw = Reply [] sw
 
@@ -114,14 +116,17 @@ abbrev pub atomic_of : Card → Option Change → Item
 atomic_of c None = Plain
 atomic_of c (Some ch) = Atomic (length (step_of c (record c { apps = changed ch c.apps }))) ch
 
+-- the manager's answer as a command
 abbrev pub managed : Card → Seat → Managed → Command
 managed c seat (Declines sw) = refused seat sw
 managed c seat (Accepts a) =
     record { items = map (item_of (atomic_of c a.change)) a.items; outcome = Reply a.body 0x9000; seat = a.seat; pairs = []; turns = [] }
 
+-- the atomic writes of a run as items
 abbrev pub write_items : List Write → List Item
 write_items ws = map (λ w. Atomic w.words (Fixed w.name w.pieces)) ws
 
+-- a run as a command: the session bytes stay with the selection
 abbrev pub ran_command : Seat → List ℕ → Ran → Command
 ran_command seat n r =
     record {
@@ -137,6 +142,7 @@ abbrev pub passed : Card → Seat → Option Selected → ApduParts → ℕ → 
 passed c seat None a budget = refused seat 0x6985
 passed c seat (Some s) a budget = ran_command seat s.name (run c.apps s.name s.session a budget)
 
+-- a command by its route
 abbrev pub by_route : Card → Seat → ℕ → Route → Command
 by_route c seat budget WrongLength = refused seat 0x6700
 by_route c seat budget WrongClass = refused seat 0x6E00
@@ -144,14 +150,17 @@ by_route c seat budget (ToSelect a) = managed c seat (select c.apps seat a)
 by_route c seat budget (ToManager a) = managed c seat (manage (room_on c) c.apps seat a)
 by_route c seat budget (ToApplication a) = passed c seat seat.selected a budget
 
+-- one command on a running card
 unfoldable pub command : Card → Seat → List ℕ → ℕ → Command
 command c seat bytes budget = by_route c seat budget (route bytes)
 
 -- ---- the commands of a line
 
+-- the SELECT of a name
 abbrev pub select_bytes : List ℕ → List ℕ
 select_bytes aid = 0x00 ∷ 0xA4 ∷ 0x04 ∷ 0x0C ∷ length aid ∷ aid
 
+-- the DELETE of a name
 abbrev pub delete_bytes : List ℕ → List ℕ
 delete_bytes aid = 0xBE ∷ 0x18 ∷ 0x00 ∷ 0x00 ∷ length aid ∷ aid
 
@@ -163,6 +172,7 @@ piece_commands (suc n) ins at b =
     (0xBE ∷ ins ∷ (bytes2 at ++ length (take 248 b) ∷ take 248 b)) ∷ piece_commands n ins (at + 248) (drop 248 b)
     )
 
+-- the LOAD commands of a section
 abbrev pub section_commands : ℕ → List ℕ → List (List ℕ)
 section_commands ins b = piece_commands (length b) ins 0 b
 
@@ -178,13 +188,16 @@ abbrev pub is_done : Outcome → Bool
 is_done (Reply [] sw) = sw == 0x9000
 is_done o = false
 
+-- a command with the items, pairs and turns of one before it
 abbrev pub with_items : Command → Command → Command
 with_items first r = record r { items = first.items ++ r.items; pairs = first.pairs ++ r.pairs; turns = first.turns ++ r.turns }
 
+-- a command, and those behind it where it was answered by 9000 alone
 abbrev pub sent_on : Bool → Command → Command → Command
 sent_on true first rest = with_items first rest
 sent_on false first rest = first
 
+-- commands in turn, up to the first that is not answered by 9000 alone
 unfoldable pub send : Card → Seat → ℕ → List (List ℕ) → Command
 send c seat budget [] = refused seat 0x9000
 send c seat budget (b ∷ bs) =
@@ -210,6 +223,7 @@ hit_of (ArmedCut k x) m None = cond (nat_le k m) (Some (record { kind = stop.Off
 hit_of Unarmed m None = None
 hit_of (ArmedFail k) m None = None
 
+-- the device writes of a line: up to its stop, if one hit
 abbrev pub moves_with : ℕ → Option StopAt → ℕ
 moves_with m None = m
 moves_with m (Some s) = s.at
@@ -219,27 +233,33 @@ abbrev pub live_after : Stop → Live
 live_after stop.Off = Unpowered
 live_after stop.Worn = Muted
 
+-- what a stopped line answers
 abbrev pub result_of_stop : StopAt → Stop → LineResult
 result_of_stop s stop.Off = OffAt s.at
 result_of_stop s stop.Worn = WornStop
 
 -- ---- power lines
 
+-- the device writes of a migration
 abbrev pub migration : Base → ℕ
 migration (OnCard c) = cond (c.layout == 1) 6 0
 migration (AtFault cause p) = 0
 
+-- the owed and migration writes of a power line
 abbrev pub power_moves : Warm → ℕ
 power_moves s = s.owed + migration s.base
 
+-- a base whose card has layout 2
 abbrev pub migrated : Base → Base
 migrated (OnCard c) = OnCard (record c { layout = 2 })
 migrated (AtFault cause p) = AtFault cause p
 
+-- what a power line answers that no stop hit
 abbrev pub power_result : ℕ → Base → LineResult
 power_result m (OnCard c) = Ready m
 power_result m (AtFault cause p) = Unusable cause p
 
+-- whether a card runs after a power line that no stop hit
 abbrev pub power_live : Base → Live
 power_live (OnCard c) = Running empty_seat
 power_live (AtFault cause p) = Unpowered
@@ -257,14 +277,17 @@ stopped_power s t false =
       armed = Unarmed;
     }
 
+-- the play after a power line
 abbrev pub power_after : Warm → Option StopAt → Warm
 power_after s None = record s { base = migrated s.base; owed = 0; live = power_live s.base; armed = Unarmed }
 power_after s (Some t) = stopped_power s t (nat_le t.at s.owed)
 
+-- what a power line answers
 abbrev pub power_says : Warm → Option StopAt → LineResult
 power_says s None = power_result (power_moves s) s.base
 power_says s (Some t) = result_of_stop t t.kind
 
+-- a power line
 abbrev pub power_step : ℕ → State → Warm → Option StopAt → Step
 power_step n before s t =
     record {
@@ -283,21 +306,26 @@ power_step n before s t =
 
 -- ---- lines on a running card
 
+-- the play after a line that a stop hit
 abbrev pub stopped_line : Warm → Card → StopAt → Stopped → Warm
 stopped_line s c t r = record s { base = OnCard (card_done c r.whole); owed = r.owed; by = Two; live = live_after t.kind; armed = Unarmed }
 
+-- the play after a line of a running card
 abbrev pub line_after : Warm → Card → Command → Option StopAt → Warm
 line_after s c r None = record s { base = OnCard (card_done c r.items); live = Running r.seat; armed = Unarmed }
 line_after s c r (Some t) = stopped_line s c t (at_stop r.items t.at t.left)
 
+-- what a line of a running card answers
 abbrev pub line_says : Command → Option StopAt → LineResult
 line_says r None = Answered r.outcome
 line_says r (Some t) = result_of_stop t t.kind
 
+-- the items that are whole after a line
 abbrev pub whole_items : Command → Option StopAt → List Item
 whole_items r None = r.items
 whole_items r (Some t) = (at_stop r.items t.at t.left).whole
 
+-- a line of a running card
 abbrev pub command_step : ℕ → DeckLine → Warm → Card → Command → Option StopAt → Step
 command_step n l s c r t =
     record {
@@ -333,6 +361,7 @@ quiet n l before result after =
       after = after;
     }
 
+-- the static bytes of an application, or that it is absent
 abbrev pub static_of : Option App → LineResult
 static_of None = Absent
 static_of (Some a) = Static a.fixed
@@ -343,6 +372,7 @@ without_card (Running seat) = NoCard
 without_card Unpowered = NoCard
 without_card Muted = Silenced
 
+-- what a dump answers
 abbrev pub dumped : Live → Base → List ℕ → LineResult
 dumped (Running seat) (OnCard c) n = static_of (lookup c.apps n)
 dumped (Running seat) (AtFault cause p) n = NoCard
@@ -372,6 +402,7 @@ card_line n l s (Running seat) (OnCard c) w =
     command_step n l s c r (hit_of s.armed (moves r.items) w)
 card_line n l s live base w = quiet n l (Hot s) (Some (without_card live)) (Hot (record s { armed = Unarmed }))
 
+-- a line from the first power line on
 abbrev pub hot_step : ℕ → DeckLine → Warm → Option WornAt → Step
 hot_step n line.Format s w = quiet n line.Format (Hot s) None (Hot s)
 hot_step n (line.Poke at x) s w = quiet n (line.Poke at x) (Hot s) None (Hot s)
@@ -397,6 +428,7 @@ owing (Only j) = j
 owing Both = One
 owing Neither = One
 
+-- the play that the first power line finds
 unfoldable pub warmed : List (List ℕ) → ℕ → Armed → Warm
 warmed m budget armed =
     record { base = base_of (fault m) m; owed = owed m; by = owing (which m); live = Unpowered; budget = budget; armed = armed }
@@ -405,6 +437,7 @@ warmed m budget armed =
 abbrev pub cold_line : ℕ → DeckLine → List (List ℕ) → ℕ → Armed → Armed → Step
 cold_line n l m budget armed after = quiet n l (Cold m budget armed) (Some NoCard) (Cold m budget after)
 
+-- a line up to the first power line
 abbrev pub cold_step : ℕ → DeckLine → List (List ℕ) → ℕ → Armed → Option WornAt → Step
 cold_step n line.Format m b a w = quiet n line.Format (Cold m b a) (Some Formatted) (Cold (formatted m) b a)
 cold_step n (line.Poke at x) m b a w = quiet n (line.Poke at x) (Cold m b a) None (Cold (slice_set m at x) b a)
@@ -419,6 +452,7 @@ cold_step n (line.Select x) m b a w = cold_line n (line.Select x) m b a Unarmed
 cold_step n (line.Delete x) m b a w = cold_line n (line.Delete x) m b a Unarmed
 cold_step n (line.Apdu x) m b a w = cold_line n (line.Apdu x) m b a Unarmed
 
+-- one line
 unfoldable pub step : State → ℕ × DeckLine → Option WornAt → Step
 step (Cold m b a) l w = cold_step l.0 l.1 m b a w
 step (Hot s) l w = hot_step l.0 l.1 s w
@@ -441,6 +475,7 @@ plays s (l ∷ ls) ws =
 abbrev pub start : List (List ℕ) → State
 start m = Cold m 10000 Unarmed
 
+-- the state after the last line
 abbrev pub last_state : State → List Step → State
 last_state s [] = s
 last_state s (t ∷ ts) = last_state t.after ts
@@ -458,6 +493,7 @@ power_part (Hot s) _ = 0
 unfoldable pub moves_of : State → ℕ × DeckLine → ℕ
 moves_of s l = power_part s l.1 + moves (step s l None).items
 
+-- the stop that is armed in a state
 abbrev pub armed_in : State → Armed
 armed_in (Cold m b a) = a
 armed_in (Hot s) = s.armed
@@ -468,12 +504,14 @@ IsBeforeCut (ArmedCut k x) j = j < k
 IsBeforeCut Unarmed j = ⊤
 IsBeforeCut (ArmedFail k) j = ⊤
 
+-- a worn stop that a line may have: a card line with so many device writes, before the cut that is armed
 pub record IsPossibleAt (s : State) (l : ℕ × DeckLine) (w : WornAt) : Type 0 where
   pub card_line : is_card_line l.1 ≡ true
   pub low : 1 ≤ w.at
   pub high : w.at ≤ moves_of s l
   pub first : IsBeforeCut (armed_in s) w.at
 
+-- the worn stop of a line is possible, if it has one
 abbrev pub MayHit : State → ℕ × DeckLine → Option WornAt → Type 0
 MayHit s l None = ⊤
 MayHit s l (Some w) = IsPossibleAt s l w
@@ -493,6 +531,7 @@ steady_at (ArmedFail k) l m = cond (is_card_line l && nat_le k m) (Some (record 
 steady_at Unarmed l m = None
 steady_at (ArmedCut k x) l m = None
 
+-- the worn stops of a play on a steady bench
 unfoldable pub steady_worn : State → List (ℕ × DeckLine) → List (Option WornAt)
 steady_worn s [] = []
 steady_worn s (l ∷ ls) =
@@ -500,10 +539,12 @@ steady_worn s (l ∷ ls) =
     let w = steady_at (armed_in s) l.1 m in
     w ∷ steady_worn (step s l w).after ls
 
+-- an entry that is a stop
 abbrev pub ends_tape : Option Stop → Bool
 ends_tape None = false
 ends_tape (Some s) = true
 
+-- an entry before those of a line
 abbrev pub with_entry : Entry → List Entry × List Entry → List Entry × List Entry
 with_entry e c = (e ∷ c.0, c.1)
 
@@ -541,20 +582,24 @@ pub record StandsForCard (m : List (List ℕ)) (c : Card) (s : Warm) : Type 0 wh
   pub meaning : means m ≡ c
   pub owed : owed m ≡ s.owed
 
+-- the words fit a play whose base is a fault
 pub record StandsForFault (m : List (List ℕ)) (cause : Cause) (place : ℕ) (s : Warm) : Type 0 where
   pub unsound : fault m ≡ Some (cause, place)
   pub owed : owed m ≡ s.owed
 
+-- the words fit the base of a play
 abbrev pub StandsForBase : List (List ℕ) → Base → Warm → Type 0
 StandsForBase m (OnCard c) s = StandsForCard m c s
 StandsForBase m (AtFault cause p) s = StandsForFault m cause p s
 
+-- the words fit a state, and what they owe is owed by its journal
 abbrev pub Stands : List (List ℕ) → State → Type 0
 Stands m (Cold image b a) = m ≡ image
 Stands m (Hot s) = StandsForBase m s.base s × (s.owed ≢ 0 → owing (which m) ≡ s.by)
 
 -- ---- every write accounted
 
+-- the words after the entries of a tape
 abbrev pub laid_entries : List (List ℕ) → List Entry → List (List ℕ)
 laid_entries m es = laid m (map (λ e. (e.at, e.left)) es)
 
@@ -573,6 +618,7 @@ EndsAs how [] = how ≡ None
 EndsAs how (e ∷ []) = e.«end» ≡ how
 EndsAs how (e ∷ f ∷ es) = (e.«end» ≡ None) × EndsAs how (f ∷ es)
 
+-- the kind of a stop
 abbrev pub kind_of : Option StopAt → Option Stop
 kind_of None = None
 kind_of (Some t) = Some t.kind
@@ -584,6 +630,7 @@ StandsAtEach m s l k (e ∷ es) =
     let n = slice_set m e.at e.left in
     Stands n (stopped s l (k + 1) e.left) × StandsAtEach n s l (k + 1) es
 
+-- the entries of a line account for it
 pub record AccountsForLine (m : List (List ℕ)) (s : State) (l : ℕ × DeckLine) (t : Step) (es : List Entry) : Type 0 where
   pub count : length es ≡ t.moves
   pub each : StandsAtEach m s l 0 es

@@ -27,6 +27,7 @@ pub record Done : Type 0 where
   pub effect : Effect
   pub next : Then
 
+-- a change after which the frame goes on
 abbrev pub going : Effect → Done
 going e = record { effect = e; next = Goes }
 
@@ -34,14 +35,17 @@ going e = record { effect = e; next = Goes }
 abbrev pub framed : Frame → List ℕ → Effect
 framed f public = record { frame = f; public = public; changes = None }
 
+-- a change that sets the flags besides
 abbrev pub effect_flagged : Effect → Bool → Bool → Effect
 effect_flagged e c z = record e { frame = flagged e.frame c z }
 
+-- the ciphers of the primitives
 pub data Cipher : Type 0 where
   Des : Cipher
   TripleDes : Cipher
   Aes : Cipher
 
+-- the primitives
 pub data Primitive : Type 0 where
   CheckCase : Primitive
   LoadCcr : Primitive
@@ -78,16 +82,19 @@ primitives set =
     ∷ (8, Sign Des) ∷ (9, Sign TripleDes) ∷ (10, Encipher Aes) ∷ (11, Decipher Aes) ∷ (12, Sign Aes) ∷ []
     ) (cond (set == 2) ((1, BitByte) ∷ (2, ShiftLeft) ∷ (3, ShiftRight) ∷ []) (cond (set == 3) ((1, BitWord) ∷ []) [])))
 
+-- the primitive of a set and a number
 abbrev pub primitive : ℕ → ℕ → Option Primitive
 primitive set number = numbered number (primitives set)
 
 -- ---- ciphers
 
+-- the bytes of a block of a cipher
 abbrev pub block_len : Cipher → ℕ
 block_len Des = 8
 block_len TripleDes = 8
 block_len Aes = 16
 
+-- the bytes of a key of a cipher
 abbrev pub key_len : Cipher → ℕ
 key_len Des = 8
 key_len TripleDes = 16
@@ -97,16 +104,19 @@ key_len Aes = 16
 abbrev pub is_message : Cipher → ℕ → Bool
 is_message c n = nat_le (block_len c) n && n % block_len c == 0
 
+-- a block enciphered under a key
 abbrev pub enciphered : Cipher → List ℕ → List ℕ → List ℕ
 enciphered Des key = des_encipher key
 enciphered TripleDes key = tdes_encipher key
 enciphered Aes key = aes_encipher key
 
+-- a block deciphered under a key
 abbrev pub deciphered : Cipher → List ℕ → List ℕ → List ℕ
 deciphered Des key = des_decipher key
 deciphered TripleDes key = tdes_decipher key
 deciphered Aes key = aes_decipher key
 
+-- the last block of a chain from a start block
 abbrev pub signature : Cipher → List ℕ → List ℕ → List ℕ → List ℕ
 signature Des = des_signature
 signature TripleDes = tdes_signature
@@ -114,6 +124,7 @@ signature Aes = aes_signature
 
 -- ---- access list
 
+-- a bit of a number, given by its worth
 abbrev pub has_bit : ℕ → ℕ → Bool
 has_bit n bit = n / bit % 2 == 1
 
@@ -129,6 +140,7 @@ is_denied deny _ = false
 
 -- ---- causes
 
+-- a number from low to high
 abbrev pub in_range : ℕ → ℕ → ℕ → Bool
 in_range low high n = nat_le low n && nat_le n high
 
@@ -245,6 +257,7 @@ bits_done f public op v mask =
     let r = manipulated op v mask in
     framed (flagged (topped f r) f.c (is_zero (cond (op == 3) (and_blocks v mask) r))) public
 
+-- the top of the stack is shifted, which sets both flags
 abbrev pub shifted : Frame → List ℕ → Worked → Effect
 shifted f public w = framed (flagged (topped f w.value) w.c w.z) public
 
@@ -255,6 +268,7 @@ cipher_done cipher c n f public =
     let key = bytes_at g public (named f 2) (key_len c) in
     written g public (named f 4) (ecb (cipher key) (block_len c) (bytes_at g public (named f 6) n))
 
+-- the effect of each primitive where no cause holds
 unfoldable pub prim_effect : Primitive → List ℕ → Frame → List ℕ → Around → Done
 prim_effect CheckCase args f public x =
     let g = popped f 1 in

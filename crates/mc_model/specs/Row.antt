@@ -28,6 +28,7 @@ no_place f (Some at) = not (nat_lt at f.code_len)
 abbrev pub operand : Frame → ℕ → ℤ → ℕ → Option ℕ
 operand f tag off k = cond (tag == 0) (Some (f.dt - k)) (resolve f tag off)
 
+-- an address that is known to be one
 abbrev pub known : Option ℕ → ℕ
 known a = unwrap_or a 0
 
@@ -39,6 +40,7 @@ on_stack tag n m = cond (tag == 0) n m
 abbrev pub reads : Frame → Option ℕ → ℕ → List (Abend × Bool)
 reads f a n = (A03, no_access f a n) ∷ []
 
+-- a place that is written: abend 03, and 08
 abbrev pub writes : Frame → Option ℕ → ℕ → List (Abend × Bool)
 writes f a n = (A03, no_access f a n) ∷ (A08, too_many f (known a) n) ∷ []
 
@@ -50,6 +52,7 @@ becomes f public a w = going (effect_flagged (written f public a w.value) w.c w.
 abbrev pub becomes_bits : Frame → List ℕ → ℕ → List ℕ → Done
 becomes_bits f public a b = going (effect_flagged (written f public a b) f.c (is_zero b))
 
+-- a result that sets the flags alone
 abbrev pub flags_of : Frame → List ℕ → Worked → Done
 flags_of f public w = going (framed (flagged f w.c w.z) public)
 
@@ -66,9 +69,11 @@ gone false f to = f
 abbrev pub target : Frame → ℕ → ℕ → ℕ
 target f k to = cond (k == 0) (num (top f 2)) to
 
+-- the frame without the address on its stack
 abbrev pub without_target : Frame → ℕ → Frame
 without_target f k = cond (k == 0) (popped f 2) f
 
+-- the frame of a call where the condition holds
 abbrev pub called : Bool → Frame → ℕ → Frame
 called true f to = entered f to
 called false f to = f
@@ -77,6 +82,7 @@ called false f to = f
 abbrev pub index_base : Frame → ℕ → ℤ → Option ℕ
 index_base f tag off = cond (tag == 0) (Some (num (stacked f 3 2))) (resolve f tag off)
 
+-- base plus index times size, if that is an address
 abbrev pub indexed : Frame → ℕ → ℤ → ℕ → Option ℕ
 indexed f tag off size = option_and_then (λ a. in_two_bytes (a + num (top f 1) * size)) (index_base f tag off)
 
@@ -90,6 +96,7 @@ return_causes f i o = (A04, no_return f i o) ∷ (A02, no_place f (Some (saved f
 abbrev pub immediate_reads : Frame → ℕ → ℤ → ℕ → List (Abend × Bool)
 immediate_reads f tag off n = (A04, tag == 0 && is_under f n) ∷ reads f (operand f tag off n) n
 
+-- a byte or a word at a place, or on top of the stack, that is written
 abbrev pub immediate_writes : Frame → ℕ → ℤ → ℕ → List (Abend × Bool)
 immediate_writes f tag off n = (A04, tag == 0 && is_under f n) ∷ writes f (operand f tag off n) n
 
@@ -97,6 +104,7 @@ immediate_writes f tag off n = (A04, tag == 0 && is_under f n) ∷ writes f (ope
 abbrev pub pair_reads : Frame → ℕ → ℤ → ℕ → List (Abend × Bool)
 pair_reads f tag off n = (A04, is_under f (on_stack tag (2 * n) n)) ∷ reads f (operand f tag off (2 * n)) n
 
+-- n bytes at a place against the top n bytes, written to the place
 abbrev pub pair_writes : Frame → ℕ → ℤ → ℕ → List (Abend × Bool)
 pair_writes f tag off n = (A04, is_under f (on_stack tag (2 * n) n)) ∷ writes f (operand f tag off (2 * n)) n
 
@@ -165,6 +173,7 @@ causes (ins.Xorn tag off n) f public x = (A06, n == 0) ∷ pair_writes f tag off
 abbrev pub place_of : Frame → ℕ → ℤ → ℕ → ℕ
 place_of f tag off k = known (operand f tag off k)
 
+-- the operand's n bytes
 abbrev pub value_of : Frame → List ℕ → ℕ → ℤ → ℕ → List ℕ
 value_of f public tag off n = bytes_at f public (place_of f tag off n) n
 
@@ -229,10 +238,12 @@ abbrev pub first_cause : List (Abend × Bool) → Option Abend
 first_cause [] = None
 first_cause (c ∷ cs) = cond c.1 (Some c.0) (first_cause cs)
 
+-- how a row ends: with an abend, or done
 pub data RowEnd : Type 0 where
   Abends : (cause : Abend) → RowEnd
   Does : (done : Done) → RowEnd
 
+-- a row by its first cause
 abbrev pub judged : Option Abend → Done → RowEnd
 judged (Some a) d = Abends a
 judged None d = Does d

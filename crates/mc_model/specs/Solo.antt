@@ -10,6 +10,7 @@ use Rattle.mc_model.specs.Manager.{Selected, Seat, Route, WrongLength, WrongClas
 use Rattle.mc_model.specs.Play.{LineResult, Answered, static_of, result_of_stop, write_items}
 use Rattle.mc_model.specs.Given.{Event, Arrives, Departs, Commands, Dumps, Leaves, Given}
 
+-- a card that holds one family: its applications and its selection
 pub record Solo : Type 0 where
   pub map : List (List ℕ × App)
   pub selected : Option Selected
@@ -20,16 +21,20 @@ pub record SoloCommand : Type 0 where
   pub outcome : Outcome
   pub selected : Option Selected
 
+-- a command that changes nothing
 abbrev pub solo_refused : Solo → ℕ → SoloCommand
 solo_refused t sw = record { items = []; outcome = Reply [] sw; selected = t.selected }
 
+-- a SELECT on it
 abbrev pub solo_selected : Solo → Managed → SoloCommand
 solo_selected t (Declines sw) = solo_refused t sw
 solo_selected t (Accepts a) = record { items = []; outcome = Reply a.body 0x9000; selected = a.seat.selected }
 
+-- a run on it
 abbrev pub solo_ran : List ℕ → Ran → SoloCommand
 solo_ran n r = record { items = write_items r.writes; outcome = r.outcome; selected = Some (record { name = n; session = r.session }) }
 
+-- a command for the selected application
 abbrev pub solo_passed : Solo → Option Selected → ApduParts → ℕ → SoloCommand
 solo_passed t None a budget = solo_refused t 0x6985
 solo_passed t (Some s) a budget = solo_ran s.name (run t.map s.name s.session a budget)
@@ -42,6 +47,7 @@ solo_routed t budget WrongLength = solo_refused t 0x6700
 solo_routed t budget WrongClass = solo_refused t 0x6E00
 solo_routed t budget (ToManager a) = solo_refused t 0x6D00
 
+-- one command on it
 unfoldable pub solo_command : Solo → List ℕ → ℕ → SoloCommand
 solo_command t bytes budget = solo_routed t budget (route bytes)
 
@@ -67,12 +73,15 @@ solo_hit t r (Some s) =
       work = (r.items, Some s) ∷ [];
     }
 
+-- a command with the stop that it is given
 abbrev pub heard_command : Solo → SoloCommand → Option StopAt → Heard
 heard_command t r s = solo_hit t r (hits (moves r.items) s)
 
+-- an event without an answer
 abbrev pub silent : Solo → Heard
 silent t = record { after = t; answer = []; work = [] }
 
+-- one event
 unfoldable pub hears : Solo → Event → Heard
 hears t (Arrives n a) = silent (record t { map = insert t.map n a })
 hears t (Departs n) = silent (record t { map = remove t.map n })
@@ -84,11 +93,13 @@ hears t (Commands b budget s) = heard_command t (solo_command t b budget) s
 abbrev pub heard_before : Heard → Heard → Heard
 heard_before h r = record { after = r.after; answer = h.answer ++ r.answer; work = h.work ++ r.work }
 
+-- events in order
 unfoldable pub hears_all : Solo → List Event → Heard
 hears_all t [] = silent t
 hears_all t (e ∷ es) =
     let h = hears t e in
     heard_before h (hears_all h.after es)
 
+-- all that is given, from the start
 abbrev pub solo : Given → Heard
 solo g = hears_all (record { map = g.start; selected = None }) g.events

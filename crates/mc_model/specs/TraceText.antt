@@ -11,10 +11,12 @@ use Rattle.mc_model.specs.Items.{StopAt}
 use Rattle.mc_model.specs.Play.{Step}
 use Rattle.mc_model.specs.Transcript.{hex_text, line_text}
 
+-- the text of an instruction, or `?`
 abbrev pub ins_text : Option Ins → List ℕ
 ins_text None = codes "?"
 ins_text (Some i) = text_of i
 
+-- a flag as a digit
 abbrev pub bit_text : Bool → List ℕ
 bit_text b = cond b (codes "1") (codes "0")
 
@@ -29,18 +31,22 @@ abbrev pub turns_to : Option ℕ → Turn → ℕ → (ℕ → List Turn) → Li
 turns_to None t k rest = t ∷ rest k
 turns_to (Some w) t k rest = cond (nat_le k (cost Two w)) [] (t ∷ rest (k - cost Two w))
 
+-- the turns before a stop at write k
 abbrev pub before_stop : List Turn → ℕ → List Turn
 before_stop [] k = []
 before_stop (t ∷ ts) k = turns_to t.wrote t k (λ j. before_stop ts j)
 
+-- the turns of a command that are shown
 abbrev pub shown_turns : List Turn → Option StopAt → List Turn
 shown_turns ts None = ts
 shown_turns ts (Some s) = before_stop ts s.at
 
+-- the lines of turns
 abbrev pub turn_lines : List Turn → List ℕ
 turn_lines [] = []
 turn_lines (t ∷ ts) = turn_line t ++ turn_lines ts
 
+-- the text of a traced play
 unfoldable pub traced : List Step → List ℕ
 traced [] = []
 traced (t ∷ ts) = turn_lines (shown_turns t.turns t.stop) ++ line_text t.number t.result ++ traced ts

@@ -15,6 +15,7 @@ abbrev pub hex_text : List ℕ → List ℕ
 hex_text [] = []
 hex_text (b ∷ bs) = hex_digit (b / 16 % 16) ∷ hex_digit (b % 16) ∷ hex_text bs
 
+-- a cause's word
 abbrev pub cause_text : Cause → List ℕ
 cause_text BadJournal = codes "BadJournal"
 cause_text NoRoot = codes "NoRoot"
@@ -35,14 +36,17 @@ abend_code A08 = 8
 abend_code A09 = 9
 abend_code A0A = 10
 
+-- the text of an outcome
 abbrev pub outcome_text : Outcome → List ℕ
 outcome_text (Reply body sw) = hex_text (body ++ bytes2 sw)
 outcome_text (Abended cause) = codes "abend " ++ hex_text (abend_code cause ∷ [])
 
+-- the text of static bytes
 abbrev pub static_text : List ℕ → List ℕ
 static_text [] = codes "static"
 static_text (b ∷ bs) = codes "static " ++ hex_text (b ∷ bs)
 
+-- the text of a result
 abbrev pub shown : LineResult → List ℕ
 shown Formatted = codes "formatted"
 shown (Ready n) = codes "ready " ++ decimal n
@@ -60,6 +64,7 @@ abbrev pub line_text : ℕ → Option LineResult → List ℕ
 line_text n None = []
 line_text n (Some r) = decimal n ++ codes " " ++ shown r ++ codes "\n"
 
+-- the text of a play
 unfoldable pub transcript : List Step → List ℕ
 transcript [] = []
 transcript (t ∷ ts) = line_text t.number t.result ++ transcript ts

@@ -21,11 +21,13 @@ abbrev pub is_seen : List (List ℕ) → Step → DeckLine → Bool
 is_seen K t (line.Dump n) = has_name n K && is_running (live_in t.before)
 is_seen K t _ = is_own K t
 
+-- a result, where it is the family's
 abbrev pub seen_if : Bool → Option LineResult → List LineResult
 seen_if true (Some r) = r ∷ []
 seen_if true None = []
 seen_if false r = []
 
+-- the answers of a play that are the family's
 unfoldable pub answers : List (List ℕ) → List Step → List LineResult
 answers K [] = []
 answers K (t ∷ ts) = seen_if (is_seen K t t.line) t.result ++ answers K ts
@@ -44,6 +46,7 @@ solo_view K g = record { answers = (solo g).answer; rest = rest_of K (solo g).af
 
 -- ---- same items, same stop
 
+-- a line's items and stop, where it is a command of the family
 abbrev pub work_if : Bool → Step → List (List Item × Option StopAt)
 work_if true t = (t.items, t.stop) ∷ []
 work_if false t = []

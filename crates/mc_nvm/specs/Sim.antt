@@ -65,8 +65,15 @@ abbrev pub Fills : Option Fuse → Type 0
 Fills None = Unit {0}
 Fills (Some f) = length f.fill ≡ 8
 
-abbrev pub next_due : Sim → Due
-next_due s = due (falling s.cut) (falling s.worn)
+-- the due of a write that the device refuses by itself, or does not: a cut goes before that
+abbrev pub own : Bool → Due → Due
+own false d = d
+own true (DueCut fill) = DueCut fill
+own true (DueWorn fill) = DueWorn (replicate 8 0)
+own true DueNot = DueWorn (replicate 8 0)
+
+abbrev pub next_due : Bool → Sim → Due
+next_due refused s = own refused (due (falling s.cut) (falling s.worn))
 
 -- what holds of each device in memory
 pub record Sound (s : Sim) : Type 0 where
@@ -77,22 +84,22 @@ pub record Sound (s : Sim) : Type 0 where
   pub cut : Fills s.cut
   pub worn : Fills s.worn
 
--- one write of a device in memory
+-- one write of a device in memory, which refuses none by itself
 pub record SimWrote (s : Sim) (at : ℕ) (w : List ℕ) (a : Answer) (e : Sim) : Type 0 where
   pub sound : Sound s
-  pub answer : a ≡ answer_to (next_due s)
-  pub after : e ≡ after_write s at w (next_due s)
+  pub answer : a ≡ answer_to (next_due false s)
+  pub after : e ≡ after_write s at w (next_due false s)
 
 -- ---- the rules
 
 -- a count that is one higher rose, and falls not
-next_rose : (n : ℕ) → n ≤ last_count → Rose n (next_count n)
+pub next_rose : (n : ℕ) → n ≤ last_count → Rose n (next_count n)
 next_rose n h = elim (cases_lt n last_count) [
   | inl below ↦ inl (subst (λ (m : ℕ). n < m) (sym (min-eq_left {n = n + 1} {m = last_count} (omega arith))) (omega arith))
   | inr last ↦ inr (min-eq_right {n = last_count} {m = n + 1} (omega arith))
 ]
 
-next_not_less : (n : ℕ) → n ≤ last_count → n ≤ next_count n
+pub next_not_less : (n : ℕ) → n ≤ last_count → n ≤ next_count n
 next_not_less n h = le-min (omega arith) h
 
 -- a fuse that falls leaves its own fill
@@ -101,7 +108,7 @@ fills_word zero given fill h e = absurd (cc e)
 fills_word (suc zero) given fill h e = grind (arith, h, e)
 fills_word (suc (suc k)) given fill h e = absurd (cc e)
 
-falls_word : (f : Option Fuse) (fill : List ℕ) → Fills f → falling f ≡ Some fill → length fill ≡ 8
+pub falls_word : (f : Option Fuse) (fill : List ℕ) → Fills f → falling f ≡ Some fill → length fill ≡ 8
 falls_word None fill h e = absurd (cc e)
 falls_word (Some f) fill h e = fills_word f.writes f.fill fill h e
 
@@ -117,10 +124,10 @@ rules s at w on sound None None ec eb = record { words = refl; power = on; cuts 
 pub sim_obeys : (s : Sim) (at : ℕ) (w : List ℕ) (a : Answer) (e : Sim) → (sim_state s).on ≡ true → SimWrote s at w a e → Wrote (sim_state s) at w a (sim_state e)
 sim_obeys s at w a e on r =
     subst (λ (t : Answer). Wrote (sim_state s) at w t (sim_state e)) (sym r.answer)
-    (subst (λ (t : Sim). Wrote (sim_state s) at w (answer_to (next_due s)) (sim_state t)) (sym r.after)
+    (subst (λ (t : Sim). Wrote (sim_state s) at w (answer_to (next_due false s)) (sim_state t)) (sym r.after)
     (rules s at w on r.sound (falling s.cut) (falling s.worn) refl refl))
 
-burnt : (s : Sim) (at : ℕ) (w : List ℕ) (d : Due) → next_due s ≡ d
+burnt : (s : Sim) (at : ℕ) (w : List ℕ) (d : Due) → next_due false s ≡ d
     → BenchWrote (sim_state s) (sim_bench s) at (answer_to d) (sim_state (after_write s at w d)) (sim_bench (after_write s at w d))
 burnt s at w (DueCut fill) is = record { ends = subst (λ (t : Due). Ends t true (sim_state s) at (Err Off) (sim_state (after_write s at w (DueCut fill)))) (sym is) (refl, refl); counts = (refl, refl); fuses = inl refl }
 burnt s at w (DueWorn fill) is = record { ends = subst (λ (t : Due). Ends t true (sim_state s) at (Err Worn) (sim_state (after_write s at w (DueWorn fill)))) (sym is) (refl, refl); counts = (refl, refl); fuses = inl refl }
@@ -130,5 +137,5 @@ burnt s at w DueNot is = record { ends = subst (λ (t : Due). Ends t true (sim_s
 pub sim_burns : (s : Sim) (at : ℕ) (w : List ℕ) (a : Answer) (e : Sim) → (sim_state s).on ≡ true → SimWrote s at w a e → BenchWrote (sim_state s) (sim_bench s) at a (sim_state e) (sim_bench e)
 sim_burns s at w a e on r =
     subst (λ (t : Answer). BenchWrote (sim_state s) (sim_bench s) at t (sim_state e) (sim_bench e)) (sym r.answer)
-    (subst (λ (t : Sim). BenchWrote (sim_state s) (sim_bench s) at (answer_to (next_due s)) (sim_state t) (sim_bench t)) (sym r.after)
-    (burnt s at w (next_due s) refl))
+    (subst (λ (t : Sim). BenchWrote (sim_state s) (sim_bench s) at (answer_to (next_due false s)) (sim_state t) (sim_bench t)) (sym r.after)
+    (burnt s at w (next_due false s) refl))

@@ -1,6 +1,6 @@
 ghost use Rattle.std.specs.Prelude.{◌≡◌, option_map, IfSome};
 ghost use Rattle.mc_model.specs.Device.{falling, counted, due};
-ghost use Rattle.mc_nvm.specs.Sim.{fuse_of, due_of};
+ghost use Rattle.mc_nvm.specs.Sim.{fuse_of, due_of, own};
 
 use mc_base::Word;
 
@@ -45,12 +45,14 @@ pub fn falls(fuse: Option<Fuse>) -> Option<Word>
     }
 }
 
-/// What the two fuses make of the next write: a cut goes before a refusal.
-pub fn next(cut: Option<Fuse>, worn: Option<Fuse>) -> Due
-    ensures { due_of result ≡ due (falling (option_map fuse_of cut)) (falling (option_map fuse_of worn)) }
+/// What becomes of the next write: a cut goes before a refusal by the device itself, and that before a refusal by the
+/// other fuse.
+pub fn next(cut: Option<Fuse>, worn: Option<Fuse>, refused: bool) -> Due
+    ensures { due_of result ≡ own refused (due (falling (option_map fuse_of cut)) (falling (option_map fuse_of worn))) }
 {
     match (falls(cut), falls(worn)) {
         (Some(fill), _) => Due::Cut(fill),
+        (None, _) if refused => Due::Worn([0; 8]),
         (None, Some(fill)) => Due::Worn(fill),
         (None, None) => Due::Not,
     }

@@ -3,7 +3,13 @@
 // Memory that holds words of eight bytes, whose writes may stop: what it means, and devices that live in memory.
 mod device;
 mod fuse;
+mod probe;
 mod sim;
+mod tape;
+mod tape_nvm;
 
 pub use device::{Bench, Nvm};
+pub use probe::Probe;
 pub use sim::SimNvm;
+pub use tape::Entry;
+pub use tape_nvm::TapeNvm;

@@ -1,5 +1,5 @@
 ghost use Rattle.std.specs.Prelude.{◌≡◌, ◌<◌, ◌≤◌, ℕ, [], length, slice_index_or, IfOk};
-ghost use Rattle.mc_nvm.specs.Sim.{blank_sim};
+ghost use Rattle.mc_nvm.specs.Sim.{blank_sim, Sound, answer_to, next_due, after_write};
 
 use crate::device::{Bench, Nvm};
 use crate::fuse::{Due, Fuse, nearer, next};
@@ -55,6 +55,36 @@ impl SimNvm {
             wears: 0,
         })
     }
+
+    /// A write that the device refuses by itself, where `refused` says so, and leaves eight zero bytes. The fuse of
+    /// `arm` goes before that, and that before the fuse of `wear`.
+    pub(crate) fn try_write(&mut self, at: u32, word: Word, refused: bool) -> Result<(), Stop>
+        requires { at < length self.old.words }
+        ensures sound { Sound self.old }
+        ensures answer { result ≡ answer_to (next_due refused self.old) }
+        ensures after { self.new ≡ after_write self.old at word (next_due refused self.old) }
+    {
+        let due = next(self.cut, self.worn, refused);
+        self.cut = nearer(self.cut);
+        self.worn = nearer(self.worn);
+        match due {
+            Due::Cut(fill) => {
+                self.words[at as usize] = fill;
+                self.on = false;
+                self.cuts = self.cuts.saturating_add(1);
+                Err(Stop::Off)
+            }
+            Due::Worn(fill) => {
+                self.words[at as usize] = fill;
+                self.faults = self.faults.saturating_add(1);
+                Err(Stop::Worn)
+            }
+            Due::Not => {
+                self.words[at as usize] = word;
+                Ok(())
+            }
+        }
+    }
 }
 
 impl Nvm for SimNvm {
@@ -84,26 +114,7 @@ impl Nvm for SimNvm {
     }
 
     fn write(&mut self, at: u32, word: Word) -> Result<(), Stop> {
-        let due = next(self.cut, self.worn);
-        self.cut = nearer(self.cut);
-        self.worn = nearer(self.worn);
-        match due {
-            Due::Cut(fill) => {
-                self.words[at as usize] = fill;
-                self.on = false;
-                self.cuts = self.cuts.saturating_add(1);
-                Err(Stop::Off)
-            }
-            Due::Worn(fill) => {
-                self.words[at as usize] = fill;
-                self.faults = self.faults.saturating_add(1);
-                Err(Stop::Worn)
-            }
-            Due::Not => {
-                self.words[at as usize] = word;
-                Ok(())
-            }
-        }
+        self.try_write(at, word, false)
     }
 }
 

@@ -1,0 +1,4 @@
+pub mod BlockLemmas
+pub mod ResultLemmas
+pub mod StepLemmas
+pub mod ShiftLemmas

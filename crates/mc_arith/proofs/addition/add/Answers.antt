@@ -1,0 +1,7 @@
+use Rattle.std.proofs.Common.{arith, rules}
+use Rattle.mc_arith.proofs.BlockLemmas.{all_bytes}
+use Rattle.mc_arith.proofs.ResultLemmas.{sum_is}
+use Rattle.mc_arith.proofs.addition.add.Goals as goal
+
+pub returns : goal.returns
+returns c = sum_is c.args.a.now c.args.b.now c.ripple_sum-c.new.a c.ripple_sum-c.result c.zero-z.result (omega arith) (all_bytes c.ripple_sum-c.new.a (search rules)) c.ripple_sum-c.ensures c.zero-z.ensures

@@ -1,0 +1,7 @@
+use Rattle.std.proofs.Common.{arith, rules}
+use Rattle.mc_arith.proofs.BlockLemmas.{all_bytes}
+use Rattle.mc_arith.proofs.ResultLemmas.{inc_is}
+use Rattle.mc_arith.proofs.addition.inc.Goals as goal
+
+pub returns : goal.returns
+returns c = inc_is c.args.a.now c.ripple_one-wrapped.new.a c.ripple_one-wrapped.result c.zero.result (omega arith) (all_bytes c.args.a.now (search rules)) (all_bytes c.ripple_one-wrapped.new.a (search rules)) c.ripple_one-wrapped.ensures c.zero.ensures

@@ -1,0 +1,7 @@
+-- what is done, before the result on what is left, is the result on the whole
+use Rattle.std.proofs.Common.{◌≡◌, ◌++◌, take, drop}
+use Rattle.mc_model.specs.Blocks.{and_blocks}
+use Rattle.mc_arith.proofs.bitwise.and.Given as goal
+
+abbrev pub invariant-loop-i : goal.invariant-loop-i
+invariant-loop-i l = take l.i l.a ++ and_blocks (drop l.i l.a) (drop l.i l.b) ≡ and_blocks l.fn.a l.b

@@ -1,0 +1,7 @@
+-- what is done, before the result on what is left, is the result on the whole
+use Rattle.std.proofs.Common.{◌≡◌, ◌++◌, take, drop}
+use Rattle.mc_model.specs.Blocks.{not_block}
+use Rattle.mc_arith.proofs.bitwise.not.Given as goal
+
+abbrev pub invariant-loop-b : goal.invariant-loop-b
+invariant-loop-b l = take l.b-index l.a ++ not_block (drop l.b-index l.a) ≡ not_block l.fn.a

@@ -1,0 +1,7 @@
+-- what is done, before the result on what is left, is the result on the whole
+use Rattle.std.proofs.Common.{◌≡◌, ◌++◌, take, drop}
+use Rattle.mc_model.specs.Blocks.{xor_blocks}
+use Rattle.mc_arith.proofs.bitwise.xor.Given as goal
+
+abbrev pub invariant-loop-i : goal.invariant-loop-i
+invariant-loop-i l = take l.i l.a ++ xor_blocks (drop l.i l.a) (drop l.i l.b) ≡ xor_blocks l.fn.a l.b

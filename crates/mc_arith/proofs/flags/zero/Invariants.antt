@@ -1,0 +1,7 @@
+-- the block is the number 0 exactly where what is left of it is
+use Rattle.std.proofs.Common.{◌≡◌, drop}
+use Rattle.mc_model.specs.Blocks.{is_zero}
+use Rattle.mc_arith.proofs.flags.zero.Given as goal
+
+abbrev pub invariant-loop-b : goal.invariant-loop-b
+invariant-loop-b l = is_zero l.block ≡ is_zero (drop l.b-index l.block)

@@ -1,0 +1,7 @@
+-- the blocks differ as what is left of them
+use Rattle.std.proofs.Common.{◌≡◌, ◌+◌, drop}
+use Rattle.mc_model.specs.Bytes.{num}
+use Rattle.mc_arith.proofs.subtraction.compare.Given as goal
+
+abbrev pub invariant-loop-i : goal.invariant-loop-i
+invariant-loop-i l = num l.a + num (drop l.i l.b) ≡ num l.b + num (drop l.i l.a)

@@ -1,0 +1,7 @@
+use Rattle.std.proofs.Common.{arith, rules}
+use Rattle.mc_arith.proofs.BlockLemmas.{all_bytes}
+use Rattle.mc_arith.proofs.ResultLemmas.{difference_is}
+use Rattle.mc_arith.proofs.subtraction.sub.Goals as goal
+
+pub returns : goal.returns
+returns c = difference_is c.args.a.now c.args.b.now c.ripple_difference-borrow.new.a c.ripple_difference-borrow.result c.zero.result (omega arith) (all_bytes c.ripple_difference-borrow.new.a (search rules)) c.ripple_difference-borrow.ensures c.zero.ensures

@@ -1,0 +1,2 @@
+pub use Rattle.mc_model.specs.Blocks
+pub mod Carry

@@ -1,0 +1,60 @@
+// Addition, from the last byte to the first.
+ghost use Rattle.std.specs.Prelude.{◌≡◌, ◌+◌, ◌*◌, ◌^◌, ◌≤◌, length};
+ghost use Rattle.mc_model.specs.Bytes.{num};
+ghost use Rattle.mc_model.specs.Blocks.{add_blocks, inc_block};
+ghost use Rattle.mc_arith.specs.Carry.{carry_of};
+
+use crate::flags::{Flags, zero};
+
+/// Adds the second block to the first, modulo 256 to the power of its length. Both have the same length, from 1 to 16.
+/// C is the carry.
+pub fn add(a: &mut [u8], b: &[u8]) -> Flags
+    requires same { length a.old ≡ length b.now }
+    requires low { 1 ≤ length a.old }
+    requires high { length a.old ≤ 16 }
+    ensures { record { value = a.new; c = result.c; z = result.z } ≡ add_blocks a.old b.now }
+{
+    let c = ripple_sum(a, b);
+    let z = zero(a);
+    Flags { c, z }
+}
+
+/// Adds 1 to a block of 1 to 16 bytes, modulo 256 to the power of its length. C is the carry.
+pub fn inc(a: &mut [u8]) -> Flags
+    requires low { 1 ≤ length a.old }
+    requires high { length a.old ≤ 16 }
+    ensures { record { value = a.new; c = result.c; z = result.z } ≡ inc_block a.old }
+{
+    let wrapped = ripple_one(a);
+    Flags {
+        c: wrapped,
+        z: zero(a),
+    }
+}
+
+// The sum of two blocks of one length in the first; whether a carry is left.
+fn ripple_sum(a: &mut [u8], b: &[u8]) -> bool
+    requires { length a.old ≡ length b.now }
+    ensures { num a.new + carry_of result * 256 ^ length a.old ≡ num a.old + num b.now }
+{
+    let mut carry = 0;
+    for i in (0..a.len()).rev() {
+        let sum = a[i] as u16 + b[i] as u16 + carry;
+        a[i] = (sum % 256) as u8;
+        carry = sum / 256;
+    }
+    carry == 1
+}
+
+// One more in the block; whether a carry is left.
+fn ripple_one(a: &mut [u8]) -> bool
+    ensures { num a.new + carry_of result * 256 ^ length a.old ≡ num a.old + 1 }
+{
+    let mut carry = 1;
+    for i in (0..a.len()).rev() {
+        let sum = a[i] as u16 + carry;
+        a[i] = (sum % 256) as u8;
+        carry = sum / 256;
+    }
+    carry == 1
+}

@@ -1,0 +1,21 @@
+#![tactic(auto)]
+
+// Arithmetic on blocks of bytes as whole numbers, unsigned and high byte first.
+mod addition;
+mod bitwise;
+mod borders;
+mod flags;
+mod shifts;
+mod subtraction;
+
+pub use addition::{add, inc};
+pub use bitwise::{and, not, or, xor};
+pub use borders::{
+    bits_of_blocks, differences, one_less, one_more, shifts_to_the_left, shifts_to_the_right, sums,
+};
+pub use flags::Flags;
+pub use shifts::{shift_left, shift_right};
+pub use subtraction::{compare, dec, sub};
+
+#[cfg(test)]
+mod tests;

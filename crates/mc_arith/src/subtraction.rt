@@ -1,0 +1,81 @@
+// Subtraction, from the last byte to the first, and comparison.
+ghost use Rattle.std.specs.Prelude.{◌≡◌, ◌+◌, ◌*◌, ◌^◌, ◌≤◌, length};
+ghost use Rattle.mc_model.specs.Bytes.{num};
+ghost use Rattle.mc_model.specs.Blocks.{dec_block, sub_blocks};
+ghost use Rattle.mc_arith.specs.Carry.{carry_of};
+
+use crate::flags::{Flags, zero};
+
+/// Subtracts the second block from the first, modulo 256 to the power of its length. Both have the same length, from 1 to 16.
+/// C is the borrow.
+pub fn sub(a: &mut [u8], b: &[u8]) -> Flags
+    requires same { length a.old ≡ length b.now }
+    requires low { 1 ≤ length a.old }
+    requires high { length a.old ≤ 16 }
+    ensures { record { value = a.new; c = result.c; z = result.z } ≡ sub_blocks a.old b.now }
+{
+    let borrow = ripple_difference(a, b);
+    Flags {
+        c: borrow,
+        z: zero(a),
+    }
+}
+
+/// Subtracts 1 from a block of 1 to 16 bytes, modulo 256 to the power of its length. C is the borrow.
+pub fn dec(a: &mut [u8]) -> Flags
+    requires low { 1 ≤ length a.old }
+    requires high { length a.old ≤ 16 }
+    ensures { record { value = a.new; c = result.c; z = result.z } ≡ dec_block a.old }
+{
+    let wrapped = ripple_one_less(a);
+    Flags {
+        c: wrapped,
+        z: zero(a),
+    }
+}
+
+/// The flags of the difference of two blocks of the same length, from 1 to 255: C says that the first is less, Z that they are equal.
+pub fn compare(a: &[u8], b: &[u8]) -> Flags
+    requires same { length a.now ≡ length b.now }
+    requires low { 1 ≤ length a.now }
+    requires high { length a.now ≤ 255 }
+    ensures borrow { result.c ≡ (sub_blocks a.now b.now).c }
+    ensures zero { result.z ≡ (sub_blocks a.now b.now).z }
+{
+    for i in 0..a.len() {
+        if a[i] != b[i] {
+            return Flags {
+                c: a[i] < b[i],
+                z: false,
+            };
+        }
+    }
+    Flags { c: false, z: true }
+}
+
+// The difference of two blocks of one length in the first; whether a borrow is left.
+fn ripple_difference(a: &mut [u8], b: &[u8]) -> bool
+    requires { length a.old ≡ length b.now }
+    ensures { num a.new + num b.now ≡ num a.old + carry_of result * 256 ^ length a.old }
+{
+    let mut borrow = 0;
+    for i in (0..a.len()).rev() {
+        let difference = 256 + a[i] as u16 - b[i] as u16 - borrow;
+        a[i] = (difference % 256) as u8;
+        borrow = 1 - difference / 256;
+    }
+    borrow == 1
+}
+
+// One less in the block; whether a borrow is left.
+fn ripple_one_less(a: &mut [u8]) -> bool
+    ensures { num a.new + 1 ≡ num a.old + carry_of result * 256 ^ length a.old }
+{
+    let mut borrow = 1;
+    for i in (0..a.len()).rev() {
+        let difference = 256 + a[i] as u16 - borrow;
+        a[i] = (difference % 256) as u8;
+        borrow = 1 - difference / 256;
+    }
+    borrow == 1
+}

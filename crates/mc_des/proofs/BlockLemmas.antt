@@ -1,0 +1,166 @@
+-- Words as lists of bits and of bytes, and a block through the rounds.
+use Rattle.std.proofs.Common.{◌≡◌, ℕ, zero, suc, ◌+◌, ◌-◌, ◌*◌, ◌/◌, ◌%◌, ◌^◌, ◌<◌, ◌≤◌, List, [], ◌∷◌, ◌++◌, length, get_or, take, drop, map, refl, sym, ap, ◌∙◌, arith, add-one, drop-cons}
+use Rattle.std.specs.Prelude.{bit_or, bit_and}
+use Rattle.std.specs.Int.{w64, to_be_bytes}
+use Rattle.std.specs.Int.Bits.{bit_xor}
+use Rattle.std.proofs.Math.Nat.{mul_comm, div-add-mod}
+use Rattle.std.proofs.lemmas.Nat.{and_mask, mod-pow-add}
+use Rattle.std.proofs.lemmas.Nat.Bits.{bit_at_cat_low}
+use Rattle.std.proofs.lemmas.List.{take_at, drop_at, drop_all, get_or-map, length-map}
+use Rattle.mc_model.specs.Modes.{added}
+use Rattle.mc_model.specs.Des.{bits, number, bits_of, bytes_of, pick, rounds, f, with_keys, ciphered, initial, final}
+use Rattle.mc_des.specs.Words.{key_bits}
+use Rattle.mc_des.proofs.BitsLemmas.{bits-xor, bits-cat, length-bits}
+use Rattle.mc_des.proofs.CipherFunction.{or_parts}
+
+-- ---- bits of a part
+
+parts_of : (v d : ℕ) → v ≡ v / d * d + v % d
+parts_of v d = sym (ap (λ (n : ℕ). n + v % d) (mul_comm (v / d) d) ∙ div-add-mod v d)
+
+bit-mod : (v m i : ℕ) → i < m → v % 2 ^ m / 2 ^ i % 2 ≡ v / 2 ^ i % 2
+bit-mod v m i h =
+    let whole : v ≡ v / 2 ^ m * 2 ^ m + v % 2 ^ m = parts_of v (2 ^ m) in
+    sym (ap (λ (x : ℕ). x / 2 ^ i % 2) whole ∙ bit_at_cat_low (v / 2 ^ m) m (v % 2 ^ m) i h)
+
+pub bits-mod : (n m v : ℕ) → n ≤ m → bits n (v % 2 ^ m) ≡ bits n v
+unfolding bits
+bits-mod zero m v h = refl
+bits-mod (suc n) m v h =
+    ap (λ (x : ℕ). x ∷ bits n (v % 2 ^ m)) (bit-mod v m n (omega arith))
+    ∙ ap (λ (l : List ℕ). v / 2 ^ n % 2 ∷ l) (bits-mod n m v (omega arith))
+
+pub number-bits : (n v : ℕ) → number (bits n v) ≡ v % 2 ^ n
+unfolding number bits
+number-bits zero v = omega arith
+number-bits (suc n) v =
+    let order : suc n ≡ 1 + n = omega arith in
+    ap (λ (k : ℕ). v / 2 ^ n % 2 * 2 ^ k + number (bits n v)) (length-bits n v)
+    ∙ ap (λ (k : ℕ). v / 2 ^ n % 2 * 2 ^ n + k) (number-bits n v)
+    ∙ sym (ap (λ (k : ℕ). v % 2 ^ k) order ∙ mod-pow-add v 1 n)
+
+-- ---- bytes
+
+bytes_of-open : (n : ℕ) (l : List ℕ) → bytes_of (suc n) l ≡ number (take 8 l) ∷ bytes_of n (drop 8 l)
+unfolding bytes_of
+bytes_of-open n l = refl
+
+bytes_of-none : (l : List ℕ) → bytes_of 0 l ≡ []
+unfolding bytes_of
+bytes_of-none l = refl
+
+bits_of-open : (b : ℕ) (bs : List ℕ) → bits_of (b ∷ bs) ≡ bits 8 b ++ bits_of bs
+unfolding bits_of
+bits_of-open b bs = refl
+
+bits_of-none : (v : ℕ) → bits_of [] ≡ bits 0 v
+unfolding bits_of bits
+bits_of-none v = refl
+
+bytes_of-step : (n m v : ℕ) → bytes_of (suc n) (bits (8 + m) v) ≡ (v / 2 ^ m % 256) ∷ bytes_of n (bits m v)
+bytes_of-step n m v =
+    let cut : bits (8 + m) v ≡ bits 8 (v / 2 ^ m) ++ bits m v = bits-cat 8 m v in
+    let size : length (bits 8 (v / 2 ^ m)) ≡ 8 = length-bits 8 (v / 2 ^ m) in
+    bytes_of-open n (bits (8 + m) v)
+    ∙ ap (λ (l : List ℕ). number (take 8 l) ∷ bytes_of n (drop 8 l)) cut
+    ∙ ap (λ (l : List ℕ). number l ∷ bytes_of n (drop 8 (bits 8 (v / 2 ^ m) ++ bits m v))) (take_at (bits 8 (v / 2 ^ m)) (bits m v) 8 size)
+    ∙ ap (λ (l : List ℕ). number (bits 8 (v / 2 ^ m)) ∷ bytes_of n l) (drop_at (bits 8 (v / 2 ^ m)) (bits m v) 8 size)
+    ∙ ap (λ (k : ℕ). k ∷ bytes_of n (bits m v)) (number-bits 8 (v / 2 ^ m))
+
+-- the bytes of a word are those of its bits
+pub bytes_of-bits : (v : ℕ) → bytes_of 8 (bits 64 v) ≡ to_be_bytes w64 v
+bytes_of-bits v =
+    let lowest : v / 2 ^ 0 % 256 ≡ v % 256 = omega arith in
+    bytes_of-step 7 56 v ∙ ap (λ (l : List ℕ). v / 2 ^ 56 % 256 ∷ l)
+    (bytes_of-step 6 48 v ∙ ap (λ (l : List ℕ). v / 2 ^ 48 % 256 ∷ l)
+    (bytes_of-step 5 40 v ∙ ap (λ (l : List ℕ). v / 2 ^ 40 % 256 ∷ l)
+    (bytes_of-step 4 32 v ∙ ap (λ (l : List ℕ). v / 2 ^ 32 % 256 ∷ l)
+    (bytes_of-step 3 24 v ∙ ap (λ (l : List ℕ). v / 2 ^ 24 % 256 ∷ l)
+    (bytes_of-step 2 16 v ∙ ap (λ (l : List ℕ). v / 2 ^ 16 % 256 ∷ l)
+    (bytes_of-step 1 8 v ∙ ap (λ (l : List ℕ). v / 2 ^ 8 % 256 ∷ l)
+    (bytes_of-step 0 0 v ∙ ap (λ (l : List ℕ). v / 2 ^ 0 % 256 ∷ l) (bytes_of-none (bits 0 v))
+    ∙ ap (λ (k : ℕ). k ∷ []) lowest)))))))
+
+bits_of-step : (m v : ℕ) (bs : List ℕ) → bits_of bs ≡ bits m v → bits_of ((v / 2 ^ m % 256) ∷ bs) ≡ bits (8 + m) v
+bits_of-step m v bs e =
+    bits_of-open (v / 2 ^ m % 256) bs ∙ ap (λ (l : List ℕ). l ++ bits_of bs) (bits-mod 8 8 (v / 2 ^ m) (omega arith))
+    ∙ ap (λ (l : List ℕ). bits 8 (v / 2 ^ m) ++ l) e ∙ sym (bits-cat 8 m v)
+
+-- the bits of the bytes of a word
+pub bits_of-bytes : (v : ℕ) → bits_of (to_be_bytes w64 v) ≡ bits 64 v
+bits_of-bytes v =
+    let lowest : v % 256 ≡ v / 2 ^ 0 % 256 = omega arith in
+    let b0 : bits_of ((v % 256) ∷ []) ≡ bits 8 v = ap (λ (k : ℕ). bits_of (k ∷ [])) lowest ∙ bits_of-step 0 v [] (bits_of-none v) in
+    bits_of-step 56 v _ (bits_of-step 48 v _ (bits_of-step 40 v _ (bits_of-step 32 v _ (bits_of-step 24 v _ (bits_of-step 16 v _ (bits_of-step 8 v _ b0))))))
+
+-- ---- halves of a word
+
+pub high_half : (v : ℕ) → bits 32 (v / 2 ^ 32) ≡ take 32 (bits 64 v)
+high_half v = sym (ap (take 32) (bits-cat 32 32 v) ∙ take_at (bits 32 (v / 2 ^ 32)) (bits 32 v) 32 (length-bits 32 (v / 2 ^ 32)))
+
+pub low_half : (v : ℕ) → bits 32 (bit_and v (2 ^ 32 - 1)) ≡ drop 32 (bits 64 v)
+low_half v =
+    ap (bits 32) (and_mask v 32) ∙ bits-mod 32 32 v (omega arith)
+    ∙ sym (ap (drop 32) (bits-cat 32 32 v) ∙ drop_at (bits 32 (v / 2 ^ 32)) (bits 32 v) 32 (length-bits 32 (v / 2 ^ 32)))
+
+pub both_halves : (high low : ℕ) → high < 2 ^ 32 → low < 2 ^ 32 → bits 64 (bit_or (high * 2 ^ 32 % 2 ^ 64) low) ≡ bits 32 high ++ bits 32 low
+both_halves high low h l =
+    let v : ℕ = high * 2 ^ 32 + low in
+    let fits : high * 2 ^ 32 % 2 ^ 64 ≡ high * 2 ^ 32 = omega arith in
+    let top : v / 2 ^ 32 ≡ high = omega arith in
+    let bottom : v % 2 ^ 32 ≡ low = omega arith in
+    ap (λ (k : ℕ). bits 64 (bit_or k low)) fits ∙ ap (bits 64) (or_parts 32 high low l) ∙ bits-cat 32 32 v
+    ∙ ap (λ (k : ℕ). bits 32 k ++ bits 32 v) top ∙ ap (λ (x : List ℕ). bits 32 high ++ x) (sym (bits-mod 32 32 v (omega arith)) ∙ ap (bits 32) bottom)
+
+-- ---- the rounds
+
+rounds-cons : (k : List ℕ) (ks : List (List ℕ)) (l r : List ℕ) → rounds (k ∷ ks) l r ≡ rounds ks r (added l (f r k))
+unfolding rounds
+rounds-cons k ks l r = refl
+
+rounds-none : (l r : List ℕ) → rounds [] l r ≡ (l, r)
+unfolding rounds
+rounds-none l r = refl
+
+with_keys-open : (ks : List (List ℕ)) (block : List ℕ) → let halves = rounds ks (take 32 (pick initial block)) (drop 32 (pick initial block)) in
+    with_keys ks block ≡ pick final (halves.1 ++ halves.0)
+unfolding with_keys
+with_keys-open ks block = refl
+
+pub ciphered-open : (ks : List (List ℕ)) (block : List ℕ) → ciphered ks block ≡ bytes_of 8 (with_keys ks (bits_of block))
+unfolding ciphered
+ciphered-open ks block = refl
+
+module _ (keys : List ℕ) where
+  pub rounds_init : (start left right : ℕ) (block : List ℕ) → bits 64 start ≡ pick initial block → left ≡ start / 2 ^ 32 → right ≡ bit_and start (2 ^ 32 - 1)
+      → rounds (drop 0 (map key_bits keys)) (bits 32 left) (bits 32 right) ≡ rounds (map key_bits keys) (take 32 (pick initial block)) (drop 32 (pick initial block))
+  rounds_init start left right block e el er =
+      ap (λ (x : List ℕ). rounds (map key_bits keys) x (bits 32 right)) (ap (bits 32) el ∙ high_half start ∙ ap (take 32) e)
+      ∙ ap (rounds (map key_bits keys) (take 32 (pick initial block))) (ap (bits 32) er ∙ low_half start ∙ ap (drop 32) e)
+
+  pub rounds_step : (i left right value : ℕ) (e : List ℕ × List ℕ) → i < length keys → rounds (drop i (map key_bits keys)) (bits 32 left) (bits 32 right) ≡ e
+      → bits 32 value ≡ f (bits 32 right) (key_bits (get_or keys i 0))
+      → rounds (drop (i + 1) (map key_bits keys)) (bits 32 right) (bits 32 (bit_xor left value)) ≡ e
+  rounds_step i left right value e h same ev =
+      let ks : List (List ℕ) = map key_bits keys in
+      let count : length ks ≡ length keys = length-map keys key_bits in
+      let here : get_or ks i [] ≡ key_bits (get_or keys i 0) = get_or-map key_bits keys i 0 [] h in
+      ap (λ (k : ℕ). rounds (drop k ks) (bits 32 right) (bits 32 (bit_xor left value))) (add-one i)
+      ∙ ap (rounds (drop (suc i) ks) (bits 32 right)) (bits-xor 32 left value ∙ ap (added (bits 32 left)) (ev ∙ ap (f (bits 32 right)) (sym here)))
+      ∙ sym (rounds-cons (get_or ks i []) (drop (suc i) ks) (bits 32 left) (bits 32 right))
+      ∙ ap (λ (l : List (List ℕ)). rounds l (bits 32 left) (bits 32 right)) (sym (drop-cons ks i [] (omega arith))) ∙ same
+
+  pub rounds_end : (i left right result word block : ℕ) (e : List ℕ × List ℕ) → length keys ≤ i
+      → e ≡ rounds (map key_bits keys) (take 32 (pick initial (bits 64 block))) (drop 32 (pick initial (bits 64 block)))
+      → rounds (drop i (map key_bits keys)) (bits 32 left) (bits 32 right) ≡ e
+      → left < 2 ^ 32 → right < 2 ^ 32 → word ≡ bit_or (right * 2 ^ 32 % 2 ^ 64) left → bits 64 result ≡ pick final (bits 64 word)
+      → to_be_bytes w64 result ≡ ciphered (map key_bits keys) (to_be_bytes w64 block)
+  rounds_end i left right result word block e h whole same hl hr ew er =
+      let ks : List (List ℕ) = map key_bits keys in
+      let count : length ks ≡ length keys = length-map keys key_bits in
+      let ended : (bits 32 left, bits 32 right) ≡ e =
+      sym (rounds-none (bits 32 left) (bits 32 right)) ∙ ap (λ (l : List (List ℕ)). rounds l (bits 32 left) (bits 32 right)) (sym (drop_all i ks (omega arith))) ∙ same in
+      let joined : bits 64 word ≡ bits 32 right ++ bits 32 left = ap (bits 64) ew ∙ both_halves right left hr hl in
+      let result_bits : bits 64 result ≡ with_keys ks (bits 64 block) =
+      er ∙ ap (pick final) (joined ∙ ap (λ (p : List ℕ × List ℕ). p.1 ++ p.0) (ended ∙ whole)) ∙ sym (with_keys-open ks (bits 64 block)) in
+      sym (bytes_of-bits result) ∙ ap (bytes_of 8) (result_bits ∙ ap (with_keys ks) (sym (bits_of-bytes block))) ∙ sym (ciphered-open ks (to_be_bytes w64 block))

@@ -1,0 +1,6 @@
+pub mod TablesLemmas
+pub mod BitsLemmas
+pub mod CipherFunction
+pub mod BlockLemmas
+pub mod ScheduleLemmas
+pub mod DesLemmas

@@ -1,0 +1,10 @@
+use Rattle.std.proofs.Common.{◌≡◌, ◌-◌, ◌*◌, ◌/◌, length, drop}
+use Rattle.std.specs.Int.{w64, to_be_bytes}
+use Rattle.mc_model.specs.Modes.{chained, blocks_of}
+use Rattle.mc_model.specs.Des.{des_encipher, des_signature}
+use Rattle.mc_des.proofs.des_signature.Given as goal
+
+abbrev pub invariant-loop-i : goal.invariant-loop-i
+invariant-loop-i l =
+    chained (des_encipher l.fn.key) (to_be_bytes w64 l.last) (blocks_of (length l.message / 8 - l.i) 8 (drop (8 * l.i) l.message))
+    ≡ des_signature l.fn.key l.fn.start l.message

@@ -1,0 +1,7 @@
+use Rattle.std.proofs.Common.{◌≡◌, ◌-◌, ◌*◌, ◌/◌, ◌^◌, ◌++◌}
+use Rattle.mc_model.specs.Bytes.{zeros}
+use Rattle.mc_model.specs.Des.{bits, pick, choice1}
+use Rattle.mc_des.proofs.permute.halves.Given as goal
+
+abbrev pub invariant-loop-i : goal.invariant-loop-i
+invariant-loop-i l = bits 56 l.word ≡ pick choice1 (bits (4 * l.i) (l.key / 2 ^ (4 * (16 - l.i))) ++ zeros (4 * (16 - l.i)))

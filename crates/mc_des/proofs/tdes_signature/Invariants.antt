@@ -1,0 +1,10 @@
+use Rattle.std.proofs.Common.{◌≡◌, ◌-◌, ◌*◌, ◌/◌, length, drop}
+use Rattle.std.specs.Int.{w64, to_be_bytes}
+use Rattle.mc_model.specs.Modes.{chained, blocks_of}
+use Rattle.mc_model.specs.Des.{tdes_encipher, tdes_signature}
+use Rattle.mc_des.proofs.tdes_signature.Given as goal
+
+abbrev pub invariant-loop-i : goal.invariant-loop-i
+invariant-loop-i l =
+    chained (tdes_encipher l.fn.key) (to_be_bytes w64 l.last) (blocks_of (length l.message / 8 - l.i) 8 (drop (8 * l.i) l.message))
+    ≡ tdes_signature l.fn.key l.fn.start l.message

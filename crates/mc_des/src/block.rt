@@ -1,0 +1,31 @@
+// Blocks as words, and keys in reverse.
+
+ghost use Rattle.std.specs.Prelude.{◌≡◌, length, map, reverse};
+ghost use Rattle.std.specs.Int.{w64, to_be_bytes};
+ghost use Rattle.mc_model.specs.Des.{ciphered};
+ghost use Rattle.mc_des.specs.Words.{key_bits};
+
+use crate::rounds::with_keys;
+
+pub fn word(bytes: &[u8]) -> u64
+    requires { length bytes.now ≡ 8 }
+    ensures { to_be_bytes w64 result ≡ bytes.now }
+{
+    u64::from_be_bytes([
+        bytes[0], bytes[1], bytes[2], bytes[3], bytes[4], bytes[5], bytes[6], bytes[7],
+    ])
+}
+
+pub fn reversed(mut keys: [u64; 16]) -> [u64; 16]
+    ensures { map key_bits result ≡ reverse (map key_bits keys) }
+{
+    keys.reverse();
+    keys
+}
+
+// A block through three ciphers, of which the first and the third have the same keys.
+pub fn thrice(outer: &[u64; 16], inner: &[u64; 16], block: u64) -> u64
+    ensures { to_be_bytes w64 result ≡ ciphered (map key_bits outer.now) (ciphered (map key_bits inner.now) (ciphered (map key_bits outer.now) (to_be_bytes w64 block))) }
+{
+    with_keys(outer, with_keys(inner, with_keys(outer, block)))
+}

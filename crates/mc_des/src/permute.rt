@@ -1,0 +1,60 @@
+// The permutations of whole words, four bits at a time.
+
+ghost use Rattle.std.specs.Prelude.{◌≡◌, ◌/◌, ◌%◌, ◌^◌, ◌<◌};
+ghost use Rattle.mc_model.specs.Des.{bits, pick, initial, final, choice1, choice2};
+ghost use Rattle.mc_des.specs.Words.{key_bits};
+
+use crate::tables::{choice1_of, choice2_of, final_of, initial_of};
+
+// The four bits of a word that stand above `low` others.
+#[inline]
+fn four_above(word: u64, low: usize) -> usize
+    requires { low < 64 }
+    ensures { result ≡ word / 2 ^ low % 16 }
+{
+    (word >> low & 15) as usize
+}
+
+// The initial permutation of a block.
+pub fn initial(block: u64) -> u64
+    ensures { bits 64 result ≡ pick initial (bits 64 block) }
+{
+    let mut word = 0;
+    for i in 0..16 {
+        word ^= initial_of(i, four_above(block, 60 - 4 * i));
+    }
+    word
+}
+
+// Its inverse.
+pub fn final_bits(block: u64) -> u64
+    ensures { bits 64 result ≡ pick final (bits 64 block) }
+{
+    let mut word = 0;
+    for i in 0..16 {
+        word ^= final_of(i, four_above(block, 60 - 4 * i));
+    }
+    word
+}
+
+// The two halves of a key, of 28 bits each, behind each other.
+pub fn halves(key: u64) -> u64
+    ensures { bits 56 result ≡ pick choice1 (bits 64 key) }
+{
+    let mut word = 0;
+    for i in 0..16 {
+        word ^= choice1_of(i, four_above(key, 60 - 4 * i));
+    }
+    word
+}
+
+// The round key that two halves make.
+pub fn round_key(halves: u64) -> u64
+    ensures { key_bits result ≡ pick choice2 (bits 56 halves) }
+{
+    let mut word = 0;
+    for i in 0..14 {
+        word ^= choice2_of(i, four_above(halves, 52 - 4 * i));
+    }
+    word
+}

@@ -1,0 +1,50 @@
+// The cipher function, and a block through the sixteen rounds.
+
+ghost use Rattle.std.specs.Prelude.{◌≡◌, ◌/◌, ◌%◌, ◌^◌, ◌<◌, map};
+ghost use Rattle.std.specs.Int.{w64, to_be_bytes};
+ghost use Rattle.mc_model.specs.Des.{bits, f, ciphered};
+ghost use Rattle.mc_des.specs.Words.{key_bits};
+
+use crate::permute::{final_bits, initial};
+use crate::tables::boxed;
+
+// The six bits of a word that stand above `low` others.
+#[inline]
+fn six_above(word: u32, low: usize) -> usize
+    requires { low < 32 }
+    ensures { result ≡ word / 2 ^ low % 64 }
+{
+    (word >> low & 63) as usize
+}
+
+// The cipher function. Turned left by 5, the half has the groups of the boxes 1, 7, 5 and 3 at the low end of its bytes;
+// turned by 9, it has those of the boxes 2, 8, 6 and 4.
+#[inline]
+fn f(right: u32, key: u64) -> u32
+    ensures { bits 32 result ≡ f (bits 32 right) (key_bits key) }
+{
+    let odd = right.rotate_left(5) ^ (key >> 32) as u32;
+    let even = right.rotate_left(9) ^ (key & 0xFFFF_FFFF) as u32;
+    boxed(0, six_above(odd, 0))
+        ^ boxed(1, six_above(even, 0))
+        ^ boxed(2, six_above(odd, 24))
+        ^ boxed(3, six_above(even, 24))
+        ^ boxed(4, six_above(odd, 16))
+        ^ boxed(5, six_above(even, 16))
+        ^ boxed(6, six_above(odd, 8))
+        ^ boxed(7, six_above(even, 8))
+}
+
+pub fn with_keys(keys: &[u64; 16], block: u64) -> u64
+    ensures { to_be_bytes w64 result ≡ ciphered (map key_bits keys.now) (to_be_bytes w64 block) }
+{
+    let start = initial(block);
+    let mut left = (start >> 32) as u32;
+    let mut right = (start & 0xFFFF_FFFF) as u32;
+    for key in keys {
+        let next = left ^ f(right, *key);
+        left = right;
+        right = next;
+    }
+    final_bits((right as u64) << 32 | left as u64)
+}

@@ -1,0 +1,191 @@
+-- Every line of a play past its first power line keeps the relation: a case for each kind of line.
+use Rattle.std.specs.Prelude.{◌≡◌, ℕ, ◌-◌, ◌≤◌, Bool, true, false, cond, ◌&&◌, nat_le, List, [], ◌∷◌, Option, Some, None}
+use Rattle.std.proofs.Common.{refl, ap, sym, subst, ◌∙◌, arith}
+use Rattle.mc_model.specs.Bytes.{has_name, lookup}
+use Rattle.mc_model.specs.Image.{Journal, One}
+use Rattle.mc_model.specs.Stopped.{stands}
+use Rattle.mc_model.specs.Card.{App, Card}
+use Rattle.mc_model.specs.Items.{moves, StopAt}
+use Rattle.mc_model.specs.Manager.{Seat, route}
+use Rattle.mc_model.specs.Play.{Armed, Unarmed, ArmedCut, ArmedFail, Live, Running, Unpowered, Muted, Base, OnCard, AtFault, Warm, State, Hot, LineResult, NoCard, Silenced, Step, command, select_bytes, delete_bytes, load_commands, send, hit_of, WornAt, MayHit, moves_of, step, hot_step, quiet, power_step, power_after, stopped_power, power_live, migrated, power_moves, without_card, static_of}
+use Rattle.mc_model.specs.Family.{ClosedPairs, routes_in, command_of, is_own, is_own_command, live_in, is_running}
+use Rattle.mc_model.specs.Given.{Event, Dumps, Leaves, apps_on, left_if, line_events, dump_events, is_done_reply, is_foreign_select}
+use Rattle.mc_model.specs.Solo.{Solo, Heard, silent, hears, hears_all}
+use Rattle.mc_model.specs.View.{seen_if}
+use Rattle.mc_model.specs.DeckGrammar.{DeckLine}
+use Rattle.mc_model.specs.DeckGrammar as line
+use Rattle.mc_family.proofs.Agreement.{Agree}
+use Rattle.mc_family.proofs.Sim.{own_selected, IsRunnable, Sim, Keeps, Kept, hears_none, hears_leave, static_alike}
+use Rattle.mc_family.proofs.Stops.{WornWithin}
+use Rattle.mc_family.proofs.OtherCommand.{aside_other, command-aside, send-aside}
+use Rattle.mc_family.proofs.LoadCommands.{load-managers, delete-manager}
+use Rattle.mc_family.proofs.Lines.{stopped-runs, no_selection, running, command-keeps, other-keeps}
+
+-- ---- lines that change nothing that is related
+
+-- a step without an event keeps the relation
+still-keeps : (K : List (List ℕ)) (t : Solo) (u : Step) → Sim K u.after t → Keeps K t u [] false false
+still-keeps K t u h = record { sim = subst (λ (z : Heard). Sim K u.after z.after) (sym (hears_none t)) h; answer = ap (λ (z : Heard). z.answer) (hears_none t); work = ap (λ (z : Heard). z.work) (hears_none t) }
+
+-- a line that makes no write, is no command of the family and no done SELECT
+quiet-keeps : (K : List (List ℕ)) (t : Solo) (n : ℕ) (l : DeckLine) (before : State) (o : Option LineResult) (after : State)
+    → is_own_command K (live_in before) (command_of l) ≡ false → (is_running (live_in before) && is_foreign_select K (command_of l) && is_done_reply o) ≡ false → Sim K after t
+    → let u = quiet n l before o after in Keeps K t u (line_events (is_own K u) K u) (is_own K u) (is_own K u)
+quiet-keeps K t n l before o after own left sim =
+    let u = quiet n l before o after in
+    let no_events : line_events false K u ≡ [] = ap left_if left in
+    subst (λ (b : Bool). Keeps K t u (line_events b K u) b b) (sym own) (subst (λ (es : List Event). Keeps K t u es false false) (sym no_events) (still-keeps K t u sim))
+
+no_own : (K : List (List ℕ)) (v : Live) → is_own_command K v None ≡ false
+no_own K (Running seat) = refl
+no_own K Unpowered = refl
+no_own K Muted = refl
+
+no_left : (v : Live) (d : Bool) → (is_running v && false && d) ≡ false
+no_left (Running seat) d = refl
+no_left Unpowered d = refl
+no_left Muted d = refl
+
+-- ---- power lines
+
+-- after a power line the applications are the same, and nothing is selected
+pub record Powered (K : List (List ℕ)) (s r : Warm) : Type 0 where
+  pub warm : IsRunnable r.live r.base
+  pub map : apps_on r.base ≡ apps_on s.base
+  pub selected : own_selected K r.live ≡ None
+
+migrated-apps : (b : Base) → apps_on (migrated b) ≡ apps_on b
+migrated-apps (OnCard c) = refl
+migrated-apps (AtFault cause p) = refl
+
+migrated_if-apps : (x : Bool) (b : Base) → apps_on (cond x (migrated b) b) ≡ apps_on b
+migrated_if-apps true b = migrated-apps b
+migrated_if-apps false b = refl
+
+power-runs : (b : Base) → IsRunnable (power_live b) (migrated b)
+power-runs (OnCard c) = tt
+power-runs (AtFault cause p) = tt
+
+power-none : (K : List (List ℕ)) (b : Base) → own_selected K (power_live b) ≡ None
+power-none K (OnCard c) = refl
+power-none K (AtFault cause p) = refl
+
+stopped-powered : (K : List (List ℕ)) (s : Warm) (t : StopAt) (x : Bool) → Powered K s (stopped_power s t x)
+stopped-powered K s t true = record { warm = stopped-runs t.kind s.base; map = refl; selected = no_selection K t.kind }
+stopped-powered K s t false =
+    let b = cond (stands One 1 (t.at - s.owed) t.left) (migrated s.base) s.base in
+    record { warm = stopped-runs t.kind b; map = migrated_if-apps (stands One 1 (t.at - s.owed) t.left) s.base; selected = no_selection K t.kind }
+
+pub powered : (K : List (List ℕ)) (s : Warm) (t : Option StopAt) → Powered K s (power_after s t)
+powered K s None = record { warm = power-runs s.base; map = migrated-apps s.base; selected = power-none K s.base }
+powered K s (Some t) = stopped-powered K s t (nat_le t.at s.owed)
+
+-- a power line of a play in any state, in which the family has these applications already
+pub power-keeps : (K : List (List ℕ)) (t : Solo) (n : ℕ) (before : State) (s : Warm) (st : Option StopAt) → is_own_command K (live_in before) None ≡ false → Agree K true (apps_on s.base) t.map
+    → Kept K t (power_step n before s st)
+power-keeps K t n before s st own h =
+    let u = power_step n before s st in
+    let p : Powered K s (power_after s st) = powered K s st in
+    let e : hears_all t (Leaves ∷ []) ≡ silent (record t { selected = None }) = hears_leave t in
+    subst (λ (b : Bool). Keeps K t u (Leaves ∷ []) b b) (sym own) (
+    record {
+      sim = subst (λ (z : Heard). Sim K u.after z.after) (sym e)
+          (record { warm = p.warm; map = subst (λ (m : List (List ℕ × App)). Agree K true m t.map) (sym p.map) h; selected = sym p.selected });
+      answer = ap (λ (z : Heard). z.answer) e;
+      work = ap (λ (z : Heard). z.work) e;
+    })
+
+-- ---- dumps
+
+hears_dump : (t : Solo) (n : List ℕ) → hears_all t (Dumps n ∷ []) ≡ record { after = t; answer = static_of (lookup t.map n) ∷ []; work = [] }
+unfolding hears_all hears
+hears_dump t n = refl
+
+dump_at : (K : List (List ℕ)) (t : Solo) (u : Step) (n : List ℕ) (b : Bool) (r : LineResult) → Sim K u.after t → u.result ≡ Some r → (b ≡ true → static_of (lookup t.map n) ≡ r)
+    → Keeps K t u (dump_events b n) b false
+dump_at K t u n true r sim is same =
+    let e = hears_dump t n in
+    record {
+      sim = subst (λ (z : Heard). Sim K u.after z.after) (sym e) sim;
+      answer = ap (λ (z : Heard). z.answer) e ∙ (ap (λ (z : LineResult). z ∷ []) (same refl) ∙ sym (ap (seen_if true) is));
+      work = ap (λ (z : Heard). z.work) e;
+    }
+dump_at K t u n false r sim is same = still-keeps K t u sim
+
+and_true : (x y : Bool) → (x && y) ≡ true → x ≡ true
+and_true true y h = refl
+and_true false y h = absurd (cc h)
+
+and_false : (x : Bool) → (x && false) ≡ true → ⊥
+and_false true h = cc h
+and_false false h = cc h
+
+-- ---- a case for each line
+
+abbrev pub hot : Base → ℕ → Journal → Live → ℕ → Armed → Warm
+hot b o j v g a = record { base = b; owed = o; by = j; live = v; budget = g; armed = a }
+
+worn-within : (s : State) (l : ℕ × DeckLine) (m : ℕ) (w : Option WornAt) → moves_of s l ≡ m → MayHit s l w → WornWithin m w
+worn-within s l m None e h = tt
+worn-within s l m (Some w) e h = subst (λ (k : ℕ). w.at ≤ k) e h.high
+
+module _ (K : List (List ℕ)) (t : Solo) (n : ℕ) (o : ℕ) (j : Journal) (g : ℕ) (a : Armed) where
+  dump-kept : (b : Base) (v : Live) (x : List ℕ) → let u = hot_step n (line.Dump x) (hot b o j v g a) None in Sim K (Hot (hot b o j v g a)) t → Kept K t u
+  dump-kept (OnCard c) (Running seat) x sim =
+      dump_at K t (hot_step n (line.Dump x) (hot (OnCard c) o j (Running seat) g a) None) x (has_name x K && true) (static_of (lookup c.apps x)) sim refl
+      (λ h. sym (static_alike (lookup c.apps x) (lookup t.map x) (sim.map x (and_true (has_name x K) true h))))
+  dump-kept (AtFault cause p) (Running seat) x sim = absurd sim.warm
+  dump-kept b Unpowered x sim = dump_at K t (hot_step n (line.Dump x) (hot b o j Unpowered g a) None) x (has_name x K && false) NoCard sim refl (λ h. absurd (and_false (has_name x K) h))
+  dump-kept b Muted x sim = dump_at K t (hot_step n (line.Dump x) (hot b o j Muted g a) None) x (has_name x K && false) Silenced sim refl (λ h. absurd (and_false (has_name x K) h))
+
+  moves-select : (c : Card) (seat : Seat) (x : List ℕ) → moves_of (Hot (running c o j seat g a)) (n, line.Select x) ≡ moves (command c seat (select_bytes x) g).items
+  unfolding moves_of step
+  moves-select c seat x = omega arith
+
+  moves-apdu : (c : Card) (seat : Seat) (x : List ℕ) → moves_of (Hot (running c o j seat g a)) (n, line.Apdu x) ≡ moves (command c seat x g).items
+  unfolding moves_of step
+  moves-apdu c seat x = omega arith
+
+  -- a card line where no card runs
+  no-card-kept : (l : DeckLine) (b : Base) (v : Live) → is_own_command K v (command_of l) ≡ false → is_running v ≡ false → Sim K (Hot (hot b o j v g a)) t
+      → let u = quiet n l (Hot (hot b o j v g a)) (Some (without_card v)) (Hot (hot b o j v g Unarmed)) in Keeps K t u (line_events (is_own K u) K u) (is_own K u) (is_own K u)
+  no-card-kept l b v own off sim =
+      quiet-keeps K t n l (Hot (hot b o j v g a)) (Some (without_card v)) (Hot (hot b o j v g Unarmed)) own
+      (ap (λ (x : Bool). x && is_foreign_select K (command_of l) && is_done_reply (Some (without_card v))) off) (record { warm = sim.warm; map = sim.map; selected = sim.selected })
+
+  pub hot-kept : (l : DeckLine) (w : Option WornAt) (b : Base) (v : Live) → let s = hot b o j v g a in Sim K (Hot s) t → MayHit (Hot s) (n, l) w → ClosedPairs K (hot_step n l s w).pairs → Kept K t (hot_step n l s w)
+  hot-kept line.Format w b v sim may closed = quiet-keeps K t n line.Format (Hot (hot b o j v g a)) None (Hot (hot b o j v g a)) (no_own K v) (no_left v _) sim
+  hot-kept (line.Poke at x) w b v sim may closed = quiet-keeps K t n (line.Poke at x) (Hot (hot b o j v g a)) None (Hot (hot b o j v g a)) (no_own K v) (no_left v _) sim
+  hot-kept line.Named w b v sim may closed = quiet-keeps K t n line.Named (Hot (hot b o j v g a)) None (Hot (hot b o j v g a)) (no_own K v) (no_left v _) sim
+  hot-kept (line.Budget k) w b v sim may closed =
+      quiet-keeps K t n (line.Budget k) (Hot (hot b o j v g a)) None (Hot (hot b o j v k a)) (no_own K v) (no_left v _) (record { warm = sim.warm; map = sim.map; selected = sim.selected })
+  hot-kept (line.Cut k x) w b v sim may closed =
+      quiet-keeps K t n (line.Cut k x) (Hot (hot b o j v g a)) None (Hot (hot b o j v g (ArmedCut k x))) (no_own K v) (no_left v _) (record { warm = sim.warm; map = sim.map; selected = sim.selected })
+  hot-kept (line.Fail k) w b v sim may closed =
+      quiet-keeps K t n (line.Fail k) (Hot (hot b o j v g a)) None (Hot (hot b o j v g (ArmedFail k))) (no_own K v) (no_left v _) (record { warm = sim.warm; map = sim.map; selected = sim.selected })
+  hot-kept (line.Dump x) w b v sim may closed = dump-kept b v x sim
+  hot-kept line.Power w b v sim may closed = power-keeps K t n (Hot (hot b o j v g a)) (hot b o j v g a) (hit_of a (power_moves (hot b o j v g a)) w) (no_own K v) sim.map
+  hot-kept (line.Load u fixed session) w (OnCard c) (Running seat) sim may closed =
+      let r = send c seat g (load_commands u fixed session) in
+      other-keeps K c o j seat g a t n (line.Load u fixed session) r (hit_of a (moves r.items) w) sim (aside_other K c seat r (send-aside K c seat g (load_commands u fixed session) (load-managers u fixed session)))
+  hot-kept (line.Load u fixed session) w (AtFault cause p) (Running seat) sim may closed = absurd sim.warm
+  hot-kept (line.Load u fixed session) w b Unpowered sim may closed = no-card-kept (line.Load u fixed session) b Unpowered refl refl sim
+  hot-kept (line.Load u fixed session) w b Muted sim may closed = no-card-kept (line.Load u fixed session) b Muted refl refl sim
+  hot-kept (line.Delete x) w (OnCard c) (Running seat) sim may closed =
+      let r = command c seat (delete_bytes x) g in
+      other-keeps K c o j seat g a t n (line.Delete x) r (hit_of a (moves r.items) w) sim (aside_other K c seat r (command-aside K c seat g (delete_bytes x) (delete-manager x)))
+  hot-kept (line.Delete x) w (AtFault cause p) (Running seat) sim may closed = absurd sim.warm
+  hot-kept (line.Delete x) w b Unpowered sim may closed = no-card-kept (line.Delete x) b Unpowered refl refl sim
+  hot-kept (line.Delete x) w b Muted sim may closed = no-card-kept (line.Delete x) b Muted refl refl sim
+  hot-kept (line.Select x) w (OnCard c) (Running seat) sim may closed =
+      command-keeps K c o j seat g a t n (line.Select x) (select_bytes x) w (routes_in K seat (route (select_bytes x))) refl sim
+      (worn-within (Hot (running c o j seat g a)) (n, line.Select x) (moves (command c seat (select_bytes x) g).items) w (moves-select c seat x) may) refl closed
+  hot-kept (line.Select x) w (AtFault cause p) (Running seat) sim may closed = absurd sim.warm
+  hot-kept (line.Select x) w b Unpowered sim may closed = no-card-kept (line.Select x) b Unpowered refl refl sim
+  hot-kept (line.Select x) w b Muted sim may closed = no-card-kept (line.Select x) b Muted refl refl sim
+  hot-kept (line.Apdu x) w (OnCard c) (Running seat) sim may closed =
+      command-keeps K c o j seat g a t n (line.Apdu x) x w (routes_in K seat (route x)) refl sim
+      (worn-within (Hot (running c o j seat g a)) (n, line.Apdu x) (moves (command c seat x g).items) w (moves-apdu c seat x) may) refl closed
+  hot-kept (line.Apdu x) w (AtFault cause p) (Running seat) sim may closed = absurd sim.warm
+  hot-kept (line.Apdu x) w b Unpowered sim may closed = no-card-kept (line.Apdu x) b Unpowered refl refl sim
+  hot-kept (line.Apdu x) w b Muted sim may closed = no-card-kept (line.Apdu x) b Muted refl refl sim

@@ -1,0 +1,16 @@
+pub mod MapLemmas
+pub mod Agreement
+pub mod RowNames
+pub mod RunLemma
+pub mod Sim
+pub mod Stops
+pub mod OwnCommand
+pub mod OtherCommand
+pub mod LoadCommands
+pub mod Lines
+pub mod HotLines
+pub mod FamilyFold
+pub mod WholeLines
+pub mod FreshCommands
+pub mod CreationLast
+pub mod FreshFold

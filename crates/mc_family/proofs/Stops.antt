@@ -1,0 +1,141 @@
+-- Stops and items: the stop that is given hits the lone card where it hit the play, and items of others touch no application of the family.
+use Rattle.std.specs.Prelude.{◌≡◌, ℕ, ◌-◌, ◌≤◌, Bool, true, false, cond, nat_le, ◌==◌, List, [], ◌∷◌, ◌++◌, Option, Some, None, ⊤}
+use Rattle.std.proofs.Common.{refl, ap, ◌∙◌}
+use Rattle.std.proofs.lemmas.Bool.{le-leb}
+use Rattle.mc_model.specs.declared.device.Stop.TheVariants as stop
+use Rattle.mc_model.specs.Bytes.{has_name, lookup, insert, remove}
+use Rattle.mc_model.specs.Image.{Two}
+use Rattle.mc_model.specs.Stopped.{cost, stands}
+use Rattle.mc_model.specs.Card.{App, placed}
+use Rattle.mc_model.specs.Chain.{Write, map_changed}
+use Rattle.mc_model.specs.Items.{Change, Fixed, Created, Deleted, Item, Plain, Atomic, done, StopAt, Stopped, with_item, in_flight, at_stop}
+use Rattle.mc_model.specs.Manager.{Selected}
+use Rattle.mc_model.specs.Play.{Armed, Unarmed, ArmedCut, ArmedFail, WornAt, hit_of, write_items}
+use Rattle.mc_model.specs.Given.{Event, Arrives, Departs, given_stop, told}
+use Rattle.mc_model.specs.Solo.{Solo, Heard, silent, hears, heard_before, hears_all, hits}
+use Rattle.mc_family.proofs.Agreement.{Agree, Agree-inserted, Agree-removed, Agree-beside, Agree-left, Agree-changed_app, Agree-joined}
+use Rattle.mc_family.proofs.RunLemma.{WritesOn}
+
+-- ---- the stop that is given
+
+-- a worn stop falls within the writes that are made
+abbrev pub WornWithin : ℕ → Option WornAt → Type 0
+WornWithin m None = ⊤
+WornWithin m (Some w) = w.at ≤ m
+
+hit_where : (b : Bool) (s : StopAt) (o : Option StopAt) → b ≡ true → cond b (Some s) o ≡ Some s
+hit_where b s o h = ap (λ (c : Bool). cond c (Some s) o) h
+
+no_hit_where : (b : Bool) (s : StopAt) (o : Option StopAt) → b ≡ false → cond b (Some s) o ≡ o
+no_hit_where b s o h = ap (λ (c : Bool). cond c (Some s) o) h
+
+cut-given : (b : Bool) (m k : ℕ) (x : List ℕ) → nat_le k m ≡ b
+    → hits m (given_stop (ArmedCut k x) (cond b (Some (record { kind = stop.Off; at = k; left = x })) None)) ≡ cond b (Some (record { kind = stop.Off; at = k; left = x })) None
+cut-given true m k x h = hit_where (nat_le k m) (record { kind = stop.Off; at = k; left = x }) None h
+cut-given false m k x h = no_hit_where (nat_le k m) (record { kind = stop.Off; at = k; left = x }) None h
+
+-- the lone card is hit by the very stop that hit the play
+pub hits-given : (armed : Armed) (m : ℕ) (w : Option WornAt) → WornWithin m w → hits m (given_stop armed (hit_of armed m w)) ≡ hit_of armed m w
+hits-given armed m (Some w) h = hit_where (nat_le w.at m) (record { kind = stop.Worn; at = w.at; left = w.left }) None (le-leb w.at m h)
+hits-given (ArmedCut k x) m None h = cut-given (nat_le k m) m k x refl
+hits-given Unarmed m None h = refl
+hits-given (ArmedFail k) m None h = refl
+
+-- ---- items of others
+
+-- no static change among the items is one of the family
+abbrev pub IsOther : List (List ℕ) → Item → Type 0
+IsOther K Plain = ⊤
+IsOther K (Atomic w (Fixed n ps)) = has_name n K ≡ false
+IsOther K (Atomic w (Created n a)) = ⊤
+IsOther K (Atomic w (Deleted n)) = ⊤
+
+abbrev pub AreOthers : List (List ℕ) → List Item → Type 0
+AreOthers K [] = ⊤
+AreOthers K (i ∷ is) = IsOther K i × AreOthers K is
+
+pub AreOthers-append : (K : List (List ℕ)) (is js : List Item) → AreOthers K is → AreOthers K js → AreOthers K (is ++ js)
+AreOthers-append K [] js g h = h
+AreOthers-append K (i ∷ is) js g h = (g.0, AreOthers-append K is js g.1 h)
+
+pub writes-others : (K : List (List ℕ)) (ws : List Write) → WritesOn K false ws → AreOthers K (write_items ws)
+writes-others K [] h = tt
+writes-others K (w ∷ ws) h = (h.0, writes-others K ws h.1)
+
+in_flight-others : (K : List (List ℕ)) (w : ℕ) (c : Change) (b : Bool) → IsOther K (Atomic w c) → AreOthers K (cond b (Atomic w c ∷ []) [])
+in_flight-others K w c true h = (h, tt)
+in_flight-others K w c false h = tt
+
+plain-others : (K : List (List ℕ)) (b : Bool) (s : Stopped) → AreOthers K s.whole → AreOthers K (cond b (record { whole = []; owed = 0 }) (with_item Plain s)).whole
+plain-others K true s h = tt
+plain-others K false s h = (tt, h)
+
+atomic-others : (K : List (List ℕ)) (b : Bool) (w : ℕ) (c : Change) (f s : Stopped) → IsOther K (Atomic w c) → AreOthers K f.whole → AreOthers K s.whole → AreOthers K (cond b f (with_item (Atomic w c) s)).whole
+atomic-others K true w c f s i g h = g
+atomic-others K false w c f s i g h = (i, h)
+
+-- what is whole of them after a stop
+pub whole-others : (K : List (List ℕ)) (is : List Item) (k : ℕ) (x : List ℕ) → AreOthers K is → AreOthers K (at_stop is k x).whole
+whole-others K [] k x h = tt
+whole-others K (Plain ∷ is) k x h = plain-others K (k == 1) (at_stop is (k - 1) x) (whole-others K is (k - 1) x h.1)
+whole-others K (Atomic w c ∷ is) k x h =
+    atomic-others K (nat_le k (cost Two w)) w c (in_flight w c k x) (at_stop is (k - cost Two w) x) h.0
+    (in_flight-others K w c (stands Two w k x) h.0) (whole-others K is (k - cost Two w) x h.1)
+
+-- ---- the lone card is told of creations and deletions
+
+-- after what was told the map still agrees, and nothing else has changed
+pub record Told (K : List (List ℕ)) (t : Solo) (m : List (List ℕ × App)) (es : List Event) : Type 0 where
+  pub map : List (List ℕ × App)
+  pub heard : hears_all t es ≡ silent (record t { map = map })
+  pub agree : Agree K true m map
+
+hears-first : (t s : Solo) (e : Event) (es : List Event) (d : List (List ℕ × App)) → hears t e ≡ silent s → hears_all s es ≡ silent (record s { map = d }) → hears_all t (e ∷ es) ≡ silent (record s { map = d })
+unfolding hears_all
+hears-first t s e es d f r = ap (λ (z : Heard). heard_before z (hears_all z.after es)) f ∙ ap (λ (z : Heard). heard_before (silent s) z) r
+
+hears_arrival : (t : Solo) (n : List ℕ) (a : App) → hears t (Arrives n a) ≡ silent (record t { map = insert t.map n a })
+unfolding hears
+hears_arrival t n a = refl
+
+hears_departure : (t : Solo) (n : List ℕ) → hears t (Departs n) ≡ silent (record t { map = remove t.map n })
+unfolding hears
+hears_departure t n = refl
+
+-- one creation or deletion, of the family or not, and what is told after it
+then-told : (K : List (List ℕ)) (t : Solo) (s : Solo) (m : List (List ℕ × App)) (e : Event) (es : List Event) → hears t e ≡ silent s → s.selected ≡ t.selected → Told K s m es → Told K t m (e ∷ es)
+then-told K t s m e es f same r =
+    record {
+      map = r.map;
+      heard = hears-first t s e es r.map f r.heard ∙ ap (λ (z : Option Selected). silent (record { map = r.map; selected = z })) same;
+      agree = r.agree;
+    }
+
+creation-told : (K : List (List ℕ)) (b : Bool) (t : Solo) (m : List (List ℕ × App)) (n : List ℕ) (a : App) (es : List Event) (last : List (List ℕ × App)) → has_name n K ≡ b → Agree K true m t.map
+    → ((s : Solo) → Agree K true (insert m n a) s.map → Told K s last es) → Told K t last (cond b (Arrives n (placed 0 a) ∷ []) [] ++ es)
+creation-told K true t m n a es last is h again =
+    then-told K t (record t { map = insert t.map n (placed 0 a) }) last (Arrives n (placed 0 a)) es (hears_arrival t n (placed 0 a)) refl
+    (again (record t { map = insert t.map n (placed 0 a) }) (Agree-inserted K true m t.map n a (placed 0 a) refl h))
+creation-told K false t m n a es last is h again = again t (Agree-joined K true (insert m n a) m t.map (Agree-beside K true m n a is) h)
+
+deletion-told : (K : List (List ℕ)) (b : Bool) (t : Solo) (m : List (List ℕ × App)) (n : List ℕ) (es : List Event) (last : List (List ℕ × App)) → has_name n K ≡ b → Agree K true m t.map
+    → ((s : Solo) → Agree K true (remove m n) s.map → Told K s last es) → Told K t last (cond b (Departs n ∷ []) [] ++ es)
+deletion-told K true t m n es last is h again =
+    then-told K t (record t { map = remove t.map n }) last (Departs n) es (hears_departure t n) refl
+    (again (record t { map = remove t.map n }) (Agree-removed K true m t.map n h))
+deletion-told K false t m n es last is h again = again t (Agree-joined K true (remove m n) m t.map (Agree-left K true m n is) h)
+
+nothing-told : (t : Solo) → hears_all t [] ≡ silent t
+unfolding hears_all
+nothing-told t = refl
+
+pub told-alike : (K : List (List ℕ)) (is : List Item) (t : Solo) (m : List (List ℕ × App)) → AreOthers K is → Agree K true m t.map → Told K t (done m is) (told K is)
+told-alike K [] t m o h = record { map = t.map; heard = nothing-told t; agree = h }
+told-alike K (Plain ∷ is) t m o h = told-alike K is t m o.1 h
+told-alike K (Atomic w (Fixed n ps) ∷ is) t m o h =
+    told-alike K is t (map_changed m n (Some ps)) o.1
+    (Agree-joined K true (map_changed m n (Some ps)) m t.map (Agree-changed_app K true m n ps (lookup m n) o.0) h)
+told-alike K (Atomic w (Created n a) ∷ is) t m o h =
+    creation-told K (has_name n K) t m n a (told K is) (done (insert m n a) is) refl h (λ s g. told-alike K is s (insert m n a) o.1 g)
+told-alike K (Atomic w (Deleted n) ∷ is) t m o h =
+    deletion-told K (has_name n K) t m n (told K is) (done (remove m n) is) refl h (λ s g. told-alike K is s (remove m n) o.1 g)

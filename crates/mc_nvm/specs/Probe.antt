@@ -1,0 +1,7 @@
+-- A view of a device that counts its reads.
+-- This project's profile.
+use Rattle.mc_nvm.specs.declared.probe.Probe.{Probe}
+
+-- the device that a probe reads
+abbrev pub probed : {N L : Type 0} → Probe N L → N
+probed p = p.device.now

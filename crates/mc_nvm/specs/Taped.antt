@@ -1,0 +1,154 @@
+-- A device in memory that tells its tape, and refuses the writes of a list besides.
+-- This project's profile.
+use Rattle.std.specs.Prelude.{◌≡◌, ◌⊎◌, ◌≢◌, ◌+◌, ◌<◌, ◌≤◌, ℕ, zero, suc, Bool, true, false, ◌||◌, ◌==◌, nat_le, replicate, List, [], ◌∷◌, ◌++◌, length, map, slice_set, Option, Some, None, Ok, Err, refl}
+use Rattle.std.proofs.Common.{subst, sym, inl, inr, arith}
+use Rattle.mc_model.specs.declared.device.Stop.{Stop}
+use Rattle.mc_model.specs.declared.device.Stop.TheVariants.{Off, Worn}
+use Rattle.mc_model.specs.Orders.{Answer}
+use Rattle.mc_model.specs.Device.{DeviceState, BenchState, Entry, Wrote, Ends, Counts, Burns, Grows, BenchWrote, Fuse, Due, DueCut, DueWorn, DueNot, due, falling, next_count}
+use Rattle.mc_nvm.specs.declared.tape_nvm.TapeNvm.TheInside.{Inside as Held}
+use Rattle.mc_nvm.specs.Sim.{Sim, sim_state, sim_bench, blank_sim, own, next_due, after_write, answer_to, Sound, Fills, falls_word, next_rose, next_not_less}
+use Rattle.mc_nvm.specs.Tape.{Told, more, unless}
+
+-- what a device with a tape means
+pub record Taped : Type 0 where
+  pub device : Sim
+  pub tape : Told
+  pub worn : List ℕ
+  pub tried : ℕ
+
+abbrev pub taped_inside : Held → Taped
+taped_inside d = record { device = d.device; tape = d.tape; worn = d.worn.items; tried = d.tried }
+
+abbrev pub blank_taped : ℕ → ℕ → List ℕ → Taped
+blank_taped n room worn = record { device = blank_sim n; tape = record { room = room; told = Some [] }; worn = worn; tried = 0 }
+
+abbrev pub is_listed : List ℕ → ℕ → Bool
+is_listed [] n = false
+is_listed (w ∷ ws) n = (w == n) || is_listed ws n
+
+abbrev pub no_entry : List ℕ → Bool
+no_entry [] = true
+no_entry (w ∷ ws) = false
+
+abbrev pub taped_state : Taped → DeviceState
+taped_state t = record (sim_state t.device) { tape = t.tape.told }
+
+-- it is steady exactly where its list is empty
+abbrev pub taped_bench : Taped → BenchState
+taped_bench t = record (sim_bench t.device) { steady = no_entry t.worn }
+
+-- the word that a write leaves, and its stop
+abbrev pub left_by : Due → List ℕ → List ℕ
+left_by (DueCut fill) w = fill
+left_by (DueWorn fill) w = fill
+left_by DueNot w = w
+
+abbrev pub stop_of : Due → Option Stop
+stop_of (DueCut fill) = Some Off
+stop_of (DueWorn fill) = Some Worn
+stop_of DueNot = None
+
+-- what becomes of the next write
+abbrev pub taped_due : Taped → Due
+taped_due t = next_due (is_listed t.worn (next_count t.tried)) t.device
+
+abbrev pub after_taped : Taped → ℕ → List ℕ → Due → Taped
+after_taped t at w d =
+    record t {
+      device = after_write t.device at w d;
+      tried = next_count t.tried;
+      tape = record t.tape { told = more t.tape.room t.tape.told (record { at = at; left = left_by d w; end = stop_of d }) };
+    }
+
+-- one write
+pub record TapedWrote (t : Taped) (at : ℕ) (w : List ℕ) (a : Answer) (e : Taped) : Type 0 where
+  pub sound : Sound t.device
+  pub answer : a ≡ answer_to (taped_due t)
+  pub after : e ≡ after_taped t at w (taped_due t)
+
+-- ---- the rules
+
+-- a tape with one entry more grew
+grown_if : (b : Bool) (es : List Entry) (e : Entry) → Grows (Some es) e (unless b (es ++ e ∷ []))
+grown_if true es e = tt
+grown_if false es e = refl
+
+grown : (room : ℕ) (t : Option (List Entry)) (e : Entry) → Grows t e (more room t e)
+grown room None e = tt
+grown room (Some es) e = grown_if (nat_le room (length es)) es e
+
+-- what comes of the fuses leaves a word of eight bytes
+DueFills : Due → Type 0
+DueFills (DueCut fill) = length fill ≡ 8
+DueFills (DueWorn fill) = length fill ≡ 8
+DueFills DueNot = Unit {0}
+
+own_fills : (b : Bool) (d : Due) → DueFills d → DueFills (own b d)
+unfolding DueFills
+own_fills false d h = h
+own_fills true (DueCut fill) h = h
+own_fills true (DueWorn fill) h = refl
+own_fills true DueNot h = refl
+
+due_fills : (s : Sim) → Sound s → (c w : Option (List ℕ)) → falling s.cut ≡ c → falling s.worn ≡ w → DueFills (due c w)
+unfolding DueFills
+due_fills s sound (Some fill) w ec ew = falls_word s.cut fill sound.cut ec
+due_fills s sound None (Some fill) ec ew = falls_word s.worn fill sound.worn ew
+due_fills s sound None None ec ew = tt
+
+rules : (t : Taped) (at : ℕ) (w : List ℕ) → t.device.on ≡ true → Sound t.device → (d : Due) → DueFills d
+    → Wrote (taped_state t) at w (answer_to d) (taped_state (after_taped t at w d))
+unfolding DueFills
+rules t at w on sound (DueCut fill) h =
+    record { left = fill; size = h; words = refl; power = refl; cuts = next_rose t.device.cuts sound.cuts; falls_not = next_not_less t.device.cuts sound.cuts; faults = refl; tape = grown t.tape.room t.tape.told _ }
+rules t at w on sound (DueWorn fill) h =
+    record { left = fill; size = h; words = refl; power = on; cuts = refl; faults = next_rose t.device.faults sound.faults; falls_not = next_not_less t.device.faults sound.faults; tape = grown t.tape.room t.tape.told _ }
+rules t at w on sound DueNot h = record { words = refl; power = on; cuts = refl; faults = refl; tape = grown t.tape.room t.tape.told _ }
+
+-- a write keeps the rules of devices
+pub taped_obeys : (t : Taped) (at : ℕ) (w : List ℕ) (a : Answer) (e : Taped) → (taped_state t).on ≡ true → TapedWrote t at w a e → Wrote (taped_state t) at w a (taped_state e)
+taped_obeys t at w a e on r =
+    subst (λ (x : Answer). Wrote (taped_state t) at w x (taped_state e)) (sym r.answer)
+    (subst (λ (x : Taped). Wrote (taped_state t) at w (answer_to (taped_due t)) (taped_state x)) (sym r.after)
+    (rules t at w on r.sound (taped_due t) (own_fills (is_listed t.worn (next_count t.tried)) _ (due_fills t.device r.sound (falling t.device.cut) (falling t.device.worn) refl refl))))
+
+-- what a bench's end of a write is, where a write of the list may be refused
+ends : (s : Bool) (b : Bool) (x : DeviceState) (at : ℕ) (w : List ℕ) (d : Due) (e : DeviceState) → (s ≡ true → b ≡ false) → e.words ≡ slice_set x.words at (left_by (own b d) w)
+    → Ends d s x at (answer_to (own b d)) e
+ends s false x at w (DueCut fill) e h words = (refl, words)
+ends s true x at w (DueCut fill) e h words = (refl, words)
+ends true false x at w (DueWorn fill) e h words = (refl, words)
+ends false false x at w (DueWorn fill) e h words = refl
+ends true true x at w (DueWorn fill) e h words = absurd (cc (h refl))
+ends false true x at w (DueWorn fill) e h words = refl
+ends true false x at w DueNot e h words = refl
+ends false false x at w DueNot e h words = λ q. cc q
+ends true true x at w DueNot e h words = absurd (cc (h refl))
+ends false true x at w DueNot e h words = λ q. cc q
+
+burnt : (t : Taped) (at : ℕ) (w : List ℕ) (d : Due) → Counts (taped_state t) (answer_to d) (taped_state (after_taped t at w d)) × Burns (taped_bench t) (answer_to d) (taped_bench (after_taped t at w d))
+burnt t at w (DueCut fill) = ((refl, refl), inl refl)
+burnt t at w (DueWorn fill) = ((refl, refl), inl refl)
+burnt t at w DueNot = ((refl, refl), refl)
+
+words_left : (t : Taped) (at : ℕ) (w : List ℕ) (d : Due) → (taped_state (after_taped t at w d)).words ≡ slice_set t.device.words at (left_by d w)
+words_left t at w (DueCut fill) = refl
+words_left t at w (DueWorn fill) = refl
+words_left t at w DueNot = refl
+
+none_listed : (ws : List ℕ) (n : ℕ) → no_entry ws ≡ true → is_listed ws n ≡ false
+none_listed [] n h = refl
+none_listed (w ∷ ws) n h = absurd (cc h)
+
+-- and is stopped by its fuses, or by its list where it has one
+pub taped_burns : (t : Taped) (at : ℕ) (w : List ℕ) (a : Answer) (e : Taped) → (taped_state t).on ≡ true → TapedWrote t at w a e → BenchWrote (taped_state t) (taped_bench t) at a (taped_state e) (taped_bench e)
+taped_burns t at w a e on r =
+    subst (λ (x : Answer). BenchWrote (taped_state t) (taped_bench t) at x (taped_state e) (taped_bench e)) (sym r.answer)
+    (subst (λ (x : Taped). BenchWrote (taped_state t) (taped_bench t) at (answer_to (taped_due t)) (taped_state x) (taped_bench x)) (sym r.after)
+    (let both = burnt t at w (taped_due t) in
+    record {
+      ends = ends (no_entry t.worn) (is_listed t.worn (next_count t.tried)) (taped_state t) at w (due (falling t.device.cut) (falling t.device.worn)) (taped_state (after_taped t at w (taped_due t))) (none_listed t.worn (next_count t.tried)) (words_left t at w (taped_due t));
+      counts = both.0;
+      fuses = both.1;
+    }))

@@ -1,0 +1,66 @@
+ghost use Rattle.std.specs.Prelude.{◌≡◌, [], Some, None, MatchOption, IfOk, map};
+ghost use Rattle.mc_nvm.specs.Tape.{Told, entry_of, more};
+
+use mc_base::{NoMemory, Stop, Word};
+use std::alloc::Global;
+use std::marker::Model;
+
+/// One write that was tried: its place, the word that stood there afterwards, and the stop where there was one.
+#[derive(Clone, Copy, Debug, PartialEq, Eq, Drop)]
+pub struct Entry {
+    pub at: u32,
+    pub left: Word,
+    pub end: Option<Stop>,
+}
+
+/// The entries of all writes so far, up to a number of them; it tells none once there were more.
+#[derive(Drop)]
+pub struct Tape {
+    entries: Vec<Entry>,
+    room: usize,
+    over: bool,
+}
+
+impl Model for Tape {
+    ghost use Rattle.mc_nvm.specs.Tape.{Told, told_inside, KeepsRoom};
+
+    ghost Value = { Told };
+
+    ghost view = { told_inside };
+
+    ghost invariant = { KeepsRoom };
+}
+
+impl Tape {
+    /// An empty tape with room for so many entries.
+    pub fn new(alloc: Global, room: usize) -> Result<Tape, NoMemory>
+        ensures { IfOk result (λ tape. tape ≡ record { room = room; told = Some [] }) }
+    {
+        Ok(Tape {
+            entries: Vec::with_capacity(alloc, room)?,
+            room,
+            over: false,
+        })
+    }
+
+    /// Adds an entry, or tells none from now on.
+    pub fn add(&mut self, entry: Entry)
+        ensures { self.new ≡ record self.old { told = more self.old.room self.old.told (entry_of entry) } }
+    {
+        if self.over || self.entries.len() >= self.room {
+            self.over = true;
+            return;
+        }
+        let _pushed = self.entries.push(entry);
+    }
+
+    /// The entries, where they are all there.
+    pub fn entries(&self) -> Option<&[Entry]>
+        ensures { MatchOption result (self.now.told ≡ None) (λ entries. self.now.told ≡ Some (map entry_of entries.now)) }
+    {
+        if self.over {
+            return None;
+        }
+        Some(self.entries.as_slice())
+    }
+}

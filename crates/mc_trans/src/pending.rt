@@ -1,0 +1,138 @@
+ghost use Rattle.std.specs.Prelude.{◌≡◌, ◌≢◌, ◌↔◌, ◌<◌, ◌≤◌, ℕ, List, [], ◌∷◌, true, false, length, nat_le, position, slice_index_or, slice_set, Option, Some, None, OnOk, OnErr, IsErr, IfSome, insert};
+ghost use Rattle.arrayvec.specs.ArrayVec.{array_vec_len};
+ghost use Rattle.mc_model.specs.Pieces.{pending_at, put_word, ArePending};
+ghost use Rattle.mc_trans.specs.Place.{place};
+
+use arrayvec::ArrayVec;
+use mc_base::Word;
+use std::marker::Model;
+
+/// 64 other words are pending.
+#[derive(Clone, Copy, Debug, PartialEq, Eq)]
+pub struct Full;
+
+/// At most 64 words of a static segment that are written and not yet committed, each with its number:
+/// word n has the bytes from 8n on.
+#[derive(Debug, Drop)]
+pub struct Pending {
+    words: ArrayVec<(u16, Word), 64>,
+}
+
+impl Model for Pending {
+    ghost use Rattle.std.specs.Prelude.{ℕ, List};
+    ghost use Rattle.mc_model.specs.Pieces.{ArePending};
+
+    ghost Value = { List (ℕ × List ℕ) };
+
+    ghost view = { λ p. p.words.items };
+
+    ghost invariant = { λ p. ArePending p.words.items };
+}
+
+impl Pending {
+    /// No words.
+    pub fn new() -> Self
+        ensures { result ≡ [] }
+    {
+        Pending {
+            words: ArrayVec::new(),
+        }
+    }
+
+    /// Makes a word pending, in the place of the one that is pending under its number.
+    ///
+    /// `Full` where 64 other words are pending, and then nothing changes.
+    #[tactic(auto, using(crate::proofs::Words::put_there, crate::proofs::Words::put_between, crate::proofs::Words::not_pending, crate::proofs::Words::is_pending))]
+    pub fn put(&mut self, at: u16, word: Word) -> Result<(), Full>
+        ensures ok { OnOk result (self.new ≡ put_word at word self.old) }
+        ensures full { IsErr result ↔ ((length self.old ≡ 64) × (pending_at self.old at ≡ None)) }
+        ensures unchanged { OnErr result (self.new ≡ self.old) }
+    {
+        let place = place_of(self.words.as_slice(), at);
+        if is_at(self.words.as_slice(), place, at) {
+            replace(&mut self.words, place, (at, word));
+            return Ok(());
+        }
+        if self.words.is_full() {
+            return Err(Full);
+        }
+        add(&mut self.words, place, (at, word));
+        Ok(())
+    }
+
+    /// The word that is pending under a number.
+    #[tactic(auto, using(crate::proofs::Words::not_pending, crate::proofs::Words::is_pending))]
+    pub fn get(&self, at: u16) -> Option<Word>
+        ensures { result ≡ pending_at self.now at }
+    {
+        let words = self.words.as_slice();
+        let place = place_of(words, at);
+        if is_at(words, place, at) {
+            return Some(words[place].1);
+        }
+        None
+    }
+
+    /// The pending words with their numbers, ascending.
+    pub fn list(&self) -> &[(u16, Word)]
+        ensures words { result.now ≡ self.now }
+        ensures bound { length result.now ≤ 64 }
+        ensures pending { ArePending result.now }
+    {
+        self.words.as_slice()
+    }
+
+    /// Drops all words.
+    pub fn clear(&mut self)
+        ensures { self.new ≡ [] }
+    {
+        self.words.clear();
+    }
+}
+
+// The place of the first word whose number is not below this one, or behind the last word.
+#[tactic(auto, using(crate::proofs::Words::place_some, crate::proofs::Words::place_none))]
+fn place_of(words: &[(u16, Word)], at: u16) -> usize
+    ensures value { result ≡ place at words.now }
+    ensures bound { result ≤ length words.now }
+{
+    match first_from(words, at) {
+        Some(place) => place,
+        None => words.len(),
+    }
+}
+
+// The place of the first word whose number is not below this one.
+fn first_from(words: &[(u16, Word)], at: u16) -> Option<usize>
+    ensures value { result ≡ position (λ w. nat_le at w.0) words.now }
+    ensures bound { IfSome result (λ i. i < length words.now) }
+{
+    words.iter().position(|word| word.0 >= at)
+}
+
+// Whether the word at a place has this number.
+fn is_at(words: &[(u16, Word)], place: usize, at: u16) -> bool
+    ensures found { result ≡ true → (place < length words.now) × ((slice_index_or words.now place (0, [])).0 ≡ at) }
+    ensures other { result ≡ false → place < length words.now → (slice_index_or words.now place (0, [])).0 ≢ at }
+{
+    place < words.len() && words[place].0 == at
+}
+
+// Puts a word in the place of another.
+fn replace(words: &mut ArrayVec<(u16, Word), 64>, place: usize, entry: (u16, Word))
+    requires { place < array_vec_len words.old }
+    ensures items { words.new.items ≡ slice_set words.old.items place entry }
+    ensures whole { length entry.1 ≡ 8 }
+{
+    words.as_mut_slice()[place] = entry;
+}
+
+// Puts a word between others.
+fn add(words: &mut ArrayVec<(u16, Word), 64>, place: usize, entry: (u16, Word))
+    requires place { place ≤ array_vec_len words.old }
+    requires room { array_vec_len words.old < 64 }
+    ensures items { words.new.items ≡ insert words.old.items place entry }
+    ensures whole { length entry.1 ≡ 8 }
+{
+    words.insert(place, entry);
+}
