@@ -1,5 +1,5 @@
 -- The cipher function on words.
-use Rattle.std.proofs.Common.{◌≡◌, ℕ, zero, suc, ◌+◌, ◌-◌, ◌*◌, ◌/◌, ◌%◌, ◌^◌, ◌<◌, ◌≤◌, List, [], ◌∷◌, ◌++◌, length, get_or, take, drop, refl, sym, ap, ◌∙◌, arith, zero-add, add-zero, length-append, append_assoc}
+use Rattle.std.proofs.Common.{◌≡◌, ℕ, ◌+◌, ◌-◌, ◌*◌, ◌/◌, ◌%◌, ◌^◌, ◌<◌, List, [], ◌∷◌, ◌++◌, length, get_or, take, drop, refl, sym, ap, ◌∙◌, arith, zero-add, add-zero, length-append, append_assoc}
 use Rattle.std.specs.Prelude.{bit_or, bit_and}
 use Rattle.std.specs.Int.{w32, rotate_left}
 use Rattle.std.specs.Int.Bits.{bit_xor, or_zero_r}
@@ -12,7 +12,7 @@ use Rattle.mc_model.specs.Modes.{added}
 use Rattle.mc_model.specs.Des.{bits, pick, f, through, box_at, boxes, expansion, permutation}
 use Rattle.mc_model.proofs.ModesLemmas.{length-added}
 use Rattle.mc_des.specs.Words.{key_bits, box_alone}
-use Rattle.mc_des.proofs.BitsLemmas.{bits-xor, bits6-mod, length-bits, pick_step}
+use Rattle.mc_des.proofs.BitsLemmas.{bits-xor, bits6-mod, pick_step}
 
 -- ---- the half, turned
 

@@ -1,8 +1,7 @@
 -- Deciphering undoes enciphering: the permutations, the rounds, and blocks of bytes.
-use Rattle.std.proofs.Common.{◌≡◌, ◌⊎◌, inl, inr, ℕ, zero, suc, ◌+◌, ◌-◌, ◌*◌, ◌/◌, ◌%◌, ◌^◌, ◌<◌, ◌≤◌, List, [], ◌∷◌, ◌++◌, length, get_or, take, drop, reverse, refl, sym, ap, ◌∙◌, arith, subst, length-append, length-drop, length-take}
+use Rattle.std.proofs.Common.{◌≡◌, ◌⊎◌, inl, inr, ℕ, zero, suc, ◌+◌, ◌-◌, ◌*◌, ◌/◌, ◌%◌, ◌^◌, ◌<◌, ◌≤◌, List, [], ◌∷◌, ◌++◌, length, take, drop, reverse, refl, sym, ap, ◌∙◌, arith, subst, length-append, length-drop, length-take}
 use Rattle.std.proofs.Math.Nat.{pow-suc, one-mul, zero-mul}
 use Rattle.std.proofs.lemmas.Bool.{cases_lt}
-use Rattle.std.proofs.Math.Pow.{pow_pos}
 use Rattle.std.proofs.lemmas.Nat.Bits.{bit_at_cat_low, bit_at_cat_high}
 use Rattle.std.proofs.lemmas.List.{reverse-append, reverse-reverse, take_at, drop_at, take-append-drop}
 use Rattle.mc_model.specs.Modes.{added, AllBelow, IsBlock}
@@ -43,7 +42,7 @@ f-low : (r k : List ℕ) → AllBelow 2 (f r k)
 f-low r k = subst (λ (l : List ℕ). AllBelow 2 l) (sym (f-open r k)) (pick-low permutation (through boxes (added (pick expansion r) k)) (through-low boxes (added (pick expansion r) k)))
 
 zero_or_one : (b : ℕ) → b < 2 → (b ≡ 0) ⊎ (b ≡ 1)
-zero_or_one b h = elim (cases_lt b 1) [ | inl low ↦ inl (omega arith) | inr high ↦ inr (omega arith) ]
+zero_or_one b h = elim (cases_lt b 1) [ inl low ↦ inl (omega arith) | inr high ↦ inr (omega arith) ]
 
 two_cases : (b p m : ℕ) → b < 2 → m < p → b * p + m < p * 2
 two_cases b p m hb hm =

@@ -11,6 +11,9 @@ pub mod laws;
 mod permute;
 mod rounds;
 mod tables;
+#[cfg(test)]
+mod tests;
+pub mod vectors;
 
 use block::{reversed, thrice, word};
 use keys::round_keys;
