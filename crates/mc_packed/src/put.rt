@@ -9,9 +9,9 @@ use mc_base::{Stop, Word};
 use mc_nvm::Nvm;
 
 /// The places of the journal.
-const HEAD: u32 = 2;
-const TARGETS: u32 = 3;
-const VALUES: u32 = 19;
+pub const HEAD: u32 = 2;
+pub const TARGETS: u32 = 3;
+pub const VALUES: u32 = 19;
 pub const GATE: u32 = 130;
 
 /// The word that opens the gate, and the one that shuts it.
