@@ -234,7 +234,7 @@ boxes_sum v0 v1 v2 v3 v4 v5 v6 v7 x0 x1 x2 x3 x4 x5 x6 x7 e0 e1 e2 e3 e4 e5 e6 e
 regrouped : (a b c d e f g h : List ℕ) → (((((((a) ++ b) ++ c) ++ d) ++ e) ++ f) ++ g) ++ h ≡ a ++ (b ++ (c ++ (d ++ (e ++ (f ++ (g ++ (h ++ [])))))))
 regrouped a b c d e f g h = simp (append_assoc, append-nil)
 
-f-open : (r k : List ℕ) → f r k ≡ pick permutation (through boxes (added (pick expansion r) k))
+pub f-open : (r k : List ℕ) → f r k ≡ pick permutation (through boxes (added (pick expansion r) k))
 unfolding f
 f-open r k = refl
 

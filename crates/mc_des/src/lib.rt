@@ -7,6 +7,7 @@ ghost use Rattle.mc_model.specs.Des.{des_encipher, des_decipher, tdes_encipher, 
 
 mod block;
 mod keys;
+pub mod laws;
 mod permute;
 mod rounds;
 mod tables;

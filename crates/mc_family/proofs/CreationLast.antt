@@ -11,7 +11,7 @@ use Rattle.mc_model.specs.Apdu.{ApduParts}
 use Rattle.mc_model.specs.Units.{name_of}
 use Rattle.mc_model.specs.Card.{App, Card}
 use Rattle.mc_model.specs.Chain.{Write, map_changed, run}
-use Rattle.mc_model.specs.Items.{Change, Fixed, Created, Deleted, Item, Plain, Atomic, moves, done, StopAt, Stopped, with_item, in_flight, at_stop, Site, BankItem, Piece, Blank, Note, Commit, Enter, Remove}
+use Rattle.mc_model.specs.Items.{Change, Fixed, Created, Deleted, Item, Plain, Atomic, done, Stopped, with_item, in_flight, at_stop, Site, BankItem, Piece, Blank, Note, Commit, Enter, Remove}
 use Rattle.mc_model.specs.Items as items
 use Rattle.mc_model.specs.Manager.{Selected, Open, Seat, Route, WrongLength, WrongClass, ToSelect, ToManager, ToApplication, route, Managed, Accepts, Accepted, answered, first_status, select_done, select_refusals, open_refusals, open_done, load_refusals, load_done, load_part, dir_in, create_refusals, create_done, fresh, got_of, word_parts, delete_refusals, delete_done, manage, room_on}
 use Rattle.mc_model.specs.Play.{Command, item_of, atomic_of, managed, passed, by_route, command, refused, write_items, is_done, send, sent_on}

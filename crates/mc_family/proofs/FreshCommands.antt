@@ -11,7 +11,7 @@ use Rattle.mc_model.specs.Apdu.{ApduParts}
 use Rattle.mc_model.specs.Units.{name_of}
 use Rattle.mc_model.specs.Card.{App, Card, placed}
 use Rattle.mc_model.specs.Chain.{Write, run}
-use Rattle.mc_model.specs.Items.{Change, Fixed, Created, Deleted, Item, Plain, Atomic, Sizes, Site, BankItem, Piece, Blank, Note, Commit, Enter, Remove}
+use Rattle.mc_model.specs.Items.{Created, Item, Plain, Atomic, Site, BankItem, Piece, Blank, Note, Commit, Enter, Remove}
 use Rattle.mc_model.specs.Items as items
 use Rattle.mc_model.specs.Manager.{Selected, Open, Seat, Route, WrongLength, WrongClass, ToSelect, ToManager, ToApplication, route, Managed, Declines, Accepts, Accepted, answered, first_status, is_empty, p1p2, select_done, select_refusals, select, sizes_in, open_refusals, open_done, open_load, got_of, word_parts, load_refusals, load_done, load_part, is_complete, dir_in, is_taken, create_refusals, create_items, create_done, create, fresh, delete_refusals, delete_done, delete, manage, room_on}
 use Rattle.mc_model.specs.Play.{Command, item_of, managed, passed, by_route, command, refused, write_items, is_done, send, sent_on}

@@ -9,7 +9,7 @@ use Rattle.mc_model.specs.Apdu.{ApduParts}
 use Rattle.mc_model.specs.Units.{name_of}
 use Rattle.mc_model.specs.Card.{App, Card}
 use Rattle.mc_model.specs.Chain.{run}
-use Rattle.mc_model.specs.Items.{Change, Fixed, Created, Deleted, Item, Plain, Atomic, Sizes, BankItem, Piece, Blank, Note, Commit, Enter, Remove}
+use Rattle.mc_model.specs.Items.{Item, BankItem, Piece, Blank, Note, Commit, Enter, Remove}
 use Rattle.mc_model.specs.Manager.{Selected, Open, Seat, Route, WrongLength, WrongClass, ToSelect, ToManager, ToApplication, route, Managed, Declines, Accepted, answered, first_status, is_empty, select_done, select, open_refusals, open_done, load_refusals, load_done, create_refusals, create_done, delete_refusals, delete_done, manage, room_on, dir_in, open_load, load_part, create, delete}
 use Rattle.mc_model.specs.Play.{Command, Answered, item_of, atomic_of, managed, passed, by_route, command, send, sent_on, is_done}
 use Rattle.mc_model.specs.Items as items
