@@ -1,6 +1,6 @@
 -- The verdicts on the load lines of a deck, found by following all facts of short code.
 -- This project's profile.
-use Rattle.std.specs.Prelude.{ℕ, List, [], ◌∷◌, ◌++◌, flat_map, Option, Result, Ok, Err}
+use Rattle.std.specs.Prelude.{ℕ, List, [], ◌∷◌, flat_map, Option, Result, Ok, Err}
 use Rattle.mc_model.specs.declared.deck.DeckCause.{DeckCause}
 use Rattle.mc_model.specs.DeckGrammar.{DeckLine, Load, deck_read}
 use Rattle.mc_model.specs.StackShape.{Main, fact, look}

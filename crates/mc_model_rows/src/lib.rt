@@ -10,6 +10,7 @@ mod deck_refusals;
 mod delegations;
 mod generator;
 mod images;
+mod layouts;
 mod listings;
 mod plays;
 mod primitives;
