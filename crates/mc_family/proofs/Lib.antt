@@ -14,3 +14,4 @@ pub mod WholeLines
 pub mod FreshCommands
 pub mod CreationLast
 pub mod FreshFold
+pub mod PlayLaw

@@ -1,0 +1,19 @@
+-- The laws of plays, for every front of a play and for the whole of it, as other crates cite them.
+use Rattle.std.specs.Prelude.{ℕ, List, length, take, Option}
+use Rattle.std.proofs.Common.{subst}
+use Rattle.std.proofs.Math.Seq.{take-length}
+use Rattle.mc_model.specs.DeckGrammar.{DeckLine}
+use Rattle.mc_model.specs.Play.{WornAt, Step, Possible, plays, start}
+use Rattle.mc_model.specs.Laws.{HoldsOf, IsolationLaw}
+use Rattle.mc_family.proofs.FamilyFold.{isolated}
+use Rattle.mc_family.proofs.WholeLines.{whole_lines}
+use Rattle.mc_family.proofs.FreshFold.{no_stale_byte}
+
+pub isolation_law : IsolationLaw
+isolation_law ls m ws may n = record { family = λ K closed. isolated K n ls m ws may closed; each_line = whole_lines n (start m) ls ws; fresh = no_stale_byte n m ls ws }
+
+-- a whole play is its front of all its lines
+pub play_law : (ls : List (ℕ × DeckLine)) (m : List (List ℕ)) (ws : List (Option WornAt)) → Possible (start m) ls ws → HoldsOf m (plays (start m) ls ws)
+play_law ls m ws may =
+    let steps = plays (start m) ls ws in
+    subst (λ (us : List Step). HoldsOf m us) (take-length steps) (isolation_law ls m ws may (length steps))
