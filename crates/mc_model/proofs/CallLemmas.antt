@@ -1,10 +1,10 @@
 -- The calls of a journal, from the list of device writes that each makes.
-use Rattle.std.proofs.Common.{◌≡◌, ◌≢◌, ◌⊎◌, ℕ, zero, suc, ◌+◌, ◌<◌, ◌≤◌, true, false, List, [], ◌∷◌, ◌++◌, length, Ok, Err, refl, sym, ◌∙◌, ap, subst, inl, inr, arith, length-append}
+use Rattle.std.proofs.Common.{◌≡◌, ℕ, ◌+◌, ◌≤◌, true, false, List, [], ◌∷◌, length, Ok, Err, refl, sym, ◌∙◌, ap, subst, arith, length-append}
 use Rattle.mc_model.specs.declared.device.Stop.{Stop}
-use Rattle.mc_model.specs.Orders.{Answer, InOrder}
-use Rattle.mc_model.specs.Device.{DeviceState, Wrote, Makes, Ended}
-use Rattle.mc_model.specs.Image.{Journal, gate, shut, word_at, is_open, laid, Look, Refused, Closed, Pending, look_j, replayed, after_j, Words}
-use Rattle.mc_model.specs.Stopped.{cost, entries, writes, replay, numbered, IsAtomic, Stands, Leaves, Resumes, remains, owes, stood, stands, WriteEnds, WriteStands, WriteTorn, Outcome, Recovered, Interrupted, BadAt, Follows, outcome_answer, owed_writes, ReplayDone, ReplayTorn, RecoverEnds}
+use Rattle.mc_model.specs.Orders.{Answer}
+use Rattle.mc_model.specs.Device.{DeviceState, Wrote, Makes}
+use Rattle.mc_model.specs.Image.{Journal, gate, shut, word_at, is_open, laid, Look, Refused, Closed, Pending, look_j, replayed, Words}
+use Rattle.mc_model.specs.Stopped.{cost, entries, writes, replay, IsAtomic, Stands, Leaves, Resumes, remains, owes, stood, stands, WriteEnds, Outcome, Recovered, Interrupted, BadAt, Follows, outcome_answer, owed_writes, ReplayDone, ReplayTorn, RecoverEnds}
 use Rattle.mc_model.proofs.DeviceLemmas.{DoneAll, StoppedAt, makes-done, makes-stopped}
 use Rattle.mc_model.proofs.GeometryLemmas.{Geometry, geometry}
 use Rattle.mc_model.proofs.LookLemmas.{GoodPending, good-pending}

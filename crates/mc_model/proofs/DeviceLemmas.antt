@@ -1,9 +1,8 @@
 -- What lists of writes make of a device: its words, its counts and its tape.
-use Rattle.std.proofs.Common.{◌≡◌, ◌≢◌, ◌⊎◌, ℕ, zero, suc, ◌+◌, ◌<◌, ◌≤◌, true, false, List, [], ◌∷◌, ◌++◌, length, Option, Some, None, Ok, Err, refl, sym, ◌∙◌, ap, subst, inl, inr, arith, append_assoc, append-nil}
-use Rattle.std.specs.Prelude.{slice_set}
+use Rattle.std.proofs.Common.{◌≡◌, ℕ, zero, suc, ◌≤◌, true, List, [], ◌∷◌, ◌++◌, length, Option, Some, None, Ok, Err, refl, sym, ◌∙◌, ap, subst, inl, inr, arith, append_assoc, append-nil}
 use Rattle.mc_model.specs.declared.device.Stop.{Stop}
 use Rattle.mc_model.specs.declared.device.Stop.TheVariants.{Off, Worn}
-use Rattle.mc_model.specs.Orders.{Answer, InOrder}
+use Rattle.mc_model.specs.Orders.{Answer}
 use Rattle.mc_model.specs.Counts.{Rose}
 use Rattle.mc_model.specs.Device.{Entry, DeviceState, Grows, GrowsBy, WriteDone, WriteCut, WriteWorn, Wrote, Makes, Ended, done_entries, torn_entries}
 use Rattle.mc_model.specs.Image.{laid}

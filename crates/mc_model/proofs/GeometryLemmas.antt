@@ -1,13 +1,13 @@
 -- Where the words of an atomic write stand in its journal.
-use Rattle.std.proofs.Common.{◌≡◌, ◌≢◌, ◌⊎◌, ℕ, zero, suc, ◌+◌, ◌-◌, ◌*◌, ◌/◌, ◌<◌, ◌≤◌, Bool, true, false, ◌&&◌, List, [], ◌∷◌, ◌++◌, length, map, Option, Some, Result, Ok, Err, refl, sym, ◌∙◌, ap, subst, inl, inr, arith, length-append}
+use Rattle.std.proofs.Common.{◌≡◌, ◌≢◌, ℕ, zero, suc, ◌+◌, ◌*◌, ◌<◌, ◌≤◌, Bool, true, List, [], ◌∷◌, ◌++◌, length, map, Option, Result, Ok, refl, sym, ◌∙◌, ap, subst, inl, arith, length-append}
 use Rattle.std.proofs.lemmas.List.{length-map}
-use Rattle.std.specs.Prelude.{bytes_eq, nat_eq, nat_le, nat_lt}
+use Rattle.std.specs.Prelude.{bytes_eq}
 use Rattle.std.specs.List.{AllByRecursion}
 use Rattle.mc_model.specs.Bytes.{up}
-use Rattle.mc_model.specs.Image.{Journal, One, Two, opening, shut, gate, word_at, within, number, is_count, ascend, targets, targets_2, pairs, Look, Pending, aimed, headed, opened, look_j, count}
+use Rattle.mc_model.specs.Image.{Journal, One, Two, opening, gate, word_at, within, number, is_count, ascend, targets, targets_2, pairs, Pending, aimed, headed, opened, look_j}
 use Rattle.mc_model.specs.Stopped.{Inside, cost, opens_at, numbered, entries_1, target_words, values_2, entries, IsAtomic}
 use Rattle.mc_model.proofs.ImageLemmas.{Holds, Ascends, all-append, all-map}
-use Rattle.mc_model.proofs.LookLemmas.{both, all-within}
+use Rattle.mc_model.proofs.LookLemmas.{all-within}
 use Rattle.mc_model.proofs.WrittenLemmas.{within-small, read-1, pairs-1, read-2, pairs-2, count-numbered}
 
 -- a place of a target or value

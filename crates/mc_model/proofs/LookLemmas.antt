@@ -1,12 +1,12 @@
 -- A look at a journal depends on the journal's words alone, and finds what was written there.
-use Rattle.std.proofs.Common.{◌≡◌, ◌≢◌, ◌⊎◌, ℕ, zero, suc, ◌+◌, ◌-◌, ◌*◌, ◌/◌, ◌%◌, ◌<◌, ◌≤◌, Bool, true, false, ◌&&◌, ◌||◌, ◌==◌, List, [], ◌∷◌, ◌++◌, length, take, drop, get_or, map, Option, Some, None, Result, Ok, Err, refl, sym, ◌∙◌, ap, subst, inl, inr, arith, add-one, length-append, length-take}
+use Rattle.std.proofs.Common.{◌≡◌, ℕ, zero, suc, ◌+◌, ◌-◌, ◌*◌, ◌<◌, ◌≤◌, Bool, true, false, ◌&&◌, List, [], ◌∷◌, ◌++◌, length, take, drop, Option, Some, None, Result, Ok, Err, refl, sym, ◌∙◌, ap, subst, inl, inr, arith, add-one, length-append, length-take}
 use Rattle.std.proofs.lemmas.Bool.{leb-true}
-use Rattle.std.specs.Prelude.{slice_set, nat_eq, nat_le, nat_lt, bytes_eq}
+use Rattle.std.specs.Prelude.{nat_le, bytes_eq}
 use Rattle.std.specs.List.{AllByRecursion}
-use Rattle.mc_model.specs.Bytes.{up, zeros, be2, bytes2}
-use Rattle.mc_model.specs.Image.{Journal, One, Two, opening, gate, word_at, is_open, is_count, within, when, number, count, before, one_before, targets_1, four, all_zero, ascend, after_all, all_before, targets_2, targets, value, pairs, Look, Refused, Closed, Pending, aimed, headed, opened, look_j}
-use Rattle.mc_model.specs.Stopped.{Inside, numbered, entries_1, two_bytes_each, four_targets, target_words, values_2, entries}
-use Rattle.mc_model.proofs.ImageLemmas.{Holds, all-append}
+use Rattle.mc_model.specs.Bytes.{up, zeros, be2}
+use Rattle.mc_model.specs.Image.{Journal, One, Two, opening, gate, word_at, is_open, is_count, within, when, number, count, one_before, targets_1, four, all_zero, ascend, after_all, all_before, targets_2, targets, value, pairs, Pending, aimed, headed, opened, look_j}
+use Rattle.mc_model.specs.Stopped.{Inside}
+use Rattle.mc_model.proofs.ImageLemmas.{all-append}
 
 -- ---- the same words in a journal, the same look
 

@@ -1,15 +1,15 @@
 -- The recovery lemma: what a replay leaves, done or stopped at any of its writes, whatever word that left; and one journal's look as that of the whole image.
-use Rattle.std.proofs.Common.{◌≡◌, ◌≢◌, ◌⊎◌, ℕ, zero, suc, ◌+◌, ◌-◌, ◌<◌, ◌≤◌, Bool, true, false, cond, ◌&&◌, ◌||◌, ◌==◌, List, [], ◌∷◌, ◌++◌, length, refl, sym, ◌∙◌, ap, subst, inl, inr, arith}
-use Rattle.std.specs.Prelude.{bytes_eq, nat_eq, nat_le, nat_lt, slice_set}
+use Rattle.std.proofs.Common.{◌≡◌, ◌≢◌, ℕ, ◌+◌, ◌<◌, ◌≤◌, Bool, true, false, cond, ◌||◌, List, [], ◌∷◌, length, refl, sym, ◌∙◌, ap, subst, inl, inr, arith}
+use Rattle.std.specs.Prelude.{bytes_eq, slice_set}
 use Rattle.std.specs.List.{AllByRecursion}
 use Rattle.std.proofs.lemmas.List.{get_or-set_same, get_or-set_other, length-set}
 use Rattle.std.proofs.lemmas.Bool.{cases_lt, le-leb, lt-leb}
 use Rattle.std.proofs.lemmas.Bool.Decides.{eqb_tells}
-use Rattle.mc_model.specs.Image.{Journal, One, Two, opening, shut, gate, word_at, is_open, within, laid, Look, Closed, Pending, opened, look_j, look_at, look, which_of, which, replayed, debt, after_j, owed_j, Words}
+use Rattle.mc_model.specs.Image.{Journal, One, Two, opening, shut, gate, word_at, is_open, laid, Look, Pending, look_j, look_at, look, which_of, replayed, debt}
 use Rattle.mc_model.specs.Stopped.{Inside, remains, replay, torn, SameBut, Resumes}
 use Rattle.mc_model.proofs.ImageLemmas.{covers, covers-append, length-laid, laid-other, laid-same, laid-last, uncovered}
-use Rattle.mc_model.proofs.LookLemmas.{SameInside, look-same, GoodPending, good-pending}
-use Rattle.mc_model.proofs.StoppedLemmas.{length-torn, torn-other, torn-within, torn-past, open-same, shut-closed, targets-outside, closed-look, gate-bound}
+use Rattle.mc_model.proofs.LookLemmas.{look-same, GoodPending, good-pending}
+use Rattle.mc_model.proofs.StoppedLemmas.{length-torn, torn-other, torn-within, torn-past, open-same, targets-outside, closed-look, gate-bound}
 
 neither : (a b : Bool) → (a || b) ≡ false → (a ≡ false) × (b ≡ false)
 neither true b h = absurd (cc h)

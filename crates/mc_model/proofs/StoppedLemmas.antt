@@ -1,15 +1,15 @@
 -- The tear lemma: what an atomic write means that was stopped at any of its device writes, whatever word that left.
-use Rattle.std.proofs.Common.{◌≡◌, ◌≢◌, ◌⊎◌, ℕ, zero, suc, ◌+◌, ◌-◌, ◌*◌, ◌<◌, ◌≤◌, Bool, true, false, cond, not, ◌&&◌, ◌||◌, ◌==◌, List, [], ◌∷◌, ◌++◌, length, map, refl, sym, ◌∙◌, ap, subst, inl, inr, arith, length-append, append_assoc}
-use Rattle.std.specs.Prelude.{bytes_eq, nat_eq, nat_le, nat_lt, slice_set}
+use Rattle.std.proofs.Common.{◌≡◌, ◌≢◌, ◌⊎◌, ℕ, zero, suc, ◌+◌, ◌-◌, ◌<◌, ◌≤◌, Bool, true, false, cond, not, ◌&&◌, ◌||◌, ◌==◌, List, [], ◌∷◌, ◌++◌, length, map, refl, sym, ◌∙◌, ap, subst, inl, inr, arith}
+use Rattle.std.specs.Prelude.{bytes_eq, nat_le, nat_lt, slice_set}
 use Rattle.std.specs.List.{AllByRecursion}
 use Rattle.std.proofs.lemmas.List.{get_or-set_same, get_or-set_other, length-set}
-use Rattle.std.proofs.lemmas.Bool.{cases_lt, le-ltb, lt-ltb, le-leb, leb-true, eqb-true, ltb-true}
+use Rattle.std.proofs.lemmas.Bool.{cases_lt, le-ltb, lt-ltb, leb-true, eqb-true, ltb-true}
 use Rattle.std.proofs.lemmas.Bool.Decides.{eqb_tells}
 use Rattle.std.specs.Cmp.Lexicographic.{same_text}
-use Rattle.mc_model.specs.Image.{Journal, One, Two, opening, shut, gate, word_at, is_open, within, ascend, laid, Look, Closed, Pending, opened, look_j, replayed, debt, after_j, owed_j, Words}
+use Rattle.mc_model.specs.Image.{Journal, One, Two, opening, shut, gate, word_at, is_open, within, ascend, laid, Look, Closed, Pending, opened, look_j, replayed, debt}
 use Rattle.mc_model.specs.Stopped.{Inside, cost, opens_at, stands, owes, numbered, entries, replay, writes, IsAtomic, torn, stood, SameOutside, Leaves, Stands}
-use Rattle.mc_model.proofs.ImageLemmas.{Holds, all-append, all-map, length-laid, laid-append, laid-other, laid-point, laid-holds, laid-last, uncovered, covers, holds-point, Ascends, ascends-other}
-use Rattle.mc_model.proofs.LookLemmas.{SameInside, look-same, both}
+use Rattle.mc_model.proofs.ImageLemmas.{Holds, all-map, length-laid, laid-append, laid-other, laid-point, laid-holds, laid-last, uncovered, covers, holds-point, Ascends}
+use Rattle.mc_model.proofs.LookLemmas.{look-same, both}
 use Rattle.mc_model.proofs.WrittenLemmas.{either}
 use Rattle.mc_model.proofs.GeometryLemmas.{InEntries, Geometry, geometry, look-written, targets-within}
 

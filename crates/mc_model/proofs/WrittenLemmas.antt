@@ -1,13 +1,12 @@
 -- What an atomic write puts into its journal is what a look finds there.
-use Rattle.std.proofs.Common.{◌≡◌, ◌≢◌, ◌⊎◌, ℕ, zero, suc, ◌+◌, ◌-◌, ◌*◌, ◌/◌, ◌%◌, ◌<◌, ◌≤◌, Bool, true, false, ◌&&◌, ◌||◌, ◌==◌, List, [], ◌∷◌, ◌++◌, length, take, drop, get_or, map, Option, Some, None, Result, Ok, Err, refl, sym, ◌∙◌, ap, subst, inl, inr, arith, add-one, length-append, take_all, le-leb}
+use Rattle.std.proofs.Common.{◌≡◌, ◌⊎◌, ℕ, zero, suc, ◌+◌, ◌-◌, ◌*◌, ◌/◌, ◌%◌, ◌<◌, ◌≤◌, Bool, true, false, ◌&&◌, ◌||◌, ◌==◌, List, [], ◌∷◌, ◌++◌, length, take, drop, map, Option, Some, Result, Ok, refl, ◌∙◌, ap, inl, inr, arith, take_all, le-leb}
 use Rattle.std.proofs.lemmas.List.{drop_all}
-use Rattle.std.specs.Prelude.{slice_set, nat_eq, nat_le, nat_lt, bytes_eq}
+use Rattle.std.specs.Prelude.{nat_le, nat_lt}
 use Rattle.std.specs.List.{AllByRecursion}
-use Rattle.std.proofs.lemmas.Bool.{leb-true, ltb-true, eqb-true}
-use Rattle.mc_model.specs.Bytes.{up, zeros, be2, bytes2}
-use Rattle.mc_model.specs.Image.{Journal, One, Two, opening, gate, word_at, is_open, is_count, within, when, number, count, before, one_before, targets_1, four, all_zero, ascend, after_all, all_before, targets_2, targets, value, pairs, Look, Refused, Closed, Pending, aimed, headed, opened, look_j}
-use Rattle.mc_model.specs.Stopped.{Inside, cost, opens_at, numbered, entries_1, two_bytes_each, four_targets, target_words, values_2, entries}
-use Rattle.mc_model.proofs.ImageLemmas.{Holds, Ascends, all-append, all-map}
+use Rattle.std.proofs.lemmas.Bool.{ltb-true, eqb-true}
+use Rattle.mc_model.specs.Image.{One, Two, word_at, is_count, within, when, number, one_before, targets_1, four, all_zero, ascend, after_all, all_before, targets_2, pairs}
+use Rattle.mc_model.specs.Stopped.{numbered, entries_1, four_targets, target_words, values_2}
+use Rattle.mc_model.proofs.ImageLemmas.{Holds}
 use Rattle.mc_model.proofs.LookLemmas.{both}
 
 -- ---- numbers of two bytes
