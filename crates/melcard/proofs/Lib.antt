@@ -1,0 +1,2 @@
+pub mod IncrementLemmas
+pub mod RunLemmas

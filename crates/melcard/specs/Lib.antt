@@ -1,0 +1,4 @@
+pub mod Values
+pub mod Running
+pub mod Segments
+pub mod Machine

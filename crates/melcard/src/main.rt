@@ -1,0 +1,5 @@
+#![tactic(auto)]
+
+mod machine;
+
+fn main() {}
