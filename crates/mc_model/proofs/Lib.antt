@@ -1,1 +1,2 @@
 pub mod OrdersLemmas
+pub mod ModesLemmas

@@ -1,1 +1,149 @@
--- A device that writes one word at a time, and what a write that stops may leave.
+-- A device that writes one word at a time, what a write that stops may leave, and what a bench adds that stops writes on demand.
+-- This project's profile.
+use Rattle.std.specs.Prelude.{◌≡◌, ◌≢◌, ◌⊎◌, ℕ, zero, suc, ◌+◌, ◌<◌, ◌≤◌, Bool, true, false, min, List, [], ◌∷◌, ◌++◌, length, slice_index_or, slice_set, Option, Some, None, Ok, Err}
+use Rattle.mc_model.specs.declared.device.Stop.{Stop}
+use Rattle.mc_model.specs.declared.device.Stop.TheVariants.{Off, Worn}
+use Rattle.mc_model.specs.Orders.{Answer, InOrder}
+use Rattle.mc_model.specs.Counts.{last_count, Rose}
+
+-- one write that was tried: its place, the word that stood there afterwards, and the stop where there was one
+pub record Entry : Type 0 where
+  pub at : ℕ
+  pub left : List ℕ
+  pub end : Option Stop
+
+-- what every device means; the tape is told or it is not
+pub record DeviceState : Type 0 where
+  pub words : List (List ℕ)
+  pub on : Bool
+  pub cuts : ℕ
+  pub faults : ℕ
+  pub tape : Option (List Entry)
+
+-- the words of a device: 256 to 16,384 of them, eight bytes each
+pub record IsImage (m : List (List ℕ)) : Type 0 where
+  pub low : 256 ≤ length m
+  pub high : length m ≤ 16384
+  pub words : (i : ℕ) → i < length m → length (slice_index_or m i []) ≡ 8
+
+-- a tape with one entry more, or one that is told no longer
+abbrev pub Grows : Option (List Entry) → Entry → Option (List Entry) → Type 0
+Grows t e None = Unit {0}
+Grows None e (Some u) = ⊥
+Grows (Some t) e (Some u) = u ≡ t ++ e ∷ []
+
+-- a write that was done
+pub record WriteDone (d : DeviceState) (at : ℕ) (word : List ℕ) (e : DeviceState) : Type 0 where
+  pub words : e.words ≡ slice_set d.words at word
+  pub power : e.on ≡ true
+  pub cuts : e.cuts ≡ d.cuts
+  pub faults : e.faults ≡ d.faults
+  pub tape : Grows d.tape (record { at = at; left = word; end = None }) e.tape
+
+-- a write in which power went
+pub record WriteCut (d : DeviceState) (at : ℕ) (e : DeviceState) : Type 0 where
+  pub left : List ℕ
+  pub size : length left ≡ 8
+  pub words : e.words ≡ slice_set d.words at left
+  pub power : e.on ≡ false
+  pub cuts : Rose d.cuts e.cuts
+  pub falls_not : d.cuts ≤ e.cuts
+  pub faults : e.faults ≡ d.faults
+  pub tape : Grows d.tape (record { at = at; left = left; end = Some Off }) e.tape
+
+-- a write that the device refused
+pub record WriteWorn (d : DeviceState) (at : ℕ) (e : DeviceState) : Type 0 where
+  pub left : List ℕ
+  pub size : length left ≡ 8
+  pub words : e.words ≡ slice_set d.words at left
+  pub power : e.on ≡ true
+  pub cuts : e.cuts ≡ d.cuts
+  pub faults : Rose d.faults e.faults
+  pub falls_not : d.faults ≤ e.faults
+  pub tape : Grows d.tape (record { at = at; left = left; end = Some Worn }) e.tape
+
+-- one write on any device, where power is on
+abbrev pub Wrote : DeviceState → ℕ → List ℕ → Answer → DeviceState → Type 0
+Wrote d at w (Ok u) e = WriteDone d at w e
+Wrote d at w (Err Off) e = WriteCut d at e
+Wrote d at w (Err Worn) e = WriteWorn d at e
+
+-- a list of writes, pairs of place and word, by the relation of one write
+abbrev pub Makes : {D : Type 0} → (D → ℕ → List ℕ → Answer → D → Type 0) → D → List (ℕ × List ℕ) → Answer → D → Type 0
+Makes wrote = InOrder (λ d p a e. wrote d p.0 p.1 a e)
+
+-- ---- benches
+
+-- a count one higher; at its last value it stays
+abbrev pub next_count : ℕ → ℕ
+next_count n = min (n + 1) last_count
+
+-- a write to come, counted from now, and the word that it leaves
+pub record Fuse : Type 0 where
+  pub writes : ℕ
+  pub fill : List ℕ
+
+-- what a bench means besides: its fuses, the numbers of calls, and whether it refuses no write by itself
+pub record BenchState : Type 0 where
+  pub cut : Option Fuse
+  pub worn : Option Fuse
+  pub powers : ℕ
+  pub pokes : ℕ
+  pub arms : ℕ
+  pub wears : ℕ
+  pub steady : Bool
+
+-- a fuse after one write: nearer by one, and spent where the write was its own
+abbrev pub nearer : ℕ → List ℕ → Option Fuse
+nearer (suc (suc k)) fill = Some (record { writes = suc k; fill = fill })
+nearer _ fill = None
+
+abbrev pub counted : Option Fuse → Option Fuse
+counted None = None
+counted (Some f) = nearer f.writes f.fill
+
+-- the word that a fuse leaves in the next write, where it falls on it
+abbrev pub fill_at : ℕ → List ℕ → Option (List ℕ)
+fill_at (suc zero) fill = Some fill
+fill_at _ fill = None
+
+abbrev pub falling : Option Fuse → Option (List ℕ)
+falling None = None
+falling (Some f) = fill_at f.writes f.fill
+
+-- what the fuses make of the next write: it is cut, it is refused, or it is let be
+pub data Due : Type 0 where
+  DueCut : List ℕ → Due
+  DueWorn : List ℕ → Due
+  DueNot : Due
+
+-- a cut goes before a refusal
+abbrev pub due : Option (List ℕ) → Option (List ℕ) → Due
+due (Some fill) worn = DueCut fill
+due None (Some fill) = DueWorn fill
+due None None = DueNot
+
+-- how the next write of a bench ends, and what it leaves; one that is not steady may refuse by itself
+abbrev pub Ends : Due → Bool → DeviceState → ℕ → Answer → DeviceState → Type 0
+Ends (DueCut fill) steady d at a e = (a ≡ Err Off) × (e.words ≡ slice_set d.words at fill)
+Ends (DueWorn fill) true d at a e = (a ≡ Err Worn) × (e.words ≡ slice_set d.words at fill)
+Ends (DueWorn fill) false d at a e = a ≡ Err Worn
+Ends DueNot true d at a e = a ≡ Ok tt
+Ends DueNot false d at a e = a ≢ Err Off
+
+-- a stop of a bench raises its count by exactly one, below the last value
+abbrev pub Counts : DeviceState → Answer → DeviceState → Type 0
+Counts d (Ok u) e = (e.cuts ≡ d.cuts) × (e.faults ≡ d.faults)
+Counts d (Err Off) e = (e.cuts ≡ next_count d.cuts) × (e.faults ≡ d.faults)
+Counts d (Err Worn) e = (e.cuts ≡ d.cuts) × (e.faults ≡ next_count d.faults)
+
+-- Both fuses come nearer with each write. After a stop a bench may drop its wear fuse, and nothing else changes.
+abbrev pub Burns : BenchState → Answer → BenchState → Type 0
+Burns b (Ok u) c = c ≡ record b { cut = counted b.cut; worn = counted b.worn }
+Burns b (Err s) c = (c ≡ record b { cut = counted b.cut; worn = counted b.worn }) ⊎ (c ≡ record b { cut = counted b.cut; worn = None })
+
+-- one write on a bench
+pub record BenchWrote (d : DeviceState) (b : BenchState) (at : ℕ) (a : Answer) (e : DeviceState) (c : BenchState) : Type 0 where
+  pub ends : Ends (due (falling b.cut) (falling b.worn)) b.steady d at a e
+  pub counts : Counts d a e
+  pub fuses : Burns b a c

@@ -1,1 +1,101 @@
--- Decks made from a number, and the summary of a play.
+-- The deck that a number generates, and the summary of its play.
+-- This project's profile.
+use Rattle.std.specs.Prelude.{ℕ, zero, suc, ◌+◌, ◌*◌, ◌/◌, ◌%◌, ◌^◌, cond, nat_lt, ◌==◌, List, [], ◌∷◌, ◌++◌}
+use Rattle.mc_model.specs.Bytes.{bytes, zeros}
+use Rattle.mc_model.specs.Units.{UnitParts}
+use Rattle.mc_model.specs.Text.{numbered}
+use Rattle.mc_model.specs.DeckGrammar.{DeckLine, Format, Power, Named, Load, Select, Delete, Dump, Apdu, Cut, made_unit}
+
+-- ---- draws
+
+-- each draw changes the number, and gives its high bits
+abbrev pub next : ℕ → ℕ
+next x = (x * 1103515245 + 12345) % 2 ^ 31
+
+abbrev pub draw : ℕ → ℕ
+draw x = x / 65536
+
+-- ---- the three applications
+
+abbrev pub counter_aid : List ℕ
+counter_aid = 0xA0 ∷ 0 ∷ 0 ∷ 0 ∷ 1 ∷ []
+
+abbrev pub purse_aid : List ℕ
+purse_aid = 0xA0 ∷ 0 ∷ 0 ∷ 0 ∷ 2 ∷ []
+
+abbrev pub relay_aid : List ℕ
+relay_aid = 0xA0 ∷ 0 ∷ 0 ∷ 0 ∷ 3 ∷ []
+
+-- one more at each command, and the two bytes as the reply
+abbrev pub counter : UnitParts
+counter =
+    made_unit counter_aid
+    (0xB9 ∷ 0x02 ∷ 0x00 ∷ 0x00
+    ∷ 0x39 ∷ 0x02 ∷ 0x00 ∷ 0x00
+    ∷ 0x46 ∷ 0x02 ∷ 0x00 ∷ 0x00
+    ∷ 0x06 ∷ 0x00 ∷ 0x02 ∷ [])
+    []
+
+-- 30 credits, 40 debits, 50 answers the balance
+abbrev pub purse : UnitParts
+purse =
+    made_unit purse_aid
+    (0x77 ∷ 0x30 ∷ 0xFF ∷ 0xF4 ∷ 0x11 ∷ 0x00 ∷ 0x23
+    ∷ 0x77 ∷ 0x40 ∷ 0xFF ∷ 0xF4 ∷ 0x11 ∷ 0x00 ∷ 0x2C
+    ∷ 0x77 ∷ 0x50 ∷ 0xFF ∷ 0xF4 ∷ 0x11 ∷ 0x00 ∷ 0x18
+    ∷ 0x05 ∷ 0x6D ∷ 0x00
+    ∷ 0x39 ∷ 0x04 ∷ 0x00 ∷ 0x00 ∷ 0x46 ∷ 0x04 ∷ 0x00 ∷ 0x00 ∷ 0x06 ∷ 0x00 ∷ 0x04
+    ∷ 0x3E ∷ 0x04 ∷ 0x00 ∷ 0x00 ∷ 0xD9 ∷ 0x04 ∷ 0x00 ∷ 0x00 ∷ 0x04
+    ∷ 0x39 ∷ 0x04 ∷ 0x00 ∷ 0x00 ∷ 0x3E ∷ 0x04 ∷ 0x00 ∷ 0x00 ∷ 0xE0 ∷ 0x04 ∷ 0x12 ∷ 0x00 ∷ 0x4A
+    ∷ 0x24 ∷ 0x04 ∷ 0x29 ∷ 0x03 ∷ 0x02 ∷ 0x41 ∷ 0x04 ∷ 0x00 ∷ 0x00 ∷ 0xB9 ∷ 0x02 ∷ 0x00 ∷ 0x08
+    ∷ 0x29 ∷ 0x03 ∷ 0x01 ∷ 0x04
+    ∷ 0x05 ∷ 0x69 ∷ 0x85 ∷ [])
+    []
+
+-- hands the command to the application that its static bytes name
+abbrev pub relay : UnitParts
+relay = made_unit relay_aid (0x22 ∷ 0x00 ∷ 0x00 ∷ 0x28 ∷ 0x07 ∷ 0x04 ∷ []) (0x05 ∷ counter_aid)
+
+-- ---- the lines
+
+abbrev pub opening : List DeckLine
+opening = Format ∷ Power ∷ Named ∷ Named ∷ Named ∷ Load counter 2 0 ∷ Load purse 10 0 ∷ Load relay 6 0 ∷ []
+
+-- a command to a purse, with a number of four bytes or none
+abbrev pub command : ℕ → List ℕ → DeckLine
+command ins number = Apdu (0x80 ∷ ins ∷ 0 ∷ 0 ∷ 4 ∷ number)
+
+-- `OPEN-2--`, the word that opens the gate
+abbrev pub opening_word : List ℕ
+opening_word = 0x4F ∷ 0x50 ∷ 0x45 ∷ 0x4E ∷ 0x2D ∷ 0x32 ∷ 0x2D ∷ 0x2D ∷ []
+
+abbrev pub cut_line : ℕ → DeckLine
+cut_line q = Cut (1 + q % 12) (cond (q / 12 % 2 == 1) opening_word (zeros 8))
+
+abbrev pub purse_line : ℕ → DeckLine
+purse_line q = cond (q % 4 == 0) (Delete purse_aid) (cond (q % 4 == 1) (Load purse 10 0) Power)
+
+-- the line of a turn that draws r and q
+abbrev pub line_of : ℕ → ℕ → DeckLine
+line_of r q =
+    cond (r % 16 == 0) (Select counter_aid)
+    (cond (r % 16 == 1) (Select relay_aid)
+    (cond (r % 16 == 2) (Select purse_aid)
+    (cond (r % 16 == 3) Power
+    (cond (nat_lt (r % 16) 9) (Apdu (0x80 ∷ 1 ∷ 0 ∷ 0 ∷ 2 ∷ []))
+    (cond (nat_lt (r % 16) 11) (command 0x30 (bytes 4 q))
+    (cond (nat_lt (r % 16) 13) (command 0x40 (bytes 4 q))
+    (cond (r % 16 == 13) (command 0x50 [])
+    (cond (r % 16 == 14) (cut_line q)
+    (purse_line q)))))))))
+
+abbrev pub turns : ℕ → ℕ → List DeckLine
+turns zero x = []
+turns (suc k) x = line_of (draw (next x)) (draw (next (next x))) ∷ turns k (next (next x))
+
+abbrev pub closing : List DeckLine
+closing = Power ∷ Dump counter_aid ∷ Dump purse_aid ∷ Dump relay_aid ∷ []
+
+-- the numbered lines of the deck that n generates
+unfoldable pub generated : ℕ → List (ℕ × DeckLine)
+generated n = numbered 1 (opening ++ turns 4000 n ++ closing)

@@ -27,6 +27,8 @@ pub mod Family
 pub mod Given
 pub mod Solo
 pub mod View
+pub mod Laws
+pub mod Text
 pub mod DeckGrammar
 pub mod Assembly
 pub mod Generator

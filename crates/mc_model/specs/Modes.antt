@@ -1,1 +1,32 @@
--- Blocks one by one, and in a chain.
+-- Blocks added to each other, block by block through a cipher, and in a chain.
+-- FIPS 81 (DES modes of operation), and NIST SP 800-38A.
+use Rattle.std.specs.Prelude.{ℕ, zero, suc, ◌/◌, List, [], ◌∷◌, ◌++◌, length, take, drop, bit_xor}
+
+-- two lists added place by place, bit by bit
+abbrev pub added : List ℕ → List ℕ → List ℕ
+added [] ys = []
+added (x ∷ xs) [] = x ∷ xs
+added (x ∷ xs) (y ∷ ys) = bit_xor x y ∷ added xs ys
+
+-- the first n blocks of a message
+abbrev pub blocks_of : ℕ → ℕ → List ℕ → List (List ℕ)
+blocks_of zero size message = []
+blocks_of (suc n) size message = take size message ∷ blocks_of n size (drop size message)
+
+-- each block by itself
+abbrev pub each : (List ℕ → List ℕ) → List (List ℕ) → List ℕ
+each cipher [] = []
+each cipher (b ∷ bs) = cipher b ++ each cipher bs
+
+-- the last of a chain: every block is added to the one before it, and enciphered
+abbrev pub chained : (List ℕ → List ℕ) → List ℕ → List (List ℕ) → List ℕ
+chained cipher last [] = last
+chained cipher last (b ∷ bs) = chained cipher (cipher (added b last)) bs
+
+-- ECB: a message of whole blocks, block by block
+abbrev pub ecb : (List ℕ → List ℕ) → ℕ → List ℕ → List ℕ
+ecb cipher size message = each cipher (blocks_of (length message / size) size message)
+
+-- the last block of CBC over a message of whole blocks, from a start block
+abbrev pub cbc_last : (List ℕ → List ℕ) → ℕ → List ℕ → List ℕ → List ℕ
+cbc_last cipher size start message = chained cipher start (blocks_of (length message / size) size message)

@@ -11,7 +11,7 @@ mod machine;
 mod unit;
 
 pub use assembler::AsmCause;
-pub use card::{Cause, OpenRefusal, Part};
+pub use card::{Cause, OpenRefusal, Part, Sizes};
 pub use checker::CheckCause;
 pub use deck::DeckCause;
 pub use device::Stop;

@@ -1,0 +1,165 @@
+-- Words and their bytes: sums, turns, and what the bytes of a word are.
+use Rattle.std.proofs.Common.{◌≡◌, ℕ, zero, suc, ◌+◌, ◌*◌, ◌/◌, ◌%◌, ◌^◌, ◌<◌, List, [], ◌∷◌, ◌++◌, length, get_or, refl, sym, ap, ◌∙◌, arith, zero-add, add-zero}
+use Rattle.std.specs.Prelude.{bit_or}
+use Rattle.std.specs.Int.{w32, rotate_right, from_be_bytes, to_be_bytes}
+use Rattle.std.specs.Int.Bits.{bit_xor, or_zero_r}
+use Rattle.std.proofs.Math.Nat.{zero-mul}
+use Rattle.std.proofs.Math.Pow.{pow_pos}
+use Rattle.std.proofs.lemmas.Nat.{xor_shr, xor_mod, or_block, be_bytes_4}
+use Rattle.mc_model.specs.Modes.{added}
+use Rattle.mc_model.specs.Aes.{mul, sub, sub_back, times_matrix, round, last_round, mix_columns, mixed, mix_columns_back, round_back, last_round_back}
+use Rattle.mc_aes.specs.State.{word, state_bytes, substitutes_of, bytes_back_of}
+use Rattle.mc_aes.specs.declared.state.State.{State}
+
+-- a byte of a sum
+byte_xor : (a b k : ℕ) → bit_xor a b / 2 ^ k % 256 ≡ bit_xor (a / 2 ^ k % 256) (b / 2 ^ k % 256)
+byte_xor a b k = ap (λ (x : ℕ). x % 256) (xor_shr a b k) ∙ xor_mod (a / 2 ^ k) (b / 2 ^ k) 8
+
+pub word-xor : (a b : ℕ) → word (bit_xor a b) ≡ added (word a) (word b)
+unfolding word
+word-xor a b = rw (byte_xor a b 24, byte_xor a b 16, byte_xor a b 8, xor_mod a b 8) refl
+
+-- ---- a word turned right by whole bytes
+
+or_parts : (k a b : ℕ) → b < 2 ^ k → bit_or b (a * 2 ^ k) ≡ a * 2 ^ k + b
+or_parts k a b h = simp (zero-mul, zero-add, add-zero, or_zero_r) at (or_block k 0 a b 0 h (pow_pos k))
+
+word-parts : (w a b c d : ℕ) → w / 2 ^ 24 % 256 ≡ a → w / 2 ^ 16 % 256 ≡ b → w / 2 ^ 8 % 256 ≡ c → w % 256 ≡ d → word w ≡ a ∷ b ∷ c ∷ d ∷ []
+unfolding word
+word-parts w a b c d ea eb ec ed = rw (ea, eb, ec, ed) refl
+
+pub word-turned8 : (w : ℕ) → w < 2 ^ 32 → word (rotate_right w32 w 8) ≡ (w % 256) ∷ (w / 2 ^ 24 % 256) ∷ (w / 2 ^ 16 % 256) ∷ (w / 2 ^ 8 % 256) ∷ []
+word-turned8 w h =
+    let low : w * 2 ^ 24 % 2 ^ 32 ≡ (w % 256) * 2 ^ 24 = omega arith in
+    let r : rotate_right w32 w 8 ≡ (w % 256) * 2 ^ 24 + w / 2 ^ 8 =
+    ap (λ (x : ℕ). bit_or (w / 2 ^ 8) x) low ∙ or_parts 24 (w % 256) (w / 2 ^ 8) (omega arith) in
+    rw r (word-parts ((w % 256) * 2 ^ 24 + w / 2 ^ 8) _ _ _ _ (omega arith) (omega arith) (omega arith) (omega arith))
+
+pub word-turned16 : (w : ℕ) → w < 2 ^ 32 → word (rotate_right w32 w 16) ≡ (w / 2 ^ 8 % 256) ∷ (w % 256) ∷ (w / 2 ^ 24 % 256) ∷ (w / 2 ^ 16 % 256) ∷ []
+word-turned16 w h =
+    let low : w * 2 ^ 16 % 2 ^ 32 ≡ (w % 65536) * 2 ^ 16 = omega arith in
+    let r : rotate_right w32 w 16 ≡ (w % 65536) * 2 ^ 16 + w / 2 ^ 16 =
+    ap (λ (x : ℕ). bit_or (w / 2 ^ 16) x) low ∙ or_parts 16 (w % 65536) (w / 2 ^ 16) (omega arith) in
+    rw r (word-parts ((w % 65536) * 2 ^ 16 + w / 2 ^ 16) _ _ _ _ (omega arith) (omega arith) (omega arith) (omega arith))
+
+pub word-turned24 : (w : ℕ) → w < 2 ^ 32 → word (rotate_right w32 w 24) ≡ (w / 2 ^ 16 % 256) ∷ (w / 2 ^ 8 % 256) ∷ (w % 256) ∷ (w / 2 ^ 24 % 256) ∷ []
+word-turned24 w h =
+    let low : w * 2 ^ 8 % 2 ^ 32 ≡ (w % 16777216) * 2 ^ 8 = omega arith in
+    let r : rotate_right w32 w 24 ≡ (w % 16777216) * 2 ^ 8 + w / 2 ^ 24 =
+    ap (λ (x : ℕ). bit_or (w / 2 ^ 24) x) low ∙ or_parts 8 (w % 16777216) (w / 2 ^ 24) (omega arith) in
+    rw r (word-parts ((w % 16777216) * 2 ^ 8 + w / 2 ^ 24) _ _ _ _ (omega arith) (omega arith) (omega arith) (omega arith))
+
+-- ---- states
+
+-- the word that is written by four bytes
+pub word-from : (w a b c d : ℕ) → a < 256 → b < 256 → c < 256 → d < 256 → w ≡ from_be_bytes w32 (a ∷ b ∷ c ∷ d ∷ []) → word w ≡ a ∷ b ∷ c ∷ d ∷ []
+word-from w a b c d ha hb hc hd e = word-parts w a b c d (omega arith) (omega arith) (omega arith) (omega arith)
+
+-- the same, with a word added
+pub word-from-added : (w k a b c d : ℕ) → a < 256 → b < 256 → c < 256 → d < 256 → w ≡ from_be_bytes w32 (a ∷ b ∷ c ∷ d ∷ []) → word (bit_xor w k) ≡ added (a ∷ b ∷ c ∷ d ∷ []) (word k)
+word-from-added w k a b c d ha hb hc hd e = word-xor w k ∙ ap (λ (l : List ℕ). added l (word k)) (word-from w a b c d ha hb hc hd e)
+
+-- the sum of the four columns that a column step adds
+columns_sum : (a b c d k : ℕ) (xa xb xc xd : List ℕ) → word a ≡ xa → word b ≡ xb → word c ≡ xc → word d ≡ xd
+    → word (bit_xor (bit_xor (bit_xor (bit_xor a b) c) d) k) ≡ added (added (added (added xa xb) xc) xd) (word k)
+columns_sum a b c d k xa xb xc xd ea eb ec ed = rw (word-xor, word-xor, word-xor, word-xor, ea, eb, ec, ed) refl
+
+turned8 : (w p q r s : ℕ) → w < 2 ^ 32 → word w ≡ p ∷ q ∷ r ∷ s ∷ [] → word (rotate_right w32 w 8) ≡ s ∷ p ∷ q ∷ r ∷ []
+unfolding word
+turned8 w p q r s h e = let t = word-turned8 w h in cc
+
+turned16 : (w p q r s : ℕ) → w < 2 ^ 32 → word w ≡ p ∷ q ∷ r ∷ s ∷ [] → word (rotate_right w32 w 16) ≡ r ∷ s ∷ p ∷ q ∷ []
+unfolding word
+turned16 w p q r s h e = let t = word-turned16 w h in cc
+
+turned24 : (w p q r s : ℕ) → w < 2 ^ 32 → word w ≡ p ∷ q ∷ r ∷ s ∷ [] → word (rotate_right w32 w 24) ≡ q ∷ r ∷ s ∷ p ∷ []
+unfolding word
+turned24 w p q r s h e = let t = word-turned24 w h in cc
+
+columns_sum_alone : (a b c d : ℕ) (xa xb xc xd : List ℕ) → word a ≡ xa → word b ≡ xb → word c ≡ xc → word d ≡ xd
+    → word (bit_xor (bit_xor (bit_xor a b) c) d) ≡ added (added (added xa xb) xc) xd
+columns_sum_alone a b c d xa xb xc xd ea eb ec ed = rw (word-xor, word-xor, word-xor, ea, eb, ec, ed) refl
+
+-- the column that a word's bytes make through a matrix, from the table's columns for its four bytes
+pub matrix_column : (p q r s : ℕ) (x0 x1 x2 x3 y0 y1 y2 y3 : ℕ) (a b c d b' c' d' k : ℕ) → b < 2 ^ 32 → c < 2 ^ 32 → d < 2 ^ 32
+    → word a ≡ mul p x0 ∷ mul s x0 ∷ mul r x0 ∷ mul q x0 ∷ []
+    → word b ≡ mul p x1 ∷ mul s x1 ∷ mul r x1 ∷ mul q x1 ∷ []
+    → word c ≡ mul p x2 ∷ mul s x2 ∷ mul r x2 ∷ mul q x2 ∷ []
+    → word d ≡ mul p x3 ∷ mul s x3 ∷ mul r x3 ∷ mul q x3 ∷ []
+    → b' ≡ rotate_right w32 b 8 → c' ≡ rotate_right w32 c 16 → d' ≡ rotate_right w32 d 24
+    → x0 ≡ y0 → x1 ≡ y1 → x2 ≡ y2 → x3 ≡ y3
+    → word (bit_xor (bit_xor (bit_xor (bit_xor a b') c') d') k) ≡ added (times_matrix p q r s (y0 ∷ y1 ∷ y2 ∷ y3 ∷ [])) (word k)
+matrix_column p q r s x0 x1 x2 x3 y0 y1 y2 y3 a b c d b' c' d' k hb hc hd ea eb ec ed tb tc td e0 e1 e2 e3 =
+    rw (← e0, ← e1, ← e2, ← e3, tb, tc, td)
+    (columns_sum a (rotate_right w32 b 8) (rotate_right w32 c 16) (rotate_right w32 d 24) k _ _ _ _ ea
+    (turned8 b _ _ _ _ hb eb) (turned16 c _ _ _ _ hc ec) (turned24 d _ _ _ _ hd ed))
+
+-- without a sum
+pub matrix_column_alone : (p q r s : ℕ) (x0 x1 x2 x3 y0 y1 y2 y3 : ℕ) (a b c d b' c' d' : ℕ) → b < 2 ^ 32 → c < 2 ^ 32 → d < 2 ^ 32
+    → word a ≡ mul p x0 ∷ mul s x0 ∷ mul r x0 ∷ mul q x0 ∷ []
+    → word b ≡ mul p x1 ∷ mul s x1 ∷ mul r x1 ∷ mul q x1 ∷ []
+    → word c ≡ mul p x2 ∷ mul s x2 ∷ mul r x2 ∷ mul q x2 ∷ []
+    → word d ≡ mul p x3 ∷ mul s x3 ∷ mul r x3 ∷ mul q x3 ∷ []
+    → b' ≡ rotate_right w32 b 8 → c' ≡ rotate_right w32 c 16 → d' ≡ rotate_right w32 d 24
+    → x0 ≡ y0 → x1 ≡ y1 → x2 ≡ y2 → x3 ≡ y3
+    → word (bit_xor (bit_xor (bit_xor a b') c') d') ≡ times_matrix p q r s (y0 ∷ y1 ∷ y2 ∷ y3 ∷ [])
+matrix_column_alone p q r s x0 x1 x2 x3 y0 y1 y2 y3 a b c d b' c' d' hb hc hd ea eb ec ed tb tc td e0 e1 e2 e3 =
+    rw (← e0, ← e1, ← e2, ← e3, tb, tc, td)
+    (columns_sum_alone a (rotate_right w32 b 8) (rotate_right w32 c 16) (rotate_right w32 d 24) _ _ _ _ ea
+    (turned8 b _ _ _ _ hb eb) (turned16 c _ _ _ _ hc ec) (turned24 d _ _ _ _ hd ed))
+
+-- a list by its places
+listed_from : ℕ → List ℕ → ℕ → List ℕ
+listed_from zero l i = []
+listed_from (suc n) l i = get_or l i 0 ∷ listed_from n l (suc i)
+
+listed-cons : (n : ℕ) (x : ℕ) (l : List ℕ) (i : ℕ) → listed_from n (x ∷ l) (suc i) ≡ listed_from n l i
+unfolding listed_from
+listed-cons zero x l i = refl
+listed-cons (suc n) x l i = ap (λ (t : List ℕ). get_or l i 0 ∷ t) (listed-cons n x l (suc i))
+
+listed : (n : ℕ) (l : List ℕ) → length l ≡ n → l ≡ listed_from n l 0
+unfolding listed_from
+listed zero [] h = refl
+listed zero (x ∷ l) h = absurd (cc)
+listed (suc n) [] h = absurd (cc)
+listed (suc n) (x ∷ l) h = ap (λ (t : List ℕ). x ∷ t) (listed n l (omega arith) ∙ sym (listed-cons n x l 0))
+
+-- a list of sixteen
+pub sixteen : (l : List ℕ) → length l ≡ 16 → l ≡ get_or l 0 0 ∷ get_or l 1 0 ∷ get_or l 2 0 ∷ get_or l 3 0 ∷ get_or l 4 0 ∷ get_or l 5 0 ∷ get_or l 6 0 ∷ get_or l 7 0
+    ∷ get_or l 8 0 ∷ get_or l 9 0 ∷ get_or l 10 0 ∷ get_or l 11 0 ∷ get_or l 12 0 ∷ get_or l 13 0 ∷ get_or l 14 0 ∷ get_or l 15 0 ∷ []
+unfolding listed_from
+sixteen l h = listed 16 l h
+
+parts-added : (s k : State) → added (word s.first) (word k.first) ++ added (word s.second) (word k.second) ++ added (word s.third) (word k.third) ++ added (word s.fourth) (word k.fourth)
+    ≡ added (word s.first ++ word s.second ++ word s.third ++ word s.fourth) (word k.first ++ word k.second ++ word k.third ++ word k.fourth)
+unfolding word
+parts-added s k = refl
+
+-- the words of two states, added
+pub state-added : (s k : State) → state_bytes (record { first = bit_xor s.first k.first; second = bit_xor s.second k.second; third = bit_xor s.third k.third; fourth = bit_xor s.fourth k.fourth })
+    ≡ added (state_bytes s) (state_bytes k)
+unfolding state_bytes
+state-added s k = rw (word-xor, word-xor, word-xor, word-xor) (parts-added s k)
+
+-- a state that was read, and one that is written
+pub loaded : (b : List ℕ) (w0 w1 w2 w3 : ℕ) → length b ≡ 16 → ((k : ℕ) → k < length b → get_or b k 0 < 256)
+    → w0 ≡ from_be_bytes w32 (get_or b 0 0 ∷ get_or b 1 0 ∷ get_or b 2 0 ∷ get_or b 3 0 ∷ [])
+    → w1 ≡ from_be_bytes w32 (get_or b 4 0 ∷ get_or b 5 0 ∷ get_or b 6 0 ∷ get_or b 7 0 ∷ [])
+    → w2 ≡ from_be_bytes w32 (get_or b 8 0 ∷ get_or b 9 0 ∷ get_or b 10 0 ∷ get_or b 11 0 ∷ [])
+    → w3 ≡ from_be_bytes w32 (get_or b 12 0 ∷ get_or b 13 0 ∷ get_or b 14 0 ∷ get_or b 15 0 ∷ [])
+    → state_bytes (record { first = w0; second = w1; third = w2; fourth = w3 }) ≡ b
+unfolding state_bytes
+loaded b w0 w1 w2 w3 len low e0 e1 e2 e3 =
+    let at : (k : ℕ) → k < 16 → get_or b k 0 < 256 = λ k h. low k (omega arith) in
+    rw (word-from w0 _ _ _ _ (at 0 (omega arith)) (at 1 (omega arith)) (at 2 (omega arith)) (at 3 (omega arith)) e0,
+    word-from w1 _ _ _ _ (at 4 (omega arith)) (at 5 (omega arith)) (at 6 (omega arith)) (at 7 (omega arith)) e1,
+    word-from w2 _ _ _ _ (at 8 (omega arith)) (at 9 (omega arith)) (at 10 (omega arith)) (at 11 (omega arith)) e2,
+    word-from w3 _ _ _ _ (at 12 (omega arith)) (at 13 (omega arith)) (at 14 (omega arith)) (at 15 (omega arith)) e3)
+    (sym (sixteen b len))
+
+pub stored : (s : State) (a b c d : List ℕ) → a ≡ to_be_bytes w32 s.first → b ≡ to_be_bytes w32 s.second → c ≡ to_be_bytes w32 s.third → d ≡ to_be_bytes w32 s.fourth
+    → get_or a 0 0 ∷ get_or a 1 0 ∷ get_or a 2 0 ∷ get_or a 3 0 ∷ get_or b 0 0 ∷ get_or b 1 0 ∷ get_or b 2 0 ∷ get_or b 3 0
+    ∷ get_or c 0 0 ∷ get_or c 1 0 ∷ get_or c 2 0 ∷ get_or c 3 0 ∷ get_or d 0 0 ∷ get_or d 1 0 ∷ get_or d 2 0 ∷ get_or d 3 0 ∷ [] ≡ state_bytes s
+unfolding word state_bytes
+stored s a b c d ea eb ec ed = rw (ea, eb, ec, ed) refl

@@ -1,0 +1,37 @@
+-- The rule of each table, from a test that is computed over the whole table.
+use Rattle.std.proofs.Common.{◌≡◌, ℕ, ◌<◌, ◌==◌, true, [], ◌∷◌, get_or, refl}
+use Rattle.std.specs.Prelude.{bytes_eq}
+use Rattle.std.proofs.lemmas.Bool.{eqb-true}
+use Rattle.std.proofs.lemmas.Slice.Eq.{bytes_eq-Decides}
+use Rattle.mc_model.proofs.ModesLemmas.{all_below, below_at}
+use Rattle.mc_model.specs.Aes.{mul, sub, sub_back}
+use Rattle.mc_aes.specs.State.{word}
+use Rattle.mc_aes.specs.declared.tables.TheConstants.{SUBSTITUTES, BYTES_OF_SUBSTITUTES, COLUMNS, COLUMNS_BACK}
+
+substitutes_test : all_below (λ b. get_or SUBSTITUTES b 0 == sub b) 256 ≡ true
+unfolding all_below sub
+substitutes_test = refl
+
+pub substitutes_at : (b : ℕ) → b < 256 → get_or SUBSTITUTES b 0 ≡ sub b
+substitutes_at b h = eqb-true _ _ (below_at (λ b. get_or SUBSTITUTES b 0 == sub b) 256 substitutes_test b h)
+
+back_test : all_below (λ b. get_or BYTES_OF_SUBSTITUTES b 0 == sub_back b) 256 ≡ true
+unfolding all_below sub_back
+back_test = refl
+
+pub back_at : (b : ℕ) → b < 256 → get_or BYTES_OF_SUBSTITUTES b 0 ≡ sub_back b
+back_at b h = eqb-true _ _ (below_at (λ b. get_or BYTES_OF_SUBSTITUTES b 0 == sub_back b) 256 back_test b h)
+
+columns_test : all_below (λ b. bytes_eq (word (get_or COLUMNS b 0)) (mul 2 (sub b) ∷ mul 1 (sub b) ∷ mul 1 (sub b) ∷ mul 3 (sub b) ∷ [])) 256 ≡ true
+unfolding all_below sub mul word
+columns_test = refl
+
+pub columns_at : (b : ℕ) → b < 256 → word (get_or COLUMNS b 0) ≡ mul 2 (sub b) ∷ mul 1 (sub b) ∷ mul 1 (sub b) ∷ mul 3 (sub b) ∷ []
+columns_at b h = (bytes_eq-Decides _ _).0 (below_at (λ b. bytes_eq (word (get_or COLUMNS b 0)) (mul 2 (sub b) ∷ mul 1 (sub b) ∷ mul 1 (sub b) ∷ mul 3 (sub b) ∷ [])) 256 columns_test b h)
+
+columns_back_test : all_below (λ b. bytes_eq (word (get_or COLUMNS_BACK b 0)) (mul 14 b ∷ mul 9 b ∷ mul 13 b ∷ mul 11 b ∷ [])) 256 ≡ true
+unfolding all_below mul word
+columns_back_test = refl
+
+pub columns_back_at : (b : ℕ) → b < 256 → word (get_or COLUMNS_BACK b 0) ≡ mul 14 b ∷ mul 9 b ∷ mul 13 b ∷ mul 11 b ∷ []
+columns_back_at b h = (bytes_eq-Decides _ _).0 (below_at (λ b. bytes_eq (word (get_or COLUMNS_BACK b 0)) (mul 14 b ∷ mul 9 b ∷ mul 13 b ∷ mul 11 b ∷ [])) 256 columns_back_test b h)

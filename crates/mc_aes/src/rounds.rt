@@ -1,0 +1,114 @@
+// The rounds, column by column.
+
+ghost use Rattle.std.specs.Prelude.{◌≡◌, ℕ, [], ◌∷◌, slice_index, map};
+ghost use Rattle.mc_model.specs.Modes.{added};
+ghost use Rattle.mc_model.specs.Aes.{mul, sub, sub_back, times_matrix, round, last_round, round_back, last_round_back, mix_columns_back, shift_rows_back};
+ghost use Rattle.mc_aes.specs.State.{word, state_bytes, substitutes_of, bytes_back_of};
+
+use crate::state::{State, add, byte0, byte1, byte2, byte3};
+use crate::tables::{column, column_back, substitute, substitute_back};
+
+// A column of the next state: the substitutes of one byte of each word, through the column step, and the key's word.
+#[inline]
+fn round_column(row0: u32, row1: u32, row2: u32, row3: u32, key: u32) -> u32
+    ensures { word result ≡ added (times_matrix 2 3 1 1 (substitutes_of row0 row1 row2 row3)) (word key) }
+{
+    column(byte0(row0))
+        ^ column(byte1(row1)).rotate_right(8)
+        ^ column(byte2(row2)).rotate_right(16)
+        ^ column(byte3(row3)).rotate_right(24)
+        ^ key
+}
+
+#[inline]
+pub fn round(s: State, key: State) -> State
+    ensures { state_bytes result ≡ round (state_bytes key) (state_bytes s) }
+{
+    State {
+        first: round_column(s.first, s.second, s.third, s.fourth, key.first),
+        second: round_column(s.second, s.third, s.fourth, s.first, key.second),
+        third: round_column(s.third, s.fourth, s.first, s.second, key.third),
+        fourth: round_column(s.fourth, s.first, s.second, s.third, key.fourth),
+    }
+}
+
+// The same without the column step.
+#[inline]
+fn last_column(row0: u32, row1: u32, row2: u32, row3: u32, key: u32) -> u32
+    ensures { word result ≡ added (substitutes_of row0 row1 row2 row3) (word key) }
+{
+    u32::from_be_bytes([
+        substitute(byte0(row0)),
+        substitute(byte1(row1)),
+        substitute(byte2(row2)),
+        substitute(byte3(row3)),
+    ]) ^ key
+}
+
+#[inline]
+pub fn last_round(s: State, key: State) -> State
+    ensures { state_bytes result ≡ last_round (state_bytes key) (state_bytes s) }
+{
+    State {
+        first: last_column(s.first, s.second, s.third, s.fourth, key.first),
+        second: last_column(s.second, s.third, s.fourth, s.first, key.second),
+        third: last_column(s.third, s.fourth, s.first, s.second, key.third),
+        fourth: last_column(s.fourth, s.first, s.second, s.third, key.fourth),
+    }
+}
+
+// A column through the inverse column step.
+#[inline]
+fn mixed_back(w: u32) -> u32
+    ensures { word result ≡ times_matrix 14 11 13 9 (word w) }
+{
+    column_back(byte0(w))
+        ^ column_back(byte1(w)).rotate_right(8)
+        ^ column_back(byte2(w)).rotate_right(16)
+        ^ column_back(byte3(w)).rotate_right(24)
+}
+
+// The bytes of which a column's substitutes were made.
+#[inline]
+fn bytes_back(row0: u32, row1: u32, row2: u32, row3: u32) -> u32
+    ensures { word result ≡ bytes_back_of row0 row1 row2 row3 }
+{
+    u32::from_be_bytes([
+        substitute_back(byte0(row0)),
+        substitute_back(byte1(row1)),
+        substitute_back(byte2(row2)),
+        substitute_back(byte3(row3)),
+    ])
+}
+
+#[inline]
+fn rows_back(s: State) -> State
+    ensures { state_bytes result ≡ map sub_back (shift_rows_back (state_bytes s)) }
+{
+    State {
+        first: bytes_back(s.first, s.fourth, s.third, s.second),
+        second: bytes_back(s.second, s.first, s.fourth, s.third),
+        third: bytes_back(s.third, s.second, s.first, s.fourth),
+        fourth: bytes_back(s.fourth, s.third, s.second, s.first),
+    }
+}
+
+#[inline]
+pub fn last_round_back(s: State, key: State) -> State
+    ensures { state_bytes result ≡ last_round_back (state_bytes key) (state_bytes s) }
+{
+    rows_back(add(s, key))
+}
+
+#[inline]
+pub fn round_back(s: State, key: State) -> State
+    ensures { state_bytes result ≡ round_back (state_bytes key) (state_bytes s) }
+{
+    let sum = add(s, key);
+    rows_back(State {
+        first: mixed_back(sum.first),
+        second: mixed_back(sum.second),
+        third: mixed_back(sum.third),
+        fourth: mixed_back(sum.fourth),
+    })
+}

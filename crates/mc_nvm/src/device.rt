@@ -1,0 +1,147 @@
+ghost use Rattle.std.specs.Prelude.{◌≡◌, ℕ, ◌<◌, ◌≤◌, true, List, length, slice_index_or, slice_set, [], Some, None, refl};
+ghost use Rattle.std.proofs.Common.{◌∙◌};
+ghost use Rattle.mc_model.specs.Orders.{Answer};
+ghost use Rattle.mc_model.specs.Device.{DeviceState, BenchState, IsImage, Wrote, BenchWrote, next_count};
+
+use mc_base::{Stop, Word};
+
+/// A device of 256 to 16,384 words of eight bytes, written one word at a time. A write may stop: power goes or the
+/// device refuses it, and then its word may hold anything.
+pub trait Nvm {
+    /// The words, power, the counts of cuts and faults, and the tape where it is told.
+    ghost state: { Self → DeviceState };
+
+    /// One write: the device before, the place, the word, the answer, the device after.
+    ghost wrote: { Self → ℕ → List ℕ → Answer → Self → Type 0 };
+
+    /// The same device, where one is lent.
+    ghost same: { Self → Self → Type 0 };
+
+    /// The number of words, which never changes.
+    fn len(&self) -> u32
+        ensures len { result ≡ length (state self.now).words }
+        ensures image { IsImage (state self.now).words };
+
+    /// The word at a place below the length, with power or without.
+    fn read(&self, at: u32) -> Word
+        requires { at < length (state self.now).words }
+        ensures { result ≡ slice_index_or (state self.now).words at [] };
+
+    /// Sets one word at a place below the length, where power is on. `Stop::Off` comes only where the count of cuts
+    /// rose, `Stop::Worn` only where the count of faults rose.
+    fn write(&mut self, at: u32, word: Word) -> Result<(), Stop>
+        requires place { at < length (state self.old).words }
+        requires power { (state self.old).on ≡ true }
+        ensures wrote { wrote self.old at word result self.new }
+        ensures rules { Wrote (state self.old) at word result (state self.new) }
+        ensures lent { same self.old self.new };
+
+    /// A write by the relation keeps the rules of devices.
+    ghost obeys: { (d : Self) (at : ℕ) (w : List ℕ) (a : Answer) (e : Self) → (state d).on ≡ true → wrote d at w a e → Wrote (state d) at w a (state e) };
+
+    /// A write keeps which device is lent.
+    ghost keeps: { (d : Self) (at : ℕ) (w : List ℕ) (a : Answer) (e : Self) → wrote d at w a e → same d e };
+
+    /// Any device is the same as itself.
+    ghost itself: { (d : Self) → same d d };
+
+    /// The same as the same is the same.
+    ghost onward: { (d : Self) (e : Self) (f : Self) → same d e → same e f → same d f };
+}
+
+/// A device whose writes can be stopped on demand, and whose calls are counted.
+pub trait Bench: Nvm {
+    /// The fuses, the numbers of calls, and whether it refuses no write by itself.
+    ghost bench: { Self → BenchState };
+
+    /// Cuts the k-th write from now, which leaves `fill` in its word. It takes the place of an earlier fuse.
+    fn arm(&mut self, k: u32, fill: Word)
+        requires { 1 ≤ k }
+        ensures state { Self.state self.new ≡ Self.state self.old }
+        ensures bench { bench self.new ≡ record (bench self.old) { cut = Some (record { writes = k; fill = fill }); arms = next_count (bench self.old).arms } }
+        ensures lent { Self.same self.old self.new };
+
+    /// Takes both fuses away.
+    fn disarm(&mut self)
+        ensures state { Self.state self.new ≡ Self.state self.old }
+        ensures bench { bench self.new ≡ record (bench self.old) { cut = None; worn = None } }
+        ensures lent { Self.same self.old self.new };
+
+    /// Turns power on.
+    fn power(&mut self)
+        ensures state { Self.state self.new ≡ record (Self.state self.old) { on = true } }
+        ensures bench { bench self.new ≡ record (bench self.old) { powers = next_count (bench self.old).powers } }
+        ensures lent { Self.same self.old self.new };
+
+    /// Sets one word at a place below the length. It is no write and needs no power.
+    fn poke(&mut self, at: u32, word: Word)
+        requires { at < length (Self.state self.old).words }
+        ensures state { Self.state self.new ≡ record (Self.state self.old) { words = slice_set (Self.state self.old).words at word } }
+        ensures bench { bench self.new ≡ record (bench self.old) { pokes = next_count (bench self.old).pokes } }
+        ensures lent { Self.same self.old self.new };
+
+    /// Refuses the k-th write from now, which leaves `fill` in its word, unless another stop comes before it or falls
+    /// on it. It takes the place of an earlier wear fuse.
+    fn wear(&mut self, k: u32, fill: Word)
+        requires { 1 ≤ k }
+        ensures state { Self.state self.new ≡ Self.state self.old }
+        ensures bench { bench self.new ≡ record (bench self.old) { worn = Some (record { writes = k; fill = fill }); wears = next_count (bench self.old).wears } }
+        ensures lent { Self.same self.old self.new };
+
+    /// A write by the relation is stopped by the fuses and by nothing else, or by a bench that is not steady.
+    ghost burns: { (d : Self) (at : ℕ) (w : List ℕ) (a : Answer) (e : Self) → (Self.state d).on ≡ true → Self.wrote d at w a e → BenchWrote (Self.state d) (bench d) at a (Self.state e) (bench e) };
+}
+
+impl<N: Nvm> Nvm for &mut N {
+    ghost state = { λ d. N.state d.now };
+
+    ghost wrote = { λ d at w a e. N.wrote d.now at w a e.now × (e.ghost_name ≡ d.ghost_name) };
+
+    ghost same = { λ d e. N.same d.now e.now × (e.ghost_name ≡ d.ghost_name) };
+
+    ghost obeys = { λ d at w a e on r. N.obeys d.now at w a e.now on r.0 };
+
+    ghost keeps = { λ d at w a e r. (N.keeps d.now at w a e.now r.0, r.1) };
+
+    ghost itself = { λ d. (N.itself d.now, refl) };
+
+    ghost onward = { λ d e f r s. (N.onward d.now e.now f.now r.0 s.0, s.1 ∙ r.1) };
+
+    fn len(&self) -> u32 {
+        (**self).len()
+    }
+
+    fn read(&self, at: u32) -> Word {
+        (**self).read(at)
+    }
+
+    fn write(&mut self, at: u32, word: Word) -> Result<(), Stop> {
+        (**self).write(at, word)
+    }
+}
+
+impl<N: Bench> Bench for &mut N {
+    ghost bench = { λ d. N.bench d.now };
+
+    ghost burns = { λ d at w a e on r. N.burns d.now at w a e.now on r.0 };
+
+    fn arm(&mut self, k: u32, fill: Word) {
+        (**self).arm(k, fill);
+    }
+
+    fn disarm(&mut self) {
+        (**self).disarm();
+    }
+
+    fn power(&mut self) {
+        (**self).power();
+    }
+
+    fn poke(&mut self, at: u32, word: Word) {
+        (**self).poke(at, word);
+    }
+
+    fn wear(&mut self, k: u32, fill: Word) {
+        (**self).wear(k, fill);
+    }
+}

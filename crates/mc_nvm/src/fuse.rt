@@ -1,0 +1,57 @@
+ghost use Rattle.std.specs.Prelude.{◌≡◌, option_map, IfSome};
+ghost use Rattle.mc_model.specs.Device.{falling, counted, due};
+ghost use Rattle.mc_nvm.specs.Sim.{fuse_of, due_of};
+
+use mc_base::Word;
+
+/// A write to come, counted from now, and the word that it leaves.
+#[derive(Clone, Copy, Debug, Drop)]
+pub struct Fuse {
+    pub writes: u32,
+    pub fill: Word,
+}
+
+/// What becomes of the next write.
+#[derive(Clone, Copy, Debug, Drop)]
+pub enum Due {
+    Cut(Word),
+    Worn(Word),
+    Not,
+}
+
+/// The fuse after one write.
+pub fn nearer(fuse: Option<Fuse>) -> Option<Fuse>
+    ensures { option_map fuse_of result ≡ counted (option_map fuse_of fuse) }
+{
+    match fuse {
+        Some(f) if f.writes > 1 => {
+            let fill = f.fill;
+            Some(Fuse {
+                writes: f.writes - 1,
+                fill,
+            })
+        }
+        _ => None,
+    }
+}
+
+/// The word that the fuse leaves in the next write, where it falls on it.
+pub fn falls(fuse: Option<Fuse>) -> Option<Word>
+    ensures { result ≡ falling (option_map fuse_of fuse) }
+{
+    match fuse {
+        Some(f) if f.writes == 1 => Some(f.fill),
+        _ => None,
+    }
+}
+
+/// What the two fuses make of the next write: a cut goes before a refusal.
+pub fn next(cut: Option<Fuse>, worn: Option<Fuse>) -> Due
+    ensures { due_of result ≡ due (falling (option_map fuse_of cut)) (falling (option_map fuse_of worn)) }
+{
+    match (falls(cut), falls(worn)) {
+        (Some(fill), _) => Due::Cut(fill),
+        (None, Some(fill)) => Due::Worn(fill),
+        (None, None) => Due::Not,
+    }
+}

@@ -1,0 +1,146 @@
+ghost use Rattle.std.specs.Prelude.{◌≡◌, ◌<◌, ◌≤◌, ℕ, [], length, slice_index_or, IfOk};
+ghost use Rattle.mc_nvm.specs.Sim.{blank_sim};
+
+use crate::device::{Bench, Nvm};
+use crate::fuse::{Due, Fuse, nearer, next};
+use mc_base::{NoMemory, Stop, Word};
+use std::alloc::Global;
+use std::marker::Model;
+
+/// What every word of a blank device holds.
+const BLANK: Word = [0xFF; 8];
+
+/// A device in memory, under a fuse of either kind. It refuses no write by itself, and tells no tape.
+#[derive(Drop)]
+pub struct SimNvm {
+    words: Vec<Word>,
+    on: bool,
+    cuts: u64,
+    faults: u64,
+    cut: Option<Fuse>,
+    worn: Option<Fuse>,
+    powers: u64,
+    pokes: u64,
+    arms: u64,
+    wears: u64,
+}
+
+impl Model for SimNvm {
+    ghost use Rattle.mc_nvm.specs.Sim.{Sim, sim_of, Sound};
+
+    ghost Value = { Sim };
+
+    ghost view = { sim_of };
+
+    ghost invariant = { λ a. Sound (sim_of a) };
+}
+
+impl SimNvm {
+    /// A blank device of 256 to 16,384 words: every byte is FF, power is off, there is no fuse, and every count is 0.
+    pub fn new(alloc: Global, words: u32) -> Result<SimNvm, NoMemory>
+        requires low { 256 ≤ words }
+        requires high { words ≤ 16384 }
+        ensures { IfOk result (λ device. device ≡ blank_sim words) }
+    {
+        Ok(SimNvm {
+            words: vec![in alloc; BLANK; words as usize]?,
+            on: false,
+            cuts: 0,
+            faults: 0,
+            cut: None,
+            worn: None,
+            powers: 0,
+            pokes: 0,
+            arms: 0,
+            wears: 0,
+        })
+    }
+}
+
+impl Nvm for SimNvm {
+    ghost use Rattle.mc_nvm.specs.Sim.{sim_state, SimWrote, sim_obeys};
+
+    ghost state = { sim_state };
+
+    ghost wrote = { SimWrote };
+
+    ghost same = { λ d e. Unit {0} };
+
+    ghost obeys = { sim_obeys };
+
+    ghost keeps = { λ d at w a e r. tt };
+
+    ghost itself = { λ d. tt };
+
+    ghost onward = { λ d e f r s. tt };
+
+    fn len(&self) -> u32 {
+        eight_bytes_each(self.words.as_slice());
+        self.words.len() as u32
+    }
+
+    fn read(&self, at: u32) -> Word {
+        self.words[at as usize]
+    }
+
+    fn write(&mut self, at: u32, word: Word) -> Result<(), Stop> {
+        let due = next(self.cut, self.worn);
+        self.cut = nearer(self.cut);
+        self.worn = nearer(self.worn);
+        match due {
+            Due::Cut(fill) => {
+                self.words[at as usize] = fill;
+                self.on = false;
+                self.cuts = self.cuts.saturating_add(1);
+                Err(Stop::Off)
+            }
+            Due::Worn(fill) => {
+                self.words[at as usize] = fill;
+                self.faults = self.faults.saturating_add(1);
+                Err(Stop::Worn)
+            }
+            Due::Not => {
+                self.words[at as usize] = word;
+                Ok(())
+            }
+        }
+    }
+}
+
+impl Bench for SimNvm {
+    ghost use Rattle.mc_nvm.specs.Sim.{sim_bench, sim_burns};
+
+    ghost bench = { sim_bench };
+
+    ghost burns = { sim_burns };
+
+    fn arm(&mut self, k: u32, fill: Word) {
+        self.cut = Some(Fuse { writes: k, fill });
+        self.arms = self.arms.saturating_add(1);
+    }
+
+    fn disarm(&mut self) {
+        self.cut = None;
+        self.worn = None;
+    }
+
+    fn power(&mut self) {
+        self.on = true;
+        self.powers = self.powers.saturating_add(1);
+    }
+
+    fn poke(&mut self, at: u32, word: Word) {
+        self.words[at as usize] = word;
+        self.pokes = self.pokes.saturating_add(1);
+    }
+
+    fn wear(&mut self, k: u32, fill: Word) {
+        self.worn = Some(Fuse { writes: k, fill });
+        self.wears = self.wears.saturating_add(1);
+    }
+}
+
+// A word of a slice has eight bytes by its type; a caller learns it here of each.
+fn eight_bytes_each(words: &[Word])
+    ensures { (i : ℕ) → i < length words.now → length (slice_index_or words.now i []) ≡ 8 }
+{}

@@ -1,0 +1,12 @@
+-- What the crate's structs are, without where their bytes lie.
+use Rattle.mc_model.specs.Units.{Object, UnitParts}
+use Rattle.mc_unit.specs.declared.name.Object.{Object as Lent}
+use Rattle.mc_unit.specs.declared.unit.Unit.{Unit as LoadUnit}
+
+-- the parts of a unit
+abbrev pub parts_of : LoadUnit → UnitParts
+parts_of u = record { number = u.number.now; code = u.code.now; init = u.init.now; dir = u.dir.now; fci = u.fci.now; aid = u.aid }
+
+-- an object, and the bytes after it
+abbrev pub object_of : Lent → Object
+object_of o = record { tag = o.tag.now; value = o.value.now; rest = o.rest.now }

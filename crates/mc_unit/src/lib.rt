@@ -1,0 +1,16 @@
+#![tactic(auto)]
+
+// Load units: what a loader is handed of an application, as bytes.
+mod laws;
+mod name;
+mod unit;
+mod writing;
+
+pub use laws::{counter_rows, is_grammar, length_rows, made_name, name_rows};
+pub use mc_model::{AidFault, UnitRefusal};
+pub use name::aid_of;
+pub use unit::{Unit, read_unit};
+pub use writing::write_unit;
+
+#[cfg(test)]
+mod tests;
