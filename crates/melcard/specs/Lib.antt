@@ -2,3 +2,4 @@ pub mod Values
 pub mod Running
 pub mod Segments
 pub mod Machine
+pub mod Deck

@@ -1,5 +1,7 @@
 #![tactic(auto)]
 
+mod bytes;
+mod deck;
 mod machine;
 
 fn main() {}
