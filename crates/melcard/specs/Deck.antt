@@ -177,9 +177,12 @@ unit_line before first second third =
     cond (not (is_none second) && is_none third && is_name first && is_new (unit_named before first)) (naming first (unit_in (unhex second))) None
 
 -- a load of a unit with these sizes: the data fit the static segment, which is within the limit, and no session bytes
+abbrev pub may_load : List (ℕ × Line) → LoadUnit → ℕ → ℕ → Bool
+may_load before u fixed session =
+    nat_le (length u.init) fixed && (nat_le fixed 4096 && ((session == 0) && (nat_le (length (loaded before)) 31 && not (has_name u.aid (loaded before)))))
+
 abbrev pub loads_unit : List (ℕ × Line) → LoadUnit → ℕ → ℕ → Option Line
-loads_unit before u fixed session =
-    cond (nat_le (length u.init) fixed && nat_le fixed 4096 && (session == 0) && nat_le (length (loaded before)) 31 && not (has_name u.aid (loaded before))) (Some (Load u fixed)) None
+loads_unit before u fixed session = cond (may_load before u fixed session) (Some (Load u fixed)) None
 
 abbrev pub loading : List (ℕ × Line) → Option LoadUnit → Option ℕ → Option ℕ → Option Line
 loading before (Some u) (Some fixed) (Some session) = loads_unit before u fixed session

@@ -3,3 +3,4 @@ pub mod Running
 pub mod Segments
 pub mod Machine
 pub mod Deck
+pub mod Refusals

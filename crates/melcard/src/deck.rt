@@ -1,5 +1,9 @@
 mod fields;
+mod reading;
+mod statement;
 mod unit;
+
+pub use reading::{Refusal, read_deck};
 
 use crate::bytes::Bytes;
 use mc_base::Aid;

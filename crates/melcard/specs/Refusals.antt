@@ -1,0 +1,11 @@
+-- What is known of a deck that was refused at a line.
+-- This project's profile.
+use Rattle.std.specs.Prelude.{ℕ, Result, Ok, Err, ⊤}
+use Rattle.melcard.specs.declared.deck.reading.Refusal.{Refusal}
+use Rattle.melcard.specs.declared.deck.reading.Refusal.TheVariants.{At, NoMemory}
+
+-- a fact on the number of the line, where one is refused
+abbrev pub OnAt : {T : Type 0} → Result T Refusal → (ℕ → Type 0) → Type 0
+OnAt (Ok x) P = ⊤
+OnAt (Err (At n)) P = P n
+OnAt (Err NoMemory) P = ⊤
