@@ -1,2 +1,3 @@
 pub mod IncrementLemmas
 pub mod RunLemmas
+pub mod ReadLemmas

@@ -4,3 +4,5 @@ pub mod Segments
 pub mod Machine
 pub mod Deck
 pub mod Refusals
+pub mod Cards
+pub mod Play

@@ -3,5 +3,6 @@
 mod bytes;
 mod deck;
 mod machine;
+mod play;
 
 fn main() {}

@@ -50,7 +50,9 @@ pub fn read_deck(alloc: Global, text: &[u8]) -> Result<Vec<(u32, Line)>, Refusal
             return Ok(lines);
         }
         let (line, behind) = next_line(rest);
-        take_line(alloc, &mut lines, number, line)?;
+        if let Err(refusal) = take_line(alloc, &mut lines, number, line) {
+            return Err(refusal);
+        }
         rest = behind;
     }
     if rest.is_empty() {
