@@ -1,5 +1,5 @@
 -- What is left of a run after some turns.
-use Rattle.std.proofs.Common.{◌≡◌, ℕ, zero, suc, ◌+◌, ◌-◌, ◌<◌, ◌≤◌, List, Option, Some, None, refl, ap, sym, ◌∙◌, subst, arith, add_assoc}
+use Rattle.std.proofs.Common.{◌≡◌, ℕ, suc, ◌+◌, ◌-◌, ◌<◌, ◌≤◌, List, Some, None, refl, ap, sym, ◌∙◌, subst, arith}
 use Rattle.mc_model.specs.declared.machine.Abend.TheVariants.{A07}
 use Rattle.melcard.specs.declared.machine.Outcome.{Outcome}
 use Rattle.melcard.specs.declared.machine.Outcome.TheVariants.{Ended}

@@ -6,3 +6,5 @@ pub mod Deck
 pub mod Refusals
 pub mod Cards
 pub mod Play
+pub mod Apps
+pub mod Job

@@ -1,10 +1,9 @@
 -- The byte code machine with four instructions: LOAD, STORE and INCN at SB and PB, and EXITLA. One command to one
 -- application, as the fold of its turns. This project's profile.
-use Rattle.std.specs.Prelude.{ℕ, zero, suc, ◌+◌, ◌-◌, ◌/◌, ◌%◌, ◌==◌, nat_lt, nat_le, min, Bool, true, false, cond, ◌&&◌, List, [], ◌∷◌, ◌++◌, length, take, drop, slice_index, Option, Some, None, Result, Ok, Err}
+use Rattle.std.specs.Prelude.{ℕ, zero, suc, ◌+◌, ◌-◌, ◌==◌, nat_lt, nat_le, min, cond, ◌&&◌, List, [], ◌∷◌, ◌++◌, length, take, drop, slice_index, Option, Some, None, Result, Ok, Err}
 use Rattle.mc_model.specs.Bytes.{be2, bytes2, zeros, num, bytes, splice}
 use Rattle.mc_model.specs.declared.machine.Abend.{Abend}
 use Rattle.mc_model.specs.declared.machine.Abend.TheVariants.{A01, A02, A03, A04, A05, A06, A07, A09}
-use Rattle.melcard.specs.Values.{ReplyValue}
 use Rattle.melcard.specs.declared.machine.instruction.Row.{Row}
 use Rattle.melcard.specs.declared.machine.instruction.Row.TheVariants.{Load, Store, Incn}
 use Rattle.melcard.specs.declared.machine.instruction.Ins.{Ins}

@@ -1,6 +1,6 @@
 -- A play over a plain map of applications, and its transcript. This project's profile, cut to four kinds of lines
 -- that answer.
-use Rattle.std.specs.Prelude.{ℕ, ◌+◌, ◌-◌, ◌/◌, ◌%◌, Bool, true, false, cond, List, [], ◌∷◌, ◌++◌, length, bytes_eq, codes, decimal, slice_index, Option, Some, None}
+use Rattle.std.specs.Prelude.{ℕ, ◌-◌, cond, List, [], ◌∷◌, ◌++◌, length, bytes_eq, codes, decimal, Option, Some, None}
 use Rattle.hex.specs.Hex.{encode_upper}
 use Rattle.mc_model.specs.Bytes.{bytes2, zeros}
 use Rattle.mc_model.specs.declared.machine.Abend.{Abend}

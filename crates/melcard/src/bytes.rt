@@ -41,4 +41,12 @@ impl Bytes {
     {
         self.bytes.as_slice()
     }
+
+    /// The bytes, given away.
+    pub fn into_vec(self) -> Vec<u8>
+        ensures { result.items ≡ self }
+    {
+        let Bytes { bytes } = self;
+        bytes
+    }
 }

@@ -3,10 +3,10 @@ mod reading;
 mod statement;
 mod unit;
 
-pub use reading::{Refusal, read_deck};
-
 use crate::bytes::Bytes;
+pub use fields::is_word;
 use mc_base::Aid;
+pub use reading::{Refusal, read_deck};
 
 /// An application as a unit brings it: its name, its code, and the data at the front of its static bytes.
 #[derive(Drop)]

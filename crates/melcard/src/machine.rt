@@ -3,12 +3,11 @@ mod instruction;
 mod running;
 mod segments;
 
-pub use running::run;
-
 ghost use Rattle.std.specs.Prelude.{◌≡◌, ◌≤◌, length};
 
 use arrayvec::ArrayVec;
 use mc_model::Abend;
+pub use running::run;
 use std::marker::Model;
 
 /// The data and the status of a reply.

@@ -19,7 +19,12 @@ pub enum Refusal {
 const LAST_LINE: u32 = 20_000;
 
 // Takes a line behind these, where it is not skipped.
-fn take_line(alloc: Global, lines: &mut Vec<(u32, Line)>, number: u32, line: &[u8]) -> Result<(), Refusal>
+fn take_line(
+    alloc: Global,
+    lines: &mut Vec<(u32, Line)>,
+    number: u32,
+    line: &[u8],
+) -> Result<(), Refusal>
     ensures ok { OnOk result (line_read number line.now lines.old.items ≡ Ok lines.new.items) }
     ensures at { OnAt result (λ n. line_read number line.now lines.old.items ≡ Err n) }
 {

@@ -103,7 +103,11 @@ fn unit_statement(
 ) -> Result<Option<Line>, NoMemory>
     ensures { IfOk result (λ l. l ≡ unit_line before.now first.now second.now third.now) }
 {
-    if second.is_empty() || !third.is_empty() || !name(first) || named_unit(before, first).is_some() {
+    if second.is_empty()
+        || !third.is_empty()
+        || !name(first)
+        || named_unit(before, first).is_some()
+    {
         return Ok(None);
     }
     let Some(bytes) = unhexed(alloc, second)? else {
@@ -161,7 +165,12 @@ fn load_statement(
 }
 
 // A select line selects a name.
-fn select_statement(alloc: Global, before: &[(u32, Line)], first: &[u8], second: &[u8]) -> Result<Option<Line>, NoMemory>
+fn select_statement(
+    alloc: Global,
+    before: &[(u32, Line)],
+    first: &[u8],
+    second: &[u8],
+) -> Result<Option<Line>, NoMemory>
     ensures { IfOk result (λ l. l ≡ select_line before.now first.now second.now) }
 {
     if !powered(before) || !second.is_empty() {
@@ -192,7 +201,12 @@ fn command(bytes: &[u8]) -> Option<Line>
 }
 
 // An apdu line sends a command of five bytes to an application.
-fn apdu_statement(alloc: Global, before: &[(u32, Line)], first: &[u8], second: &[u8]) -> Result<Option<Line>, NoMemory>
+fn apdu_statement(
+    alloc: Global,
+    before: &[(u32, Line)],
+    first: &[u8],
+    second: &[u8],
+) -> Result<Option<Line>, NoMemory>
     ensures { IfOk result (λ l. l ≡ apdu_line before.now first.now second.now) }
 {
     if !powered(before) || !second.is_empty() {
@@ -218,7 +232,11 @@ fn format_statement(before: &[(u32, Line)], first: &[u8]) -> Option<Line>
 fn power_statement(first: &[u8]) -> Option<Line>
     ensures { result ≡ power_line first.now }
 {
-    if first.is_empty() { Some(Line::Power) } else { None }
+    if first.is_empty() {
+        Some(Line::Power)
+    } else {
+        None
+    }
 }
 
 // The statement of a word and the fields behind it.

@@ -29,8 +29,11 @@ impl Model for Frame {
 
 // Places in the public segment: CLA to P3, Le, La and SW.
 const COMMAND: usize = 1028;
+
 const LE: usize = 1035;
+
 const LA: usize = 1037;
+
 const SW: usize = 1039;
 
 // A number of two bytes, high byte first.

@@ -14,11 +14,19 @@ pub enum Row {
 /// One instruction. A base is the register SB or PB, an offset two bytes with a sign.
 #[derive(Clone, Copy)]
 pub enum Ins {
-    Exitla { la: u16 },
-    Access { row: Row, base: u16, off: u16, n: u8 },
+    Exitla {
+        la: u16,
+    },
+    Access {
+        row: Row,
+        base: u16,
+        off: u16,
+        n: u8,
+    },
 }
 
 const SB: u16 = 0;
+
 const PB: u16 = 0xC000;
 
 /// The instruction at the front of these bytes.

@@ -1,4 +1,4 @@
-ghost use Rattle.std.specs.Prelude.{◌≡◌, ◌≤◌, ◌<◌, ◌+◌, length, take, drop, ◌-◌, ◌^◌, ◌==◌};
+ghost use Rattle.std.specs.Prelude.{◌≡◌, ◌≤◌, ◌<◌, ◌+◌, length, drop, ◌-◌, ◌^◌, ◌==◌};
 ghost use Rattle.mc_model.specs.Bytes.{num};
 ghost use Rattle.melcard.specs.Machine.{acts, exits, row, turned, turn_of, run_of, plus_one};
 
@@ -100,9 +100,24 @@ fn execute(ins: &Ins, frame: &mut Frame, fixed: &mut [u8]) -> Option<Outcome>
     match ins {
         Ins::Exitla { la } => exit(*la, frame, fixed),
         Ins::Access { n: 0, .. } => Some(Outcome::Ended(Abend::A06)),
-        Ins::Access { row: Row::Load, base, off, n } => load(*base, *off, *n, frame, fixed),
-        Ins::Access { row: Row::Store, base, off, n } => store(*base, *off, *n, frame, fixed),
-        Ins::Access { row: Row::Incn, base, off, n } => incn(*base, *off, *n, frame, fixed),
+        Ins::Access {
+            row: Row::Load,
+            base,
+            off,
+            n,
+        } => load(*base, *off, *n, frame, fixed),
+        Ins::Access {
+            row: Row::Store,
+            base,
+            off,
+            n,
+        } => store(*base, *off, *n, frame, fixed),
+        Ins::Access {
+            row: Row::Incn,
+            base,
+            off,
+            n,
+        } => incn(*base, *off, *n, frame, fixed),
     }
 }
 
@@ -114,7 +129,12 @@ fn rest_of(code: &[u8], at: usize) -> &[u8]
 }
 
 // One turn: a fetch, and the instruction there, which ticks.
-fn turn<L: Ledger>(code: &[u8], frame: &mut Frame, fixed: &mut [u8], steps: &mut Steps<L>) -> Option<Outcome>
+fn turn<L: Ledger>(
+    code: &[u8],
+    frame: &mut Frame,
+    fixed: &mut [u8],
+    steps: &mut Steps<L>,
+) -> Option<Outcome>
     requires { frame.old.at ≤ length code.now }
     ensures turn { turn_of code.now fixed.old frame.old ≡ record { frame = frame.new; fixed = fixed.new; end = result; count = steps.new - steps.old } }
     ensures begun { steps.old ≤ steps.new }
@@ -140,9 +160,6 @@ pub fn run<L: Ledger>(
     budget: u32,
     steps: &mut Steps<L>,
 ) -> Outcome
-    requires code { (0 < length code.now) × (length code.now ≤ 8192) }
-    requires fixed { length fixed.old ≤ 4096 }
-    requires budget { (0 < budget) × (budget ≤ 65536) }
     ensures outcome { result ≡ (run_of code.now fixed.old command.now budget).outcome }
     ensures fixed { fixed.new ≡ (run_of code.now fixed.old command.now budget).fixed }
     ensures ticks { steps.new ≡ steps.old + (run_of code.now fixed.old command.now budget).count }

@@ -1,4 +1,4 @@
-use Rattle.std.proofs.Common.{◌≡◌, ◌∙◌, sym, arith, ◌≤◌, ◌<◌, length, subst, [], Err, Ok, ◌-◌, ◌+◌, List, ℕ, refl}
+use Rattle.std.proofs.Common.{◌≡◌, ◌∙◌, sym, arith, subst, [], Err, Ok, ◌-◌, ◌+◌, List, ℕ}
 use Rattle.melcard.specs.Deck.{deck_of, read_from, line_read, line_of}
 use Rattle.melcard.proofs.ReadLemmas.{nil_of, some_of, AtRefusal-map, reads-end, reads-go, reads-stop, reads-over}
 use Rattle.melcard.proofs.deck.reading.read_deck.Goals as goal

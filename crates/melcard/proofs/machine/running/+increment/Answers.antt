@@ -1,5 +1,5 @@
-use Rattle.melcard.proofs.IncrementLemmas.{bound_of, step-plain, step-carry, last-plain, last-carry}
-use Rattle.std.proofs.Common.{◌≡◌, ◌≢◌, ◌<◌, ◌∙◌, sym, true, false, length, arith}
+use Rattle.melcard.proofs.IncrementLemmas.{step-plain, step-carry, last-plain}
+use Rattle.std.proofs.Common.{◌≢◌, ◌∙◌, sym, length, arith}
 use Rattle.std.proofs.lemmas.Bool.{eqb-false}
 use Rattle.melcard.proofs.machine.running.+increment.Goals as goal
 

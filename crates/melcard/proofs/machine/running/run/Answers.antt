@@ -1,7 +1,7 @@
-use Rattle.std.proofs.Common.{◌≡◌, ◌+◌, ◌-◌, length, arith, subst, Option, Some, None, sym, ap, ℕ}
+use Rattle.std.proofs.Common.{◌≡◌, ◌+◌, ◌-◌, arith, subst, ℕ}
 use Rattle.mc_model.specs.declared.machine.Abend.TheVariants.{A07}
 use Rattle.melcard.specs.declared.machine.Outcome.TheVariants.{Ended}
-use Rattle.melcard.specs.Machine.{Ran, ran, started, run_of}
+use Rattle.melcard.specs.Machine.{ran, started, run_of}
 use Rattle.melcard.proofs.RunLemmas.{Leads, leads-all, Ends, leads-go, leads-end, leads-spent}
 use Rattle.melcard.proofs.machine.running.run.Goals as goal
 use Rattle.melcard.proofs.machine.running.run.Goals.{In-Some, After-loop-turn}
