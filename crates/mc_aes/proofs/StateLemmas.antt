@@ -6,6 +6,7 @@ use Rattle.std.specs.Int.Bits.{bit_xor, or_zero_r}
 use Rattle.std.proofs.Math.Nat.{zero-mul}
 use Rattle.std.proofs.Math.Pow.{pow_pos}
 use Rattle.std.proofs.lemmas.Nat.{xor_shr, xor_mod, or_block, be_bytes_4}
+use Rattle.mc_model.proofs.ModesLemmas.{listed_from, listed}
 use Rattle.mc_model.specs.Modes.{added}
 use Rattle.mc_model.specs.Aes.{mul, sub, sub_back, times_matrix, round, last_round, mix_columns, mixed, mix_columns_back, round_back, last_round_back}
 use Rattle.mc_aes.specs.State.{word, state_bytes, substitutes_of, bytes_back_of}
@@ -107,23 +108,6 @@ matrix_column_alone p q r s x0 x1 x2 x3 y0 y1 y2 y3 a b c d b' c' d' hb hc hd ea
     rw (← e0, ← e1, ← e2, ← e3, tb, tc, td)
     (columns_sum_alone a (rotate_right w32 b 8) (rotate_right w32 c 16) (rotate_right w32 d 24) _ _ _ _ ea
     (turned8 b _ _ _ _ hb eb) (turned16 c _ _ _ _ hc ec) (turned24 d _ _ _ _ hd ed))
-
--- a list by its places
-listed_from : ℕ → List ℕ → ℕ → List ℕ
-listed_from zero l i = []
-listed_from (suc n) l i = get_or l i 0 ∷ listed_from n l (suc i)
-
-listed-cons : (n : ℕ) (x : ℕ) (l : List ℕ) (i : ℕ) → listed_from n (x ∷ l) (suc i) ≡ listed_from n l i
-unfolding listed_from
-listed-cons zero x l i = refl
-listed-cons (suc n) x l i = ap (λ (t : List ℕ). get_or l i 0 ∷ t) (listed-cons n x l (suc i))
-
-listed : (n : ℕ) (l : List ℕ) → length l ≡ n → l ≡ listed_from n l 0
-unfolding listed_from
-listed zero [] h = refl
-listed zero (x ∷ l) h = absurd (cc)
-listed (suc n) [] h = absurd (cc)
-listed (suc n) (x ∷ l) h = ap (λ (t : List ℕ). x ∷ t) (listed n l (omega arith) ∙ sym (listed-cons n x l 0))
 
 -- a list of sixteen
 pub sixteen : (l : List ℕ) → length l ≡ 16 → l ≡ get_or l 0 0 ∷ get_or l 1 0 ∷ get_or l 2 0 ∷ get_or l 3 0 ∷ get_or l 4 0 ∷ get_or l 5 0 ∷ get_or l 6 0 ∷ get_or l 7 0

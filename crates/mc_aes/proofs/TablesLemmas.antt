@@ -1,10 +1,10 @@
 -- The rule of each table, from a test that is computed over the whole table.
-use Rattle.std.proofs.Common.{◌≡◌, ℕ, ◌<◌, ◌==◌, true, [], ◌∷◌, get_or, refl}
+use Rattle.std.proofs.Common.{◌≡◌, ℕ, inl, inr, ◌<◌, ◌==◌, ◌||◌, true, [], ◌∷◌, get_or, refl, arith}
 use Rattle.std.specs.Prelude.{bytes_eq}
-use Rattle.std.proofs.lemmas.Bool.{eqb-true}
+use Rattle.std.proofs.lemmas.Bool.{eqb-true, or_cases}
 use Rattle.std.proofs.lemmas.Slice.Eq.{bytes_eq-Decides}
 use Rattle.mc_model.proofs.ModesLemmas.{all_below, below_at}
-use Rattle.mc_model.specs.Aes.{mul, sub, sub_back}
+use Rattle.mc_model.specs.Aes.{mul, inverse, sub, sub_back}
 use Rattle.mc_aes.specs.State.{word}
 use Rattle.mc_aes.specs.declared.tables.TheConstants.{SUBSTITUTES, BYTES_OF_SUBSTITUTES, COLUMNS, COLUMNS_BACK}
 
@@ -35,3 +35,14 @@ columns_back_test = refl
 
 pub columns_back_at : (b : ℕ) → b < 256 → word (get_or COLUMNS_BACK b 0) ≡ mul 14 b ∷ mul 9 b ∷ mul 13 b ∷ mul 11 b ∷ []
 columns_back_at b h = (bytes_eq-Decides _ _).0 (below_at (λ b. bytes_eq (word (get_or COLUMNS_BACK b 0)) (mul 14 b ∷ mul 9 b ∷ mul 13 b ∷ mul 11 b ∷ [])) 256 columns_back_test b h)
+
+inverse_test : all_below (λ b. (b == 0) || (mul b (inverse b) == 1)) 256 ≡ true
+unfolding all_below mul inverse
+inverse_test = refl
+
+pub inverse_at : (b : ℕ) → 0 < b → b < 256 → mul b (inverse b) ≡ 1
+inverse_at b some h =
+    elim (or_cases _ _ (below_at (λ b. (b == 0) || (mul b (inverse b) == 1)) 256 inverse_test b h)) [
+      | inl none ↦ let zero : b ≡ 0 = eqb-true b 0 none in absurd (omega arith)
+      | inr one ↦ eqb-true _ _ one
+    ]

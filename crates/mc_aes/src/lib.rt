@@ -10,6 +10,9 @@ mod keys;
 mod rounds;
 mod state;
 mod tables;
+#[cfg(test)]
+mod tests;
+pub mod vectors;
 
 use cipher::{decipher_with, encipher_with};
 use keys::round_keys;

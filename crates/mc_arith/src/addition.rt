@@ -14,11 +14,9 @@ pub fn add(a: &mut [u8], b: &[u8]) -> Flags
     requires high { length a.old ≤ 16 }
     ensures { record { value = a.new; c = result.c; z = result.z } ≡ add_blocks a.old b.now }
 {
-    let carry = ripple_sum(a, b);
-    Flags {
-        c: carry,
-        z: zero(a),
-    }
+    let c = ripple_sum(a, b);
+    let z = zero(a);
+    Flags { c, z }
 }
 
 /// Adds 1 to a block of 1 to 16 bytes, modulo 256 to the power of its length. C is the carry.

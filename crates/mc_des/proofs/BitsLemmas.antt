@@ -1,13 +1,12 @@
 -- Lists of bits: sums, parts, and what a table of fours of bits picks.
-use Rattle.std.proofs.Common.{◌≡◌, ℕ, zero, suc, ◌+◌, ◌-◌, ◌*◌, ◌/◌, ◌%◌, ◌^◌, ◌<◌, ◌≤◌, List, [], ◌∷◌, ◌++◌, length, get_or, take, drop, replicate, slice_index, refl, sym, ap, ◌∙◌, arith, zero-add, length-append, append_assoc, add-one}
+use Rattle.std.proofs.Common.{◌≡◌, ℕ, zero, suc, ◌+◌, ◌-◌, ◌*◌, ◌/◌, ◌%◌, ◌^◌, ◌<◌, ◌≤◌, List, [], ◌∷◌, ◌++◌, length, get_or, refl, sym, ap, ◌∙◌, arith, zero-add, length-append, append_assoc}
 use Rattle.std.specs.Int.Bits.{bit_xor, xor_zero_r}
-use Rattle.std.proofs.Math.Nat.{div-div-eq-div-mul, zero-div, mul_comm}
+use Rattle.std.proofs.Math.Nat.{div-div-eq-div-mul}
 use Rattle.std.proofs.lemmas.Nat.{xor_shr, xor_mod, pow-add}
 use Rattle.std.proofs.lemmas.List.{length-replicate, append-nil}
 use Rattle.mc_model.specs.Bytes.{zeros}
 use Rattle.mc_model.specs.Modes.{added}
 use Rattle.mc_model.specs.Des.{bits, pick}
-use Rattle.mc_model.proofs.ModesLemmas.{length-added}
 use Rattle.mc_des.specs.Words.{alone, key_bits}
 
 -- ---- bits of numbers
@@ -68,9 +67,23 @@ eights p0 p1 p2 p3 p4 p5 p6 p7 q0 q1 q2 q3 q4 q5 q6 q7 = refl
 pub key_bits-xor : (a b : ℕ) → key_bits (bit_xor a b) ≡ added (key_bits a) (key_bits b)
 unfolding key_bits
 key_bits-xor a b =
-    rw (xor_shr a b 32, xor_shr a b 56, xor_shr a b 24, xor_shr a b 48, xor_shr a b 16, xor_shr a b 40, xor_shr a b 8,
-    bits-xor 6 (a / 2 ^ 32) (b / 2 ^ 32), bits-xor 6 a b, bits-xor 6 (a / 2 ^ 56) (b / 2 ^ 56), bits-xor 6 (a / 2 ^ 24) (b / 2 ^ 24),
-    bits-xor 6 (a / 2 ^ 48) (b / 2 ^ 48), bits-xor 6 (a / 2 ^ 16) (b / 2 ^ 16), bits-xor 6 (a / 2 ^ 40) (b / 2 ^ 40), bits-xor 6 (a / 2 ^ 8) (b / 2 ^ 8))
+    rw (
+      xor_shr a b 32,
+      xor_shr a b 56,
+      xor_shr a b 24,
+      xor_shr a b 48,
+      xor_shr a b 16,
+      xor_shr a b 40,
+      xor_shr a b 8,
+      bits-xor 6 (a / 2 ^ 32) (b / 2 ^ 32),
+      bits-xor 6 a b,
+      bits-xor 6 (a / 2 ^ 56) (b / 2 ^ 56),
+      bits-xor 6 (a / 2 ^ 24) (b / 2 ^ 24),
+      bits-xor 6 (a / 2 ^ 48) (b / 2 ^ 48),
+      bits-xor 6 (a / 2 ^ 16) (b / 2 ^ 16),
+      bits-xor 6 (a / 2 ^ 40) (b / 2 ^ 40),
+      bits-xor 6 (a / 2 ^ 8) (b / 2 ^ 8),
+    )
     (eights (a / 2 ^ 32) a (a / 2 ^ 56) (a / 2 ^ 24) (a / 2 ^ 48) (a / 2 ^ 16) (a / 2 ^ 40) (a / 2 ^ 8) (b / 2 ^ 32) b (b / 2 ^ 56) (b / 2 ^ 24) (b / 2 ^ 48) (b / 2 ^ 16) (b / 2 ^ 40) (b / 2 ^ 8))
 
 -- ---- sums of lists and of what is picked

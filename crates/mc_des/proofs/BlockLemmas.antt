@@ -41,15 +41,15 @@ number-bits (suc n) v =
 
 -- ---- bytes
 
-bytes_of-open : (n : ℕ) (l : List ℕ) → bytes_of (suc n) l ≡ number (take 8 l) ∷ bytes_of n (drop 8 l)
+pub bytes_of-open : (n : ℕ) (l : List ℕ) → bytes_of (suc n) l ≡ number (take 8 l) ∷ bytes_of n (drop 8 l)
 unfolding bytes_of
 bytes_of-open n l = refl
 
-bytes_of-none : (l : List ℕ) → bytes_of 0 l ≡ []
+pub bytes_of-none : (l : List ℕ) → bytes_of 0 l ≡ []
 unfolding bytes_of
 bytes_of-none l = refl
 
-bits_of-open : (b : ℕ) (bs : List ℕ) → bits_of (b ∷ bs) ≡ bits 8 b ++ bits_of bs
+pub bits_of-open : (b : ℕ) (bs : List ℕ) → bits_of (b ∷ bs) ≡ bits 8 b ++ bits_of bs
 unfolding bits_of
 bits_of-open b bs = refl
 
@@ -114,15 +114,15 @@ both_halves high low h l =
 
 -- ---- the rounds
 
-rounds-cons : (k : List ℕ) (ks : List (List ℕ)) (l r : List ℕ) → rounds (k ∷ ks) l r ≡ rounds ks r (added l (f r k))
+pub rounds-cons : (k : List ℕ) (ks : List (List ℕ)) (l r : List ℕ) → rounds (k ∷ ks) l r ≡ rounds ks r (added l (f r k))
 unfolding rounds
 rounds-cons k ks l r = refl
 
-rounds-none : (l r : List ℕ) → rounds [] l r ≡ (l, r)
+pub rounds-none : (l r : List ℕ) → rounds [] l r ≡ (l, r)
 unfolding rounds
 rounds-none l r = refl
 
-with_keys-open : (ks : List (List ℕ)) (block : List ℕ) → let halves = rounds ks (take 32 (pick initial block)) (drop 32 (pick initial block)) in
+pub with_keys-open : (ks : List (List ℕ)) (block : List ℕ) → let halves = rounds ks (take 32 (pick initial block)) (drop 32 (pick initial block)) in
     with_keys ks block ≡ pick final (halves.1 ++ halves.0)
 unfolding with_keys
 with_keys-open ks block = refl

@@ -1,5 +1,5 @@
 -- The cipher function on words.
-use Rattle.std.proofs.Common.{◌≡◌, ℕ, zero, suc, ◌+◌, ◌-◌, ◌*◌, ◌/◌, ◌%◌, ◌^◌, ◌<◌, ◌≤◌, List, [], ◌∷◌, ◌++◌, length, get_or, take, drop, refl, sym, ap, ◌∙◌, arith, zero-add, add-zero, length-append, append_assoc}
+use Rattle.std.proofs.Common.{◌≡◌, ℕ, ◌+◌, ◌-◌, ◌*◌, ◌/◌, ◌%◌, ◌^◌, ◌<◌, List, [], ◌∷◌, ◌++◌, length, get_or, take, drop, refl, sym, ap, ◌∙◌, arith, zero-add, add-zero, length-append, append_assoc}
 use Rattle.std.specs.Prelude.{bit_or, bit_and}
 use Rattle.std.specs.Int.{w32, rotate_left}
 use Rattle.std.specs.Int.Bits.{bit_xor, or_zero_r}
@@ -12,7 +12,7 @@ use Rattle.mc_model.specs.Modes.{added}
 use Rattle.mc_model.specs.Des.{bits, pick, f, through, box_at, boxes, expansion, permutation}
 use Rattle.mc_model.proofs.ModesLemmas.{length-added}
 use Rattle.mc_des.specs.Words.{key_bits, box_alone}
-use Rattle.mc_des.proofs.BitsLemmas.{bits-xor, bits6-mod, length-bits, pick_step}
+use Rattle.mc_des.proofs.BitsLemmas.{bits-xor, bits6-mod, pick_step}
 
 -- ---- the half, turned
 
@@ -234,7 +234,7 @@ boxes_sum v0 v1 v2 v3 v4 v5 v6 v7 x0 x1 x2 x3 x4 x5 x6 x7 e0 e1 e2 e3 e4 e5 e6 e
 regrouped : (a b c d e f g h : List ℕ) → (((((((a) ++ b) ++ c) ++ d) ++ e) ++ f) ++ g) ++ h ≡ a ++ (b ++ (c ++ (d ++ (e ++ (f ++ (g ++ (h ++ [])))))))
 regrouped a b c d e f g h = simp (append_assoc, append-nil)
 
-f-open : (r k : List ℕ) → f r k ≡ pick permutation (through boxes (added (pick expansion r) k))
+pub f-open : (r k : List ℕ) → f r k ≡ pick permutation (through boxes (added (pick expansion r) k))
 unfolding f
 f-open r k = refl
 

@@ -4,3 +4,4 @@ pub mod CipherFunction
 pub mod BlockLemmas
 pub mod ScheduleLemmas
 pub mod DesLemmas
+pub mod LawsLemmas

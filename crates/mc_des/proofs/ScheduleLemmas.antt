@@ -1,11 +1,11 @@
 -- The key schedule on words.
-use Rattle.std.proofs.Common.{◌≡◌, ◌⊎◌, inl, inr, ℕ, zero, suc, ◌+◌, ◌-◌, ◌*◌, ◌/◌, ◌%◌, ◌^◌, ◌<◌, ◌≤◌, ◌==◌, ◌||◌, true, List, [], ◌∷◌, ◌++◌, length, get_or, set, take, drop, map, refl, sym, ap, ◌∙◌, arith, add-one, drop-cons, append_assoc, subst}
+use Rattle.std.proofs.Common.{◌≡◌, ◌⊎◌, inl, inr, ℕ, suc, ◌+◌, ◌-◌, ◌*◌, ◌/◌, ◌%◌, ◌^◌, ◌<◌, ◌≤◌, ◌==◌, ◌||◌, true, List, [], ◌∷◌, ◌++◌, length, get_or, set, take, drop, map, refl, sym, ap, ◌∙◌, arith, add-one, drop-cons, append_assoc, subst}
 use Rattle.std.specs.Prelude.{bit_or, bit_and, slice_index}
 use Rattle.std.specs.Int.{w64, to_be_bytes}
 use Rattle.std.proofs.Math.Seq.{take-suc-set}
 use Rattle.std.proofs.lemmas.Nat.{and_mask}
 use Rattle.std.proofs.lemmas.Bool.{eqb-true, or_cases}
-use Rattle.std.proofs.lemmas.List.{take_at, drop_at, drop_all, take_all, map-append, length-set, append-nil}
+use Rattle.std.proofs.lemmas.List.{take_at, drop_at, drop_all, take_all, map-append, append-nil}
 use Rattle.mc_model.proofs.ModesLemmas.{all_below, below_at}
 use Rattle.mc_model.specs.Des.{bits, bits_of, pick, turn, choice1, choice2, shifts, schedule, round_keys}
 use Rattle.mc_des.specs.Words.{key_bits}

@@ -1,5 +1,5 @@
 -- How words of the code stand for lists of bits.
-use Rattle.std.specs.Prelude.{ℕ, ◌+◌, ◌-◌, ◌*◌, ◌/◌, ◌^◌, List, [], ◌++◌, slice_index_or}
+use Rattle.std.specs.Prelude.{ℕ, ◌-◌, ◌*◌, ◌/◌, ◌^◌, List, [], ◌++◌, slice_index_or}
 use Rattle.mc_model.specs.Bytes.{zeros}
 use Rattle.mc_model.specs.Des.{bits, box_at, boxes}
 

@@ -7,9 +7,13 @@ ghost use Rattle.mc_model.specs.Des.{des_encipher, des_decipher, tdes_encipher, 
 
 mod block;
 mod keys;
+pub mod laws;
 mod permute;
 mod rounds;
 mod tables;
+#[cfg(test)]
+mod tests;
+pub mod vectors;
 
 use block::{reversed, thrice, word};
 use keys::round_keys;

@@ -72,11 +72,11 @@ fn put_operands(bytes: &mut ArrayVec<u8, 6>, operands: Operands)
             put_arguments(bytes, set, args);
         }
         Operands::Address { tag, off } => put_offset(bytes, tag, off),
-        Operands::WithByte { tag, off, byte } => {
+        Operands::WithByte(tag, off, byte) => {
             bytes.push(byte);
             put_offset(bytes, tag, off);
         }
-        Operands::WithWord { tag, off, word } => {
+        Operands::WithWord(tag, off, word) => {
             put_word(bytes, word);
             put_offset(bytes, tag, off);
         }

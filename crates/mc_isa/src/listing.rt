@@ -183,12 +183,12 @@ fn put_operands(line: &mut Line, operands: Operands)
             put_arguments(line, &args[..set as usize]);
         }
         Operands::Address { tag, off } => put_address_alone(line, tag, off),
-        Operands::WithByte { tag, off, byte } => {
+        Operands::WithByte(tag, off, byte) => {
             put(line, b" ");
             put_address_before(line, tag, off);
             put_byte(line, byte);
         }
-        Operands::WithWord { tag, off, word } => {
+        Operands::WithWord(tag, off, word) => {
             put(line, b" ");
             put_address_before(line, tag, off);
             put_word(line, word);

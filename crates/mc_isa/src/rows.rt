@@ -4,6 +4,9 @@ ghost use Rattle.mc_model.specs.Code.{Shaped, spell};
 ghost use Rattle.mc_model.specs.Listing.{text_of};
 ghost use Rattle.mc_isa.specs.Rows.{operand_bytes, line_of, InRange};
 
+use Operands::{
+    Address, Byte, Bytes, Near, Plain, Primitive, Target, WithByte, WithWord, Word, Words,
+};
 use mc_model::Ins;
 
 /// The operands of an instruction by their shape. A tag of 0 has no offset, and a condition of 0 no address.
@@ -18,8 +21,10 @@ pub enum Operands {
     Target { cond: u8, to: u16 },
     Primitive { set: u8, number: u8, args: [u8; 3] },
     Address { tag: u8, off: i16 },
-    WithByte { tag: u8, off: i16, byte: u8 },
-    WithWord { tag: u8, off: i16, word: u16 },
+    /// A tag, an offset and a byte.
+    WithByte(u8, i16, u8),
+    /// A tag, an offset and a word.
+    WithWord(u8, i16, u16),
 }
 
 /// What the table has of an instruction: its name, its byte, and its operands in their order.
@@ -28,6 +33,17 @@ pub struct Row {
     pub name: &'static str,
     pub byte: u8,
     pub operands: Operands,
+}
+
+// A row on one line.
+macro_rules! row {
+    ($name:literal, $byte:expr, $operands:expr) => {
+        Row {
+            name: $name,
+            byte: $byte,
+            operands: $operands,
+        }
+    };
 }
 
 /// The row of an instruction whose fields are in their ranges.
@@ -39,244 +55,56 @@ pub fn row_of(ins: &Ins) -> Row
     ensures range { InRange result.operands }
 {
     match *ins {
-        Ins::Nop => Row {
-            name: "NOP",
-            byte: 0x00,
-            operands: Operands::Plain,
-        },
-        Ins::Setsw { sw } => Row {
-            name: "SETSW",
-            byte: 0x01,
-            operands: Operands::Word(sw),
-        },
-        Ins::Setla { la } => Row {
-            name: "SETLA",
-            byte: 0x02,
-            operands: Operands::Word(la),
-        },
-        Ins::Setswla { sw, la } => Row {
-            name: "SETSWLA",
-            byte: 0x03,
-            operands: Operands::Words(sw, la),
-        },
-        Ins::Exit => Row {
-            name: "EXIT",
-            byte: 0x04,
-            operands: Operands::Plain,
-        },
-        Ins::Exitsw { sw } => Row {
-            name: "EXITSW",
-            byte: 0x05,
-            operands: Operands::Word(sw),
-        },
-        Ins::Exitla { la } => Row {
-            name: "EXITLA",
-            byte: 0x06,
-            operands: Operands::Word(la),
-        },
-        Ins::Exitswla { sw, la } => Row {
-            name: "EXITSWLA",
-            byte: 0x07,
-            operands: Operands::Words(sw, la),
-        },
-        Ins::Branch { cond, d } => Row {
-            name: "BRANCH",
-            byte: 0x01 * 8 + cond,
-            operands: Operands::Near { cond, d },
-        },
-        Ins::Jump { cond, to } => Row {
-            name: "JUMP",
-            byte: 0x02 * 8 + cond,
-            operands: Operands::Target { cond, to },
-        },
-        Ins::Call { cond, to } => Row {
-            name: "CALL",
-            byte: 0x03 * 8 + cond,
-            operands: Operands::Target { cond, to },
-        },
-        Ins::Pushz { n } => Row {
-            name: "PUSHZ",
-            byte: 0x20,
-            operands: Operands::Byte(n),
-        },
-        Ins::Pushb { b } => Row {
-            name: "PUSHB",
-            byte: 0x21,
-            operands: Operands::Byte(b),
-        },
-        Ins::Pushw { w } => Row {
-            name: "PUSHW",
-            byte: 0x22,
-            operands: Operands::Word(w),
-        },
-        Ins::Popn { n } => Row {
-            name: "POPN",
-            byte: 0x24,
-            operands: Operands::Byte(n),
-        },
-        Ins::Popb => Row {
-            name: "POPB",
-            byte: 0x25,
-            operands: Operands::Plain,
-        },
-        Ins::Popw => Row {
-            name: "POPW",
-            byte: 0x26,
-            operands: Operands::Plain,
-        },
-        Ins::Prim { set, number, args } => Row {
-            name: "PRIM",
-            byte: 0x05 * 8 + set,
-            operands: Operands::Primitive { set, number, args },
-        },
-        Ins::Ret => Row {
-            name: "RET",
-            byte: 0x2C,
-            operands: Operands::Plain,
-        },
-        Ins::Reti { i } => Row {
-            name: "RETI",
-            byte: 0x2D,
-            operands: Operands::Byte(i),
-        },
-        Ins::Reto { o } => Row {
-            name: "RETO",
-            byte: 0x2E,
-            operands: Operands::Byte(o),
-        },
-        Ins::Retio { i, o } => Row {
-            name: "RETIO",
-            byte: 0x2F,
-            operands: Operands::Bytes(i, o),
-        },
-        Ins::Load { tag, off, n } => Row {
-            name: "LOAD",
-            byte: 0x07 * 8 + tag,
-            operands: Operands::WithByte { tag, off, byte: n },
-        },
-        Ins::Store { tag, off, n } => Row {
-            name: "STORE",
-            byte: 0x08 * 8 + tag,
-            operands: Operands::WithByte { tag, off, byte: n },
-        },
-        Ins::Loadi { tag, off, n } => Row {
-            name: "LOADI",
-            byte: 0x09 * 8 + tag,
-            operands: Operands::WithByte { tag, off, byte: n },
-        },
-        Ins::Storei { tag, off, n } => Row {
-            name: "STOREI",
-            byte: 0x0A * 8 + tag,
-            operands: Operands::WithByte { tag, off, byte: n },
-        },
-        Ins::Loada { tag, off } => Row {
-            name: "LOADA",
-            byte: 0x0B * 8 + tag,
-            operands: Operands::Address { tag, off },
-        },
-        Ins::Index { tag, off, size } => Row {
-            name: "INDEX",
-            byte: 0x0C * 8 + tag,
-            operands: Operands::WithByte {
-                tag,
-                off,
-                byte: size,
-            },
-        },
-        Ins::Setb { tag, off, b } => Row {
-            name: "SETB",
-            byte: 0x0D * 8 + tag,
-            operands: Operands::WithByte { tag, off, byte: b },
-        },
-        Ins::Cmpb { tag, off, b } => Row {
-            name: "CMPB",
-            byte: 0x0E * 8 + tag,
-            operands: Operands::WithByte { tag, off, byte: b },
-        },
-        Ins::Addb { tag, off, b } => Row {
-            name: "ADDB",
-            byte: 0x0F * 8 + tag,
-            operands: Operands::WithByte { tag, off, byte: b },
-        },
-        Ins::Subb { tag, off, b } => Row {
-            name: "SUBB",
-            byte: 0x10 * 8 + tag,
-            operands: Operands::WithByte { tag, off, byte: b },
-        },
-        Ins::Setw { tag, off, w } => Row {
-            name: "SETW",
-            byte: 0x11 * 8 + tag,
-            operands: Operands::WithWord { tag, off, word: w },
-        },
-        Ins::Cmpw { tag, off, w } => Row {
-            name: "CMPW",
-            byte: 0x12 * 8 + tag,
-            operands: Operands::WithWord { tag, off, word: w },
-        },
-        Ins::Addw { tag, off, w } => Row {
-            name: "ADDW",
-            byte: 0x13 * 8 + tag,
-            operands: Operands::WithWord { tag, off, word: w },
-        },
-        Ins::Subw { tag, off, w } => Row {
-            name: "SUBW",
-            byte: 0x14 * 8 + tag,
-            operands: Operands::WithWord { tag, off, word: w },
-        },
-        Ins::Clearn { tag, off, n } => Row {
-            name: "CLEARN",
-            byte: 0x15 * 8 + tag,
-            operands: Operands::WithByte { tag, off, byte: n },
-        },
-        Ins::Testn { tag, off, n } => Row {
-            name: "TESTN",
-            byte: 0x16 * 8 + tag,
-            operands: Operands::WithByte { tag, off, byte: n },
-        },
-        Ins::Incn { tag, off, n } => Row {
-            name: "INCN",
-            byte: 0x17 * 8 + tag,
-            operands: Operands::WithByte { tag, off, byte: n },
-        },
-        Ins::Decn { tag, off, n } => Row {
-            name: "DECN",
-            byte: 0x18 * 8 + tag,
-            operands: Operands::WithByte { tag, off, byte: n },
-        },
-        Ins::Notn { tag, off, n } => Row {
-            name: "NOTN",
-            byte: 0x19 * 8 + tag,
-            operands: Operands::WithByte { tag, off, byte: n },
-        },
-        Ins::Cmpn { tag, off, n } => Row {
-            name: "CMPN",
-            byte: 0x1A * 8 + tag,
-            operands: Operands::WithByte { tag, off, byte: n },
-        },
-        Ins::Addn { tag, off, n } => Row {
-            name: "ADDN",
-            byte: 0x1B * 8 + tag,
-            operands: Operands::WithByte { tag, off, byte: n },
-        },
-        Ins::Subn { tag, off, n } => Row {
-            name: "SUBN",
-            byte: 0x1C * 8 + tag,
-            operands: Operands::WithByte { tag, off, byte: n },
-        },
-        Ins::Andn { tag, off, n } => Row {
-            name: "ANDN",
-            byte: 0x1D * 8 + tag,
-            operands: Operands::WithByte { tag, off, byte: n },
-        },
-        Ins::Orn { tag, off, n } => Row {
-            name: "ORN",
-            byte: 0x1E * 8 + tag,
-            operands: Operands::WithByte { tag, off, byte: n },
-        },
-        Ins::Xorn { tag, off, n } => Row {
-            name: "XORN",
-            byte: 0x1F * 8 + tag,
-            operands: Operands::WithByte { tag, off, byte: n },
-        },
+        Ins::Nop => row!("NOP", 0x00, Plain),
+        Ins::Setsw { sw } => row!("SETSW", 0x01, Word(sw)),
+        Ins::Setla { la } => row!("SETLA", 0x02, Word(la)),
+        Ins::Setswla { sw, la } => row!("SETSWLA", 0x03, Words(sw, la)),
+        Ins::Exit => row!("EXIT", 0x04, Plain),
+        Ins::Exitsw { sw } => row!("EXITSW", 0x05, Word(sw)),
+        Ins::Exitla { la } => row!("EXITLA", 0x06, Word(la)),
+        Ins::Exitswla { sw, la } => row!("EXITSWLA", 0x07, Words(sw, la)),
+        Ins::Branch { cond, d } => row!("BRANCH", 0x01 * 8 + cond, Near { cond, d }),
+        Ins::Jump { cond, to } => row!("JUMP", 0x02 * 8 + cond, Target { cond, to }),
+        Ins::Call { cond, to } => row!("CALL", 0x03 * 8 + cond, Target { cond, to }),
+        Ins::Pushz { n } => row!("PUSHZ", 0x20, Byte(n)),
+        Ins::Pushb { b } => row!("PUSHB", 0x21, Byte(b)),
+        Ins::Pushw { w } => row!("PUSHW", 0x22, Word(w)),
+        Ins::Popn { n } => row!("POPN", 0x24, Byte(n)),
+        Ins::Popb => row!("POPB", 0x25, Plain),
+        Ins::Popw => row!("POPW", 0x26, Plain),
+        Ins::Prim { set, number, args } => row!(
+            "PRIM",
+            0x05 * 8 + set,
+            Primitive { set, number, args }
+        ),
+        Ins::Ret => row!("RET", 0x2C, Plain),
+        Ins::Reti { i } => row!("RETI", 0x2D, Byte(i)),
+        Ins::Reto { o } => row!("RETO", 0x2E, Byte(o)),
+        Ins::Retio { i, o } => row!("RETIO", 0x2F, Bytes(i, o)),
+        Ins::Load { tag, off, n } => row!("LOAD", 0x07 * 8 + tag, WithByte(tag, off, n)),
+        Ins::Store { tag, off, n } => row!("STORE", 0x08 * 8 + tag, WithByte(tag, off, n)),
+        Ins::Loadi { tag, off, n } => row!("LOADI", 0x09 * 8 + tag, WithByte(tag, off, n)),
+        Ins::Storei { tag, off, n } => row!("STOREI", 0x0A * 8 + tag, WithByte(tag, off, n)),
+        Ins::Loada { tag, off } => row!("LOADA", 0x0B * 8 + tag, Address { tag, off }),
+        Ins::Index { tag, off, size } => row!("INDEX", 0x0C * 8 + tag, WithByte(tag, off, size)),
+        Ins::Setb { tag, off, b } => row!("SETB", 0x0D * 8 + tag, WithByte(tag, off, b)),
+        Ins::Cmpb { tag, off, b } => row!("CMPB", 0x0E * 8 + tag, WithByte(tag, off, b)),
+        Ins::Addb { tag, off, b } => row!("ADDB", 0x0F * 8 + tag, WithByte(tag, off, b)),
+        Ins::Subb { tag, off, b } => row!("SUBB", 0x10 * 8 + tag, WithByte(tag, off, b)),
+        Ins::Setw { tag, off, w } => row!("SETW", 0x11 * 8 + tag, WithWord(tag, off, w)),
+        Ins::Cmpw { tag, off, w } => row!("CMPW", 0x12 * 8 + tag, WithWord(tag, off, w)),
+        Ins::Addw { tag, off, w } => row!("ADDW", 0x13 * 8 + tag, WithWord(tag, off, w)),
+        Ins::Subw { tag, off, w } => row!("SUBW", 0x14 * 8 + tag, WithWord(tag, off, w)),
+        Ins::Clearn { tag, off, n } => row!("CLEARN", 0x15 * 8 + tag, WithByte(tag, off, n)),
+        Ins::Testn { tag, off, n } => row!("TESTN", 0x16 * 8 + tag, WithByte(tag, off, n)),
+        Ins::Incn { tag, off, n } => row!("INCN", 0x17 * 8 + tag, WithByte(tag, off, n)),
+        Ins::Decn { tag, off, n } => row!("DECN", 0x18 * 8 + tag, WithByte(tag, off, n)),
+        Ins::Notn { tag, off, n } => row!("NOTN", 0x19 * 8 + tag, WithByte(tag, off, n)),
+        Ins::Cmpn { tag, off, n } => row!("CMPN", 0x1A * 8 + tag, WithByte(tag, off, n)),
+        Ins::Addn { tag, off, n } => row!("ADDN", 0x1B * 8 + tag, WithByte(tag, off, n)),
+        Ins::Subn { tag, off, n } => row!("SUBN", 0x1C * 8 + tag, WithByte(tag, off, n)),
+        Ins::Andn { tag, off, n } => row!("ANDN", 0x1D * 8 + tag, WithByte(tag, off, n)),
+        Ins::Orn { tag, off, n } => row!("ORN", 0x1E * 8 + tag, WithByte(tag, off, n)),
+        Ins::Xorn { tag, off, n } => row!("XORN", 0x1F * 8 + tag, WithByte(tag, off, n)),
     }
 }

@@ -4,7 +4,7 @@ use Rattle.mc_model.specs.declared.device.Stop.{Stop}
 use Rattle.mc_model.specs.Orders.{Answer, InOrder}
 use Rattle.mc_model.specs.Device.{DeviceState, Wrote, Makes, Ended}
 use Rattle.mc_model.specs.Image.{Journal, gate, shut, word_at, is_open, laid, Look, Refused, Closed, Pending, look_j, replayed, after_j, Words}
-use Rattle.mc_model.specs.Stopped.{cost, entries, writes, replay, numbered, IsAtomic, Stands, Leaves, Resumes, remains, owes, stood, stands, WriteEnds, WriteStands, WriteTorn, Outcome, Recovered, Interrupted, BadAt, ReplayDone, ReplayTorn, RecoverEnds}
+use Rattle.mc_model.specs.Stopped.{cost, entries, writes, replay, numbered, IsAtomic, Stands, Leaves, Resumes, remains, owes, stood, stands, WriteEnds, WriteStands, WriteTorn, Outcome, Recovered, Interrupted, BadAt, Follows, outcome_answer, owed_writes, ReplayDone, ReplayTorn, RecoverEnds}
 use Rattle.mc_model.proofs.DeviceLemmas.{DoneAll, StoppedAt, makes-done, makes-stopped}
 use Rattle.mc_model.proofs.GeometryLemmas.{Geometry, geometry}
 use Rattle.mc_model.proofs.LookLemmas.{GoodPending, good-pending}
@@ -57,3 +57,24 @@ module _ {D : Type 0} (state : D → DeviceState) (wrote : D → ℕ → List �
         after = ap (λ (l : Look). replayed (state d).words l) pending;
         resumes = subst (λ (n : List (List ℕ)). Resumes j n (remains j (length ps) all.k all.x) (laid (state d).words (replay j ps))) (sym all.words) (resume j (state d).words ps low pending all.k all.x all.low few);
         ended = all.ended; tape = all.tape }
+
+  pending-ends : (j k : Journal) (ps : List (ℕ × List ℕ)) (d e : D) (o : Outcome) → 256 ≤ length (state d).words → (state d).on ≡ true → look_j j (state d).words ≡ Pending k ps
+      → look_j j (state d).words ≡ Pending j ps → length ps ≤ 64 → Follows (Pending k ps) o → Makes wrote d (replay j ps) (outcome_answer o) e → RecoverEnds j (Pending k ps) (state d) o (state e)
+  pending-ends j k ps d e (Recovered n) low on found pending few follows made = (follows, omega (arith, follows), replay-done j ps d e low on pending made)
+  pending-ends j k ps d e (Interrupted s) low on found pending few follows made = (few, replay-torn j ps d e s low on pending made)
+  pending-ends j k ps d e (BadAt p) low on found pending few follows made = follows
+
+  closed-ends : (j : Journal) (l : Look) (d e : D) (o p : Outcome) → o ≡ p → outcome_answer p ≡ Ok tt → Makes wrote d [] (outcome_answer o) e → (o ≡ p) × (state e ≡ state d)
+  closed-ends j l d e o p is answer made =
+      let same : e ≡ d = subst (λ (a : Answer). Makes wrote d [] a e) (ap outcome_answer is ∙ answer) made in
+      (is, ap state same)
+
+  -- a recovery by what its look found
+  pub recover-ends : (j : Journal) (l : Look) (d e : D) (o : Outcome) → 256 ≤ length (state d).words → (state d).on ≡ true → look_j j (state d).words ≡ l
+      → Follows l o → Makes wrote d (owed_writes l) (outcome_answer o) e → RecoverEnds j l (state d) o (state e)
+  recover-ends j (Refused p) d e o low on found follows made = closed-ends j (Refused p) d e o (BadAt p) follows refl made
+  recover-ends j Closed d e o low on found follows made = closed-ends j Closed d e o (Recovered 0) follows refl made
+  recover-ends j (Pending k ps) d e o low on found follows made =
+      let good : GoodPending j k (state d).words ps = good-pending j k (state d).words ps found in
+      let pending : look_j j (state d).words ≡ Pending j ps = found ∙ ap (λ (i : Journal). Pending i ps) good.same in
+      pending-ends j k ps d e o low on found pending good.few follows (subst (λ (i : Journal). Makes wrote d (replay i ps) (outcome_answer o) e) good.same made)

@@ -8,3 +8,4 @@ pub mod GeometryLemmas
 pub mod StoppedLemmas
 pub mod RecoveryLemmas
 pub mod CallLemmas
+pub mod LoopLemmas

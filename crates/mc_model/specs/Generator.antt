@@ -1,9 +1,12 @@
 -- The deck that a number generates, and the summary of its play.
 -- This project's profile.
-use Rattle.std.specs.Prelude.{ℕ, zero, suc, ◌+◌, ◌*◌, ◌/◌, ◌%◌, ◌^◌, cond, nat_lt, ◌==◌, List, [], ◌∷◌, ◌++◌}
+use Rattle.std.specs.Prelude.{ℕ, zero, suc, ◌+◌, ◌*◌, ◌/◌, ◌%◌, ◌^◌, Bool, true, false, cond, nat_lt, ◌==◌, List, [], ◌∷◌, ◌++◌, length, filter, filter_map, flat_map, codes, decimal}
 use Rattle.mc_model.specs.Bytes.{bytes, zeros}
 use Rattle.mc_model.specs.Units.{UnitParts}
 use Rattle.mc_model.specs.Text.{numbered}
+use Rattle.mc_model.specs.Chain.{Reply, Abended}
+use Rattle.mc_model.specs.Play.{Step, LineResult, Ready, OffAt, WornStop, NoCard, Answered}
+use Rattle.mc_model.specs.Transcript.{shown}
 use Rattle.mc_model.specs.DeckGrammar.{DeckLine, Format, Power, Named, Load, Select, Delete, Dump, Apdu, Cut, made_unit}
 
 -- ---- draws
@@ -99,3 +102,51 @@ closing = Power ∷ Dump counter_aid ∷ Dump purse_aid ∷ Dump relay_aid ∷ [
 -- the numbered lines of the deck that n generates
 unfoldable pub generated : ℕ → List (ℕ × DeckLine)
 generated n = numbered 1 (opening ++ turns 4000 n ++ closing)
+
+-- ---- the summary of a play
+
+abbrev pub is_reply : LineResult → Bool
+is_reply (Answered (Reply body sw)) = true
+is_reply WornStop = true
+is_reply _ = false
+
+abbrev pub is_abend : LineResult → Bool
+is_abend (Answered (Abended cause)) = true
+is_abend _ = false
+
+abbrev pub is_cut : LineResult → Bool
+is_cut (OffAt k) = true
+is_cut _ = false
+
+abbrev pub is_off : LineResult → Bool
+is_off NoCard = true
+is_off _ = false
+
+abbrev pub is_ready : LineResult → Bool
+is_ready (Ready n) = true
+is_ready _ = false
+
+-- the results of the lines that answer
+abbrev pub results : List Step → List LineResult
+results ts = filter_map (λ t. t.result) ts
+
+-- how many results pass a test
+abbrev pub count : (LineResult → Bool) → List LineResult → ℕ
+count test rs = length (filter test rs)
+
+abbrev pub is_dump : DeckLine → Bool
+is_dump (Dump aid) = true
+is_dump _ = false
+
+-- the results of the `dump` lines, a line each
+abbrev pub dump_lines : List Step → List ℕ
+dump_lines ts = flat_map (λ r. shown r ++ codes "\n") (results (filter (λ t. is_dump t.line) ts))
+
+-- how many lines a play answers, replies, abends, cuts, lines without a card and power-ups
+abbrev pub count_line : List LineResult → List ℕ
+count_line rs =
+    codes "lines " ++ decimal (length rs) ++ codes " replies " ++ decimal (count is_reply rs) ++ codes " abends " ++ decimal (count is_abend rs)
+    ++ codes " cuts " ++ decimal (count is_cut rs) ++ codes " offs " ++ decimal (count is_off rs) ++ codes " readies " ++ decimal (count is_ready rs) ++ codes "\n"
+
+unfoldable pub summary : List Step → List ℕ
+summary ts = count_line (results ts) ++ dump_lines ts

@@ -1,6 +1,6 @@
 -- Blocks added to each other, block by block through a cipher, and in a chain.
 -- FIPS 81 (DES modes of operation), and NIST SP 800-38A.
-use Rattle.std.specs.Prelude.{ℕ, zero, suc, ◌/◌, List, [], ◌∷◌, ◌++◌, length, take, drop, bit_xor}
+use Rattle.std.specs.Prelude.{◌≡◌, ℕ, zero, suc, ◌/◌, ◌<◌, List, [], ◌∷◌, ◌++◌, length, take, drop, bit_xor}
 
 -- two lists added place by place, bit by bit
 abbrev pub added : List ℕ → List ℕ → List ℕ
@@ -30,3 +30,13 @@ ecb cipher size message = each cipher (blocks_of (length message / size) size me
 -- the last block of CBC over a message of whole blocks, from a start block
 abbrev pub cbc_last : (List ℕ → List ℕ) → ℕ → List ℕ → List ℕ → List ℕ
 cbc_last cipher size start message = chained cipher start (blocks_of (length message / size) size message)
+
+-- whether each number of a list is below m
+abbrev pub AllBelow : ℕ → List ℕ → Type 0
+AllBelow m [] = Unit {0}
+AllBelow m (x ∷ xs) = (x < m) × AllBelow m xs
+
+-- a list of n bytes
+pub record IsBlock (n : ℕ) (l : List ℕ) : Type 0 where
+  pub size : length l ≡ n
+  pub bytes : AllBelow 256 l

@@ -1,6 +1,6 @@
 -- Pieces of bytes that are laid over a list, in order.
 -- This project's profile.
-use Rattle.std.specs.Prelude.{◌≡◌, ◌<◌, ◌≤◌, ◌*◌, ◌++◌, take, map, IfSome, slice_index, length, Some, ℕ, ◌+◌, ◌-◌, cond, nat_lt, nat_le, ◌==◌, List, [], ◌∷◌, slice_get, Option, None}
+use Rattle.std.specs.Prelude.{◌≡◌, ◌<◌, ◌≤◌, ◌*◌, ◌++◌, take, map, IfSome, slice_index, length, Some, is_none, zero, suc, ℕ, ◌+◌, ◌-◌, cond, nat_lt, nat_le, ◌==◌, List, [], ◌∷◌, slice_get, Option, None}
 use Rattle.std.specs.List.{AllByRecursion}
 use Rattle.mc_model.specs.Bytes.{down, splice, or_else}
 
@@ -56,6 +56,11 @@ pending_at (w ∷ ws) n = cond (w.0 == n) (Some w.1) (pending_at ws n)
 abbrev pub put_word : ℕ → List ℕ → List (ℕ × List ℕ) → List (ℕ × List ℕ)
 put_word n b [] = (n, b) ∷ []
 put_word n b (w ∷ ws) = cond (w.0 == n) ((n, b) ∷ ws) (cond (nat_lt n w.0) ((n, b) ∷ w ∷ ws) (w ∷ put_word n b ws))
+
+-- how many numbers, of so many from n on, have no pending word
+abbrev pub not_pending : ℕ → ℕ → List (ℕ × List ℕ) → ℕ
+not_pending n zero ws = 0
+not_pending n (suc count) ws = cond (is_none (pending_at ws n)) 1 0 + not_pending (n + 1) count ws
 
 -- words as pieces, each at eight times its number
 abbrev pub word_pieces : List (ℕ × List ℕ) → List (ℕ × List ℕ)

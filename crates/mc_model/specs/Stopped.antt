@@ -165,6 +165,14 @@ owed_writes (Refused p) = []
 owed_writes Closed = []
 owed_writes (Pending j ps) = replay j ps
 
+-- the outcomes that a look allows
+abbrev pub Follows : Look → Outcome → Type 0
+Follows (Refused p) o = o ≡ BadAt p
+Follows Closed o = o ≡ Recovered 0
+Follows (Pending j ps) (Recovered n) = n ≡ length ps + 1
+Follows (Pending j ps) (Interrupted s) = Unit {0}
+Follows (Pending j ps) (BadAt p) = ⊥
+
 -- a recovery that was done: the image after the replay, its gate shut
 pub record ReplayDone (j : Journal) (d : DeviceState) (ps : List (ℕ × List ℕ)) (e : DeviceState) : Type 0 where
   pub after : after_j j d.words ≡ Words e.words

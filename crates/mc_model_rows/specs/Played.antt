@@ -1,6 +1,6 @@
 -- The text that a deck's text writes when it is played on a blank device.
 -- This project's profile.
-use Rattle.std.specs.Prelude.{ℕ, List, [], ◌++◌, replicate, codes, Result, Ok, Err}
+use Rattle.std.specs.Prelude.{ℕ, List, [], ◌++◌, replicate, codes, Result, Ok, Err, ◌∷◌, zero, suc, map, flat_map, decimal, Option}
 use Rattle.std.specs.Fmt.{digits}
 use Rattle.sha1.specs.Sha1.{sha1, digest_bytes, hash_after, compress, rounds, schedule, first_words}
 use Rattle.mc_model.specs.declared.deck.DeckCause.{DeckCause}
@@ -11,17 +11,18 @@ use Rattle.mc_model.specs.Pieces.{touched}
 use Rattle.mc_model.specs.Des.{des_encipher, des_decipher, tdes_encipher, tdes_decipher, des_signature, tdes_signature}
 use Rattle.mc_model.specs.Aes.{aes_encipher, aes_decipher, aes_signature}
 use Rattle.mc_model.specs.Image.{targets_1, targets_2, pairs}
-use Rattle.mc_model.specs.Card.{blocks_from, apps_of}
-use Rattle.mc_model.specs.Layout.{layout, step_of, bad_block, bad_record}
+use Rattle.mc_model.specs.Card.{Card, blocks_from, apps_of}
+use Rattle.mc_model.specs.Layout.{layout, step_of, bad_block, bad_record, gaps, first_fitting}
 use Rattle.mc_model.specs.Frame.{bytes_at, written, too_many}
 use Rattle.mc_model.specs.Primitives.{later_causes, prim_effect}
 use Rattle.mc_model.specs.Row.{causes, effect, row}
 use Rattle.mc_model.specs.Chain.{acted, ran}
 use Rattle.mc_model.specs.Manager.{manage}
-use Rattle.mc_model.specs.Play.{State, Step, start, command, send, warmed, step, plays, moves_of, steady_worn}
+use Rattle.mc_model.specs.Play.{State, Step, start, command, send, warmed, step, plays, moves_of, steady_worn, Cold, Hot, Base, OnCard, AtFault, last_state}
 use Rattle.mc_model.specs.Transcript.{hex_text, transcript}
 use Rattle.mc_model.specs.TraceText.{turn_line, traced}
 use Rattle.mc_model.specs.DeckGrammar.{DeckLine, deck_read}
+use Rattle.mc_model.specs.Generator.{summary}
 use Rattle.mc_model_rows.specs.Written.{hex}
 
 -- the line `unit NAME HEX` of a made unit, from its name, and its AID, code and data in hexadecimal
@@ -59,3 +60,46 @@ played_on size text = transcript_of (blank_words size) (deck_read text)
 unfoldable pub trace : List ℕ → Result (List ℕ) (ℕ × DeckCause)
 unfolding deck_read steps_on traced turn_line digits
 trace text = trace_of (blank_words 8192) (deck_read text)
+
+-- the summary of a deck's text
+abbrev pub summary_in : List (List ℕ) → Result (List (ℕ × DeckLine)) (ℕ × DeckCause) → Result (List ℕ) (ℕ × DeckCause)
+summary_in words (Ok ls) = Ok (summary (steps_on words ls))
+summary_in words (Err e) = Err e
+
+unfoldable pub summarised : List ℕ → Result (List ℕ) (ℕ × DeckCause)
+unfolding deck_read steps_on summary digits
+summarised text = summary_in (blank_words 8192) (deck_read text)
+
+-- the card that a deck's text leaves on a device of so many blank words; none where no card is there
+abbrev pub card_at : Base → List Card
+card_at (OnCard c) = c ∷ []
+card_at (AtFault cause p) = []
+
+abbrev pub card_in : State → List Card
+card_in (Cold m b a) = []
+card_in (Hot s) = card_at s.base
+
+abbrev pub card_left : List (List ℕ) → Result (List (ℕ × DeckLine)) (ℕ × DeckCause) → List Card
+card_left words (Ok ls) = card_in (last_state (start words) (steps_on words ls))
+card_left words (Err e) = []
+
+-- the header words of that card, and where it has room for n words
+unfoldable pub headers_left : ℕ → List ℕ → List (ℕ × List ℕ)
+unfolding deck_read steps_on layout digits
+headers_left size text = flat_map layout (card_left (blank_words size) (deck_read text))
+
+unfoldable pub room_left : ℕ → ℕ → List ℕ → List (Option ℕ)
+unfolding deck_read steps_on
+room_left size n text = map (λ c. first_fitting n (gaps c)) (card_left (blank_words size) (deck_read text))
+
+-- a card with twenty applications of the counter's code, A000000101 to A000000114
+abbrev pub counters : ℕ → List ℕ
+counters zero = []
+counters (suc n) =
+    counters n
+    ++ unit_line (codes "u" ++ decimal (suc n)) (codes "A0000001" ++ hex_text (suc n ∷ [])) (codes "B90200003902000046020000060002") []
+    ++ codes "load u" ++ decimal (suc n) ++ codes " 2 0\n"
+
+unfoldable pub twenty_counters : List ℕ
+unfolding digits
+twenty_counters = codes "format\npower\n" ++ counters 20

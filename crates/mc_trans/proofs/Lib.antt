@@ -3,3 +3,4 @@ pub mod Overlay
 pub mod Touched
 pub mod Holding
 pub mod Putting
+pub mod Counting

@@ -1,7 +1,7 @@
 -- Pending words hold a piece more where the word that it lies in is put with its bytes.
-use Rattle.std.proofs.Common.{◌≡◌, ◌≢◌, ℕ, zero, suc, ◌+◌, ◌-◌, ◌*◌, ◌/◌, ◌%◌, ◌≤◌, ◌<◌, Bool, true, false, cond, List, [], ◌∷◌, ◌++◌, length, take, drop, get_or, Option, Some, None, refl, sym, ap, subst, ◌∙◌, inl, inr, arith}
-use Rattle.std.specs.Prelude.{nat_lt, nat_eq, IfSome}
-use Rattle.std.proofs.lemmas.Bool.{cases_lt, ne_eqb}
+use Rattle.std.proofs.Common.{◌≡◌, ◌≢◌, ℕ, ◌+◌, ◌-◌, ◌*◌, ◌/◌, ◌≤◌, ◌<◌, cond, List, [], ◌∷◌, ◌++◌, length, get_or, Option, Some, None, refl, sym, ap, subst, ◌∙◌, inl, inr, arith}
+use Rattle.std.specs.Prelude.{nat_eq, IfSome}
+use Rattle.std.proofs.lemmas.Bool.{cases_lt}
 use Rattle.std.proofs.lemmas.Bool.Decides.{nat_tests, eqb_tells}
 use Rattle.mc_model.specs.Bytes.{splice}
 use Rattle.mc_model.specs.Pieces.{laid_pieces, touched, numbers, pending_at, put_word, with_number, with_words, with_touched, HoldPieces, LieIn}
@@ -18,7 +18,7 @@ pending_at_put : (n m : ℕ) (b : List ℕ) (ws : List (ℕ × List ℕ)) → pe
 pending_at_put n m b [] = refl
 pending_at_put n m b (w ∷ ws) = grind (arith, nat_tests, pending_at_put n m b ws)
 
-with_number_twice : (n : ℕ) (ns : List ℕ) → with_number n (with_number n ns) ≡ with_number n ns
+pub with_number_twice : (n : ℕ) (ns : List ℕ) → with_number n (with_number n ns) ≡ with_number n ns
 with_number_twice n [] = grind (arith, nat_tests)
 with_number_twice n (k ∷ ks) = grind (arith, nat_tests, with_number_twice n ks)
 
@@ -118,8 +118,8 @@ held_same l ps qs ws words laid held = record {
 
 pub pieces_joined : (l : List ℕ) (ps ws : List (ℕ × List ℕ)) (at : ℕ) (a b : List ℕ) → LieIn (length l) ps → at + length a ≤ length l → HoldPieces l (ps ++ (at, a) ∷ (at + length a, b) ∷ []) ws → HoldPieces l (ps ++ (at, a ++ b) ∷ []) ws
 pieces_joined l ps ws at a b lie fits held =
-    let two = (at, a) ∷ (at + length a, b) ∷ [] in
-    let one = (at, a ++ b) ∷ [] in
+    let two : List (ℕ × List ℕ) = (at, a) ∷ (at + length a, b) ∷ [] in
+    let one : List (ℕ × List ℕ) = (at, a ++ b) ∷ [] in
     let len = length-laid l ps lie in
     let words : touched (ps ++ two) ≡ touched (ps ++ one) = touched-append ps two ∙ sym (touched-append ps one ∙ with_words-append at a b (touched ps)) in
     let laid : laid_pieces l (ps ++ two) ≡ laid_pieces l (ps ++ one) = laid-append l ps two ∙ splice-append (laid_pieces l ps) at a b (omega arith) ∙ sym (laid-append l ps one) in

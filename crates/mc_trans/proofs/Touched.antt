@@ -1,12 +1,11 @@
 -- The words that pieces touch.
-use Rattle.std.proofs.Common.{◌≡◌, ◌≢◌, ℕ, zero, suc, ◌+◌, ◌-◌, ◌*◌, ◌/◌, ◌%◌, ◌≤◌, ◌<◌, ◌⊎◌, Bool, true, false, cond, List, [], ◌∷◌, ◌++◌, length, take, drop, get_or, Option, Some, None, refl, sym, ap, subst, ◌∙◌, inl, inr, arith, append_assoc}
-use Rattle.std.specs.Prelude.{nat_lt, nat_le, nat_eq, ◌||◌, map, option_map, slice_get}
+use Rattle.std.proofs.Common.{◌≡◌, ◌≢◌, ℕ, suc, ◌+◌, ◌-◌, ◌*◌, ◌/◌, ◌%◌, ◌≤◌, ◌<◌, Bool, true, false, cond, List, [], ◌∷◌, length, get_or, Option, Some, None, refl, sym, ap, subst, ◌∙◌, inl, inr, arith}
+use Rattle.std.specs.Prelude.{nat_le, nat_eq, ◌||◌, option_map, slice_get}
 use Rattle.std.specs.List.{AllByRecursion}
 use Rattle.std.proofs.lemmas.Bool.{cases_lt, eqb-false, ne_eqb, le-leb}
 use Rattle.std.proofs.lemmas.Bool.Decides.{nat_tests, eqb_tells}
-use Rattle.std.proofs.lemmas.List.{length-append}
 use Rattle.mc_model.specs.Bytes.{splice, or_else}
-use Rattle.mc_model.specs.Pieces.{covered, laid_pieces, word_pieces, with_number, with_words, with_touched, touched, numbers, pending_at, put_word, Ascend, LieIn}
+use Rattle.mc_model.specs.Pieces.{covered, laid_pieces, word_pieces, with_number, with_words, with_touched, touched, numbers, pending_at, Ascend, LieIn}
 use Rattle.mc_trans.proofs.Overlay.{length-splice, splice_before, splice_behind, BeginIn, get_some, get_none, lt-leb}
 
 -- whether a number is among some
@@ -19,7 +18,7 @@ or_false true b e = absurd cc
 or_false false b e = (refl, e)
 
 -- a number more
-mem_number : (m n : ℕ) (ns : List ℕ) → mem m (with_number n ns) ≡ (nat_eq n m || mem m ns)
+pub mem_number : (m n : ℕ) (ns : List ℕ) → mem m (with_number n ns) ≡ (nat_eq n m || mem m ns)
 mem_number m n [] = refl
 mem_number m n (k ∷ ks) = grind (arith, nat_tests, mem_number m n ks)
 

@@ -1,6 +1,7 @@
-ghost use Rattle.std.specs.Prelude.{◌≡◌, ◌+◌, ◌*◌, ◌/◌, ◌%◌, ◌<◌, ◌≤◌, ℕ, List, [], ◌∷◌, ◌++◌, length, option_map, slice_index, unwrap_or};
-ghost use Rattle.mc_model.specs.Bytes.{splice};
-ghost use Rattle.mc_model.specs.Pieces.{covered, laid_pieces, laid_words, pending_at, put_word, HoldPieces, LieIn};
+ghost use Rattle.std.specs.Prelude.{◌≡◌, ◌+◌, ◌-◌, ◌*◌, ◌/◌, ◌%◌, ◌<◌, ◌≤◌, ℕ, List, [], ◌∷◌, ◌++◌, length, option_map, slice_index, unwrap_or, Some, None};
+ghost use Rattle.mc_model.specs.Bytes.{splice, zeros};
+ghost use Rattle.mc_model.specs.Pieces.{covered, laid_pieces, laid_words, not_pending, pending_at, put_word, touched, HoldPieces, LieIn};
+ghost use Rattle.mc_trans.specs.Rows.{word_fronts};
 
 /// A byte of a list with pieces laid over it is that of the last piece that covers it, and else the list's.
 pub fn reads_pieces()
@@ -30,4 +31,22 @@ pub fn puts_piece()
 /// Two pieces that are laid one behind the other are one.
 pub fn joins_pieces()
     ensures { (l : List ℕ) (ps ws : List (ℕ × List ℕ)) (at : ℕ) (a b : List ℕ) → LieIn (length l) ps → at + length a ≤ length l → HoldPieces l (ps ++ (at, a) ∷ (at + length a, b) ∷ []) ws → HoldPieces l (ps ++ (at, a ++ b) ∷ []) ws }
+{}
+
+/// With a piece more, so many more words are pending as it has words that are not pending.
+pub fn counts_words()
+    ensures { (l : List ℕ) (ps ws : List (ℕ × List ℕ)) (at : ℕ) (b : List ℕ) → HoldPieces l ps ws → 0 < length b → length (touched (ps ++ (at, b) ∷ [])) ≡ length ws + not_pending (at / 8) ((at + length b - 1) / 8 + 1 - at / 8) ws }
+{}
+
+/// Two words of a segment of nine bytes, pieces over each other, and the words of many pieces.
+#[tactic(auto, unfolding(mc_model::specs::Pieces::touched))]
+pub fn piece_rows()
+    ensures two_words { laid_pieces (zeros 9) ((0, 0x11 ∷ []) ∷ (8, 0x22 ∷ []) ∷ []) ≡ 0x11 ∷ 0 ∷ 0 ∷ 0 ∷ 0 ∷ 0 ∷ 0 ∷ 0 ∷ 0x22 ∷ [] }
+    ensures two_numbers { touched ((8, 0x22 ∷ []) ∷ (0, 0x11 ∷ []) ∷ []) ≡ 0 ∷ 1 ∷ [] }
+    ensures last_counts { laid_pieces (zeros 5) ((1, 1 ∷ 2 ∷ []) ∷ (2, 7 ∷ 8 ∷ []) ∷ []) ≡ 0 ∷ 1 ∷ 7 ∷ 8 ∷ 0 ∷ [] }
+    ensures last_covers { covered ((1, 1 ∷ 2 ∷ []) ∷ (2, 7 ∷ 8 ∷ []) ∷ []) 2 ≡ Some 7 }
+    ensures none_covers { covered ((1, 1 ∷ 2 ∷ []) ∷ (2, 7 ∷ 8 ∷ []) ∷ []) 4 ≡ None }
+    ensures scattered { touched ((7, 1 ∷ 2 ∷ []) ∷ (30, 1 ∷ []) ∷ (2, 1 ∷ []) ∷ (22, 9 ∷ 9 ∷ 9 ∷ []) ∷ []) ≡ 0 ∷ 1 ∷ 2 ∷ 3 ∷ [] }
+    ensures limit { length (touched (word_fronts 64)) ≡ 64 }
+    ensures past_limit { length (touched (word_fronts 65)) ≡ 65 }
 {}

@@ -4,5 +4,11 @@
 mod laws;
 mod pending;
 
-pub use laws::{holds_none, joins_pieces, lays_words, puts_piece, reads_pieces, reads_words};
+pub use laws::{
+    counts_words, holds_none, joins_pieces, lays_words, piece_rows, puts_piece, reads_pieces,
+    reads_words,
+};
 pub use pending::{Full, Pending};
+
+#[cfg(test)]
+mod tests;

@@ -1,6 +1,3 @@
-use Rattle.std.proofs.Common.{◌∙◌, ap}
-use Rattle.std.specs.Int.{w64, to_be_bytes}
-use Rattle.mc_model.specs.Modes.{added}
 use Rattle.mc_model.specs.Des.{des_encipher}
 use Rattle.mc_des.proofs.DesLemmas.{des_encipher_is, des_signature_init, signature_step, signature_end, bytes-xor}
 use Rattle.mc_des.proofs.des_signature.Goals as goal

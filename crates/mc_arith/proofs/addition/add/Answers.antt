@@ -4,4 +4,4 @@ use Rattle.mc_arith.proofs.ResultLemmas.{sum_is}
 use Rattle.mc_arith.proofs.addition.add.Goals as goal
 
 pub returns : goal.returns
-returns c = sum_is c.args.a.now c.args.b.now c.ripple_sum-carry.new.a c.ripple_sum-carry.result c.zero.result (omega arith) (all_bytes c.ripple_sum-carry.new.a (search rules)) c.ripple_sum-carry.ensures c.zero.ensures
+returns c = sum_is c.args.a.now c.args.b.now c.ripple_sum-c.new.a c.ripple_sum-c.result c.zero-z.result (omega arith) (all_bytes c.ripple_sum-c.new.a (search rules)) c.ripple_sum-c.ensures c.zero-z.ensures

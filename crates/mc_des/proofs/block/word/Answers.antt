@@ -1,4 +1,4 @@
-use Rattle.std.proofs.Common.{◌≡◌, ℕ, ◌<◌, length, get_or, rules}
+use Rattle.std.proofs.Common.{ℕ, ◌<◌, get_or}
 use Rattle.std.proofs.lemmas.Nat.{be_bytes_8}
 use Rattle.mc_des.proofs.block.word.Goals as goal
 

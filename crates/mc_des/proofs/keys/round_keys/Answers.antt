@@ -19,7 +19,7 @@ loop-i-preserved c =
       right = c.turned-right.ensures.low;
       size = length-set c.loop-i.keys c.loop-i.i c.round_key.result ∙ c.loop-i.invariant.size;
       keys = schedule_step c.loop-i.i c.shift_of-by.result c.loop-i.left c.loop-i.right _ _ _ _ c.loop-i.keys _ c.loop-i-test.true c.loop-i.invariant.size c.shift_of-by.ensures.value
-      c.loop-i.invariant.keys c.turned-left.ensures.low c.turned-left.ensures.value c.turned-right.ensures.low c.turned-right.ensures.value refl c.round_key.ensures;
+          c.loop-i.invariant.keys c.turned-left.ensures.low c.turned-left.ensures.value c.turned-right.ensures.low c.turned-right.ensures.value refl c.round_key.ensures;
     }
 
 pub returns : goal.returns

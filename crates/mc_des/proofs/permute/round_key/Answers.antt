@@ -1,7 +1,7 @@
-use Rattle.std.proofs.Common.{◌≡◌, ◌-◌, ◌*◌, ◌∙◌, ap, arith, refl}
+use Rattle.std.proofs.Common.{◌≡◌, ◌-◌, ◌*◌, arith, refl}
 use Rattle.mc_model.specs.Des.{bits, pick, choice2}
 use Rattle.mc_des.specs.Words.{key_bits}
-use Rattle.mc_des.proofs.BitsLemmas.{fours_step, fours_all, bits-xor, key_bits-xor}
+use Rattle.mc_des.proofs.BitsLemmas.{fours_step, fours_all, key_bits-xor}
 use Rattle.mc_des.proofs.permute.round_key.Goals as goal
 
 pub loop-i-init : goal.loop-i-init

@@ -1,0 +1,7 @@
+use Rattle.std.proofs.Common.{refl}
+use Rattle.mc_model.specs.Aes.{aes_signature}
+use Rattle.mc_aes.proofs.vectors.blocks_of_cbc.Goals as goal
+
+pub returns : goal.returns
+unfolding aes_signature
+returns c = record { first = refl; second = refl; third = refl; fourth = refl }

@@ -1,0 +1,7 @@
+use Rattle.std.proofs.Common.{refl}
+use Rattle.mc_des.specs.Vectors.{all_encipher, all_decipher}
+use Rattle.mc_des.proofs.vectors.worked_examples.Goals as goal
+
+pub returns : goal.returns
+unfolding all_encipher all_decipher
+returns c = record { enciphered = refl; deciphered = refl }

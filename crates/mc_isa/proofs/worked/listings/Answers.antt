@@ -1,0 +1,8 @@
+use Rattle.std.proofs.Common.{refl}
+use Rattle.std.specs.Fmt.{digits}
+use Rattle.mc_model.specs.Listing.{listed}
+use Rattle.mc_isa.proofs.worked.listings.Goals as goal
+
+pub returns : goal.returns
+unfolding listed digits
+returns c = record { counter = refl; empty = refl; undefined = refl; past = refl }

@@ -1,0 +1,7 @@
+use Rattle.std.proofs.Common.{◌≡◌, ◌≤◌, ◌+◌, ◌-◌, ◌*◌, ℕ, ◌++◌, length, drop, Ok}
+use Rattle.mc_model.specs.Image.{all_zero}
+use Rattle.mc_packed.proofs.look.are_zero.Given as goal
+
+-- the numbers that are left decide
+abbrev pub invariant-loop-number : goal.invariant-loop-number
+invariant-loop-number l = all_zero l.numbers ≡ all_zero (drop l.number-index l.numbers)
