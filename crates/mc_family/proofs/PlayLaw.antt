@@ -1,5 +1,5 @@
 -- The laws of plays, for every front of a play and for the whole of it, as other crates cite them.
-use Rattle.std.specs.Prelude.{ℕ, List, length, take, Option}
+use Rattle.std.specs.Prelude.{ℕ, List, length, Option}
 use Rattle.std.proofs.Common.{subst}
 use Rattle.std.proofs.Math.Seq.{take-length}
 use Rattle.mc_model.specs.DeckGrammar.{DeckLine}

@@ -1,4 +1,3 @@
-use Rattle.mc_model.specs.Laws.{IsolationLaw}
 use Rattle.mc_family.proofs.PlayLaw.{isolation_law}
 use Rattle.mc_family.proofs.isolation.Goals as goal
 

@@ -1,0 +1,70 @@
+-- A play of two counters on one card, as a worked example of views: a family of one, and a stranger.
+-- This project's profile.
+use Rattle.std.specs.Prelude.{ℕ, List, [], ◌∷◌, replicate}
+use Rattle.mc_model.specs.Bytes.{zeros}
+use Rattle.mc_model.specs.Units.{UnitParts, name_of, made_dir, made_fci}
+use Rattle.mc_model.specs.Apdu.{apdu_read}
+use Rattle.mc_model.specs.Pieces.{touched}
+use Rattle.mc_model.specs.Image.{targets_1, targets_2, pairs, opening, Two}
+use Rattle.mc_model.specs.Card.{blocks_from, apps_of}
+use Rattle.mc_model.specs.Layout.{layout, step_of, bad_block, bad_record}
+use Rattle.mc_model.specs.Frame.{bytes_at, written, too_many}
+use Rattle.mc_model.specs.Primitives.{later_causes, prim_effect}
+use Rattle.mc_model.specs.Row.{causes, effect, row}
+use Rattle.mc_model.specs.Chain.{acted, ran}
+use Rattle.mc_model.specs.Manager.{manage}
+use Rattle.mc_model.specs.Play.{Step, start, command, send, warmed, step, plays, moves_of, steady_worn}
+use Rattle.mc_model.specs.Given.{events, given}
+use Rattle.mc_model.specs.Solo.{solo_command, hears, hears_all}
+use Rattle.mc_model.specs.View.{View, answers, view, solo_view}
+use Rattle.mc_model.specs.DeckGrammar.{DeckLine}
+use Rattle.mc_model.specs.DeckGrammar as line
+
+-- two names
+abbrev pub first : List ℕ
+first = 0xA0 ∷ 0 ∷ 0 ∷ 0 ∷ 1 ∷ []
+
+abbrev pub second : List ℕ
+second = 0xA0 ∷ 0 ∷ 0 ∷ 0 ∷ 2 ∷ []
+
+-- an application that adds 1 to its two static bytes and replies with them
+abbrev pub counter : List ℕ → UnitParts
+counter aid =
+    record {
+      number = zeros 8;
+      code = 0xB9 ∷ 0x02 ∷ 0 ∷ 0 ∷ 0x39 ∷ 0x02 ∷ 0 ∷ 0 ∷ 0x46 ∷ 0x02 ∷ 0 ∷ 0 ∷ 0x06 ∷ 0 ∷ 0x02 ∷ [];
+      init = [];
+      dir = made_dir aid;
+      fci = made_fci aid;
+      aid = aid;
+    }
+
+abbrev pub count : DeckLine
+count = line.Apdu (0x80 ∷ 1 ∷ 0 ∷ 0 ∷ 2 ∷ [])
+
+-- the gate is opened by write 4 of an atomic write of one word
+abbrev pub cut_there : DeckLine
+cut_there = line.Cut 4 (opening Two)
+
+-- both are loaded and count; a cut in the stranger's command, and one in the family's
+abbrev pub lines : List (ℕ × DeckLine)
+lines =
+    (1, line.Format) ∷ (2, line.Power) ∷ (3, line.Load (counter first) 2 0) ∷ (4, line.Load (counter second) 2 0) ∷ (5, line.Select first) ∷ (6, count)
+    ∷ (7, line.Select second) ∷ (8, cut_there) ∷ (9, count) ∷ (10, line.Power) ∷ (11, line.Select first) ∷ (12, cut_there) ∷ (13, count) ∷ (14, line.Power)
+    ∷ (15, line.Dump first) ∷ (16, line.Dump second) ∷ []
+
+abbrev pub blank : List (List ℕ)
+blank = replicate 256 (zeros 8)
+
+-- the play, and the views of the family that has the first name alone
+unfoldable pub steps : List Step
+unfolding name_of apdu_read touched targets_1 targets_2 pairs blocks_from apps_of layout step_of bad_block bad_record bytes_at written too_many later_causes prim_effect causes effect row acted ran manage command send warmed step plays moves_of steady_worn
+steps = plays (start blank) lines (steady_worn (start blank) lines)
+
+unfoldable pub seen_in_play : View
+unfolding steps answers
+seen_in_play = view (first ∷ []) (start blank) steps
+
+unfoldable pub seen_alone : View
+unfolding steps events apdu_read touched bytes_at written too_many later_causes prim_effect causes effect row acted ran solo_command hears hears_all
+seen_alone = solo_view (first ∷ []) (given (first ∷ []) steps)
