@@ -1,0 +1,14 @@
+use Rattle.std.proofs.Common.{◌≡◌, true, length, drop}
+use Rattle.mc_model.specs.Stopped.{entries_1}
+use Rattle.mc_model.proofs.LoopLemmas.{Leads}
+use Rattle.mc_journal.proofs.put.put_entries.Given as goal
+
+-- the entries that are left lead where all of them lead
+abbrev pub invariant-loop-i : goal.invariant-loop-i
+invariant-loop-i g l =
+    let state = g.N.Nvm.state in
+    record {
+      on : (state l.device).on ≡ true;
+      size : length (state l.device).words ≡ length (state l.fn.device).words;
+      leads : Leads g.N.Nvm.wrote l.fn.device (entries_1 0 l.list) l.device (entries_1 l.i (drop l.i l.list));
+    }
