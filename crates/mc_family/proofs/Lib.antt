@@ -15,3 +15,4 @@ pub mod FreshCommands
 pub mod CreationLast
 pub mod FreshFold
 pub mod PlayLaw
+pub mod DefinitionLemmas

@@ -1,12 +1,16 @@
 //! The law of isolation, over the definitions of `mc_model` alone.
 #![tactic(auto)]
 
+mod definitions;
+
 ghost use Rattle.std.specs.Prelude.{◌≡◌, [], ◌∷◌};
 ghost use Rattle.mc_model.specs.Chain.{Reply};
 ghost use Rattle.mc_model.specs.Play.{Answered, OffAt, Static};
 ghost use Rattle.mc_model.specs.View.{View};
 ghost use Rattle.mc_model.specs.Laws.{IsolationLaw};
 ghost use Rattle.mc_family.specs.Worked.{seen_in_play, seen_alone};
+
+pub use definitions::{counts_within_budget, pairs_compose, stops_split};
 
 /// For every deck, image, list of worn stops that is possible and front of the play: what a closed family of applications is told
 /// and holds is what it is told and holds on a card of its own, each line leaves the card with its whole items, and no new

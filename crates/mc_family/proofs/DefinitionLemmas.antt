@@ -1,0 +1,62 @@
+-- What the definitions have to do with themselves: stops in items, and counts of runs.
+use Rattle.std.specs.Prelude.{◌≡◌, ℕ, zero, suc, ◌+◌, ◌-◌, ◌<◌, ◌≤◌, Bool, true, false, cond, ◌==◌, nat_le, List, [], ◌∷◌, ◌++◌, refl, Result, Ok, Err}
+use Rattle.std.proofs.Common.{arith, ap, sym, ◌∙◌}
+use Rattle.std.proofs.lemmas.Bool.Decides.{nat_tests}
+use Rattle.mc_model.specs.declared.instruction.Ins.{Ins}
+use Rattle.mc_model.specs.declared.instruction.DecodeFault.{DecodeFault}
+use Rattle.mc_model.specs.declared.instruction.DecodeFault.TheVariants.{Undefined, Past}
+use Rattle.mc_model.specs.Image.{Two}
+use Rattle.mc_model.specs.Stopped.{cost}
+use Rattle.mc_model.specs.Items.{Item, Plain, Atomic, moves, at_stop, with_item, Stopped}
+use Rattle.mc_model.specs.Row.{RowEnd, Abends, Does}
+use Rattle.mc_model.specs.Chain.{Chain, Ran, Acted, Follows, Continues, Ends, acted, fetched, row_turn, ran, ran_on}
+use Rattle.mc_family.specs.Split.{with_whole}
+
+-- a test of k that chooses between a stop in the first item and one behind it
+chosen : (b : Bool) (s t u : Stopped) → (b ≡ false → t ≡ u) → cond b s t ≡ cond b s u
+chosen true s t u h = refl
+chosen false s t u h = h refl
+
+passed : (b : Bool) (s t u : Stopped) → b ≡ false → t ≡ u → cond b s t ≡ u
+passed true s t u b h = absurd (cc b)
+passed false s t u b h = h
+
+pub stop_within : (is js : List Item) (k : ℕ) (x : List ℕ) → 1 ≤ k → k ≤ moves is → at_stop (is ++ js) k x ≡ at_stop is k x
+stop_within [] js k x low high = absurd (omega arith)
+stop_within (Plain ∷ is) js k x low high =
+    chosen (k == 1) _ _ _ (λ no. ap (with_item Plain) (stop_within is js (k - 1) x (grind (arith, nat_tests, no)) (grind (arith, nat_tests, no))))
+stop_within (Atomic w c ∷ is) js k x low high =
+    chosen (nat_le k (cost Two w)) _ _ _ (λ no. ap (with_item (Atomic w c)) (stop_within is js (k - cost Two w) x (grind (arith, nat_tests, no)) (grind (arith, nat_tests, no))))
+
+pub stop_behind : (is js : List Item) (k : ℕ) (x : List ℕ) → moves is < k → at_stop (is ++ js) k x ≡ with_whole is (at_stop js (k - moves is) x)
+stop_behind [] js k x high = let e : k - 0 ≡ k = omega arith in rw e refl
+stop_behind (Plain ∷ is) js k x high =
+    let e : k - (1 + moves is) ≡ k - 1 - moves is = omega arith in
+    passed (k == 1) _ _ _ (grind (arith, nat_tests)) (ap (with_item Plain) (stop_behind is js (k - 1) x (omega arith)) ∙ ap (λ (n : ℕ). with_whole (Plain ∷ is) (at_stop js n x)) (sym e))
+stop_behind (Atomic w c ∷ is) js k x high =
+    let e : k - (cost Two w + moves is) ≡ k - cost Two w - moves is = omega arith in
+    passed (nat_le k (cost Two w)) _ _ _ (grind (arith, nat_tests)) (ap (with_item (Atomic w c)) (stop_behind is js (k - cost Two w) x (omega arith)) ∙ ap (λ (n : ℕ). with_whole (Atomic w c ∷ is) (at_stop js n x)) (sym e))
+
+-- ---- counts
+
+row_count : (ch : Chain) (i : Ins) (r : RowEnd) → (row_turn ch i r).count ≤ 1
+row_count ch i (Abends cause) = omega arith
+row_count ch i (Does d) = omega arith
+
+fetch_count : (ch : Chain) (r : Result (Ins × ℕ) DecodeFault) → (fetched ch r).count ≤ 1
+fetch_count ch (Err Undefined) = omega arith
+fetch_count ch (Err Past) = omega arith
+fetch_count ch (Ok i) = row_count ch i.0 _
+
+turn_count : (ch : Chain) → (acted ch).count ≤ 1
+unfolding acted
+turn_count ch = fetch_count ch _
+
+on_count : (n : ℕ) (t : Acted) (session : List ℕ) (f : Follows) (rest : Chain → Ran) → t.count ≤ 1 → ((ch : Chain) → (rest ch).count ≤ n) → (ran_on t session f rest).count ≤ suc n
+on_count n t session (Ends o) rest one more = omega arith
+on_count n t session (Continues ch) rest one more = let h : (rest ch).count ≤ n = more ch in omega arith
+
+pub run_count : (n : ℕ) (ch : Chain) → (ran n ch).count ≤ n
+unfolding ran
+run_count zero ch = omega arith
+run_count (suc n) ch = on_count n (acted ch) _ (acted ch).follows (λ c. ran n c) (turn_count ch) (λ c. run_count n c)

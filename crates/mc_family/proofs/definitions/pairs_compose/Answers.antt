@@ -1,0 +1,5 @@
+use Rattle.mc_model.proofs.ImageLemmas.{laid-append}
+use Rattle.mc_family.proofs.definitions.pairs_compose.Goals as goal
+
+pub returns : goal.returns
+returns c = laid-append

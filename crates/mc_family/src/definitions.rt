@@ -1,0 +1,23 @@
+//! Laws that keep the definitions honest: what each of them has to do with itself.
+
+ghost use Rattle.std.specs.Prelude.{◌≡◌, ◌+◌, ◌-◌, ◌<◌, ◌≤◌, ℕ, List, ◌++◌};
+ghost use Rattle.mc_model.specs.Image.{laid};
+ghost use Rattle.mc_model.specs.Items.{Item, moves, at_stop};
+ghost use Rattle.mc_model.specs.Chain.{Chain, ran};
+ghost use Rattle.mc_family.specs.Split.{with_whole};
+
+/// Pairs that are laid after others are laid as one list.
+pub fn pairs_compose()
+    ensures { (m : List (List ℕ)) (a : List (ℕ × List ℕ)) (b : List (ℕ × List ℕ)) → laid m (a ++ b) ≡ laid (laid m a) b }
+{}
+
+/// A stop falls in the first items where they make so many device writes, and else in those behind them.
+pub fn stops_split()
+    ensures within { (is : List Item) (js : List Item) (k : ℕ) (x : List ℕ) → 1 ≤ k → k ≤ moves is → at_stop (is ++ js) k x ≡ at_stop is k x }
+    ensures behind { (is : List Item) (js : List Item) (k : ℕ) (x : List ℕ) → moves is < k → at_stop (is ++ js) k x ≡ with_whole is (at_stop js (k - moves is) x) }
+{}
+
+/// A run decodes no more instructions than its budget.
+pub fn counts_within_budget()
+    ensures { (budget : ℕ) (chain : Chain) → (ran budget chain).count ≤ budget }
+{}
