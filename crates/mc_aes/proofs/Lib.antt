@@ -4,3 +4,4 @@ pub mod RoundsLemmas
 pub mod KeysLemmas
 pub mod CipherLemmas
 pub mod AesLemmas
+pub mod LawsLemmas

@@ -136,10 +136,12 @@ pub loaded : (b : List ℕ) (w0 w1 w2 w3 : ℕ) → length b ≡ 16 → ((k : �
 unfolding state_bytes
 loaded b w0 w1 w2 w3 len low e0 e1 e2 e3 =
     let at : (k : ℕ) → k < 16 → get_or b k 0 < 256 = λ k h. low k (omega arith) in
-    rw (word-from w0 _ _ _ _ (at 0 (omega arith)) (at 1 (omega arith)) (at 2 (omega arith)) (at 3 (omega arith)) e0,
-    word-from w1 _ _ _ _ (at 4 (omega arith)) (at 5 (omega arith)) (at 6 (omega arith)) (at 7 (omega arith)) e1,
-    word-from w2 _ _ _ _ (at 8 (omega arith)) (at 9 (omega arith)) (at 10 (omega arith)) (at 11 (omega arith)) e2,
-    word-from w3 _ _ _ _ (at 12 (omega arith)) (at 13 (omega arith)) (at 14 (omega arith)) (at 15 (omega arith)) e3)
+    rw (
+      word-from w0 _ _ _ _ (at 0 (omega arith)) (at 1 (omega arith)) (at 2 (omega arith)) (at 3 (omega arith)) e0,
+      word-from w1 _ _ _ _ (at 4 (omega arith)) (at 5 (omega arith)) (at 6 (omega arith)) (at 7 (omega arith)) e1,
+      word-from w2 _ _ _ _ (at 8 (omega arith)) (at 9 (omega arith)) (at 10 (omega arith)) (at 11 (omega arith)) e2,
+      word-from w3 _ _ _ _ (at 12 (omega arith)) (at 13 (omega arith)) (at 14 (omega arith)) (at 15 (omega arith)) e3,
+    )
     (sym (sixteen b len))
 
 pub stored : (s : State) (a b c d : List ℕ) → a ≡ to_be_bytes w32 s.first → b ≡ to_be_bytes w32 s.second → c ≡ to_be_bytes w32 s.third → d ≡ to_be_bytes w32 s.fourth

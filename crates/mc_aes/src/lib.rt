@@ -7,6 +7,7 @@ ghost use Rattle.mc_model.specs.Aes.{aes_encipher, aes_decipher, aes_signature};
 
 mod cipher;
 mod keys;
+pub mod laws;
 mod rounds;
 mod state;
 mod tables;

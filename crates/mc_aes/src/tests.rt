@@ -152,5 +152,12 @@ fn known_answers(rt: HostRuntime) {
     let start: u128 = 0x0001_0203_0405_0607_0809_0A0B_0C0D_0E0F;
     let block: u128 = 0x6BC1_BEE2_2E40_9F96_E93D_7E11_7393_172A;
     let last: u128 = 0x7649_ABAC_8119_B246_CEE9_8E9B_12E9_197D;
-    assert_eq!(rt; aes_signature(&key.to_be_bytes(), &start.to_be_bytes(), &block.to_be_bytes()), last.to_be_bytes());
+    assert_eq!(rt;
+        aes_signature(
+            &key.to_be_bytes(),
+            &start.to_be_bytes(),
+            &block.to_be_bytes()
+        ),
+        last.to_be_bytes()
+    );
 }

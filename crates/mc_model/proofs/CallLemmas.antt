@@ -1,10 +1,10 @@
 -- The calls of a journal, from the list of device writes that each makes.
-use Rattle.std.proofs.Common.{◌≡◌, ◌≢◌, ◌⊎◌, ℕ, zero, suc, ◌+◌, ◌<◌, ◌≤◌, true, false, List, [], ◌∷◌, ◌++◌, length, Ok, Err, refl, sym, ◌∙◌, ap, subst, inl, inr, arith, length-append}
+use Rattle.std.proofs.Common.{◌≡◌, ℕ, ◌+◌, ◌≤◌, true, false, List, [], ◌∷◌, length, Ok, Err, refl, sym, ◌∙◌, ap, subst, arith, length-append}
 use Rattle.mc_model.specs.declared.device.Stop.{Stop}
-use Rattle.mc_model.specs.Orders.{Answer, InOrder}
-use Rattle.mc_model.specs.Device.{DeviceState, Wrote, Makes, Ended}
-use Rattle.mc_model.specs.Image.{Journal, gate, shut, word_at, is_open, laid, Look, Refused, Closed, Pending, look_j, replayed, after_j, Words}
-use Rattle.mc_model.specs.Stopped.{cost, entries, writes, replay, numbered, IsAtomic, Stands, Leaves, Resumes, remains, owes, stood, stands, WriteEnds, WriteStands, WriteTorn, Outcome, Recovered, Interrupted, BadAt, Follows, outcome_answer, owed_writes, ReplayDone, ReplayTorn, RecoverEnds}
+use Rattle.mc_model.specs.Orders.{Answer}
+use Rattle.mc_model.specs.Device.{DeviceState, Wrote, Makes}
+use Rattle.mc_model.specs.Image.{Journal, gate, shut, word_at, is_open, laid, Look, Refused, Closed, Pending, look_j, replayed, Words}
+use Rattle.mc_model.specs.Stopped.{cost, entries, writes, replay, IsAtomic, Stands, Leaves, Resumes, remains, owes, stood, stands, WriteEnds, Outcome, Recovered, Interrupted, BadAt, Follows, outcome_answer, owed_writes, ReplayDone, ReplayTorn, RecoverEnds}
 use Rattle.mc_model.proofs.DeviceLemmas.{DoneAll, StoppedAt, makes-done, makes-stopped}
 use Rattle.mc_model.proofs.GeometryLemmas.{Geometry, geometry}
 use Rattle.mc_model.proofs.LookLemmas.{GoodPending, good-pending}
@@ -16,7 +16,7 @@ pub length-writes : (j : Journal) (size : ℕ) (list : List (ℕ × List ℕ)) �
 length-writes j size list high atomic =
     let geo : Geometry j size list = geometry j size list high atomic in
     let e : length (writes j list) ≡ length (entries j list) + (length list + 3) =
-      length-append (entries j list) _ ∙ ap (λ (n : ℕ). length (entries j list) + n) (let f = length-append list ((gate j, shut) ∷ []) in omega (arith, f)) in
+    length-append (entries j list) _ ∙ ap (λ (n : ℕ). length (entries j list) + n) (let f = length-append list ((gate j, shut) ∷ []) in omega (arith, f)) in
     omega (arith, e, geo.costs)
 
 module _ {D : Type 0} (state : D → DeviceState) (wrote : D → ℕ → List ℕ → Answer → D → Type 0)
@@ -28,14 +28,22 @@ module _ {D : Type 0} (state : D → DeviceState) (wrote : D → ℕ → List �
       let all : DoneAll (state d) (writes j list) (state e) = makes-done state wrote obeys (writes j list) d e on made in
       record {
         stands = subst (λ (n : List (List ℕ)). Stands j (state d).words list n) (sym all.words) (done j (state d).words list low high atomic closed);
-        ended = (all.power, all.cuts, all.faults); tape = all.tape }
+        ended = (all.power, all.cuts, all.faults);
+        tape = all.tape;
+      }
   write-ends j list d e (Err s) low high on atomic closed made =
       let all : StoppedAt (state d) (writes j list) s (state e) = makes-stopped state wrote obeys (writes j list) d e s on made in
       let few : all.k ≤ cost j (length list) = subst (λ (n : ℕ). all.k ≤ n) (length-writes j (length (state d).words) list high atomic) all.high in
       record {
-        k = all.k; x = all.x; low = all.low; high = few; size = all.size;
+        k = all.k;
+        x = all.x;
+        low = all.low;
+        high = few;
+        size = all.size;
         leaves = subst (λ (n : List (List ℕ)). Leaves j n (owes j (length list) all.k all.x) (stood (stands j (length list) all.k all.x) (state d).words list)) (sym all.words) (tear j (state d).words list low high atomic closed all.k all.x all.low few);
-        ended = all.ended; tape = all.tape }
+        ended = all.ended;
+        tape = all.tape;
+      }
 
   -- a recovery that makes the writes of a pending journal
   pub replay-done : (j : Journal) (ps : List (ℕ × List ℕ)) (d e : D) → 256 ≤ length (state d).words → (state d).on ≡ true → look_j j (state d).words ≡ Pending j ps
@@ -45,7 +53,9 @@ module _ {D : Type 0} (state : D → DeviceState) (wrote : D → ℕ → List �
       record {
         after = ap (λ (l : Look). replayed (state d).words l) pending ∙ ap Words (sym all.words);
         gate = ap (λ (n : List (List ℕ)). word_at n (gate j)) all.words ∙ resumed j (state d).words ps low pending;
-        ended = (all.power, all.cuts, all.faults); tape = all.tape }
+        ended = (all.power, all.cuts, all.faults);
+        tape = all.tape;
+      }
 
   pub replay-torn : (j : Journal) (ps : List (ℕ × List ℕ)) (d e : D) (s : Stop) → 256 ≤ length (state d).words → (state d).on ≡ true → look_j j (state d).words ≡ Pending j ps
       → Makes wrote d (replay j ps) (Err s) e → ReplayTorn j (state d) ps s (state e)
@@ -53,10 +63,16 @@ module _ {D : Type 0} (state : D → DeviceState) (wrote : D → ℕ → List �
       let all : StoppedAt (state d) (replay j ps) s (state e) = makes-stopped state wrote obeys (replay j ps) d e s on made in
       let few : all.k ≤ length ps + 1 = subst (λ (n : ℕ). all.k ≤ n) (length-append ps ((gate j, shut) ∷ [])) all.high in
       record {
-        k = all.k; x = all.x; low = all.low; high = few; size = all.size;
+        k = all.k;
+        x = all.x;
+        low = all.low;
+        high = few;
+        size = all.size;
         after = ap (λ (l : Look). replayed (state d).words l) pending;
         resumes = subst (λ (n : List (List ℕ)). Resumes j n (remains j (length ps) all.k all.x) (laid (state d).words (replay j ps))) (sym all.words) (resume j (state d).words ps low pending all.k all.x all.low few);
-        ended = all.ended; tape = all.tape }
+        ended = all.ended;
+        tape = all.tape;
+      }
 
   pending-ends : (j k : Journal) (ps : List (ℕ × List ℕ)) (d e : D) (o : Outcome) → 256 ≤ length (state d).words → (state d).on ≡ true → look_j j (state d).words ≡ Pending k ps
       → look_j j (state d).words ≡ Pending j ps → length ps ≤ 64 → Follows (Pending k ps) o → Makes wrote d (replay j ps) (outcome_answer o) e → RecoverEnds j (Pending k ps) (state d) o (state e)

@@ -1,9 +1,8 @@
 -- What lists of writes make of a device: its words, its counts and its tape.
-use Rattle.std.proofs.Common.{◌≡◌, ◌≢◌, ◌⊎◌, ℕ, zero, suc, ◌+◌, ◌<◌, ◌≤◌, true, false, List, [], ◌∷◌, ◌++◌, length, Option, Some, None, Ok, Err, refl, sym, ◌∙◌, ap, subst, inl, inr, arith, append_assoc, append-nil}
-use Rattle.std.specs.Prelude.{slice_set}
+use Rattle.std.proofs.Common.{◌≡◌, ℕ, zero, suc, ◌≤◌, true, List, [], ◌∷◌, ◌++◌, length, Option, Some, None, Ok, Err, refl, sym, ◌∙◌, ap, subst, inl, inr, arith, append_assoc, append-nil}
 use Rattle.mc_model.specs.declared.device.Stop.{Stop}
 use Rattle.mc_model.specs.declared.device.Stop.TheVariants.{Off, Worn}
-use Rattle.mc_model.specs.Orders.{Answer, InOrder}
+use Rattle.mc_model.specs.Orders.{Answer}
 use Rattle.mc_model.specs.Counts.{Rose}
 use Rattle.mc_model.specs.Device.{Entry, DeviceState, Grows, GrowsBy, WriteDone, WriteCut, WriteWorn, Wrote, Makes, Ended, done_entries, torn_entries}
 use Rattle.mc_model.specs.Image.{laid}
@@ -60,20 +59,39 @@ module _ {D : Type 0} (state : D → DeviceState) (wrote : D → ℕ → List �
             let rest : DoneAll (state step.0) l (state e) = makes-done l step.0 e first.power step.2 in
             record {
               words = rest.words ∙ ap (λ (m : List (List ℕ)). laid m l) first.words;
-              power = rest.power; cuts = rest.cuts ∙ first.cuts; faults = rest.faults ∙ first.faults;
-              tape = grows-then (state d).tape _ (state step.0).tape (done_entries l) (state e).tape first.tape rest.tape }
+              power = rest.power;
+              cuts = rest.cuts ∙ first.cuts;
+              faults = rest.faults ∙ first.faults;
+              tape = grows-then (state d).tape _ (state step.0).tape (done_entries l) (state e).tape first.tape rest.tape;
+            }
         | inr stop ↦ absurd (cc stop.2)
       ]
 
   stopped-first : (p : ℕ × List ℕ) (l : List (ℕ × List ℕ)) (d e : D) (s : Stop) → (state d).on ≡ true → wrote d p.0 p.1 (Err s) e → StoppedAt (state d) (p ∷ l) s (state e)
   stopped-first p l d e Off on w =
       let cut : WriteCut (state d) p.0 (state e) = obeys d p.0 p.1 (Err Off) e on w in
-      record { k = 1; x = cut.left; low = omega arith; high = omega arith; size = cut.size; words = cut.words; ended = (cut.power, cut.cuts, cut.falls_not, cut.faults);
-        tape = grows-one (state d).tape _ (state e).tape cut.tape }
+      record {
+        k = 1;
+        x = cut.left;
+        low = omega arith;
+        high = omega arith;
+        size = cut.size;
+        words = cut.words;
+        ended = (cut.power, cut.cuts, cut.falls_not, cut.faults);
+        tape = grows-one (state d).tape _ (state e).tape cut.tape;
+      }
   stopped-first p l d e Worn on w =
       let worn : WriteWorn (state d) p.0 (state e) = obeys d p.0 p.1 (Err Worn) e on w in
-      record { k = 1; x = worn.left; low = omega arith; high = omega arith; size = worn.size; words = worn.words; ended = (worn.power, worn.faults, worn.falls_not, worn.cuts);
-        tape = grows-one (state d).tape _ (state e).tape worn.tape }
+      record {
+        k = 1;
+        x = worn.left;
+        low = omega arith;
+        high = omega arith;
+        size = worn.size;
+        words = worn.words;
+        ended = (worn.power, worn.faults, worn.falls_not, worn.cuts);
+        tape = grows-one (state d).tape _ (state e).tape worn.tape;
+      }
 
   -- counts that stayed at first
   ended-later : (s : Stop) (c d e : DeviceState) → d.cuts ≡ c.cuts → d.faults ≡ c.faults → Ended (Err s) d e → Ended (Err s) c e
@@ -84,10 +102,16 @@ module _ {D : Type 0} (state : D → DeviceState) (wrote : D → ℕ → List �
       → e.words ≡ torn d.words l k x → Ended (Err s) d e → GrowsBy d.tape (torn_entries l k x s) e.tape → StoppedAt c (p ∷ l) s e
   stopped-later p l c d e s zero x first low high size words ended tape = absurd (omega arith)
   stopped-later p l c d e s (suc k) x first low high size words ended tape =
-      record { k = suc (suc k); x = x; low = omega arith; high = omega arith; size = size;
+      record {
+        k = suc (suc k);
+        x = x;
+        low = omega arith;
+        high = omega arith;
+        size = size;
         words = words ∙ ap (λ (m : List (List ℕ)). torn m l (suc k) x) first.words;
         ended = ended-later s c d e first.cuts first.faults ended;
-        tape = grows-then c.tape _ d.tape (torn_entries l (suc k) x s) e.tape first.tape tape }
+        tape = grows-then c.tape _ d.tape (torn_entries l (suc k) x s) e.tape first.tape tape;
+      }
 
   pub makes-stopped : (l : List (ℕ × List ℕ)) (d e : D) (s : Stop) → (state d).on ≡ true → Makes wrote d l (Err s) e → StoppedAt (state d) l s (state e)
   makes-stopped [] d e s on made = absurd made

@@ -1,13 +1,13 @@
 -- Where the words of an atomic write stand in its journal.
-use Rattle.std.proofs.Common.{◌≡◌, ◌≢◌, ◌⊎◌, ℕ, zero, suc, ◌+◌, ◌-◌, ◌*◌, ◌/◌, ◌<◌, ◌≤◌, Bool, true, false, ◌&&◌, List, [], ◌∷◌, ◌++◌, length, map, Option, Some, Result, Ok, Err, refl, sym, ◌∙◌, ap, subst, inl, inr, arith, length-append}
+use Rattle.std.proofs.Common.{◌≡◌, ◌≢◌, ℕ, zero, suc, ◌+◌, ◌*◌, ◌<◌, ◌≤◌, Bool, true, List, [], ◌∷◌, ◌++◌, length, map, Option, Result, Ok, refl, sym, ◌∙◌, ap, subst, inl, arith, length-append}
 use Rattle.std.proofs.lemmas.List.{length-map}
-use Rattle.std.specs.Prelude.{bytes_eq, nat_eq, nat_le, nat_lt}
+use Rattle.std.specs.Prelude.{bytes_eq}
 use Rattle.std.specs.List.{AllByRecursion}
 use Rattle.mc_model.specs.Bytes.{up}
-use Rattle.mc_model.specs.Image.{Journal, One, Two, opening, shut, gate, word_at, within, number, is_count, ascend, targets, targets_2, pairs, Look, Pending, aimed, headed, opened, look_j, count}
+use Rattle.mc_model.specs.Image.{Journal, One, Two, opening, gate, word_at, within, number, is_count, ascend, targets, targets_2, pairs, Pending, aimed, headed, opened, look_j}
 use Rattle.mc_model.specs.Stopped.{Inside, cost, opens_at, numbered, entries_1, target_words, values_2, entries, IsAtomic}
 use Rattle.mc_model.proofs.ImageLemmas.{Holds, Ascends, all-append, all-map}
-use Rattle.mc_model.proofs.LookLemmas.{both, all-within}
+use Rattle.mc_model.proofs.LookLemmas.{all-within}
 use Rattle.mc_model.proofs.WrittenLemmas.{within-small, read-1, pairs-1, read-2, pairs-2, count-numbered}
 
 -- a place of a target or value
@@ -23,9 +23,10 @@ all-unmap P f (x ∷ xs) a = (a.0, all-unmap P f xs a.1)
 
 places-1 : (i : ℕ) (list : List (ℕ × List ℕ)) → i + length list ≤ 64 → AllByRecursion (λ p. InEntries One p.0) (entries_1 i list)
 places-1 i [] h = tt
-places-1 i (p ∷ ps) h =
-    ( record { low = omega arith; high = omega arith; apart = λ e. absurd (omega (arith, e)); inside = (omega arith, omega arith) }
-    , (record { low = omega arith; high = omega arith; apart = λ e. absurd (omega (arith, e)); inside = (omega arith, omega arith) }, places-1 (i + 1) ps (omega arith)) )
+places-1 i (p ∷ ps) h = (
+  record { low = omega arith; high = omega arith; apart = λ e. absurd (omega (arith, e)); inside = (omega arith, omega arith) },
+  (record { low = omega arith; high = omega arith; apart = λ e. absurd (omega (arith, e)); inside = (omega arith, omega arith) }, places-1 (i + 1) ps (omega arith)),
+)
 
 ascends-1 : (i least : ℕ) (list : List (ℕ × List ℕ)) → least ≤ 3 + 2 * i → Ascends least (entries_1 i list)
 ascends-1 i least [] h = tt
@@ -94,7 +95,8 @@ geometry One size list high atomic =
       opens = omega arith;
       costs = omega arith;
       targets = λ n e h. read-1 n list 0 (subst (λ (s : ℕ). s ≤ 16384) (sym e) high) (subst (λ (s : ℕ). AllByRecursion (λ p. within s p.0 ≡ true) list) (sym e) (targets-within size list atomic)) h;
-      pairs = λ n h. pairs-1 n list 0 h }
+      pairs = λ n h. pairs-1 n list 0 h;
+    }
 geometry Two size list high atomic =
     let few : length list ≤ 64 = atomic.high in
     let ts = map (λ p. p.0) list in
@@ -108,10 +110,11 @@ geometry Two size list high atomic =
       opens = omega (arith, l);
       costs = omega (arith, l);
       targets = λ n e h.
-        subst (λ (c : ℕ). targets_2 n 0 (up (length list) 4) c 0 ≡ Ok ts) same
+          subst (λ (c : ℕ). targets_2 n 0 (up (length list) 4) c 0 ≡ Ok ts) same
           (read-2 n (up (length list) 4) 0 0 ts (small size ts high (all-within size 0 ts atomic.targets)) (subst (λ (s : ℕ). ascend s 0 ts ≡ true) (sym e) atomic.targets)
-            (subst (λ (c : ℕ). c ≤ 4 * up (length list) 4) (sym same) bound.1) (holds-split n words (values_2 0 list) h).0);
-      pairs = λ n h. pairs-2 n list 0 (holds-split n words (values_2 0 list) h).1 }
+          (subst (λ (c : ℕ). c ≤ 4 * up (length list) 4) (sym same) bound.1) (holds-split n words (values_2 0 list) h).0);
+      pairs = λ n h. pairs-2 n list 0 (holds-split n words (values_2 0 list) h).1;
+    }
 
 open-self : (j : Journal) → bytes_eq (opening j) (opening j) ≡ true
 open-self One = refl
@@ -122,8 +125,8 @@ pub look-written : (j : Journal) (size : ℕ) (list : List (ℕ × List ℕ)) �
     → Holds n (entries j list) → word_at n 2 ≡ numbered (length list) → word_at n (gate j) ≡ opening j → look_j j n ≡ Pending j list
 look-written j size list geo atomic n same holds head gate_is =
     ap (λ (w : List ℕ). opened j n (bytes_eq w (opening j))) gate_is
-      ∙ ap (λ (b : Bool). opened j n b) (open-self j)
-      ∙ ap (λ (w : List ℕ). headed j n (number is_count w)) head
-      ∙ ap (λ (o : Option ℕ). headed j n o) (count-numbered (length list) atomic.low atomic.high)
-      ∙ ap (λ (r : Result (List ℕ) ℕ). aimed j n r) (geo.targets n same holds)
-      ∙ ap (λ (ps : List (ℕ × List ℕ)). Pending j ps) (geo.pairs n holds)
+    ∙ ap (λ (b : Bool). opened j n b) (open-self j)
+    ∙ ap (λ (w : List ℕ). headed j n (number is_count w)) head
+    ∙ ap (λ (o : Option ℕ). headed j n o) (count-numbered (length list) atomic.low atomic.high)
+    ∙ ap (λ (r : Result (List ℕ) ℕ). aimed j n r) (geo.targets n same holds)
+    ∙ ap (λ (ps : List (ℕ × List ℕ)). Pending j ps) (geo.pairs n holds)

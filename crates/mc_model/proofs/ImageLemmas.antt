@@ -1,6 +1,6 @@
 -- Pairs laid into the words of a device: what they cover, and what stays.
-use Rattle.std.proofs.Common.{◌≡◌, ◌≢◌, ◌⊎◌, ℕ, zero, suc, ◌+◌, ◌-◌, ◌*◌, ◌<◌, ◌≤◌, Bool, true, false, ◌&&◌, ◌||◌, ◌==◌, List, [], ◌∷◌, ◌++◌, length, take, drop, get_or, refl, sym, ◌∙◌, ap, subst, inl, inr, arith}
-use Rattle.std.specs.Prelude.{slice_set, nat_eq, bytes_eq}
+use Rattle.std.proofs.Common.{◌≡◌, ◌≢◌, ℕ, ◌+◌, ◌<◌, ◌≤◌, Bool, false, ◌||◌, ◌==◌, List, [], ◌∷◌, ◌++◌, length, refl, sym, ◌∙◌, ap, subst, inl, inr, arith}
+use Rattle.std.specs.Prelude.{slice_set}
 use Rattle.std.specs.List.{AllByRecursion}
 use Rattle.std.proofs.lemmas.List.{get_or-set_same, get_or-set_other, length-set, ext_get_or, get_or_past}
 use Rattle.std.proofs.lemmas.Bool.{cases_lt}
@@ -42,11 +42,11 @@ pub set-point : (m n : List (List ℕ)) (k i : ℕ) (w : List ℕ) → length m 
 set-point m n k i w same h =
     elim (eqb_tells k i) [
       | inl here ↦ elim (cases_lt i (length m)) [
-          | inl below ↦ subst (λ (t : ℕ). word_at (slice_set m t w) i ≡ word_at (slice_set n t w) i) (sym here.1)
-              (get_or-set_same m i w [] below ∙ sym (get_or-set_same n i w [] (subst (λ (t : ℕ). i < t) same below)))
-          | inr past ↦ get_or_past (slice_set m k w) i [] (subst (λ (t : ℕ). t ≤ i) (sym (length-set m k w)) past)
-              ∙ sym (get_or_past (slice_set n k w) i [] (subst (λ (t : ℕ). t ≤ i) (same ∙ sym (length-set n k w)) past))
-        ]
+        | inl below ↦ subst (λ (t : ℕ). word_at (slice_set m t w) i ≡ word_at (slice_set n t w) i) (sym here.1)
+            (get_or-set_same m i w [] below ∙ sym (get_or-set_same n i w [] (subst (λ (t : ℕ). i < t) same below)))
+        | inr past ↦ get_or_past (slice_set m k w) i [] (subst (λ (t : ℕ). t ≤ i) (sym (length-set m k w)) past)
+            ∙ sym (get_or_past (slice_set n k w) i [] (subst (λ (t : ℕ). t ≤ i) (same ∙ sym (length-set n k w)) past))
+      ]
       | inr apart ↦ get_or-set_other m k i w [] (λ e. apart.1 (sym e)) ∙ h apart.1 ∙ sym (get_or-set_other n k i w [] (λ e. apart.1 (sym e)))
     ]
 
@@ -58,7 +58,7 @@ pub laid-point : (m n : List (List ℕ)) (ps : List (ℕ × List ℕ)) (i : ℕ)
 laid-point m n [] i same h = h refl
 laid-point m n (p ∷ ps) i same h =
     laid-point (slice_set m p.0 p.1) (slice_set n p.0 p.1) ps i (length-set m p.0 p.1 ∙ same ∙ sym (length-set n p.0 p.1))
-      (λ free. set-point m n p.0 i p.1 same (λ apart. h (covers-other p ps i apart free)))
+    (λ free. set-point m n p.0 i p.1 same (λ apart. h (covers-other p ps i apart free)))
 
 pub laid-same : (m n : List (List ℕ)) (ps : List (ℕ × List ℕ)) → length m ≡ length n → ((i : ℕ) → covers ps i ≡ false → word_at m i ≡ word_at n i) → laid m ps ≡ laid n ps
 laid-same m n ps same h =
@@ -76,9 +76,9 @@ uncovered (p ∷ ps) i h =
 pub covers-append : (xs ys : List (ℕ × List ℕ)) (i : ℕ) → covers (xs ++ ys) i ≡ (covers xs i || covers ys i)
 covers-append [] ys i = refl
 covers-append (x ∷ xs) ys i = elim (eqb_tells x.0 i) [
-    | inl here ↦ ap (λ (b : Bool). b || covers (xs ++ ys) i) here.0 ∙ sym (ap (λ (b : Bool). (b || covers xs i) || covers ys i) here.0)
-    | inr apart ↦ ap (λ (b : Bool). b || covers (xs ++ ys) i) apart.0 ∙ covers-append xs ys i ∙ sym (ap (λ (b : Bool). (b || covers xs i) || covers ys i) apart.0)
-  ]
+  | inl here ↦ ap (λ (b : Bool). b || covers (xs ++ ys) i) here.0 ∙ sym (ap (λ (b : Bool). (b || covers xs i) || covers ys i) here.0)
+  | inr apart ↦ ap (λ (b : Bool). b || covers (xs ++ ys) i) apart.0 ∙ covers-append xs ys i ∙ sym (ap (λ (b : Bool). (b || covers xs i) || covers ys i) apart.0)
+]
 
 -- the image as every list of pairs leaves it, when one of them is the last
 pub laid-last : (m : List (List ℕ)) (ps : List (ℕ × List ℕ)) (p : ℕ × List ℕ) → laid m (ps ++ p ∷ []) ≡ slice_set (laid m ps) p.0 p.1
@@ -100,10 +100,11 @@ Holds m ps = AllByRecursion (λ p. word_at m p.0 ≡ p.1) ps
 -- ascending pairs that were laid stand
 pub laid-holds : (m : List (List ℕ)) (least : ℕ) (ps : List (ℕ × List ℕ)) → Ascends least ps → AllByRecursion (λ p. p.0 < length m) ps → Holds (laid m ps) ps
 laid-holds m least [] a r = tt
-laid-holds m least (p ∷ ps) a r =
-    ( laid-other (slice_set m p.0 p.1) ps p.0 (ascends-other (p.0 + 1) ps p.0 a.1 (omega arith)) ∙ get_or-set_same m p.0 p.1 [] r.0
-    , laid-holds (slice_set m p.0 p.1) (p.0 + 1) ps a.1
-        (all-map (λ q. q.0 < length m) (λ q. q.0 < length (slice_set m p.0 p.1)) (λ q lt. subst (λ (t : ℕ). q.0 < t) (sym (length-set m p.0 p.1)) lt) ps r.1) )
+laid-holds m least (p ∷ ps) a r = (
+  laid-other (slice_set m p.0 p.1) ps p.0 (ascends-other (p.0 + 1) ps p.0 a.1 (omega arith)) ∙ get_or-set_same m p.0 p.1 [] r.0,
+  laid-holds (slice_set m p.0 p.1) (p.0 + 1) ps a.1
+      (all-map (λ q. q.0 < length m) (λ q. q.0 < length (slice_set m p.0 p.1)) (λ q lt. subst (λ (t : ℕ). q.0 < t) (sym (length-set m p.0 p.1)) lt) ps r.1),
+)
 
 -- and stand where other places change
 pub holds-point : (m n : List (List ℕ)) (ps : List (ℕ × List ℕ)) → AllByRecursion (λ p. word_at n p.0 ≡ word_at m p.0) ps → Holds m ps → Holds n ps

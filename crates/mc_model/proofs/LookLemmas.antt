@@ -1,12 +1,12 @@
 -- A look at a journal depends on the journal's words alone, and finds what was written there.
-use Rattle.std.proofs.Common.{◌≡◌, ◌≢◌, ◌⊎◌, ℕ, zero, suc, ◌+◌, ◌-◌, ◌*◌, ◌/◌, ◌%◌, ◌<◌, ◌≤◌, Bool, true, false, ◌&&◌, ◌||◌, ◌==◌, List, [], ◌∷◌, ◌++◌, length, take, drop, get_or, map, Option, Some, None, Result, Ok, Err, refl, sym, ◌∙◌, ap, subst, inl, inr, arith, add-one, length-append, length-take}
+use Rattle.std.proofs.Common.{◌≡◌, ℕ, zero, suc, ◌+◌, ◌-◌, ◌*◌, ◌<◌, ◌≤◌, Bool, true, false, ◌&&◌, List, [], ◌∷◌, ◌++◌, length, take, drop, Option, Some, None, Result, Ok, Err, refl, sym, ◌∙◌, ap, subst, inl, inr, arith, add-one, length-append, length-take}
 use Rattle.std.proofs.lemmas.Bool.{leb-true}
-use Rattle.std.specs.Prelude.{slice_set, nat_eq, nat_le, nat_lt, bytes_eq}
+use Rattle.std.specs.Prelude.{nat_le, bytes_eq}
 use Rattle.std.specs.List.{AllByRecursion}
-use Rattle.mc_model.specs.Bytes.{up, zeros, be2, bytes2}
-use Rattle.mc_model.specs.Image.{Journal, One, Two, opening, gate, word_at, is_open, is_count, within, when, number, count, before, one_before, targets_1, four, all_zero, ascend, after_all, all_before, targets_2, targets, value, pairs, Look, Refused, Closed, Pending, aimed, headed, opened, look_j}
-use Rattle.mc_model.specs.Stopped.{Inside, numbered, entries_1, two_bytes_each, four_targets, target_words, values_2, entries}
-use Rattle.mc_model.proofs.ImageLemmas.{Holds, all-append}
+use Rattle.mc_model.specs.Bytes.{up, zeros, be2}
+use Rattle.mc_model.specs.Image.{Journal, One, Two, opening, gate, word_at, is_open, is_count, within, when, number, count, one_before, targets_1, four, all_zero, ascend, after_all, all_before, targets_2, targets, value, pairs, Pending, aimed, headed, opened, look_j}
+use Rattle.mc_model.specs.Stopped.{Inside}
+use Rattle.mc_model.proofs.ImageLemmas.{all-append}
 
 -- ---- the same words in a journal, the same look
 
@@ -91,8 +91,8 @@ unfolding targets_1
 good-1 m i zero ts h = let is : [] ≡ ts = cc in subst (λ (l : List ℕ). GoodTargets (length m) 0 l) is (record { all = tt; few = omega arith })
 good-1 m i (suc c) ts h =
     subst (λ (n : ℕ). GoodTargets (length m) n ts) (add-one c)
-      (good-one (length m) c (3 + 2 * i) (number (within (length m)) (word_at m (3 + 2 * i))) (targets_1 m (i + 1) c) ts
-        (λ t e. number-test (within (length m)) (word_at m (3 + 2 * i)) t e) (λ us e. good-1 m (i + 1) c us e) h)
+    (good-one (length m) c (3 + 2 * i) (number (within (length m)) (word_at m (3 + 2 * i))) (targets_1 m (i + 1) c) ts
+    (λ t e. number-test (within (length m)) (word_at m (3 + 2 * i)) t e) (λ us e. good-1 m (i + 1) c us e) h)
 
 pub all-within : (size least : ℕ) (ts : List ℕ) → ascend size least ts ≡ true → AllByRecursion (λ t. within size t ≡ true) ts
 all-within size least [] h = tt
@@ -109,8 +109,10 @@ good-all size least most p past now (Ok us) ts few hr true hb h =
     let is : now ++ us ≡ ts = cc in
     let good : GoodTargets size most us = hr us refl in
     subst (λ (l : List ℕ). GoodTargets size (most + 4) l) is
-      (record { all = all-append (λ t. within size t ≡ true) now us (all-within size least now (both (all_zero past) (ascend size least now) hb).1) good.all;
-                few = let fewer : length us ≤ most = good.few in omega (arith, length-append now us) })
+    (record {
+      all = all-append (λ t. within size t ≡ true) now us (all-within size least now (both (all_zero past) (ascend size least now) hb).1) good.all;
+      few = let fewer : length us ≤ most = good.few in omega (arith, length-append now us);
+    })
 
 few-four : (c : ℕ) (g : List ℕ) → length (take c (four g)) ≤ 4
 few-four c g = omega (arith, length-take c (four g))
@@ -122,8 +124,8 @@ good-2 m (suc k) i c least ts h =
     let e : 4 * k + 4 ≡ 4 * suc k = omega arith in
     let all = four (word_at m (3 + i)) in
     subst (λ (n : ℕ). GoodTargets (length m) n ts) e
-      (good-all (length m) least (4 * k) (3 + i) (drop c all) (take c all) (targets_2 m (i + 1) k (c - 4) (after_all least (take c all))) ts (few-four c (word_at m (3 + i)))
-        (λ us e. good-2 m k (i + 1) (c - 4) (after_all least (take c all)) us e) (all_zero (drop c all) && ascend (length m) least (take c all)) refl h)
+    (good-all (length m) least (4 * k) (3 + i) (drop c all) (take c all) (targets_2 m (i + 1) k (c - 4) (after_all least (take c all))) ts (few-four c (word_at m (3 + i)))
+    (λ us e. good-2 m k (i + 1) (c - 4) (after_all least (take c all)) us e) (all_zero (drop c all) && ascend (length m) least (take c all)) refl h)
 
 wider : (size a b : ℕ) (ts : List ℕ) → a ≤ b → GoodTargets size a ts → GoodTargets size b ts
 wider size a b ts h g = record { all = g.all; few = let few : length ts ≤ a = g.few in omega arith }
@@ -156,7 +158,7 @@ pending-aimed j k m c ps (Ok ts) ho hc hr h =
     let is : pairs j m 0 ts ≡ ps = cc in
     let good : GoodTargets (length m) 64 ts = good-targets j m c ts hc hr in
     subst (λ (l : List (ℕ × List ℕ)). GoodPending j k m l) is
-      (record { same = sym same; opens = ho; all = pairs-within j m (length m) 0 ts good.all; few = subst (λ (n : ℕ). n ≤ 64) (sym (pairs-length j m 0 ts)) good.few })
+    (record { same = sym same; opens = ho; all = pairs-within j m (length m) 0 ts good.all; few = subst (λ (n : ℕ). n ≤ 64) (sym (pairs-length j m 0 ts)) good.few })
 
 pending-headed : (j k : Journal) (m : List (List ℕ)) (ps : List (ℕ × List ℕ)) (o : Option ℕ) → is_open j m ≡ true → count m ≡ o → headed j m o ≡ Pending k ps → GoodPending j k m ps
 pending-headed j k m ps None ho hc h = absurd (cc h)

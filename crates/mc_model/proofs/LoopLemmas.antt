@@ -1,7 +1,7 @@
 -- Loops that write: what is left to do leads where the whole leads.
 use Rattle.std.proofs.Common.{◌≡◌, ℕ, List, [], ◌∷◌, ◌++◌, Ok, Err, refl, sym, subst, inl, inr}
 use Rattle.mc_model.specs.declared.device.Stop.{Stop}
-use Rattle.mc_model.specs.Orders.{Answer, InOrder}
+use Rattle.mc_model.specs.Orders.{Answer}
 use Rattle.mc_model.specs.Device.{Makes}
 use Rattle.mc_model.proofs.OrdersLemmas.{InOrder-append, InOrder-stopped}
 

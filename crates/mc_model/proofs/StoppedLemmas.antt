@@ -1,15 +1,15 @@
 -- The tear lemma: what an atomic write means that was stopped at any of its device writes, whatever word that left.
-use Rattle.std.proofs.Common.{◌≡◌, ◌≢◌, ◌⊎◌, ℕ, zero, suc, ◌+◌, ◌-◌, ◌*◌, ◌<◌, ◌≤◌, Bool, true, false, cond, not, ◌&&◌, ◌||◌, ◌==◌, List, [], ◌∷◌, ◌++◌, length, map, refl, sym, ◌∙◌, ap, subst, inl, inr, arith, length-append, append_assoc}
-use Rattle.std.specs.Prelude.{bytes_eq, nat_eq, nat_le, nat_lt, slice_set}
+use Rattle.std.proofs.Common.{◌≡◌, ◌≢◌, ◌⊎◌, ℕ, zero, suc, ◌+◌, ◌-◌, ◌<◌, ◌≤◌, Bool, true, false, cond, not, ◌&&◌, ◌||◌, ◌==◌, List, [], ◌∷◌, ◌++◌, length, map, refl, sym, ◌∙◌, ap, subst, inl, inr, arith}
+use Rattle.std.specs.Prelude.{bytes_eq, nat_le, nat_lt, slice_set}
 use Rattle.std.specs.List.{AllByRecursion}
 use Rattle.std.proofs.lemmas.List.{get_or-set_same, get_or-set_other, length-set}
-use Rattle.std.proofs.lemmas.Bool.{cases_lt, le-ltb, lt-ltb, le-leb, leb-true, eqb-true, ltb-true}
+use Rattle.std.proofs.lemmas.Bool.{cases_lt, le-ltb, lt-ltb, leb-true, eqb-true, ltb-true}
 use Rattle.std.proofs.lemmas.Bool.Decides.{eqb_tells}
 use Rattle.std.specs.Cmp.Lexicographic.{same_text}
-use Rattle.mc_model.specs.Image.{Journal, One, Two, opening, shut, gate, word_at, is_open, within, ascend, laid, Look, Closed, Pending, opened, look_j, replayed, debt, after_j, owed_j, Words}
+use Rattle.mc_model.specs.Image.{Journal, One, Two, opening, shut, gate, word_at, is_open, within, ascend, laid, Look, Closed, Pending, opened, look_j, replayed, debt}
 use Rattle.mc_model.specs.Stopped.{Inside, cost, opens_at, stands, owes, numbered, entries, replay, writes, IsAtomic, torn, stood, SameOutside, Leaves, Stands}
-use Rattle.mc_model.proofs.ImageLemmas.{Holds, all-append, all-map, length-laid, laid-append, laid-other, laid-point, laid-holds, laid-last, uncovered, covers, holds-point, Ascends, ascends-other}
-use Rattle.mc_model.proofs.LookLemmas.{SameInside, look-same, both}
+use Rattle.mc_model.proofs.ImageLemmas.{Holds, all-map, length-laid, laid-append, laid-other, laid-point, laid-holds, laid-last, uncovered, covers, holds-point, Ascends}
+use Rattle.mc_model.proofs.LookLemmas.{look-same, both}
 use Rattle.mc_model.proofs.WrittenLemmas.{either}
 use Rattle.mc_model.proofs.GeometryLemmas.{InEntries, Geometry, geometry, look-written, targets-within}
 
@@ -158,12 +158,12 @@ module _ (j : Journal) (m : List (List ℕ)) (list : List (ℕ × List ℕ)) (lo
   written =
       let n = at_gate at_head (opening j) in
       look-written j (length m) list geo atomic n (length-set at_head (gate j) (opening j) ∙ length-head)
-        (holds-point at_values n (entries j list)
-          (all-map (λ p. InEntries j p.0) (λ p. word_at n p.0 ≡ word_at at_values p.0)
-            (λ p inside. other-at at_head (opening j) p.0 inside.apart ∙ other-head p.0 (λ e. let low : 3 ≤ p.0 = inside.low in absurd (omega (arith, e)))) (entries j list) geo.places)
-          (laid-holds m 3 (entries j list) geo.ascends (all-map (λ p. InEntries j p.0) (λ p. p.0 < length m) (λ p inside. let high : p.0 ≤ 130 = inside.high in omega arith) (entries j list) geo.places)))
-        (other-at at_head (opening j) 2 (λ e. (gate-bound j).1 (sym e)) ∙ get_or-set_same at_values 2 (numbered (length list)) [] (omega (arith, length-values)))
-        (gate-at at_head (opening j) length-head)
+      (holds-point at_values n (entries j list)
+      (all-map (λ p. InEntries j p.0) (λ p. word_at n p.0 ≡ word_at at_values p.0)
+      (λ p inside. other-at at_head (opening j) p.0 inside.apart ∙ other-head p.0 (λ e. let low : 3 ≤ p.0 = inside.low in absurd (omega (arith, e)))) (entries j list) geo.places)
+      (laid-holds m 3 (entries j list) geo.ascends (all-map (λ p. InEntries j p.0) (λ p. p.0 < length m) (λ p inside. let high : p.0 ≤ 130 = inside.high in omega arith) (entries j list) geo.places)))
+      (other-at at_head (opening j) 2 (λ e. (gate-bound j).1 (sym e)) ∙ get_or-set_same at_values 2 (numbered (length list)) [] (omega (arith, length-values)))
+      (gate-at at_head (opening j) length-head)
 
   -- outside, nothing was changed so far
   values-outside : (i : ℕ) → (Inside j i → ⊥) → word_at at_values i ≡ word_at m i
@@ -189,36 +189,39 @@ module _ (j : Journal) (m : List (List ℕ)) (list : List (ℕ × List ℕ)) (lo
   in-values : (k : ℕ) (x : List ℕ) → Leaves j (torn m (entries j list) k x) 0 m
   in-values k x =
       closed-leaves j (torn m (entries j list) k x) m (still-closed _ (torn-other m (entries j list) k x (gate j) entries-gate))
-        (record { size = length-torn m (entries j list) k x; words = λ i out. torn-other m (entries j list) k x i (entries-apart i (λ inside. out inside.inside)) })
+      (record { size = length-torn m (entries j list) k x; words = λ i out. torn-other m (entries j list) k x i (entries-apart i (λ inside. out inside.inside)) })
 
   -- stopped in its head
   in-head : (x : List ℕ) → Leaves j (slice_set at_values 2 x) 0 m
   in-head x =
       closed-leaves j (slice_set at_values 2 x) m
-        (still-closed _ (get_or-set_other at_values 2 (gate j) x [] (gate-bound j).1 ∙ laid-other m (entries j list) (gate j) entries-gate))
-        (record { size = length-set at_values 2 x ∙ length-values;
-                  words = λ i out. get_or-set_other at_values 2 i x [] (λ e. apart-from j i 2 (head-inside j) out (sym e)) ∙ values-outside i out })
+      (still-closed _ (get_or-set_other at_values 2 (gate j) x [] (gate-bound j).1 ∙ laid-other m (entries j list) (gate j) entries-gate))
+      (record {
+        size = length-set at_values 2 x ∙ length-values;
+        words = λ i out. get_or-set_other at_values 2 i x [] (λ e. apart-from j i 2 (head-inside j) out (sym e)) ∙ values-outside i out;
+      })
 
   -- replayed from an image that is as before outside but for targets
   replayed-same : (n : List (List ℕ)) → length n ≡ length m → ((i : ℕ) → (Inside j i → ⊥) → covers list i ≡ false → word_at n i ≡ word_at m i) → SameOutside j (laid n (replay j list)) (laid m list)
   replayed-same n same h = record {
-      size = length-laid n (replay j list) ∙ same ∙ sym (length-laid m list);
-      words = λ i out.
+    size = length-laid n (replay j list) ∙ same ∙ sym (length-laid m list);
+    words = λ i out.
         subst (λ (t : List (List ℕ)). word_at t i ≡ word_at (laid m list) i) (sym (laid-last n list (gate j, shut)))
-          (gate-outside (laid n list) shut i out ∙ laid-point n m list i same (h i out)) }
+        (gate-outside (laid n list) shut i out ∙ laid-point n m list i same (h i out));
+  }
 
   -- stopped in its gate: it stands where the word that was left opens
   in-gate-open : (x : List ℕ) → x ≡ opening j → Leaves j (at_gate at_head x) (length list + 1) (laid m list)
   in-gate-open x e =
       subst (λ (t : List ℕ). Leaves j (at_gate at_head t) (length list + 1) (laid m list)) (sym e)
-        (pending-leaves j (at_gate at_head (opening j)) (laid m list) list written
-          (replayed-same (at_gate at_head (opening j)) (length-set at_head (gate j) (opening j) ∙ length-head)
-            (λ i out free. gate-outside at_head (opening j) i out ∙ head-outside i out)))
+      (pending-leaves j (at_gate at_head (opening j)) (laid m list) list written
+      (replayed-same (at_gate at_head (opening j)) (length-set at_head (gate j) (opening j) ∙ length-head)
+      (λ i out free. gate-outside at_head (opening j) i out ∙ head-outside i out)))
 
   in-gate-closed : (x : List ℕ) → bytes_eq x (opening j) ≡ false → Leaves j (at_gate at_head x) 0 m
   in-gate-closed x e =
       closed-leaves j (at_gate at_head x) m (ap (λ (w : List ℕ). bytes_eq w (opening j)) (gate-at at_head x length-head) ∙ e)
-        (record { size = length-set at_head (gate j) x ∙ length-head; words = λ i out. gate-outside at_head x i out ∙ head-outside i out })
+      (record { size = length-set at_head (gate j) x ∙ length-head; words = λ i out. gate-outside at_head x i out ∙ head-outside i out })
 
   -- stopped in its targets
   abbrev opened_image : List (List ℕ)
@@ -234,8 +237,8 @@ module _ (j : Journal) (m : List (List ℕ)) (list : List (ℕ × List ℕ)) (lo
   in-targets k x =
       let n = torn opened_image list k x in
       pending-leaves j n (laid m list) list
-        (look-same j n opened_image (record { size = length-torn opened_image list k x; words = λ i inside. torn-other opened_image list k x i (targets-outside j (length m) list i within-all inside) }) ∙ written)
-        (replayed-same n (length-torn opened_image list k x ∙ length-opened) (λ i out free. torn-other opened_image list k x i (uncovered list i free) ∙ opened-outside i out))
+      (look-same j n opened_image (record { size = length-torn opened_image list k x; words = λ i inside. torn-other opened_image list k x i (targets-outside j (length m) list i within-all inside) }) ∙ written)
+      (replayed-same n (length-torn opened_image list k x ∙ length-opened) (λ i out free. torn-other opened_image list k x i (uncovered list i free) ∙ opened-outside i out))
 
   -- stopped in its last write
   length-targets : length (laid opened_image list) ≡ length m
@@ -247,23 +250,23 @@ module _ (j : Journal) (m : List (List ℕ)) (list : List (ℕ × List ℕ)) (lo
   in-last-closed : (x : List ℕ) → bytes_eq x (opening j) ≡ false → Leaves j (at_gate (laid opened_image list) x) 0 (laid m list)
   in-last-closed x e =
       closed-leaves j (at_gate (laid opened_image list) x) (laid m list) (ap (λ (w : List ℕ). bytes_eq w (opening j)) (gate-at (laid opened_image list) x length-targets) ∙ e)
-        (record { size = length-set (laid opened_image list) (gate j) x ∙ length-targets ∙ sym (length-laid m list); words = last-outside x })
+      (record { size = length-set (laid opened_image list) (gate j) x ∙ length-targets ∙ sym (length-laid m list); words = last-outside x })
 
   last-inside : (i : ℕ) → Inside j i → word_at (at_gate (laid opened_image list) (opening j)) i ≡ word_at opened_image i
   last-inside i inside = elim (eqb_tells i (gate j)) [
-      | inl here ↦ subst (λ (t : ℕ). word_at (at_gate (laid opened_image list) (opening j)) t ≡ word_at opened_image t) (sym here.1)
-          (gate-at (laid opened_image list) (opening j) length-targets ∙ sym (gate-at at_head (opening j) length-head))
-      | inr apart ↦ other-at (laid opened_image list) (opening j) i apart.1 ∙ laid-other opened_image list i (targets-outside j (length m) list i within-all inside)
-    ]
+    | inl here ↦ subst (λ (t : ℕ). word_at (at_gate (laid opened_image list) (opening j)) t ≡ word_at opened_image t) (sym here.1)
+        (gate-at (laid opened_image list) (opening j) length-targets ∙ sym (gate-at at_head (opening j) length-head))
+    | inr apart ↦ other-at (laid opened_image list) (opening j) i apart.1 ∙ laid-other opened_image list i (targets-outside j (length m) list i within-all inside)
+  ]
 
   in-last-open : (x : List ℕ) → x ≡ opening j → Leaves j (at_gate (laid opened_image list) x) (length list + 1) (laid m list)
   in-last-open x e =
       let n = at_gate (laid opened_image list) (opening j) in
       subst (λ (t : List ℕ). Leaves j (at_gate (laid opened_image list) t) (length list + 1) (laid m list)) (sym e)
-        (pending-leaves j n (laid m list) list
-          (look-same j n opened_image (record { size = length-set (laid opened_image list) (gate j) (opening j) ∙ length-laid opened_image list; words = last-inside }) ∙ written)
-          (replayed-same n (length-set (laid opened_image list) (gate j) (opening j) ∙ length-targets)
-            (λ i out free. gate-outside (laid opened_image list) (opening j) i out ∙ laid-other opened_image list i (uncovered list i free) ∙ opened-outside i out)))
+      (pending-leaves j n (laid m list) list
+      (look-same j n opened_image (record { size = length-set (laid opened_image list) (gate j) (opening j) ∙ length-laid opened_image list; words = last-inside }) ∙ written)
+      (replayed-same n (length-set (laid opened_image list) (gate j) (opening j) ∙ length-targets)
+      (λ i out free. gate-outside (laid opened_image list) (opening j) i out ∙ laid-other opened_image list i (uncovered list i free) ∙ opened-outside i out)))
 
   -- ---- which of these a stop is
 
@@ -279,12 +282,12 @@ module _ (j : Journal) (m : List (List ℕ)) (list : List (ℕ × List ℕ)) (lo
   stands-before : (k : ℕ) (x : List ℕ) → k < opens_at j (length list) → stands j (length list) k x ≡ false
   stands-before k x lt =
       ap (λ (b : Bool). b || ((k == opens_at j (length list)) && bytes_eq x (opening j))) (le-ltb (opens_at j (length list)) k (omega arith))
-        ∙ ap (λ (b : Bool). b && bytes_eq x (opening j)) (eqb-apart k (opens_at j (length list)) (λ e. absurd (omega (arith, e))))
+      ∙ ap (λ (b : Bool). b && bytes_eq x (opening j)) (eqb-apart k (opens_at j (length list)) (λ e. absurd (omega (arith, e))))
 
   stands-at : (k : ℕ) (x : List ℕ) → k ≡ opens_at j (length list) → stands j (length list) k x ≡ bytes_eq x (opening j)
   stands-at k x e =
       ap (λ (b : Bool). b || ((k == opens_at j (length list)) && bytes_eq x (opening j))) (le-ltb (opens_at j (length list)) k (omega (arith, e)))
-        ∙ ap (λ (b : Bool). b && bytes_eq x (opening j)) (eqb-here k (opens_at j (length list)) e)
+      ∙ ap (λ (b : Bool). b && bytes_eq x (opening j)) (eqb-here k (opens_at j (length list)) e)
 
   stands-after : (k : ℕ) (x : List ℕ) → opens_at j (length list) < k → stands j (length list) k x ≡ true
   stands-after k x lt = ap (λ (b : Bool). b || ((k == opens_at j (length list)) && bytes_eq x (opening j))) (lt-ltb (opens_at j (length list)) k lt)
@@ -296,7 +299,7 @@ module _ (j : Journal) (m : List (List ℕ)) (list : List (ℕ × List ℕ)) (lo
   owes-last : (k : ℕ) (x : List ℕ) (b : Bool) → stands j (length list) k x ≡ true → k ≡ cost j (length list) → bytes_eq x (opening j) ≡ b → owes j (length list) k x ≡ cond (not (not b)) (length list + 1) 0
   owes-last k x b hs e hb =
       owes-by k x true hs ∙ ap (λ (t : Bool). cond (not (t && not (bytes_eq x (opening j)))) (length list + 1) 0) (eqb-here k (cost j (length list)) e)
-        ∙ ap (λ (t : Bool). cond (not (not t)) (length list + 1) 0) hb
+      ∙ ap (λ (t : Bool). cond (not (not t)) (length list + 1) 0) hb
 
   -- the atomic write that was stopped at its write k, which left x
   Tears : ℕ → List ℕ → List (List ℕ) → Type 0
@@ -310,25 +313,25 @@ module _ (j : Journal) (m : List (List ℕ)) (list : List (ℕ × List ℕ)) (lo
   tear-1 k x low h =
       let before : stands j (length list) k x ≡ false = stands-before k x (omega (arith, geo.opens)) in
       tear-is (torn m (writes j list) k x) k x 0 false before (owes-by k x false before)
-        (subst (λ (n : List (List ℕ)). Leaves j n 0 m) (sym (torn-within m (entries j list) _ k x low h)) (in-values k x))
+      (subst (λ (n : List (List ℕ)). Leaves j n 0 m) (sym (torn-within m (entries j list) _ k x low h)) (in-values k x))
 
   tear-2 : (k : ℕ) (x : List ℕ) → k ≡ length (entries j list) + 1 → Tears k x (torn m (writes j list) k x)
   unfolding Tears
   tear-2 k x e =
       let before : stands j (length list) k x ≡ false = stands-before k x (omega (arith, geo.opens, e)) in
       tear-is (torn m (writes j list) k x) k x 0 false before (owes-by k x false before)
-        (subst (λ (n : List (List ℕ)). Leaves j n 0 m) (sym (torn-past m (entries j list) ((2, numbered (length list)) ∷ (gate j, opening j) ∷ replay j list) k 1 x (omega arith) e)) (in-head x))
+      (subst (λ (n : List (List ℕ)). Leaves j n 0 m) (sym (torn-past m (entries j list) ((2, numbered (length list)) ∷ (gate j, opening j) ∷ replay j list) k 1 x (omega arith) e)) (in-head x))
 
   tear-3 : (k : ℕ) (x : List ℕ) (b : Bool) → bytes_eq x (opening j) ≡ b → k ≡ length (entries j list) + 2 → Tears k x (torn m (writes j list) k x)
   unfolding Tears
   tear-3 k x true hb e =
       let it : stands j (length list) k x ≡ true = stands-at k x (e ∙ geo.opens) ∙ hb in
       tear-is (torn m (writes j list) k x) k x (length list + 1) true it (owes-before-last k x it (λ c. absurd (omega (arith, c, e, geo.costs))))
-        (subst (λ (n : List (List ℕ)). Leaves j n (length list + 1) (laid m list)) (sym (torn-past m (entries j list) ((2, numbered (length list)) ∷ (gate j, opening j) ∷ replay j list) k 2 x (omega arith) e)) (in-gate-open x (open-same j x hb)))
+      (subst (λ (n : List (List ℕ)). Leaves j n (length list + 1) (laid m list)) (sym (torn-past m (entries j list) ((2, numbered (length list)) ∷ (gate j, opening j) ∷ replay j list) k 2 x (omega arith) e)) (in-gate-open x (open-same j x hb)))
   tear-3 k x false hb e =
       let it : stands j (length list) k x ≡ false = stands-at k x (e ∙ geo.opens) ∙ hb in
       tear-is (torn m (writes j list) k x) k x 0 false it (owes-by k x false it)
-        (subst (λ (n : List (List ℕ)). Leaves j n 0 m) (sym (torn-past m (entries j list) ((2, numbered (length list)) ∷ (gate j, opening j) ∷ replay j list) k 2 x (omega arith) e)) (in-gate-closed x hb))
+      (subst (λ (n : List (List ℕ)). Leaves j n 0 m) (sym (torn-past m (entries j list) ((2, numbered (length list)) ∷ (gate j, opening j) ∷ replay j list) k 2 x (omega arith) e)) (in-gate-closed x hb))
 
   torn-opened : (k i : ℕ) (x : List ℕ) → k ≡ length (entries j list) + suc (suc (suc i)) → torn m (writes j list) k x ≡ torn (slice_set (slice_set (laid m (entries j list)) 2 (numbered (length list))) (gate j) (opening j)) (replay j list) (suc i) x
   torn-opened k i x e = torn-past m (entries j list) ((2, numbered (length list)) ∷ (gate j, opening j) ∷ replay j list) k (suc (suc (suc i))) x (omega arith) e
@@ -338,8 +341,8 @@ module _ (j : Journal) (m : List (List ℕ)) (list : List (ℕ × List ℕ)) (lo
   tear-4 k i x e lt =
       let it : stands j (length list) k x ≡ true = stands-after k x (omega (arith, geo.opens, e)) in
       tear-is (torn m (writes j list) k x) k x (length list + 1) true it (owes-before-last k x it (λ c. absurd (omega (arith, c, e, geo.costs))))
-        (subst (λ (n : List (List ℕ)). Leaves j n (length list + 1) (laid m list))
-          (sym (torn-opened k i x e ∙ torn-within opened_image list ((gate j, shut) ∷ []) (suc i) x (omega arith) (omega arith))) (in-targets (suc i) x))
+      (subst (λ (n : List (List ℕ)). Leaves j n (length list + 1) (laid m list))
+      (sym (torn-opened k i x e ∙ torn-within opened_image list ((gate j, shut) ∷ []) (suc i) x (omega arith) (omega arith))) (in-targets (suc i) x))
 
   torn-last : (k i : ℕ) (x : List ℕ) → k ≡ length (entries j list) + suc (suc (suc i)) → i ≡ length list → torn m (writes j list) k x ≡ slice_set (laid opened_image list) (gate j) x
   torn-last k i x e is = torn-opened k i x e ∙ torn-past opened_image list ((gate j, shut) ∷ []) (suc i) 1 x (omega arith) (omega (arith, is))
@@ -349,30 +352,30 @@ module _ (j : Journal) (m : List (List ℕ)) (list : List (ℕ × List ℕ)) (lo
   tear-5 k i x true hb e is =
       let it : stands j (length list) k x ≡ true = stands-after k x (omega (arith, geo.opens, e)) in
       tear-is (torn m (writes j list) k x) k x (length list + 1) true it (owes-last k x true it (omega (arith, e, is, geo.costs)) hb)
-        (subst (λ (n : List (List ℕ)). Leaves j n (length list + 1) (laid m list)) (sym (torn-last k i x e is)) (in-last-open x (open-same j x hb)))
+      (subst (λ (n : List (List ℕ)). Leaves j n (length list + 1) (laid m list)) (sym (torn-last k i x e is)) (in-last-open x (open-same j x hb)))
   tear-5 k i x false hb e is =
       let it : stands j (length list) k x ≡ true = stands-after k x (omega (arith, geo.opens, e)) in
       tear-is (torn m (writes j list) k x) k x 0 true it (owes-last k x false it (omega (arith, e, is, geo.costs)) hb)
-        (subst (λ (n : List (List ℕ)). Leaves j n 0 (laid m list)) (sym (torn-last k i x e is)) (in-last-closed x hb))
+      (subst (λ (n : List (List ℕ)). Leaves j n 0 (laid m list)) (sym (torn-last k i x e is)) (in-last-closed x hb))
 
   pub tear : (k : ℕ) (x : List ℕ) → 1 ≤ k → k ≤ cost j (length list) → Leaves j (torn m (writes j list) k x) (owes j (length list) k x) (stood (stands j (length list) k x) m list)
   unfolding Tears
   tear k x low h = elim (cases_lt (length (entries j list)) k) [
-      | inr in_entries ↦ tear-1 k x low in_entries
-      | inl past ↦ elim (eqb_tells k (length (entries j list) + 1)) [
-          | inl here ↦ tear-2 k x here.1
-          | inr no_head ↦ elim (eqb_tells k (length (entries j list) + 2)) [
-              | inl here ↦ tear-3 k x (bytes_eq x (opening j)) refl here.1
-              | inr no_gate ↦
-                  let i = k - (length (entries j list) + 3) in
-                  let e : k ≡ length (entries j list) + suc (suc (suc i)) = omega (arith, no_head.1, no_gate.1) in
-                  elim (cases_lt i (length list)) [
-                    | inl in_targets ↦ tear-4 k i x e in_targets
-                    | inr last ↦ tear-5 k i x (bytes_eq x (opening j)) refl e (omega (arith, e, geo.costs))
-                  ]
+    | inr in_entries ↦ tear-1 k x low in_entries
+    | inl past ↦ elim (eqb_tells k (length (entries j list) + 1)) [
+      | inl here ↦ tear-2 k x here.1
+      | inr no_head ↦ elim (eqb_tells k (length (entries j list) + 2)) [
+        | inl here ↦ tear-3 k x (bytes_eq x (opening j)) refl here.1
+        | inr no_gate ↦
+            let i = k - (length (entries j list) + 3) in
+            let e : k ≡ length (entries j list) + suc (suc (suc i)) = omega (arith, no_head.1, no_gate.1) in
+            elim (cases_lt i (length list)) [
+              | inl in_targets ↦ tear-4 k i x e in_targets
+              | inr last ↦ tear-5 k i x (bytes_eq x (opening j)) refl e (omega (arith, e, geo.costs))
             ]
-        ]
+      ]
     ]
+  ]
 
   -- ---- an atomic write that was not stopped
 
@@ -386,8 +389,9 @@ module _ (j : Journal) (m : List (List ℕ)) (list : List (ℕ × List ℕ)) (lo
   done =
       let n = slice_set (laid opened_image list) (gate j) shut in
       subst (λ (t : List (List ℕ)). Stands j m list t) (sym laid-writes)
-        (record {
-          gate = gate-at (laid opened_image list) shut length-targets;
-          targets = holds-point (laid m list) n list
+      (record {
+        gate = gate-at (laid opened_image list) shut length-targets;
+        targets = holds-point (laid m list) n list
             (all-map (λ p. within (length m) p.0 ≡ true) (λ p. word_at n p.0 ≡ word_at (laid m list) p.0) (λ p w. last-outside shut p.0 (target-outside j (length m) p.0 w)) list within-all) list-holds;
-          same = record { size = length-set (laid opened_image list) (gate j) shut ∙ length-targets ∙ sym (length-laid m list); words = last-outside shut } })
+        same = record { size = length-set (laid opened_image list) (gate j) shut ∙ length-targets ∙ sym (length-laid m list); words = last-outside shut };
+      })

@@ -1,13 +1,12 @@
 -- What an atomic write puts into its journal is what a look finds there.
-use Rattle.std.proofs.Common.{◌≡◌, ◌≢◌, ◌⊎◌, ℕ, zero, suc, ◌+◌, ◌-◌, ◌*◌, ◌/◌, ◌%◌, ◌<◌, ◌≤◌, Bool, true, false, ◌&&◌, ◌||◌, ◌==◌, List, [], ◌∷◌, ◌++◌, length, take, drop, get_or, map, Option, Some, None, Result, Ok, Err, refl, sym, ◌∙◌, ap, subst, inl, inr, arith, add-one, length-append, take_all, le-leb}
+use Rattle.std.proofs.Common.{◌≡◌, ◌⊎◌, ℕ, zero, suc, ◌+◌, ◌-◌, ◌*◌, ◌/◌, ◌%◌, ◌<◌, ◌≤◌, Bool, true, false, ◌&&◌, ◌||◌, ◌==◌, List, [], ◌∷◌, ◌++◌, length, take, drop, map, Option, Some, Result, Ok, refl, ◌∙◌, ap, inl, inr, arith, take_all, le-leb}
 use Rattle.std.proofs.lemmas.List.{drop_all}
-use Rattle.std.specs.Prelude.{slice_set, nat_eq, nat_le, nat_lt, bytes_eq}
+use Rattle.std.specs.Prelude.{nat_le, nat_lt}
 use Rattle.std.specs.List.{AllByRecursion}
-use Rattle.std.proofs.lemmas.Bool.{leb-true, ltb-true, eqb-true}
-use Rattle.mc_model.specs.Bytes.{up, zeros, be2, bytes2}
-use Rattle.mc_model.specs.Image.{Journal, One, Two, opening, gate, word_at, is_open, is_count, within, when, number, count, before, one_before, targets_1, four, all_zero, ascend, after_all, all_before, targets_2, targets, value, pairs, Look, Refused, Closed, Pending, aimed, headed, opened, look_j}
-use Rattle.mc_model.specs.Stopped.{Inside, cost, opens_at, numbered, entries_1, two_bytes_each, four_targets, target_words, values_2, entries}
-use Rattle.mc_model.proofs.ImageLemmas.{Holds, Ascends, all-append, all-map}
+use Rattle.std.proofs.lemmas.Bool.{ltb-true, eqb-true}
+use Rattle.mc_model.specs.Image.{One, Two, word_at, is_count, within, when, number, one_before, targets_1, four, all_zero, ascend, after_all, all_before, targets_2, pairs}
+use Rattle.mc_model.specs.Stopped.{numbered, entries_1, four_targets, target_words, values_2}
+use Rattle.mc_model.proofs.ImageLemmas.{Holds}
 use Rattle.mc_model.proofs.LookLemmas.{both}
 
 -- ---- numbers of two bytes
@@ -43,9 +42,9 @@ unfolding targets_1
 read-1 n [] i hs a h = refl
 read-1 n (p ∷ ps) i hs a h =
     let first : number (within (length n)) (word_at n (3 + 2 * i)) ≡ Some p.0 =
-      ap (λ (w : List ℕ). number (within (length n)) w) h.0 ∙ number-numbered (within (length n)) p.0 (within-small (length n) p.0 hs a.0) a.0 in
+    ap (λ (w : List ℕ). number (within (length n)) w) h.0 ∙ number-numbered (within (length n)) p.0 (within-small (length n) p.0 hs a.0) a.0 in
     ap (λ (o : Option ℕ). one_before o (3 + 2 * i) (targets_1 n (i + 1) (length ps))) first
-      ∙ ap (λ (r : Result (List ℕ) ℕ). one_before (Some p.0) (3 + 2 * i) r) (read-1 n ps (i + 1) hs a.1 h.1.1)
+    ∙ ap (λ (r : Result (List ℕ) ℕ). one_before (Some p.0) (3 + 2 * i) r) (read-1 n ps (i + 1) hs a.1 h.1.1)
 
 pub pairs-1 : (n : List (List ℕ)) (list : List (ℕ × List ℕ)) (i : ℕ) → Holds n (entries_1 i list) → pairs One n i (map (λ p. p.0) list) ≡ list
 unfolding pairs
@@ -58,20 +57,20 @@ pairs-1 n (p ∷ ps) i h =
 four-back : (a b c d : ℕ) → a < 65536 → b < 65536 → c < 65536 → d < 65536 → four (four_targets (a ∷ b ∷ c ∷ d ∷ [])) ≡ a ∷ b ∷ c ∷ d ∷ []
 four-back a b c d ha hb hc hd =
     ap (λ (x : ℕ). x ∷ (256 * (b / 256 % 256) + b % 256) ∷ (256 * (c / 256 % 256) + c % 256) ∷ (256 * (d / 256 % 256) + d % 256) ∷ []) (be2-bytes2 a ha)
-      ∙ ap (λ (x : ℕ). a ∷ x ∷ (256 * (c / 256 % 256) + c % 256) ∷ (256 * (d / 256 % 256) + d % 256) ∷ []) (be2-bytes2 b hb)
-      ∙ ap (λ (x : ℕ). a ∷ b ∷ x ∷ (256 * (d / 256 % 256) + d % 256) ∷ []) (be2-bytes2 c hc)
-      ∙ ap (λ (x : ℕ). a ∷ b ∷ c ∷ x ∷ []) (be2-bytes2 d hd)
+    ∙ ap (λ (x : ℕ). a ∷ x ∷ (256 * (c / 256 % 256) + c % 256) ∷ (256 * (d / 256 % 256) + d % 256) ∷ []) (be2-bytes2 b hb)
+    ∙ ap (λ (x : ℕ). a ∷ b ∷ x ∷ (256 * (d / 256 % 256) + d % 256) ∷ []) (be2-bytes2 c hc)
+    ∙ ap (λ (x : ℕ). a ∷ b ∷ c ∷ x ∷ []) (be2-bytes2 d hd)
 
 step-2 : (n : List (List ℕ)) (i k c least : ℕ) (all now past us : List ℕ) → four (word_at n (3 + i)) ≡ all → take c all ≡ now → drop c all ≡ past
     → all_zero past ≡ true → ascend (length n) least now ≡ true → targets_2 n (i + 1) k (c - 4) (after_all least now) ≡ Ok us → targets_2 n i (suc k) c least ≡ Ok (now ++ us)
 unfolding targets_2
 step-2 n i k c least all now past us h1 h2 h3 h4 h5 h6 =
     ap (λ (x : List ℕ). all_before (all_zero (drop c x) && ascend (length n) least (take c x)) (take c x) (3 + i) (targets_2 n (i + 1) k (c - 4) (after_all least (take c x)))) h1
-      ∙ ap (λ (x : List ℕ). all_before (all_zero (drop c all) && ascend (length n) least x) x (3 + i) (targets_2 n (i + 1) k (c - 4) (after_all least x))) h2
-      ∙ ap (λ (x : List ℕ). all_before (all_zero x && ascend (length n) least now) now (3 + i) (targets_2 n (i + 1) k (c - 4) (after_all least now))) h3
-      ∙ ap (λ (x : Bool). all_before (x && ascend (length n) least now) now (3 + i) (targets_2 n (i + 1) k (c - 4) (after_all least now))) h4
-      ∙ ap (λ (x : Bool). all_before x now (3 + i) (targets_2 n (i + 1) k (c - 4) (after_all least now))) h5
-      ∙ ap (λ (x : Result (List ℕ) ℕ). all_before true now (3 + i) x) h6
+    ∙ ap (λ (x : List ℕ). all_before (all_zero (drop c all) && ascend (length n) least x) x (3 + i) (targets_2 n (i + 1) k (c - 4) (after_all least x))) h2
+    ∙ ap (λ (x : List ℕ). all_before (all_zero x && ascend (length n) least now) now (3 + i) (targets_2 n (i + 1) k (c - 4) (after_all least now))) h3
+    ∙ ap (λ (x : Bool). all_before (x && ascend (length n) least now) now (3 + i) (targets_2 n (i + 1) k (c - 4) (after_all least now))) h4
+    ∙ ap (λ (x : Bool). all_before x now (3 + i) (targets_2 n (i + 1) k (c - 4) (after_all least now))) h5
+    ∙ ap (λ (x : Result (List ℕ) ℕ). all_before true now (3 + i) x) h6
 
 abbrev pub Small : List ℕ → Type 0
 Small ts = AllByRecursion (λ t. t < 65536) ts
@@ -107,9 +106,9 @@ read-2 n (suc k) i least (x ∷ y ∷ z ∷ u ∷ ts) s a few h =
     let l = length (x ∷ y ∷ z ∷ u ∷ ts) in
     let less : l - 4 ≡ length ts = omega arith in
     let rest : targets_2 n (i + 1) k (l - 4) (u + 1) ≡ Ok ts =
-      ap (λ (c : ℕ). targets_2 n (i + 1) k c (u + 1)) less ∙ read-2 n k (i + 1) (u + 1) ts s.1.1.1.1 parts.1 (omega arith) h.1 in
+    ap (λ (c : ℕ). targets_2 n (i + 1) k c (u + 1)) less ∙ read-2 n k (i + 1) (u + 1) ts s.1.1.1.1 parts.1 (omega arith) h.1 in
     step-2 n i k l least (x ∷ y ∷ z ∷ u ∷ []) (x ∷ y ∷ z ∷ u ∷ []) [] ts (ap four h.0 ∙ four-back x y z u s.0 s.1.0 s.1.1.0 s.1.1.1.0)
-      (take_all l (x ∷ y ∷ z ∷ u ∷ []) (omega arith)) (drop_all l (x ∷ y ∷ z ∷ u ∷ []) (omega arith)) refl parts.0 rest
+    (take_all l (x ∷ y ∷ z ∷ u ∷ []) (omega arith)) (drop_all l (x ∷ y ∷ z ∷ u ∷ []) (omega arith)) refl parts.0 rest
 
 pub pairs-2 : (n : List (List ℕ)) (list : List (ℕ × List ℕ)) (i : ℕ) → Holds n (values_2 i list) → pairs Two n i (map (λ p. p.0) list) ≡ list
 unfolding pairs

@@ -45,6 +45,7 @@ byte_by (suc n) value = value n * 2 ^ n + byte_by n value
 unfoldable pub affine : ℕ → ℕ
 affine b = byte_by 8 (λ i. (bit b i + bit b (i + 4) + bit b (i + 5) + bit b (i + 6) + bit b (i + 7) + bit 0x63 i) % 2)
 
+-- the inverse of the affine change
 unfoldable pub affine_back : ℕ → ℕ
 affine_back b = byte_by 8 (λ i. (bit b (i + 2) + bit b (i + 5) + bit b (i + 7) + bit 0x05 i) % 2)
 
@@ -53,6 +54,7 @@ unfoldable pub sub : ℕ → ℕ
 unfolding inverse affine
 sub b = affine (inverse b)
 
+-- the inverse of the substitution
 unfoldable pub sub_back : ℕ → ℕ
 unfolding inverse affine_back
 sub_back b = inverse (affine_back b)
@@ -68,6 +70,7 @@ placed (i ∷ is) s = slice_index s i ∷ placed is s
 abbrev pub shift_rows : List ℕ → List ℕ
 shift_rows s = placed (0 ∷ 5 ∷ 10 ∷ 15 ∷ 4 ∷ 9 ∷ 14 ∷ 3 ∷ 8 ∷ 13 ∷ 2 ∷ 7 ∷ 12 ∷ 1 ∷ 6 ∷ 11 ∷ []) s
 
+-- the rows turned back
 abbrev pub shift_rows_back : List ℕ → List ℕ
 shift_rows_back s = placed (0 ∷ 13 ∷ 10 ∷ 7 ∷ 4 ∷ 1 ∷ 14 ∷ 11 ∷ 8 ∷ 5 ∷ 2 ∷ 15 ∷ 12 ∷ 9 ∷ 6 ∷ 3 ∷ []) s
 
@@ -91,6 +94,7 @@ unfoldable pub mix_columns : List ℕ → List ℕ
 unfolding mixed
 mix_columns s = mixed 4 2 3 1 1 s
 
+-- the inverse of the column step
 unfoldable pub mix_columns_back : List ℕ → List ℕ
 unfolding mixed
 mix_columns_back s = mixed 4 14 11 13 9 s
@@ -100,6 +104,7 @@ unfoldable pub round : List ℕ → List ℕ → List ℕ
 unfolding sub mix_columns
 round k s = added (mix_columns (shift_rows (map sub s))) k
 
+-- the tenth round, without a column step
 unfoldable pub last_round : List ℕ → List ℕ → List ℕ
 unfolding sub
 last_round k s = added (shift_rows (map sub s)) k
@@ -109,6 +114,7 @@ unfoldable pub last_round_back : List ℕ → List ℕ → List ℕ
 unfolding sub_back
 last_round_back k s = map sub_back (shift_rows_back (added s k))
 
+-- the inverse of a round
 unfoldable pub round_back : List ℕ → List ℕ → List ℕ
 unfolding sub_back mix_columns_back
 round_back k s = map sub_back (shift_rows_back (mix_columns_back (added s k)))
@@ -175,6 +181,7 @@ unfoldable pub aes_encipher : List ℕ → List ℕ → List ℕ
 unfolding round_keys enciphered
 aes_encipher key block = enciphered (round_keys key) block
 
+-- a block deciphered
 unfoldable pub aes_decipher : List ℕ → List ℕ → List ℕ
 unfolding round_keys deciphered
 aes_decipher key block = deciphered (reverse (round_keys key)) block

@@ -23,6 +23,7 @@ pub record Rest : Type 0 where
 abbrev pub short_le : ℕ → ℕ
 short_le n = cond (n == 0) 256 n
 
+-- Le in two bytes, where 0000 is held as 65,535
 abbrev pub extended_le : ℕ → ℕ
 extended_le n = cond (n == 0) 65535 n
 
@@ -62,6 +63,7 @@ case_of [] (Some le) = 2
 case_of (x ∷ xs) None = 3
 case_of (x ∷ xs) (Some le) = 4
 
+-- the case of a command
 abbrev pub apdu_case : ApduParts → ℕ
 apdu_case a = case_of a.body a.le
 
@@ -82,27 +84,33 @@ HasRest a p3 body le = (a.p3 ≡ p3) × (a.body ≡ body) × (a.le ≡ le)
 abbrev pub IsShort1 : List ℕ → ApduParts → Type 0
 IsShort1 b a = (length b ≡ 4) × HasRest a 0 [] None
 
+-- the short case 2
 abbrev pub IsShort2 : List ℕ → ApduParts → Type 0
 IsShort2 b a = (length b ≡ 5) × HasRest a (slice_index b 4) [] (Some (short_le (slice_index b 4)))
 
+-- the short case 3
 abbrev pub IsShort3 : List ℕ → ApduParts → Type 0
 IsShort3 b a =
     let lc = slice_index b 4 in
     (lc ≢ 0) × (length b ≡ 5 + lc) × HasRest a lc (drop 5 b) None
 
+-- the short case 4
 abbrev pub IsShort4 : List ℕ → ApduParts → Type 0
 IsShort4 b a =
     let lc = slice_index b 4 in
     (lc ≢ 0) × (length b ≡ 6 + lc) × HasRest a lc (take lc (drop 5 b)) (Some (short_le (slice_index b (5 + lc))))
 
+-- the extended case 2
 abbrev pub IsExtended2 : List ℕ → ApduParts → Type 0
 IsExtended2 b a = (slice_index b 4 ≡ 0) × (length b ≡ 7) × HasRest a 0 [] (Some (extended_le (be2 b 5)))
 
+-- the extended case 3
 abbrev pub IsExtended3 : List ℕ → ApduParts → Type 0
 IsExtended3 b a =
     let lc = be2 b 5 in
     (slice_index b 4 ≡ 0) × (1 ≤ lc) × (lc ≤ 1024) × (length b ≡ 7 + lc) × HasRest a 0 (drop 7 b) None
 
+-- the extended case 4
 abbrev pub IsExtended4 : List ℕ → ApduParts → Type 0
 IsExtended4 b a =
     let lc = be2 b 5 in

@@ -25,6 +25,7 @@ hex_number t = cond (is_within 1 4 (length t)) (option_map (digits_onto 16 0) (h
 abbrev pub natural : List ℕ → Option ℕ
 natural t = cond (bytes_eq (take 2 t) (codes "0x")) (hex_number (drop 2 t)) (decimal_number t)
 
+-- a number with its sign turned
 abbrev pub minus : ℕ → ℤ
 minus zero = pos 0
 minus (suc n) = negsuc n
@@ -42,12 +43,15 @@ fits_signed half (negsuc n) = nat_lt n half
 abbrev pub number_operand : ℕ → List ℕ → Result ℕ AsmCause
 number_operand high t = ok_or (natural t) BadNumber >>= λ n. only_if (nat_le n high) OutOfRange n
 
+-- an operand of one byte
 abbrev pub byte : List ℕ → Result ℕ AsmCause
 byte t = number_operand 255 t
 
+-- an operand of two bytes
 abbrev pub word : List ℕ → Result ℕ AsmCause
 word t = number_operand 65535 t
 
+-- a signed operand below a half range
 abbrev pub signed_operand : ℕ → List ℕ → Result ℤ AsmCause
 signed_operand half t = ok_or (signed t) BadNumber >>= λ z. only_if (fits_signed half z) OutOfRange z
 
@@ -56,6 +60,7 @@ abbrev pub place_among : ℕ → List (List ℕ) → List ℕ → Option ℕ
 place_among n [] t = None
 place_among n (w ∷ ws) t = cond (bytes_eq w t) (Some n) (place_among (suc n) ws t)
 
+-- a condition's number
 abbrev pub condition : List ℕ → Result ℕ AsmCause
 condition t = ok_or (place_among 1 condition_names t) BadOperands
 
@@ -64,10 +69,12 @@ abbrev pub offset_and_end : Option ℕ → List (List ℕ) → Result (ℕ × �
 offset_and_end (Some tag) (off ∷ [] ∷ []) = ok_as (λ z. (tag, z)) (signed_operand 32768 off)
 offset_and_end register rest = Err BadOperands
 
+-- a register and what stands behind its bracket
 abbrev pub register_and_rest : List (List ℕ) → Result (ℕ × ℤ) AsmCause
 register_and_rest (register ∷ rest ∷ []) = offset_and_end (place_among 1 register_names register) (pieces (λ c. c == 93) rest)
 register_and_rest parts = Err BadOperands
 
+-- a register with its offset
 abbrev pub address : List ℕ → Result (ℕ × ℤ) AsmCause
 address t = register_and_rest (pieces (λ c. c == 91) t)
 
@@ -86,6 +93,7 @@ both (Ok a) (Err f) = Err f
 both (Err e) (Ok b) = Err e
 both (Err e) (Err f) = Err (first_cause e f)
 
+-- operands of one byte each
 abbrev pub all_bytes : List (List ℕ) → Result (List ℕ) AsmCause
 all_bytes [] = Ok []
 all_bytes (t ∷ ts) = ok_as (λ p. p.0 ∷ p.1) (both (byte t) (all_bytes ts))
@@ -177,10 +185,12 @@ abbrev pub label_or_given : {A : Type 0} → Bool → List ℕ → Result A AsmC
 label_or_given true t given = Ok (Label t)
 label_or_given false t given = ok_as Given given
 
+-- a branch to a label, or by a displacement
 abbrev pub by_distance : (ℤ → Ins) → Target ℤ → Item
 by_distance f (Label l) = ToDistance f l
 by_distance f (Given d) = Plain (f d)
 
+-- a jump to a label, or to an address
 abbrev pub by_place : (ℕ → Ins) → Target ℕ → Item
 by_place f (Label l) = ToPlace f l
 by_place f (Given p) = Plain (f p)
@@ -217,6 +227,7 @@ abbrev pub operands : Option (List ℕ) → List (List ℕ)
 operands None = []
 operands (Some t) = map trim (pieces (λ c. c == 44) t)
 
+-- the word of a line and its operands
 abbrev pub word_and_operands : List ℕ × Option (List ℕ) → Result Item AsmCause
 word_and_operands s = cond (is_empty s.0) (Ok Nothing) (ok_or (lookup words s.0) UnknownWord >>= λ form. worded form (operands s.1))
 
@@ -225,6 +236,7 @@ pub record Line : Type 0 where
   pub label : Option (List ℕ)
   pub item : Item
 
+-- a label before its colon, and the rest of the line
 abbrev pub label_and_rest : List ℕ → Option (List ℕ) → Result Line AsmCause
 label_and_rest t None = ok_as (λ i. record { label = None; item = i }) (word_and_operands (first_cut is_blank (trim t)))
 label_and_rest t (Some rest) =
@@ -239,6 +251,7 @@ line_read l =
 
 -- ---- the places of the lines, and the code
 
+-- how many bytes a line takes
 abbrev pub size : Item → ℕ
 size Nothing = 0
 size (Raw b) = 1
@@ -257,10 +270,12 @@ pub record Laid : Type 0 where
   pub labels : List (List ℕ × ℕ)
   pub placed : List Placed
 
+-- a label that was not given before
 abbrev pub is_new : List (List ℕ × ℕ) → Option (List ℕ) → Bool
 is_new labels None = true
 is_new labels (Some l) = is_none (lookup labels l)
 
+-- the labels with one more
 abbrev pub with_label : List (List ℕ × ℕ) → Option (List ℕ) → ℕ → List (List ℕ × ℕ)
 with_label labels None place = labels
 with_label labels (Some l) place = (l, place) ∷ labels
@@ -273,6 +288,7 @@ line_laid labels place text = do
   l ← only_if (is_new labels l.label) LabelTwice l
   only_if (nat_le (place + size l.item) 8192) TooLong l
 
+-- the lines in their places
 unfoldable pub laid_lines : List (List ℕ × ℕ) → ℕ → List (ℕ × List ℕ) → Result Laid (ℕ × AsmCause)
 unfolding line_laid
 laid_lines labels place [] = Ok (record { labels = labels; placed = [] })
@@ -292,6 +308,7 @@ emitted labels place (ToDistance f l) = do
   let d = pos p -ℤ pos (place + 2)
   only_if (fits_signed 128 d) FarBranch (spell (f d))
 
+-- the code of the lines, with each label replaced
 unfoldable pub joined_code : List (List ℕ × ℕ) → List Placed → Result (List ℕ) (ℕ × AsmCause)
 joined_code labels [] = Ok []
 joined_code labels (p ∷ ps) = do

@@ -51,12 +51,15 @@ each_byte f [] b = []
 each_byte f (x ∷ a) [] = []
 each_byte f (x ∷ a) (y ∷ b) = f x y ∷ each_byte f a b
 
+-- the bitwise and
 abbrev pub and_blocks : List ℕ → List ℕ → List ℕ
 and_blocks a b = each_byte bit_and a b
 
+-- the bitwise or
 abbrev pub or_blocks : List ℕ → List ℕ → List ℕ
 or_blocks a b = each_byte bit_or a b
 
+-- the bitwise exclusive or
 abbrev pub xor_blocks : List ℕ → List ℕ → List ℕ
 xor_blocks a b = each_byte bit_xor a b
 

@@ -25,6 +25,7 @@ size U16 = 2
 size I8 = 1
 size I16 = 2
 
+-- how many bytes a list of operands takes
 abbrev pub total : List Kind → ℕ
 total [] = 0
 total (k ∷ ks) = size k + total ks
@@ -98,9 +99,11 @@ target_row f c = Some (Target c (f c))
 abbrev pub address_row : (ℕ → ℤ → Ins) → ℕ → Option Form
 address_row f tag = Some (Offset tag (f tag))
 
+-- a row with an address and a byte
 abbrev pub byte_row : (ℕ → ℤ → ℕ → Ins) → ℕ → Option Form
 byte_row f tag = Some (ByteOffset tag (f tag))
 
+-- a row with an address and a word
 abbrev pub word_row : (ℕ → ℤ → ℕ → Ins) → ℕ → Option Form
 word_row f tag = Some (WordOffset tag (f tag))
 
@@ -144,6 +147,7 @@ rows =
 abbrev pub row_of : ℕ → ℕ → Option Form
 row_of op tag = option_and_then (λ by_tag. by_tag tag) (row_at op rows)
 
+-- the row of an instruction byte
 abbrev pub form : ℕ → Option Form
 form b = row_of (b / 8) (b % 8)
 
@@ -235,6 +239,7 @@ spell (Xorn tag off n) = (0x1F * 8 + tag) ∷ n ∷ offset tag off
 abbrev pub IsByte : ℕ → Type 0
 IsByte n = n < 256
 
+-- a number of two bytes
 abbrev pub IsWord : ℕ → Type 0
 IsWord n = n < 65536
 
@@ -338,6 +343,7 @@ Stands code at (Err Past) = IsPast code at
 abbrev pub target_in : ℕ → List ℕ → ℕ
 target_in c bs = cond (c == 0) 0 (be2 bs 0)
 
+-- the offset in some bytes: none with tag 0
 abbrev pub offset_in : ℕ → List ℕ → ℕ → ℤ
 offset_in tag bs i = cond (tag == 0) (pos 0) (cast_signed w16 (be2 bs i))
 

@@ -28,6 +28,7 @@ pub data DeckLine : Type 0 where
 
 -- ---- fields
 
+-- a field that is a name
 abbrev pub name_field : List ℕ → Result (List ℕ) DeckCause
 name_field t = only_if (is_name t) BadName t
 
@@ -35,12 +36,15 @@ name_field t = only_if (is_name t) BadName t
 abbrev pub hex_field : List ℕ → Result (List ℕ) DeckCause
 hex_field t = ok_or (hex_bytes t) BadHex
 
+-- a field of so many hexadecimal bytes
 abbrev pub bytes_field : ℕ → ℕ → List ℕ → Result (List ℕ) DeckCause
 bytes_field low high t = hex_field t >>= λ b. only_if (is_within low high (length b)) OutOfRange b
 
+-- a field that is an AID
 abbrev pub aid_field : List ℕ → Result (List ℕ) DeckCause
 aid_field t = bytes_field 5 16 t
 
+-- a field of eight bytes
 abbrev pub fill_field : List ℕ → Result (List ℕ) DeckCause
 fill_field t = bytes_field 8 8 t
 
@@ -55,7 +59,7 @@ pub record Context : Type 0 where
   pub units : List (List ℕ × UnitParts)
   pub powered : Bool
 
--- a section that is open: the number of its first line, its name and AID, and its other lines so far, the last one first
+-- a section that is open: the number of its first line, its name and AID, and its other lines so far, in order
 pub record Section : Type 0 where
   pub first : ℕ
   pub name : List ℕ
@@ -83,6 +87,7 @@ pub data Word : Type 0 where
   FailWord : Word
   PokeWord : Word
 
+-- the words of the statements
 abbrev pub deck_words : List (List ℕ × Word)
 deck_words =
     (codes "format", FormatWord) ∷
@@ -107,6 +112,7 @@ new_name c name = only_if (is_none (lookup c.units name)) NameTwice name
 abbrev pub early : Context → DeckLine → Result Stated DeckCause
 early c l = only_if (not c.powered) LateLine (Says l c)
 
+-- the names with one more unit
 abbrev pub with_unit : Context → List ℕ → UnitParts → Context
 with_unit c name u = record c { units = (name, u) ∷ c.units }
 
@@ -154,13 +160,16 @@ stated c n word fields = Err BadLine
 abbrev pub made_unit : List ℕ → List ℕ → List ℕ → UnitParts
 made_unit aid code init = record { number = zeros 8; code = code; init = init; dir = made_dir aid; fci = made_fci aid; aid = aid }
 
+-- a made unit within the limits
 abbrev pub unit_within : UnitParts → Result UnitParts UnitRefusal
 unit_within u = only_if (nat_lt 0 (length u.code)) NoCode u >>= λ u. only_if (nat_le (length u.init) 4096) TooLarge u
 
+-- a DATA line of a section
 abbrev pub is_data : List (List ℕ) → Bool
 is_data [] = false
 is_data (word ∷ rest) = bytes_eq word (codes "DATA")
 
+-- the end of a section
 abbrev pub is_end : List (List ℕ) → Bool
 is_end (word ∷ []) = bytes_eq word (codes "end")
 is_end other = false
@@ -170,6 +179,7 @@ abbrev pub data_hex : List (List ℕ) → Result (List ℕ) DeckCause
 data_hex (word ∷ hex ∷ []) = hex_field hex
 data_hex other = Err BadLine
 
+-- the data of a line of a section
 abbrev pub data_of_line : List (List ℕ) → Result (List ℕ) DeckCause
 data_of_line l = cond (is_data l) (data_hex l) (Ok [])
 
@@ -180,6 +190,7 @@ section_data (l ∷ ls) = do
   bytes ← err_as (λ e. (l.0, e)) (data_of_line (fields l.1))
   ok_as (λ rest. bytes ++ rest) (section_data ls)
 
+-- the lines of a section that go to the assembler
 abbrev pub section_program : List (ℕ × List ℕ) → List (ℕ × List ℕ)
 section_program ls = filter (λ l. not (is_data (fields l.1))) ls
 
@@ -203,6 +214,7 @@ pub record Turn : Type 0 where
   pub lines : List (ℕ × DeckLine)
   pub mode : Mode
 
+-- what a statement makes of the lines
 abbrev pub turn_of : ℕ → Stated → Turn
 turn_of n (Says l c) = record { lines = (n, l) ∷ []; mode = Between c }
 turn_of n (Opens s c) = record { lines = []; mode = Within s c }
@@ -220,6 +232,7 @@ unfolding section_unit
 within true s c l = ok_as (λ u. record { lines = (s.first, Named) ∷ []; mode = Between (with_unit c s.name u) }) (section_unit s l.0)
 within false s c l = Ok (record { lines = []; mode = Within (record s { lines = s.lines ++ (l ∷ []) }) c })
 
+-- a line between statements, or in a section
 abbrev pub turn_in : Mode → ℕ × List ℕ → Result Turn (ℕ × DeckCause)
 turn_in (Between c) l = between c l.0 (fields l.1)
 turn_in (Within s c) l = within (is_end (fields l.1)) s c l
@@ -234,6 +247,7 @@ abbrev pub ended : Mode → Result (List (ℕ × DeckLine)) (ℕ × DeckCause)
 ended (Between c) = Ok []
 ended (Within s c) = Err (s.first, NoEnd)
 
+-- the lines of a deck, or the first refusal
 unfoldable pub deck_lines : Mode → List (ℕ × List ℕ) → Result (List (ℕ × DeckLine)) (ℕ × DeckCause)
 unfolding stated within
 deck_lines m [] = ended m

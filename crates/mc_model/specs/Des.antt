@@ -171,6 +171,7 @@ unfoldable pub tdes_encipher : List ℕ → List ℕ → List ℕ
 unfolding des_encipher des_decipher
 tdes_encipher key block = des_encipher (take 8 key) (des_decipher (drop 8 key) (des_encipher (take 8 key) block))
 
+-- a block deciphered by triple DES
 unfoldable pub tdes_decipher : List ℕ → List ℕ → List ℕ
 unfolding des_encipher des_decipher
 tdes_decipher key block = des_decipher (take 8 key) (des_encipher (drop 8 key) (des_decipher (take 8 key) block))
@@ -180,6 +181,7 @@ unfoldable pub des_signature : List ℕ → List ℕ → List ℕ → List ℕ
 unfolding des_encipher
 des_signature key start message = cbc_last (des_encipher key) 8 start message
 
+-- the last block of a chain under triple DES
 unfoldable pub tdes_signature : List ℕ → List ℕ → List ℕ → List ℕ
 unfolding tdes_encipher
 tdes_signature key start message = cbc_last (tdes_encipher key) 8 start message

@@ -89,6 +89,7 @@ abbrev pub done_entries : List (ℕ × List ℕ) → List Entry
 done_entries [] = []
 done_entries (p ∷ ps) = record { at = p.0; left = p.1; end = None } ∷ done_entries ps
 
+-- the entries of writes of which the one with this number stopped
 abbrev pub torn_entries : List (ℕ × List ℕ) → ℕ → List ℕ → Stop → List Entry
 torn_entries [] k x s = []
 torn_entries (p ∷ ps) zero x s = []
@@ -121,6 +122,7 @@ abbrev pub nearer : ℕ → List ℕ → Option Fuse
 nearer (suc (suc k)) fill = Some (record { writes = suc k; fill = fill })
 nearer _ fill = None
 
+-- a fuse after one write
 abbrev pub counted : Option Fuse → Option Fuse
 counted None = None
 counted (Some f) = nearer f.writes f.fill
@@ -130,6 +132,7 @@ abbrev pub fill_at : ℕ → List ℕ → Option (List ℕ)
 fill_at (suc zero) fill = Some fill
 fill_at _ fill = None
 
+-- the word that the next write leaves, where a fuse falls on it
 abbrev pub falling : Option Fuse → Option (List ℕ)
 falling None = None
 falling (Some f) = fill_at f.writes f.fill

@@ -15,17 +15,21 @@ use Rattle.mc_model.specs.DeckGrammar.{DeckLine, Format, Power, Named, Load, Sel
 abbrev pub next : ℕ → ℕ
 next x = (x * 1103515245 + 12345) % 2 ^ 31
 
+-- what a draw gives
 abbrev pub draw : ℕ → ℕ
 draw x = x / 65536
 
 -- ---- the three applications
 
+-- the name of the counter
 abbrev pub counter_aid : List ℕ
 counter_aid = 0xA0 ∷ 0 ∷ 0 ∷ 0 ∷ 1 ∷ []
 
+-- the name of the purse
 abbrev pub purse_aid : List ℕ
 purse_aid = 0xA0 ∷ 0 ∷ 0 ∷ 0 ∷ 2 ∷ []
 
+-- the name of the relay
 abbrev pub relay_aid : List ℕ
 relay_aid = 0xA0 ∷ 0 ∷ 0 ∷ 0 ∷ 3 ∷ []
 
@@ -61,6 +65,7 @@ relay = made_unit relay_aid (0x22 ∷ 0x00 ∷ 0x00 ∷ 0x28 ∷ 0x07 ∷ 0x04 �
 
 -- ---- the lines
 
+-- the first eight lines
 abbrev pub opening : List DeckLine
 opening = Format ∷ Power ∷ Named ∷ Named ∷ Named ∷ Load counter 2 0 ∷ Load purse 10 0 ∷ Load relay 6 0 ∷ []
 
@@ -72,9 +77,11 @@ command ins number = Apdu (0x80 ∷ ins ∷ 0 ∷ 0 ∷ 4 ∷ number)
 abbrev pub opening_word : List ℕ
 opening_word = 0x4F ∷ 0x50 ∷ 0x45 ∷ 0x4E ∷ 0x2D ∷ 0x32 ∷ 0x2D ∷ 0x2D ∷ []
 
+-- a cut by a draw
 abbrev pub cut_line : ℕ → DeckLine
 cut_line q = Cut (1 + q % 12) (cond (q / 12 % 2 == 1) opening_word (zeros 8))
 
+-- a line on the purse by a draw, or power
 abbrev pub purse_line : ℕ → DeckLine
 purse_line q = cond (q % 4 == 0) (Delete purse_aid) (cond (q % 4 == 1) (Load purse 10 0) Power)
 
@@ -92,10 +99,12 @@ line_of r q =
     (cond (r % 16 == 14) (cut_line q)
     (purse_line q)))))))))
 
+-- so many turns, each by two draws
 abbrev pub turns : ℕ → ℕ → List DeckLine
 turns zero x = []
 turns (suc k) x = line_of (draw (next x)) (draw (next (next x))) ∷ turns k (next (next x))
 
+-- the last four lines
 abbrev pub closing : List DeckLine
 closing = Power ∷ Dump counter_aid ∷ Dump purse_aid ∷ Dump relay_aid ∷ []
 
@@ -105,23 +114,28 @@ generated n = numbered 1 (opening ++ turns 4000 n ++ closing)
 
 -- ---- the summary of a play
 
+-- a reply, or a worn stop
 abbrev pub is_reply : LineResult → Bool
 is_reply (Answered (Reply body sw)) = true
 is_reply WornStop = true
 is_reply _ = false
 
+-- an abend
 abbrev pub is_abend : LineResult → Bool
 is_abend (Answered (Abended cause)) = true
 is_abend _ = false
 
+-- a line that a cut hit
 abbrev pub is_cut : LineResult → Bool
 is_cut (OffAt k) = true
 is_cut _ = false
 
+-- a line without a card
 abbrev pub is_off : LineResult → Bool
 is_off NoCard = true
 is_off _ = false
 
+-- a power line that was ready
 abbrev pub is_ready : LineResult → Bool
 is_ready (Ready n) = true
 is_ready _ = false
@@ -134,6 +148,7 @@ results ts = filter_map (λ t. t.result) ts
 abbrev pub count : (LineResult → Bool) → List LineResult → ℕ
 count test rs = length (filter test rs)
 
+-- a dump line
 abbrev pub is_dump : DeckLine → Bool
 is_dump (Dump aid) = true
 is_dump _ = false
@@ -148,5 +163,6 @@ count_line rs =
     codes "lines " ++ decimal (length rs) ++ codes " replies " ++ decimal (count is_reply rs) ++ codes " abends " ++ decimal (count is_abend rs)
     ++ codes " cuts " ++ decimal (count is_cut rs) ++ codes " offs " ++ decimal (count is_off rs) ++ codes " readies " ++ decimal (count is_ready rs) ++ codes "\n"
 
+-- the summary of a play
 unfoldable pub summary : List Step → List ℕ
 summary ts = count_line (results ts) ++ dump_lines ts

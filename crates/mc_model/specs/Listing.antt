@@ -9,6 +9,7 @@ use Rattle.mc_model.specs.declared.instruction.Ins.TheVariants.{Nop, Setsw, Setl
 
 -- ---- parts of a line
 
+-- the upper case hexadecimal digit of a number below 16
 abbrev pub hex_digit : ℕ → ℕ
 hex_digit d = cond (nat_lt d 10) (48 + d) (55 + d)
 
@@ -20,6 +21,7 @@ hex_word w = codes "0x" ++ (hex_digit (w / 4096 % 16) ∷ hex_digit (w / 256 % 1
 abbrev pub condition_names : List (List ℕ)
 condition_names = codes "EQ" ∷ codes "LT" ∷ codes "LE" ∷ codes "GT" ∷ codes "GE" ∷ codes "NE" ∷ codes "ALL" ∷ []
 
+-- a condition's word
 abbrev pub condition_name : ℕ → List ℕ
 condition_name c = slice_index_or condition_names (c - 1) []
 
@@ -27,6 +29,7 @@ condition_name c = slice_index_or condition_names (c - 1) []
 abbrev pub register_names : List (List ℕ)
 register_names = codes "SB" ∷ codes "ST" ∷ codes "DB" ∷ codes "LB" ∷ codes "DT" ∷ codes "PB" ∷ codes "PT" ∷ []
 
+-- a register's word
 abbrev pub register_name : ℕ → List ℕ
 register_name tag = slice_index_or register_names (tag - 1) []
 
@@ -41,12 +44,15 @@ arguments_text (b ∷ bs) = codes "," ++ decimal b ++ arguments_text bs
 
 -- ---- lines by the shape of their operands
 
+-- a word with a byte behind it
 abbrev pub byte_line : List ℕ → ℕ → List ℕ
 byte_line name n = name ++ codes " " ++ decimal n
 
+-- a word with a two-byte number behind it
 abbrev pub word_line : List ℕ → ℕ → List ℕ
 word_line name w = name ++ codes " " ++ hex_word w
 
+-- a word with two two-byte numbers behind it
 abbrev pub words_line : List ℕ → ℕ → ℕ → List ℕ
 words_line name v w = name ++ codes " " ++ hex_word v ++ codes "," ++ hex_word w
 
@@ -120,6 +126,7 @@ abbrev pub line_before : List ℕ → Result (List ℕ) (ℕ × DecodeFault) →
 line_before line (Ok rest) = Ok (line ++ codes "\n" ++ rest)
 line_before line (Err e) = Err e
 
+-- the line of what stands at a place, and those behind it
 abbrev pub listed_one : ℕ → Result (Ins × ℕ) DecodeFault → Result (List ℕ) (ℕ × DecodeFault) → Result (List ℕ) (ℕ × DecodeFault)
 listed_one at (Ok p) rest = line_before (text_of p.0) rest
 listed_one at (Err e) rest = Err (at, e)

@@ -24,6 +24,7 @@ abbrev pub with_words : ℕ → List ℕ → List ℕ → List ℕ
 with_words at [] ns = ns
 with_words at (b ∷ bs) ns = with_words (at + 1) bs (with_number (down at 8) ns)
 
+-- the numbers of the words of pieces, beside those that are there
 abbrev pub with_touched : List ℕ → List (ℕ × List ℕ) → List ℕ
 with_touched ns [] = ns
 with_touched ns (p ∷ ps) = with_touched (with_words p.0 p.1 ns) ps
@@ -34,6 +35,7 @@ touched ps = with_touched [] ps
 
 -- ---- pending words: pairs of a word's number and its eight bytes
 
+-- the numbers of words
 abbrev pub numbers : List (ℕ × List ℕ) → List ℕ
 numbers ws = map (λ w. w.0) ws
 

@@ -14,6 +14,7 @@ abbrev pub prim_abends : Option Primitive → List ℕ → Bool
 prim_abends None args = true
 prim_abends (Some p) args = has_bad_argument p args
 
+-- an instruction that abends by its own bytes
 abbrev pub always_abends : Ins → Bool
 always_abends (ins.Pushz n) = n == 0
 always_abends (ins.Popn n) = n == 0
@@ -41,9 +42,11 @@ pub record Uses : Type 0 where
   pub pops : ℕ
   pub pushes : ℕ
 
+-- what a row needs, pops and pushes
 abbrev pub uses : ℕ → ℕ → ℕ → Uses
 uses needs pops pushes = record { needs = needs; pops = pops; pushes = pushes }
 
+-- what a primitive needs, pops and pushes
 abbrev pub prim_uses : Primitive → List ℕ → Uses
 prim_uses CheckCase args = uses 1 1 0
 prim_uses LoadCcr args = uses 0 0 1
@@ -65,10 +68,12 @@ prim_uses ShiftLeft args = uses (slice_index args 0) 0 0
 prim_uses ShiftRight args = uses (slice_index args 0) 0 0
 prim_uses BitWord args = uses 2 0 0
 
+-- the same of a set and a number
 abbrev pub pair_uses : Option Primitive → List ℕ → Uses
 pair_uses None args = uses 0 0 0
 pair_uses (Some p) args = prim_uses p args
 
+-- the same of an instruction
 abbrev pub row_uses : Ins → Uses
 row_uses ins.Nop = uses 0 0 0
 row_uses (ins.Setsw sw) = uses 0 0 0
@@ -134,6 +139,7 @@ pub data Writing : Type 0 where
   WritesAt : (tag : ℕ) (off : ℤ) (n : ℕ) → Writing
   WritesAnywhere : Writing
 
+-- where a primitive writes
 abbrev pub prim_writing : Option Primitive → Writing
 prim_writing (Some MemoryCopy) = WritesAnywhere
 prim_writing (Some CopyFixed) = WritesAnywhere
@@ -144,6 +150,7 @@ prim_writing (Some (Decipher c)) = WritesAnywhere
 prim_writing (Some (Sign c)) = WritesAnywhere
 prim_writing _ = WritesNothing
 
+-- where an instruction writes
 abbrev pub row_writing : Ins → Writing
 row_writing (ins.Prim set number args) = prim_writing (primitive set number)
 row_writing (ins.Store tag off n) = WritesAt tag off n
@@ -165,6 +172,7 @@ row_writing (ins.Orn tag off n) = WritesAt tag off n
 row_writing (ins.Xorn tag off n) = WritesAt tag off n
 row_writing _ = WritesNothing
 
+-- where an instruction writes that may run
 abbrev pub writing : Ins → Writing
 writing i = cond (always_abends i) WritesNothing (row_writing i)
 
@@ -188,6 +196,7 @@ abbrev pub is_plain_at : ℕ → ℕ → ℕ → ℤ → ℕ → Bool
 is_plain_at session h tag (pos k) n = is_plain_above session h tag k n
 is_plain_at session h tag (negsuc k) n = is_plain_below h tag (suc k) n
 
+-- an address that touches no saved word
 abbrev pub is_plain : ℕ → ℕ → Writing → Bool
 is_plain session h WritesNothing = true
 is_plain session h (WritesAt tag off n) = is_plain_at session h tag off n
@@ -195,6 +204,7 @@ is_plain session h WritesAnywhere = false
 
 -- ---- where an instruction goes
 
+-- a jump or call whose address is on the stack
 abbrev pub is_indirect : Ins → Bool
 is_indirect (ins.Jump k to) = k == 0
 is_indirect (ins.Call k to) = k == 0
@@ -224,10 +234,12 @@ jump_target (ins.Branch k d) next = Some (moved next d)
 jump_target (ins.Jump k to) next = cond (k == 0) None (Some (Some to))
 jump_target _ next = None
 
+-- the target of a call
 abbrev pub call_target : Ins → Option ℕ
 call_target (ins.Call k to) = cond (k == 0) None (Some to)
 call_target _ = None
 
+-- a call
 abbrev pub is_call : Ins → Bool
 is_call (ins.Call k to) = true
 is_call _ = false
@@ -242,14 +254,17 @@ abbrev pub is_inside : ℕ → Option ℕ → Bool
 is_inside len None = false
 is_inside len (Some p) = nat_lt p len
 
+-- a target in the code
 abbrev pub target_inside : ℕ → Option (Option ℕ) → Bool
 target_inside len None = true
 target_inside len (Some t) = is_inside len t
 
+-- a call's target in the code
 abbrev pub call_inside : ℕ → Option ℕ → Bool
 call_inside len None = true
 call_inside len (Some t) = nat_lt t len
 
+-- the next place and the target in the code
 abbrev pub places_inside : ℕ → Ins → ℕ → Bool
 places_inside len i next =
     (not (goes_on i) || nat_lt next len) && target_inside len (jump_target i next) && call_inside len (call_target i)

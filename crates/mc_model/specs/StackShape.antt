@@ -22,9 +22,11 @@ pub record Fact : Type 0 where
   pub place : ℕ
   pub height : ℕ
 
+-- a fact of a routine, a place and a height
 abbrev pub fact : Routine → ℕ → ℕ → Fact
 fact r p h = record { routine = r; place = p; height = h }
 
+-- the main routine
 abbrev pub is_main : Routine → Bool
 is_main Main = true
 is_main (At p) = false
@@ -34,10 +36,12 @@ pub data Look : Type 0 where
   Bad : (cause : CheckCause) → Look
   Stands : (ins : Ins) (next : ℕ) → Look
 
+-- the first rule that is seen to be broken
 abbrev pub first_bad : List (CheckCause × Bool) → Look → Look
 first_bad [] look = look
 first_bad (c ∷ cs) look = cond c.1 (Bad c.0) (first_bad cs look)
 
+-- what a fact alone shows
 abbrev pub seen : ℕ → Fact → Result (Ins × ℕ) DecodeFault → Look
 seen len f (Err fault.Undefined) = Bad Undefined
 seen len f (Err fault.Past) = Bad Past
@@ -50,6 +54,7 @@ seen len f (Ok p) =
     ∷ []
     ) (Stands p.0 p.1)
 
+-- what stands at a fact
 unfoldable pub look : List ℕ → Fact → Look
 look code f = seen (length code) f (decoded code f.place)
 
@@ -156,6 +161,7 @@ pub record WritesWild (code : List ℕ) (session : ℕ) (f : Fact) : Type 0 wher
   pub stands : IsAt code f.place writer
   pub wild : is_plain session f.height (writing writer) ≡ false
 
+-- no routine reaches itself
 abbrev pub NoRecursion : List ℕ → Type 0
 NoRecursion code = (f : Fact) → Reached code f → ReachesItself code f → ⊥
 

@@ -1,6 +1,6 @@
 -- An atomic write as a list of device writes, and what stands of it after a stop at any of them.
 -- This project's profile.
-use Rattle.std.specs.Prelude.{◌≡◌, ◌≢◌, ◌⊎◌, ℕ, zero, suc, ◌+◌, ◌-◌, ◌*◌, ◌≤◌, Bool, true, false, cond, not, ◌&&◌, ◌||◌, nat_lt, nat_le, ◌==◌, List, [], ◌∷◌, ◌++◌, length, take, drop, map, slice_set, bytes_eq, Ok, Err}
+use Rattle.std.specs.Prelude.{◌≡◌, ◌≢◌, ◌⊎◌, ℕ, zero, suc, ◌+◌, ◌*◌, ◌≤◌, Bool, true, false, cond, not, ◌&&◌, ◌||◌, nat_lt, nat_le, ◌==◌, List, [], ◌∷◌, ◌++◌, length, take, drop, map, slice_set, bytes_eq, Ok, Err}
 use Rattle.std.specs.List.{AllByRecursion}
 use Rattle.mc_model.specs.Bytes.{up, zeros, bytes2}
 use Rattle.mc_model.specs.Image.{Journal, One, Two, opening, shut, gate, word_at, ascend, laid, after_j, owed_j, Words, Look, Refused, Closed, Pending}
@@ -13,6 +13,7 @@ abbrev pub cost : Journal → ℕ → ℕ
 cost One w = 3 * w + 3
 cost Two w = up w 4 + 2 * w + 3
 
+-- which device write opens the gate
 abbrev pub opens_at : Journal → ℕ → ℕ
 opens_at One w = 2 * w + 2
 opens_at Two w = up w 4 + w + 2
@@ -45,9 +46,11 @@ abbrev pub two_bytes_each : List ℕ → List ℕ
 two_bytes_each [] = []
 two_bytes_each (t ∷ ts) = bytes2 t ++ two_bytes_each ts
 
+-- the bytes of the first four targets, zeros where there are fewer
 abbrev pub four_targets : List ℕ → List ℕ
 four_targets ts = take 8 (two_bytes_each ts ++ zeros 8)
 
+-- journal 2: k target words from word 3 + i on
 abbrev pub target_words : ℕ → ℕ → List ℕ → List (ℕ × List ℕ)
 target_words i zero ts = []
 target_words i (suc k) ts = (3 + i, four_targets (take 4 ts)) ∷ target_words (i + 1) k (drop 4 ts)
@@ -144,6 +147,7 @@ pub record WriteTorn (j : Journal) (d : DeviceState) (list : List (ℕ × List �
   pub ended : Ended (Err s) d e
   pub tape : GrowsBy d.tape (torn_entries (writes j list) k x s) e.tape
 
+-- how a call that writes ends
 abbrev pub WriteEnds : Journal → DeviceState → List (ℕ × List ℕ) → Answer → DeviceState → Type 0
 WriteEnds j d list (Ok u) e = WriteStands j d list e
 WriteEnds j d list (Err s) e = WriteTorn j d list s e
@@ -154,6 +158,7 @@ pub data Outcome : Type 0 where
   Interrupted : Stop → Outcome
   BadAt : ℕ → Outcome
 
+-- the answer of the device writes of a recovery
 abbrev pub outcome_answer : Outcome → Answer
 outcome_answer (Recovered n) = Ok tt
 outcome_answer (Interrupted s) = Err s

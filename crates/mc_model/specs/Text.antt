@@ -15,6 +15,7 @@ abbrev pub ok_as : {A B E : Type 0} → (A → B) → Result A E → Result B E
 ok_as f (Ok a) = Ok (f a)
 ok_as f (Err e) = Err e
 
+-- an answer with its refusal changed
 abbrev pub err_as : {A E F : Type 0} → (E → F) → Result A E → Result A F
 err_as f (Ok a) = Ok a
 err_as f (Err e) = Err (f e)
@@ -42,6 +43,7 @@ abbrev pub cut_or_kept : Bool → ℕ → List ℕ → List ℕ × Option (List 
 cut_or_kept true c t rest = ([], Some t)
 cut_or_kept false c t rest = (c ∷ rest.0, rest.1)
 
+-- what stands before the first cut, and what behind it
 abbrev pub first_cut : (ℕ → Bool) → List ℕ → List ℕ × Option (List ℕ)
 first_cut cuts [] = ([], None)
 first_cut cuts (c ∷ t) = cut_or_kept (cuts c) c t (first_cut cuts t)
@@ -56,6 +58,7 @@ abbrev pub without_returns : List ℕ → List ℕ
 without_returns [] = []
 without_returns (c ∷ t) = cond ((c == 13) && begins 10 t) (without_returns t) (c ∷ without_returns t)
 
+-- pieces without an empty last one
 abbrev pub no_last_empty : List (List ℕ) → List (List ℕ)
 no_last_empty [] = []
 no_last_empty ([] ∷ []) = []
@@ -74,6 +77,7 @@ numbered n (l ∷ ls) = (n, l) ∷ numbered (suc n) ls
 abbrev pub is_blank : ℕ → Bool
 is_blank c = (c == 32) || (c == 9)
 
+-- a text without characters
 abbrev pub is_empty : List ℕ → Bool
 is_empty [] = true
 is_empty (c ∷ t) = false
@@ -87,22 +91,27 @@ abbrev pub trim_front : List ℕ → List ℕ
 trim_front [] = []
 trim_front (c ∷ t) = cond (is_blank c) (trim_front t) (c ∷ t)
 
+-- a character before a text without blanks at its end
 abbrev pub before_trimmed : ℕ → List ℕ → List ℕ
 before_trimmed c [] = cond (is_blank c) [] (c ∷ [])
 before_trimmed c (d ∷ t) = c ∷ d ∷ t
 
+-- a text without the blanks at its end
 abbrev pub trim_end : List ℕ → List ℕ
 trim_end [] = []
 trim_end (c ∷ t) = before_trimmed c (trim_end t)
 
+-- a text without the blanks around it
 abbrev pub trim : List ℕ → List ℕ
 trim t = trim_end (trim_front t)
 
 -- ---- characters and numbers
 
+-- a number from low to high
 abbrev pub is_within : ℕ → ℕ → ℕ → Bool
 is_within low high n = nat_le low n && nat_le n high
 
+-- a decimal digit
 abbrev pub is_digit : ℕ → Bool
 is_digit c = is_within 48 57 c
 
@@ -110,6 +119,7 @@ is_digit c = is_within 48 57 c
 abbrev pub is_name_character : ℕ → Bool
 is_name_character c = is_within 65 90 c || is_within 97 122 c || is_digit c || (c == 95)
 
+-- each character passes a test
 abbrev pub every : (ℕ → Bool) → List ℕ → Bool
 every test [] = true
 every test (c ∷ t) = test c && every test t
@@ -131,11 +141,13 @@ decimal_number t = cond (not (is_empty t) && every is_digit t) (Some (digits_ont
 abbrev pub hex_value : ℕ → Option ℕ
 hex_value c = cond (is_digit c) (Some (c - 48)) (cond (is_within 65 70 c) (Some (c - 55)) (cond (is_within 97 102 c) (Some (c - 87)) None))
 
+-- a digit before others
 abbrev pub before_values : Option ℕ → Option (List ℕ) → Option (List ℕ)
 before_values (Some v) (Some vs) = Some (v ∷ vs)
 before_values (Some v) None = None
 before_values None vs = None
 
+-- the values of hexadecimal digits
 abbrev pub hex_values : List ℕ → Option (List ℕ)
 hex_values [] = Some []
 hex_values (c ∷ t) = before_values (hex_value c) (hex_values t)
@@ -146,6 +158,7 @@ paired [] = Some []
 paired (a ∷ []) = None
 paired (a ∷ b ∷ vs) = option_map (λ bs. (a * 16 + b) ∷ bs) (paired vs)
 
+-- the bytes that hexadecimal digits spell
 abbrev pub hex_bytes : List ℕ → Option (List ℕ)
 hex_bytes t = option_and_then paired (hex_values t)
 

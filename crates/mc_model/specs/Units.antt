@@ -112,6 +112,7 @@ abbrev pub refusal_of : AidFault → UnitRefusal
 refusal_of faults.NoAid = refusals.NoAid
 refusal_of faults.AidLength = refusals.AidLength
 
+-- the name, or a unit's refusal
 abbrev pub refused_name : Result (List ℕ) AidFault → Result (List ℕ) UnitRefusal
 refused_name (Ok v) = Ok v
 refused_name (Err e) = Err (refusal_of e)
@@ -168,5 +169,6 @@ object tag value = tag ∷ length value ∷ value
 abbrev pub made_dir : List ℕ → List ℕ
 made_dir aid = object 97 (object 79 aid)
 
+-- the made FCI of a name
 abbrev pub made_fci : List ℕ → List ℕ
 made_fci aid = object 111 (object 132 aid)

@@ -1,13 +1,13 @@
 -- A device in memory that tells its tape, and refuses the writes of a list besides.
 -- This project's profile.
-use Rattle.std.specs.Prelude.{◌≡◌, ◌⊎◌, ◌≢◌, ◌+◌, ◌<◌, ◌≤◌, ℕ, zero, suc, Bool, true, false, ◌||◌, ◌==◌, nat_le, replicate, List, [], ◌∷◌, ◌++◌, length, map, slice_set, Option, Some, None, Ok, Err, refl}
-use Rattle.std.proofs.Common.{subst, sym, inl, inr, arith}
+use Rattle.std.specs.Prelude.{◌≡◌, ℕ, Bool, true, false, ◌||◌, ◌==◌, nat_le, List, [], ◌∷◌, ◌++◌, length, slice_set, Option, Some, None, refl}
+use Rattle.std.proofs.Common.{subst, sym, inl}
 use Rattle.mc_model.specs.declared.device.Stop.{Stop}
 use Rattle.mc_model.specs.declared.device.Stop.TheVariants.{Off, Worn}
 use Rattle.mc_model.specs.Orders.{Answer}
-use Rattle.mc_model.specs.Device.{DeviceState, BenchState, Entry, Wrote, Ends, Counts, Burns, Grows, BenchWrote, Fuse, Due, DueCut, DueWorn, DueNot, due, falling, next_count}
+use Rattle.mc_model.specs.Device.{DeviceState, BenchState, Entry, Wrote, Ends, Counts, Burns, Grows, BenchWrote, Due, DueCut, DueWorn, DueNot, due, falling, next_count}
 use Rattle.mc_nvm.specs.declared.tape_nvm.TapeNvm.TheInside.{Inside as Held}
-use Rattle.mc_nvm.specs.Sim.{Sim, sim_state, sim_bench, blank_sim, own, next_due, after_write, answer_to, Sound, Fills, falls_word, next_rose, next_not_less}
+use Rattle.mc_nvm.specs.Sim.{Sim, sim_state, sim_bench, blank_sim, own, next_due, after_write, answer_to, Sound, falls_word, next_rose, next_not_less}
 use Rattle.mc_nvm.specs.Tape.{Told, more, unless}
 
 -- what a device with a tape means

@@ -1,5 +1,5 @@
 -- One step of reading a journal: its target words, and its pairs.
-use Rattle.std.proofs.Common.{◌≡◌, ◌⊎◌, ℕ, zero, suc, ◌+◌, ◌-◌, ◌*◌, ◌<◌, ◌≤◌, min, Bool, true, false, ◌&&◌, List, [], ◌∷◌, ◌++◌, length, take, drop, get_or, Result, Ok, Err, refl, sym, ◌∙◌, ap, subst, inl, inr, arith, take_all, drop-cons, add-one, append_assoc}
+use Rattle.std.proofs.Common.{◌≡◌, ℕ, suc, ◌+◌, ◌-◌, ◌*◌, ◌<◌, ◌≤◌, min, Bool, true, false, ◌&&◌, List, [], ◌∷◌, ◌++◌, length, take, drop, get_or, Result, Ok, Err, refl, sym, ◌∙◌, ap, inl, inr, arith, take_all, drop-cons, add-one, append_assoc}
 use Rattle.std.proofs.lemmas.List.{drop_all, append-nil}
 use Rattle.std.proofs.lemmas.Bool.{cases_lt}
 use Rattle.std.proofs.Math.Nat.{min-eq_left, min-eq_right}
@@ -8,20 +8,20 @@ use Rattle.mc_model.specs.Image.{Two, word_at, four, all_zero, ascend, after_all
 
 take-four : (c : ℕ) (all : List ℕ) → length all ≡ 4 → take (min c 4) all ≡ take c all
 take-four c all h = elim (cases_lt c 4) [
-    | inl few ↦ ap (λ (n : ℕ). take n all) (min-eq_left {n = c} {m = 4} (omega arith))
-    | inr more ↦ ap (λ (n : ℕ). take n all) (min-eq_right {n = 4} {m = c} more) ∙ take_all 4 all (omega (arith, h)) ∙ sym (take_all c all (omega (arith, h)))
-  ]
+  | inl few ↦ ap (λ (n : ℕ). take n all) (min-eq_left {n = c} {m = 4} (omega arith))
+  | inr more ↦ ap (λ (n : ℕ). take n all) (min-eq_right {n = 4} {m = c} more) ∙ take_all 4 all (omega (arith, h)) ∙ sym (take_all c all (omega (arith, h)))
+]
 
 drop-four : (c : ℕ) (all : List ℕ) → length all ≡ 4 → drop (min c 4) all ≡ drop c all
 drop-four c all h = elim (cases_lt c 4) [
-    | inl few ↦ ap (λ (n : ℕ). drop n all) (min-eq_left {n = c} {m = 4} (omega arith))
-    | inr more ↦ ap (λ (n : ℕ). drop n all) (min-eq_right {n = 4} {m = c} more) ∙ drop_all 4 all (omega (arith, h)) ∙ sym (drop_all c all (omega (arith, h)))
-  ]
+  | inl few ↦ ap (λ (n : ℕ). drop n all) (min-eq_left {n = c} {m = 4} (omega arith))
+  | inr more ↦ ap (λ (n : ℕ). drop n all) (min-eq_right {n = 4} {m = c} more) ∙ drop_all 4 all (omega (arith, h)) ∙ sym (drop_all c all (omega (arith, h)))
+]
 
 -- one target word more
 more : (m : List (List ℕ)) (i n k c least : ℕ) → n ≡ suc k
     → targets_2 m i n c least ≡ all_before (all_zero (drop c (four (word_at m (3 + i)))) && ascend (length m) least (take c (four (word_at m (3 + i))))) (take c (four (word_at m (3 + i)))) (3 + i)
-        (targets_2 m (i + 1) k (c - 4) (after_all least (take c (four (word_at m (3 + i))))))
+    (targets_2 m (i + 1) k (c - 4) (after_all least (take c (four (word_at m (3 + i))))))
 unfolding targets_2
 more m i n k c least e = ap (λ (t : ℕ). targets_2 m i t c least) e
 
@@ -31,8 +31,8 @@ parts m i n k c least all now past e ha h4 hn hp =
     let n_is : take c (four (word_at m (3 + i))) ≡ now = ap (λ (l : List ℕ). take c l) (sym ha) ∙ sym (hn ∙ take-four c all h4) in
     let p_is : drop c (four (word_at m (3 + i))) ≡ past = ap (λ (l : List ℕ). drop c l) (sym ha) ∙ sym (hp ∙ drop-four c all h4) in
     more m i n k c least e
-      ∙ ap (λ (l : List ℕ). all_before (all_zero (drop c (four (word_at m (3 + i)))) && ascend (length m) least l) l (3 + i) (targets_2 m (i + 1) k (c - 4) (after_all least l))) n_is
-      ∙ ap (λ (l : List ℕ). all_before (all_zero l && ascend (length m) least now) now (3 + i) (targets_2 m (i + 1) k (c - 4) (after_all least now))) p_is
+    ∙ ap (λ (l : List ℕ). all_before (all_zero (drop c (four (word_at m (3 + i)))) && ascend (length m) least l) l (3 + i) (targets_2 m (i + 1) k (c - 4) (after_all least l))) n_is
+    ∙ ap (λ (l : List ℕ). all_before (all_zero l && ascend (length m) least now) now (3 + i) (targets_2 m (i + 1) k (c - 4) (after_all least now))) p_is
 
 before-before : (a b : List ℕ) (r : Result (List ℕ) ℕ) → before a (before b r) ≡ before (a ++ b) r
 before-before a b (Ok ts) = ap (λ (l : List ℕ). Ok l) (sym (append_assoc a b ts))
@@ -47,12 +47,12 @@ targets-on m count i least next whole items now past all found lt hw ha h4 hn hp
     let k = up count 4 - (i + 1) in
     let less : c - 4 ≡ count - 4 * (i + 1) = omega arith in
     hw ∙ ap (λ (r : Result (List ℕ) ℕ). before items r) (parts m i (up count 4 - i) k c least all now past (omega arith) ha h4 hn hp)
-      ∙ ap (λ (b : Bool). before items (all_before (b && ascend (length m) least now) now (3 + i) (targets_2 m (i + 1) k (c - 4) (after_all least now)))) hz
-      ∙ ap (λ (b : Bool). before items (all_before b now (3 + i) (targets_2 m (i + 1) k (c - 4) (after_all least now)))) hs
-      ∙ before-before items now (targets_2 m (i + 1) k (c - 4) (after_all least now))
-      ∙ ap (λ (l : List ℕ). before l (targets_2 m (i + 1) k (c - 4) (after_all least now))) (sym hf)
-      ∙ ap (λ (t : ℕ). before found (targets_2 m (i + 1) k t (after_all least now))) less
-      ∙ ap (λ (t : ℕ). before found (targets_2 m (i + 1) k (count - 4 * (i + 1)) t)) (sym hx)
+    ∙ ap (λ (b : Bool). before items (all_before (b && ascend (length m) least now) now (3 + i) (targets_2 m (i + 1) k (c - 4) (after_all least now)))) hz
+    ∙ ap (λ (b : Bool). before items (all_before b now (3 + i) (targets_2 m (i + 1) k (c - 4) (after_all least now)))) hs
+    ∙ before-before items now (targets_2 m (i + 1) k (c - 4) (after_all least now))
+    ∙ ap (λ (l : List ℕ). before l (targets_2 m (i + 1) k (c - 4) (after_all least now))) (sym hf)
+    ∙ ap (λ (t : ℕ). before found (targets_2 m (i + 1) k t (after_all least now))) less
+    ∙ ap (λ (t : ℕ). before found (targets_2 m (i + 1) k (count - 4 * (i + 1)) t)) (sym hx)
 
 bad-word : (items now : List ℕ) (p : ℕ) (r : Result (List ℕ) ℕ) (b : Bool) → b ≡ false → before items (all_before b now p r) ≡ Err p
 bad-word items now p r b h = ap (λ (t : Bool). before items (all_before t now p r)) h
@@ -64,7 +64,7 @@ targets-bad m count i least whole items now past all lt hw ha h4 hn hp hb =
     let c = count - 4 * i in
     let k = up count 4 - (i + 1) in
     hw ∙ ap (λ (r : Result (List ℕ) ℕ). before items r) (parts m i (up count 4 - i) k c least all now past (omega arith) ha h4 hn hp)
-      ∙ bad-word items now (3 + i) (targets_2 m (i + 1) k (c - 4) (after_all least now)) (all_zero past && ascend (length m) least now) hb
+    ∙ bad-word items now (3 + i) (targets_2 m (i + 1) k (c - 4) (after_all least now)) (all_zero past && ascend (length m) least now) hb
 
 pub bad-first : (a b : Bool) → a ≡ false → (a && b) ≡ false
 bad-first a b h = ap (λ (t : Bool). t && b) h
@@ -88,9 +88,9 @@ pub pairs-on : (m : List (List ℕ)) (i : ℕ) (ts : List ℕ) (whole items foun
     → found ≡ items ++ (get_or ts i 0, w) ∷ [] → whole ≡ found ++ pairs Two m (i + 1) (drop (i + 1) ts)
 pairs-on m i ts whole items found w lt hw h hf =
     hw ∙ ap (λ (l : List (ℕ × List ℕ)). items ++ l) (pairs-cons m i (get_or ts i 0) (drop (i + 1) ts) (drop i ts) (rw (add-one) (drop-cons ts i 0 lt)))
-      ∙ ap (λ (x : List ℕ). items ++ ((get_or ts i 0, x) ∷ pairs Two m (i + 1) (drop (i + 1) ts))) (sym h)
-      ∙ sym (append_assoc items ((get_or ts i 0, w) ∷ []) (pairs Two m (i + 1) (drop (i + 1) ts)))
-      ∙ ap (λ (l : List (ℕ × List ℕ)). l ++ pairs Two m (i + 1) (drop (i + 1) ts)) (sym hf)
+    ∙ ap (λ (x : List ℕ). items ++ ((get_or ts i 0, x) ∷ pairs Two m (i + 1) (drop (i + 1) ts))) (sym h)
+    ∙ sym (append_assoc items ((get_or ts i 0, w) ∷ []) (pairs Two m (i + 1) (drop (i + 1) ts)))
+    ∙ ap (λ (l : List (ℕ × List ℕ)). l ++ pairs Two m (i + 1) (drop (i + 1) ts)) (sym hf)
 
 pairs-none : (m : List (List ℕ)) (i : ℕ) (us : List ℕ) → us ≡ [] → pairs Two m i us ≡ []
 unfolding pairs

@@ -1,6 +1,5 @@
 -- One step through lists of pairs, target words and values.
-use Rattle.std.proofs.Common.{◌≡◌, ℕ, suc, zero, ◌+◌, ◌-◌, ◌*◌, ◌<◌, ◌≤◌, List, [], ◌∷◌, length, take, drop, map, get_or, refl, sym, ◌∙◌, ap, subst, arith, drop-cons, drop-drop, add-one, ◌/◌, ◌%◌}
-use Rattle.mc_model.specs.Bytes.{up}
+use Rattle.std.proofs.Common.{◌≡◌, ℕ, suc, ◌+◌, ◌-◌, ◌*◌, ◌<◌, ◌≤◌, List, [], ◌∷◌, length, take, drop, get_or, sym, ◌∙◌, ap, arith, drop-cons, drop-drop, add-one, ◌/◌, ◌%◌}
 use Rattle.mc_model.specs.Stopped.{target_words, values_2, four_targets, numbered}
 
 pub pair-step : (list : List (ℕ × List ℕ)) (i : ℕ) → i < length list → drop i list ≡ ((get_or list i (0, [])).0, (get_or list i (0, [])).1) ∷ drop (i + 1) list
@@ -15,7 +14,7 @@ target-words-suc i k n ts e = ap (λ (t : ℕ). target_words i t ts) e
 pub target-step : (i n : ℕ) (ts : List ℕ) → i < n → target_words i (n - i) (drop (4 * i) ts) ≡ (3 + i, four_targets (take 4 (drop (4 * i) ts))) ∷ target_words (i + 1) (n - (i + 1)) (drop (4 * (i + 1)) ts)
 target-step i n ts lt =
     target-words-suc i (n - (i + 1)) (n - i) (drop (4 * i) ts) (omega arith)
-      ∙ ap (λ (l : List ℕ). (3 + i, four_targets (take 4 (drop (4 * i) ts))) ∷ target_words (i + 1) (n - (i + 1)) l) (drop-drop 4 (4 * i) ts ∙ ap (λ (t : ℕ). drop t ts) (let e : 4 * i + 4 ≡ 4 * (i + 1) = omega arith in e))
+    ∙ ap (λ (l : List ℕ). (3 + i, four_targets (take 4 (drop (4 * i) ts))) ∷ target_words (i + 1) (n - (i + 1)) l) (drop-drop 4 (4 * i) ts ∙ ap (λ (t : ℕ). drop t ts) (let e : 4 * i + 4 ≡ 4 * (i + 1) = omega arith in e))
 
 pub target-step-at : (i n : ℕ) (ts word : List ℕ) → i < n → word ≡ four_targets (take 4 (drop (4 * i) ts))
     → target_words i (n - i) (drop (4 * i) ts) ≡ (3 + i, word) ∷ target_words (i + 1) (n - (i + 1)) (drop (4 * (i + 1)) ts)

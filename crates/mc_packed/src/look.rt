@@ -55,7 +55,11 @@ fn head_count(head: Word) -> Option<usize>
         return None;
     }
     let count = high as usize * 256 + low as usize;
-    if count >= 1 && count <= 64 { Some(count) } else { None }
+    if count >= 1 && count <= 64 {
+        Some(count)
+    } else {
+        None
+    }
 }
 
 // All targets, or the place of the first bad target word.
@@ -103,7 +107,12 @@ fn numbers(word: Word) -> [u16; 4]
     ensures { result ≡ four word }
 {
     let [a, b, c, d, e, f, g, h] = word;
-    [number_of(a, b), number_of(c, d), number_of(e, f), number_of(g, h)]
+    [
+        number_of(a, b),
+        number_of(c, d),
+        number_of(e, f),
+        number_of(g, h),
+    ]
 }
 
 fn number_of(high: u8, low: u8) -> u16

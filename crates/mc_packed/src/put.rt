@@ -10,12 +10,16 @@ use mc_nvm::Nvm;
 
 /// The places of the journal.
 pub const HEAD: u32 = 2;
+
 pub const TARGETS: u32 = 3;
+
 pub const VALUES: u32 = 19;
+
 pub const GATE: u32 = 130;
 
 /// The word that opens the gate, and the one that shuts it.
 pub const OPEN: Word = [b'O', b'P', b'E', b'N', b'-', b'2', b'-', b'-'];
+
 const SHUT: Word = [b'S', b'H', b'U', b'T', b'-', b'-', b'-', b'-'];
 
 /// Writes the target words, four targets in each.

@@ -5,7 +5,7 @@ ghost use Rattle.mc_model.specs.Stopped.{owed_writes, outcome_answer, Follows, R
 ghost use Rattle.mc_packed.specs.Recovery.{outcome_of};
 
 use crate::fault::Recover;
-use crate::look::{look, Found};
+use crate::look::{Found, look};
 use crate::put::replay_all;
 use mc_nvm::Nvm;
 

@@ -1,4 +1,4 @@
-use Rattle.std.proofs.Common.{◌≡◌, ◌≤◌, ◌+◌, ◌-◌, ◌*◌, ℕ, ◌++◌, length, drop, Ok}
+use Rattle.std.proofs.Common.{◌≡◌, drop}
 use Rattle.mc_model.specs.Image.{all_zero}
 use Rattle.mc_packed.proofs.look.are_zero.Given as goal
 

@@ -1,8 +1,6 @@
-use Rattle.std.proofs.Common.{◌≡◌, ◌≤◌, ◌+◌, ◌-◌, ◌*◌, true, length, drop, map}
-use Rattle.std.specs.List.{AllByRecursion}
+use Rattle.std.proofs.Common.{◌≡◌, ◌-◌, ◌*◌, true, length, drop, map}
 use Rattle.mc_model.specs.Bytes.{up}
-use Rattle.mc_model.specs.Image.{within}
-use Rattle.mc_model.specs.Stopped.{target_words, values_2}
+use Rattle.mc_model.specs.Stopped.{target_words}
 use Rattle.mc_model.proofs.LoopLemmas.{Leads}
 use Rattle.mc_packed.proofs.put.put_targets.Given as goal
 
@@ -14,5 +12,5 @@ invariant-loop-i g l =
       on : (state l.device).on ≡ true;
       size : length (state l.device).words ≡ length (state l.fn.device).words;
       leads : Leads g.N.Nvm.wrote l.fn.device (target_words 0 (up (length l.list) 4) (map (λ p. p.0) l.list)) l.device
-        (target_words l.i (up (length l.list) 4 - l.i) (drop (4 * l.i) (map (λ p. p.0) l.list)));
+          (target_words l.i (up (length l.list) 4 - l.i) (drop (4 * l.i) (map (λ p. p.0) l.list)));
     }

@@ -1,8 +1,5 @@
-use Rattle.std.proofs.Common.{◌≡◌, ◌≤◌, ◌+◌, ◌-◌, ◌*◌, true, length, drop, map}
-use Rattle.std.specs.List.{AllByRecursion}
-use Rattle.mc_model.specs.Bytes.{up}
-use Rattle.mc_model.specs.Image.{within}
-use Rattle.mc_model.specs.Stopped.{target_words, values_2}
+use Rattle.std.proofs.Common.{◌≡◌, true, length, drop}
+use Rattle.mc_model.specs.Stopped.{values_2}
 use Rattle.mc_model.proofs.LoopLemmas.{Leads}
 use Rattle.mc_packed.proofs.put.put_values.Given as goal
 

@@ -1,8 +1,6 @@
-use Rattle.std.proofs.Common.{◌≡◌, ◌≤◌, ◌+◌, ◌-◌, ◌*◌, true, length, drop, map}
+use Rattle.std.proofs.Common.{◌≡◌, true, length, drop}
 use Rattle.std.specs.List.{AllByRecursion}
-use Rattle.mc_model.specs.Bytes.{up}
 use Rattle.mc_model.specs.Image.{within}
-use Rattle.mc_model.specs.Stopped.{target_words, values_2}
 use Rattle.mc_model.proofs.LoopLemmas.{Leads}
 use Rattle.mc_packed.proofs.put.put_words.Given as goal
 

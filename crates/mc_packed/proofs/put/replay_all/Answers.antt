@@ -11,5 +11,7 @@ returns-in_err-put_words g c =
 
 pub returns : goal.returns
 returns g c =
-    record { makes = then g.N.Nvm.wrote c.args.list.now ((gate Two, shut) ∷ []) c.args.device.now c.put_words.new.device c.write.new.self c.write.result c.in_ok-put_words.ensures.makes
-      (one g.N.Nvm.wrote c.put_words.new.device c.write.new.self 130 shut c.write.result c.write.ensures.wrote) }
+    record {
+      makes = then g.N.Nvm.wrote c.args.list.now ((gate Two, shut) ∷ []) c.args.device.now c.put_words.new.device c.write.new.self c.write.result c.in_ok-put_words.ensures.makes
+          (one g.N.Nvm.wrote c.put_words.new.device c.write.new.self 130 shut c.write.result c.write.ensures.wrote);
+    }

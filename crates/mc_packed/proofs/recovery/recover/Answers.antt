@@ -9,9 +9,9 @@ use Rattle.mc_packed.proofs.recovery.recover.Goals as goal
 pub returns-clause-ends : goal.returns-clause-ends
 returns-clause-ends g c =
     recover-ends g.N.Nvm.state g.N.Nvm.wrote g.met.N.Nvm.obeys Two (look_j Two (g.N.Nvm.state c.args.device.now).words) c.args.device.now c.make_replay.new.device (outcome_of c.make_replay.result)
-      c.make_replay.ensures.low c.requires.power refl c.make_replay.ensures.follows c.make_replay.ensures.makes
+    c.make_replay.ensures.low c.requires.power refl c.make_replay.ensures.follows c.make_replay.ensures.makes
 
 pub returns-clause-lent : goal.returns-clause-lent
 returns-clause-lent g c =
     makes-same g.N.Nvm.wrote g.N.Nvm.same g.met.N.Nvm.keeps g.met.N.Nvm.itself g.met.N.Nvm.onward (owed_writes (look_j Two (g.N.Nvm.state c.args.device.now).words)) c.args.device.now c.make_replay.new.device
-      (outcome_answer (outcome_of c.make_replay.result)) c.make_replay.ensures.makes
+    (outcome_answer (outcome_of c.make_replay.result)) c.make_replay.ensures.makes

@@ -1,4 +1,3 @@
-use Rattle.std.proofs.Common.{◌≡◌, length}
 use Rattle.mc_model.specs.Image.{Two}
 use Rattle.mc_model.specs.Stopped.{writes}
 use Rattle.mc_model.proofs.CallLemmas.{write-ends}
@@ -8,7 +7,7 @@ use Rattle.mc_packed.proofs.write.write_words.Goals as goal
 pub returns-clause-ends : goal.returns-clause-ends
 returns-clause-ends g c =
     write-ends g.N.Nvm.state g.N.Nvm.wrote g.met.N.Nvm.obeys Two c.args.list.now c.args.device.now c.make_writes.new.device c.make_writes.result
-      c.make_writes.ensures.low c.make_writes.ensures.high c.requires.power c.requires.list c.requires.gate c.make_writes.ensures.makes
+    c.make_writes.ensures.low c.make_writes.ensures.high c.requires.power c.requires.list c.requires.gate c.make_writes.ensures.makes
 
 pub returns-clause-lent : goal.returns-clause-lent
 returns-clause-lent g c =

@@ -1,0 +1,5 @@
+pub mod IncrementLemmas
+pub mod RunLemmas
+pub mod ReadLemmas
+pub mod TextLemmas
+pub mod AppsLemmas

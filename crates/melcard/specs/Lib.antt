@@ -1,0 +1,10 @@
+pub mod Values
+pub mod Running
+pub mod Segments
+pub mod Machine
+pub mod Deck
+pub mod Refusals
+pub mod Cards
+pub mod Play
+pub mod Apps
+pub mod Job
