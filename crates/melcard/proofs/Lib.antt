@@ -3,3 +3,5 @@ pub mod RunLemmas
 pub mod ReadLemmas
 pub mod TextLemmas
 pub mod AppsLemmas
+pub mod IsolationLemmas
+pub mod Isolation

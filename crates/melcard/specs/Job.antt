@@ -10,6 +10,7 @@ use Rattle.melcard.specs.declared.job.Status.{Status}
 use Rattle.melcard.specs.declared.job.Status.TheVariants.{Done, Refused, NoForm, ReadFault, WriteFault, NoMemory}
 use Rattle.melcard.specs.Deck.{deck_of}
 use Rattle.melcard.specs.Play.{plays, empty_card, transcript}
+use Rattle.melcard.specs.Family.{view, solo_view, given}
 
 -- the number of a status
 abbrev pub number_of : Status → ℕ
@@ -44,6 +45,12 @@ not_built n = codes "line " ++ decimal n ++ codes " NotBuilt\n"
 -- the text of a deck
 abbrev pub deck_text : List (ℕ × Line) → List ℕ
 deck_text lines = transcript (plays empty_card lines)
+
+-- for every list of names, the replies to its commands and its static bytes at the end are those of a card that holds
+-- these applications alone and is given its commands; no application delegates, so every list is closed
+abbrev pub IsIsolated : List (ℕ × Line) → Type 0
+IsIsolated lines =
+    (names : List (List ℕ)) → view names empty_card (plays empty_card lines) ≡ solo_view names empty_card (given names (plays empty_card lines))
 
 -- ---- the outside
 
@@ -84,6 +91,7 @@ pub record IsTaken (a : Around) (text : List ℕ) : Type 0 where
   pub lines : List (ℕ × Line)
   pub deck : deck_of input ≡ Ok lines
   pub is : text ≡ deck_text lines
+  pub family : IsIsolated lines
 
 -- ---- statuses
 

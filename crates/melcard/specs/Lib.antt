@@ -7,4 +7,5 @@ pub mod Refusals
 pub mod Cards
 pub mod Play
 pub mod Apps
+pub mod Family
 pub mod Job

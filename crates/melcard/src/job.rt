@@ -58,6 +58,7 @@ fn refusal(alloc: Global, line: u32) -> Result<Vec<u8>, NoMemory>
     Ok(text)
 }
 
+#[tactic(auto, using(crate::proofs::Isolation::isolated))]
 // Plays the deck in a source, and writes its transcript.
 fn play<S: Source, T: Sink, L: Ledger>(
     alloc: Global,

@@ -27,12 +27,12 @@ impl Model for Reply {
 
 impl Reply {
     /// A reply with this data, of at most 256 bytes.
-    pub fn new(data: &[u8], sw: u16) -> Self
-        requires { length data.now ≤ 256 }
-        ensures { result ≡ record { body = data.now; sw = sw } }
+    pub fn new(bytes: &[u8], sw: u16) -> Self
+        requires { length bytes.now ≤ 256 }
+        ensures { result ≡ record { body = bytes.now; sw = sw } }
     {
         let mut body = ArrayVec::new();
-        for byte in data {
+        for byte in bytes {
             body.push(*byte);
         }
         Reply { body, sw }
