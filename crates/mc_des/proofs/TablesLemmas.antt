@@ -5,7 +5,9 @@ use Rattle.std.proofs.lemmas.Slice.Eq.{bytes_eq-Decides}
 use Rattle.mc_model.proofs.ModesLemmas.{all_below, below_at}
 use Rattle.mc_model.specs.Des.{bits, pick, initial, final, choice1, choice2, permutation, boxes, box_at}
 use Rattle.mc_des.specs.Words.{alone, key_bits, box_alone}
-use Rattle.mc_des.specs.declared.tables.TheConstants.{INITIAL, FINAL, CHOICE1, CHOICE2, BOXES}
+use Rattle.mc_des.specs.declared.tables.TheConstants.{INITIAL, FINAL}
+use Rattle.mc_des.specs.declared.key_tables.TheConstants.{CHOICE1, CHOICE2}
+use Rattle.mc_des.specs.declared.box_table.TheConstants.{BOXES}
 
 -- a rule at each entry of a table of rows, from the test over all
 module _ (width : ℕ) (left right : ℕ → ℕ → List ℕ) (count : ℕ)

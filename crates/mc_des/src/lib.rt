@@ -6,6 +6,8 @@ ghost use Rattle.std.specs.Prelude.{◌≡◌, ◌%◌, ◌<◌, length};
 ghost use Rattle.mc_model.specs.Des.{des_encipher, des_decipher, tdes_encipher, tdes_decipher, des_signature, tdes_signature};
 
 mod block;
+mod box_table;
+mod key_tables;
 mod keys;
 pub mod laws;
 mod permute;

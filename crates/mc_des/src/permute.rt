@@ -4,7 +4,8 @@ ghost use Rattle.std.specs.Prelude.{◌≡◌, ◌/◌, ◌%◌, ◌^◌, ◌<�
 ghost use Rattle.mc_model.specs.Des.{bits, pick, initial, final, choice1, choice2};
 ghost use Rattle.mc_des.specs.Words.{key_bits};
 
-use crate::tables::{choice1_of, choice2_of, final_of, initial_of};
+use crate::key_tables::{choice1_of, choice2_of};
+use crate::tables::{final_of, initial_of};
 
 // The four bits of a word that stand above `low` others.
 #[inline]

@@ -5,8 +5,8 @@ ghost use Rattle.std.specs.Int.{w64, to_be_bytes};
 ghost use Rattle.mc_model.specs.Des.{bits, f, ciphered};
 ghost use Rattle.mc_des.specs.Words.{key_bits};
 
+use crate::box_table::boxed;
 use crate::permute::{final_bits, initial};
-use crate::tables::boxed;
 
 // The six bits of a word that stand above `low` others.
 #[inline]
