@@ -1,8 +1,6 @@
-ghost use Rattle.std.specs.Prelude.{◌≡◌, ◌+◌, ◌*◌, ◌<◌, ◌≤◌, ℕ, true, false, ◌&&◌, [], ◌++◌, length, take, drop, min, Ok, Err, MatchOption, MatchResult, IfOk};
-ghost use Rattle.std.specs.List.{AllByRecursion};
-ghost use Rattle.mc_model.specs.Image.{Journal, One, within, four, all_zero, ascend, after_all, targets, aimed, pairs, number, is_count, look_j};
+ghost use Rattle.std.specs.Prelude.{◌≡◌, ◌≤◌, length, Ok, Err, MatchResult};
+ghost use Rattle.mc_model.specs.Image.{One, within, targets, aimed, pairs, number, is_count, look_j};
 ghost use Rattle.mc_journal.specs.Look.{look_of};
-ghost use Rattle.arrayvec.specs.ArrayVec.{array_vec_len};
 
 use crate::put::{GATE, HEAD, OPEN};
 use arrayvec::ArrayVec;

@@ -1,7 +1,7 @@
-ghost use Rattle.std.specs.Prelude.{◌≡◌, ◌+◌, ◌*◌, ◌<◌, ◌≤◌, true, [], ◌∷◌, length, take, drop, map, get_or, OnOk};
+ghost use Rattle.std.specs.Prelude.{◌≡◌, ◌+◌, ◌*◌, ◌<◌, ◌≤◌, true, [], ◌∷◌, length, OnOk};
 ghost use Rattle.std.specs.List.{AllByRecursion};
 ghost use Rattle.mc_model.specs.Device.{Makes};
-ghost use Rattle.mc_model.specs.Image.{Journal, One, within, gate, shut, opening};
+ghost use Rattle.mc_model.specs.Image.{One, within, gate, opening};
 ghost use Rattle.mc_model.specs.Stopped.{entries_1, numbered, replay};
 
 use mc_base::{Stop, Word};

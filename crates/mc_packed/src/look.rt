@@ -1,6 +1,5 @@
-ghost use Rattle.std.specs.Prelude.{◌≡◌, ◌+◌, ◌*◌, ◌<◌, ◌≤◌, ℕ, true, false, ◌&&◌, [], ◌++◌, length, take, drop, min, Ok, Err, MatchOption, MatchResult, IfOk};
-ghost use Rattle.std.specs.List.{AllByRecursion};
-ghost use Rattle.mc_model.specs.Image.{Journal, Two, within, four, all_zero, ascend, after_all, targets, aimed, pairs, number, is_count, look_j};
+ghost use Rattle.std.specs.Prelude.{◌≡◌, ◌+◌, ◌*◌, ◌≤◌, true, false, ◌++◌, length, min, Ok, Err, MatchOption, MatchResult};
+ghost use Rattle.mc_model.specs.Image.{Two, within, four, all_zero, ascend, after_all, targets, aimed, pairs, number, is_count, look_j};
 ghost use Rattle.mc_packed.specs.Look.{look_of};
 ghost use Rattle.arrayvec.specs.ArrayVec.{array_vec_len};
 

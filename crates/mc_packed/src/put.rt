@@ -1,8 +1,8 @@
-ghost use Rattle.std.specs.Prelude.{◌≡◌, ◌+◌, ◌*◌, ◌<◌, ◌≤◌, true, [], ◌∷◌, length, take, drop, map, get_or, OnOk};
+ghost use Rattle.std.specs.Prelude.{◌≡◌, ◌≤◌, true, [], ◌∷◌, length, take, drop, map, get_or, OnOk};
 ghost use Rattle.std.specs.List.{AllByRecursion};
 ghost use Rattle.mc_model.specs.Bytes.{up, bytes2};
 ghost use Rattle.mc_model.specs.Device.{Makes};
-ghost use Rattle.mc_model.specs.Image.{Journal, Two, within, gate, shut, opening};
+ghost use Rattle.mc_model.specs.Image.{Two, within, gate, opening};
 ghost use Rattle.mc_model.specs.Stopped.{four_targets, target_words, values_2, numbered, replay};
 
 use mc_base::{Stop, Word};

@@ -1,6 +1,6 @@
 ghost use Rattle.std.specs.Prelude.{◌≡◌, ◌≤◌, true, length};
 ghost use Rattle.mc_model.specs.Device.{Makes};
-ghost use Rattle.mc_model.specs.Image.{Journal, Two, look_j};
+ghost use Rattle.mc_model.specs.Image.{Two, look_j};
 ghost use Rattle.mc_model.specs.Stopped.{owed_writes, outcome_answer, Follows, RecoverEnds};
 ghost use Rattle.mc_packed.specs.Recovery.{outcome_of};
 

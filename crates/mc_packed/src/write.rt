@@ -1,6 +1,6 @@
 ghost use Rattle.std.specs.Prelude.{◌≡◌, ◌≤◌, true, false, length};
 ghost use Rattle.mc_model.specs.Device.{Makes};
-ghost use Rattle.mc_model.specs.Image.{Journal, Two, is_open};
+ghost use Rattle.mc_model.specs.Image.{Two, is_open};
 ghost use Rattle.mc_model.specs.Stopped.{IsAtomic, writes, WriteEnds};
 
 use crate::put::{open_gate, put_targets, put_values, replay_all};
