@@ -1,0 +1,4 @@
+pub mod SummedLemmas
+pub mod FirstDeck
+pub mod SecondDeck
+pub mod LastDeck
