@@ -5,6 +5,8 @@ mod deck;
 mod job;
 mod machine;
 mod play;
+#[cfg(test)]
+mod tests;
 
 ghost use Rattle.std.specs.Prelude.{◌≡◌, ◌<◌};
 
