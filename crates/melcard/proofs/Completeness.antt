@@ -1,12 +1,12 @@
 -- A play without a fault of source or sink is complete.
-use Rattle.std.proofs.Common.{◌≡◌, ℕ, ◌<◌, ◌≤◌, Bool, true, false, List, [], ◌∷◌, ◌++◌, length, Option, Some, None, Ok, Err, refl, ap, sym, ◌∙◌, subst, cond, nat_le, arith, ◌⊎◌, inl, inr}
+use Rattle.std.proofs.Common.{◌≡◌, ℕ, ◌<◌, ◌≤◌, Bool, true, false, List, [], ◌++◌, length, Option, Some, None, refl, ap, sym, ◌∙◌, subst, cond, arith, ◌⊎◌, inl, inr}
 use Rattle.std.proofs.lemmas.Bool.{le-leb, lt-leb}
 use Rattle.std.proofs.lemmas.List.{append-nil, length-append}
 use Rattle.mc_base.specs.Streams.{Took, AtEnd, TookMore, Grew}
 use Rattle.melcard.specs.declared.job.Status.{Status}
 use Rattle.melcard.specs.declared.job.Status.TheVariants.{Done, Refused, NoForm, ReadFault, WriteFault, NoMemory}
 use Rattle.melcard.specs.Deck.{deck_of}
-use Rattle.melcard.specs.Job.{Around, Says, SaysNoForm, number_of, input_limit, outcome, outcome_of, too_long, not_built, deck_text, IsAll, IsComplete, IsWithoutFault, ReadWhole, IsTaken, IsTooLong, IsRefused}
+use Rattle.melcard.specs.Job.{Around, Says, SaysNoForm, number_of, input_limit, outcome, outcome_of, too_long, IsAll, IsComplete, IsWithoutFault, IsTaken, IsTooLong, IsRefused}
 
 -- what was read to its end is all that was left
 all-read : (old new : Option (List ℕ)) (input : List ℕ) → Took old new input → AtEnd new → IsAll old input
@@ -52,16 +52,16 @@ written a input text status all is grew =
 taken-complete : (a : Around) (text : List ℕ) → IsTaken a text → Grew a.taken_old a.taken text → IsComplete 0 a
 taken-complete a text t grew =
     written a t.input text 0 (all-read a.left_old a.left t.input t.read.bytes t.read.end)
-      (within t.input t.read.fits ∙ ap outcome_of t.deck ∙ ap (λ u. (0, u)) (sym t.is)) grew
+    (within t.input t.read.fits ∙ ap outcome_of t.deck ∙ ap (λ u. (0, u)) (sym t.is)) grew
 
 refused-complete : (a : Around) (text : List ℕ) → IsTooLong a text ⊎ IsRefused a text → Grew a.taken_old a.taken text → IsComplete 1 a
 refused-complete a text refused grew =
     elim refused [
       | inl long ↦
-        let l = long-read a.left_old a.left long.over in
-        written a l.input text 1 l.all (beyond l.input l.over ∙ ap (λ u. (1, u)) (sym long.is)) grew
+          let l = long-read a.left_old a.left long.over in
+          written a l.input text 1 l.all (beyond l.input l.over ∙ ap (λ u. (1, u)) (sym long.is)) grew
       | inr r ↦
-        written a r.input text 1 (all-read a.left_old a.left r.input r.read.bytes r.read.end)
+          written a r.input text 1 (all-read a.left_old a.left r.input r.read.bytes r.read.end)
           (within r.input r.read.fits ∙ ap outcome_of r.deck ∙ ap (λ u. (1, u)) (sym r.is)) grew
     ]
 

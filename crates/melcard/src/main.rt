@@ -5,6 +5,7 @@ mod deck;
 mod job;
 mod machine;
 mod play;
+mod rows;
 #[cfg(test)]
 mod tests;
 

@@ -1,14 +1,17 @@
 ghost use Rattle.std.specs.Prelude.{◌≡◌, ◌<◌};
 
 use crate::job::melcard;
-use mc_base::{MemSink, MemSource, NoMemory, ReadAll, StdSink, StdSource, Steps, put_all, read_all};
+use mc_base::{
+    MemSink, MemSource, NoMemory, ReadAll, StdSink, StdSource, Steps, put_all, read_all,
+};
 use mc_nvm::SimNvm;
 use std::alloc::Global;
 use std::marker::Brand;
 use std::sync::ledger::{Blank, Ledger};
 use std::test::Fail;
 
-const COUNTER: &[u8] = b"format\npower\nunit counter 0000000000000000000FB902000039020000460200000600020000000961074F05A00000000100096F078405A00000000100000000\nload counter 2 0\nselect A000000001\napdu 8001000002\napdu 8001000002\n";
+const COUNTER: &[u8] =
+    b"format\npower\nunit counter 0000000000000000000FB902000039020000460200000600020000000961074F05A00000000100096F078405A00000000100000000\nload counter 2 0\nselect A000000001\napdu 8001000002\napdu 8001000002\n";
 
 const TEXT: &[u8] = b"1 formatted\n2 ready 0\n4 9000\n5 9000\n6 00019000\n7 00029000\n";
 
@@ -43,7 +46,14 @@ fn counted<L: Ledger>(
     let mut source = MemSource::new(alloc, input, fail_at)?;
     let mut sink = MemSink::new(alloc, room, &[])?;
     let mut device = SimNvm::new(alloc, 256)?;
-    let status = melcard(alloc, words, &mut source, &mut sink, &mut device, &mut steps);
+    let status = melcard(
+        alloc,
+        words,
+        &mut source,
+        &mut sink,
+        &mut device,
+        &mut steps,
+    );
     let left = match read_all(alloc, &mut source, input.len()) {
         Ok(bytes) => bytes.len(),
         Err(_) => 0,
@@ -124,7 +134,10 @@ fn adapters(rt: HostRuntime) -> Result<(), Fail> {
     let bytes = read_all(alloc, &mut source, 300)?;
     assert_eq!(rt; bytes.as_slice(), COUNTER);
     let mut longer = StdSource::new(COUNTER);
-    assert_eq!(rt; read_all(alloc, &mut longer, 10).err(), Some(ReadAll::TooLong));
+    assert_eq!(rt;
+        read_all(alloc, &mut longer, 10).err(),
+        Some(ReadAll::TooLong)
+    );
     let mut out = Vec::new(alloc);
     let mut sink = StdSink::new(&mut out);
     assert!(rt; put_all(&mut sink, TEXT).is_ok());
