@@ -1,5 +1,5 @@
 -- A family sees the same in a play as on a card that holds it alone.
-use Rattle.std.proofs.Common.{◌≡◌, ℕ, Bool, true, false, List, [], ◌∷◌, ◌++◌, Option, Some, None, refl, ap, sym, ◌∙◌, subst, cond, bytes_eq, ◌||◌}
+use Rattle.std.proofs.Common.{◌≡◌, ℕ, Bool, true, false, List, [], ◌∷◌, ◌++◌, Option, Some, None, refl, ap, sym, ◌∙◌, bytes_eq, ◌||◌}
 use Rattle.std.proofs.lemmas.List.{append-nil}
 use Rattle.std.proofs.lemmas.Slice.Eq.{bytes_eq-Decides}
 use Rattle.mc_model.specs.Bytes.{has_name}
@@ -7,12 +7,10 @@ use Rattle.melcard.specs.declared.deck.LoadUnit.{LoadUnit}
 use Rattle.melcard.specs.declared.deck.Line.{Line}
 use Rattle.melcard.specs.declared.deck.Line.TheVariants.{Format, Power, Named, Load, Select, Apdu}
 use Rattle.melcard.specs.declared.play.App.{App}
-use Rattle.melcard.specs.declared.play.Answer.{Answer}
-use Rattle.melcard.specs.declared.play.Answer.TheVariants.{Status}
 use Rattle.melcard.specs.Cards.{CardValue}
-use Rattle.melcard.specs.Machine.{Ran as RunEnd, run_of}
-use Rattle.melcard.specs.Play.{found, with_fixed, fresh, Stepped, step, selects, sends, runs, ran_by, Played, plays}
-use Rattle.melcard.specs.Family.{Event, Created, Command, Leave, is_own, if_own, select_event, events, given, does, shows, answers, left_by, is_command_of, seen, replies, last_card, fixed_of, rest, view, solo_view}
+use Rattle.melcard.specs.Machine.{run_of}
+use Rattle.melcard.specs.Play.{found, with_fixed, fresh, step, selects, runs, ran_by, plays}
+use Rattle.melcard.specs.Family.{Event, select_event, events, given, shows, answers, left_by, is_command_of, seen, replies, last_card, fixed_of, rest, view, solo_view}
 use Rattle.melcard.specs.Play.{empty_card}
 use Rattle.melcard.specs.Job.{IsIsolated}
 use Rattle.melcard.proofs.IsolationLemmas.{keep, only, own_name, own, family, only-append, found-only, set-only, set-other}

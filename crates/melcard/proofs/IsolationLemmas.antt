@@ -1,17 +1,12 @@
 -- The family's part of a card, and what lines do to it.
-use Rattle.std.proofs.Common.{◌≡◌, ℕ, Bool, true, false, List, [], ◌∷◌, ◌++◌, Option, Some, None, refl, ap, sym, ◌∙◌, subst, arith, append_assoc, bytes_eq}
+use Rattle.std.proofs.Common.{◌≡◌, ℕ, Bool, true, false, List, [], ◌∷◌, ◌++◌, Option, Some, None, refl, ap, sym, ◌∙◌, bytes_eq}
 use Rattle.std.proofs.Common.{cond}
 use Rattle.std.proofs.lemmas.Slice.Eq.{bytes_eq-Decides}
 use Rattle.mc_model.specs.Bytes.{has_name}
-use Rattle.melcard.specs.declared.deck.LoadUnit.{LoadUnit}
-use Rattle.melcard.specs.declared.deck.Line.{Line}
-use Rattle.melcard.specs.declared.deck.Line.TheVariants.{Format, Power, Named, Load, Select, Apdu}
 use Rattle.melcard.specs.declared.play.App.{App}
-use Rattle.melcard.specs.declared.play.Answer.{Answer}
 use Rattle.melcard.specs.Cards.{CardValue}
-use Rattle.melcard.specs.Machine.{run_of}
-use Rattle.melcard.specs.Play.{found, with_fixed, fresh, Stepped, step, selects, sends, runs, ran_by, Played, plays}
-use Rattle.melcard.specs.Family.{Event, Created, Command, Leave, is_own, if_own, select_event, events, given, does, shows, answers, left_by, is_command_of, seen, replies, last_card, fixed_of, rest, view, solo_view}
+use Rattle.melcard.specs.Play.{found, with_fixed}
+use Rattle.melcard.specs.Family.{rest}
 
 abbrev pub keep : Bool → App → List App → List App
 keep true a apps = a ∷ apps

@@ -5,3 +5,4 @@ pub mod TextLemmas
 pub mod AppsLemmas
 pub mod IsolationLemmas
 pub mod Isolation
+pub mod Completeness

@@ -1,14 +1,13 @@
 -- What a family of applications sees of a play, and of a card that holds it alone and is given the same commands.
 -- This project's profile.
-use Rattle.std.specs.Prelude.{◌≡◌, ℕ, Bool, true, false, cond, List, [], ◌∷◌, ◌++◌, Option, Some, None}
+use Rattle.std.specs.Prelude.{ℕ, Bool, true, false, List, [], ◌∷◌, ◌++◌, Option, Some, None}
 use Rattle.mc_model.specs.Bytes.{has_name}
-use Rattle.melcard.specs.declared.deck.LoadUnit.{LoadUnit}
 use Rattle.melcard.specs.declared.deck.Line.{Line}
 use Rattle.melcard.specs.declared.deck.Line.TheVariants.{Format, Power, Named, Load, Select, Apdu}
 use Rattle.melcard.specs.declared.play.App.{App}
 use Rattle.melcard.specs.declared.play.Answer.{Answer}
 use Rattle.melcard.specs.Cards.{CardValue}
-use Rattle.melcard.specs.Play.{found, fresh, Stepped, step, selects, sends, Played, plays}
+use Rattle.melcard.specs.Play.{found, fresh, Stepped, step, Played}
 
 -- ---- events
 

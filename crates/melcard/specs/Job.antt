@@ -1,6 +1,6 @@
 -- What the top call says of the outside at each of its statuses.
 -- This project's profile.
-use Rattle.std.specs.Prelude.{◌≡◌, ℕ, ◌≤◌, ◌⊎◌, Bool, true, false, List, [], ◌∷◌, ◌++◌, length, bytes_eq, codes, decimal, string_bytes, Option, Ok, Err}
+use Rattle.std.specs.Prelude.{◌≡◌, ℕ, ◌≤◌, ◌⊎◌, Bool, true, false, List, [], ◌∷◌, ◌++◌, length, bytes_eq, codes, cond, nat_le, decimal, string_bytes, Option, Some, None, Result, Ok, Err, ⊤}
 use Rattle.std.specs.declared.alloc.Global.{Global}
 use Rattle.std.specs.declared.string.String.{String}
 use Rattle.mc_model.specs.Counts.{Rose}
@@ -146,3 +146,32 @@ Says ReadFault false a = ⊥
 Says WriteFault form a = SaysWriteFault a form
 Says NoMemory true a = SaysNoMemory a
 Says NoMemory false a = ⊥
+
+-- ---- completeness
+
+-- the status and the text of an input
+abbrev pub outcome_of : Result (List (ℕ × Line)) ℕ → ℕ × List ℕ
+outcome_of (Ok lines) = (0, deck_text lines)
+outcome_of (Err number) = (1, not_built number)
+
+abbrev pub outcome : List ℕ → ℕ × List ℕ
+outcome input = cond (nat_le (length input) input_limit) (outcome_of (deck_of input)) (1, too_long)
+
+-- these bytes are all that a source had left, where it tells them
+abbrev pub IsAll : Option (List ℕ) → List ℕ → Type 0
+IsAll None input = ⊤
+IsAll (Some bytes) input = bytes ≡ input
+
+-- no call of source or sink failed
+pub record IsWithoutFault (a : Around) : Type 0 where
+  pub reads : Rose a.reads_old a.reads → ⊥
+  pub writes : Rose a.writes_old a.writes → ⊥
+
+-- the status of the input with its whole text, or want of memory before the first byte
+pub record IsComplete (status : ℕ) (a : Around) : Type 0 where
+  pub input : List ℕ
+  pub all : IsAll a.left_old input
+  pub ends : ((status ≡ (outcome input).0) × Grew a.taken_old a.taken (outcome input).1) ⊎ ((status ≡ 5) × (a.taken ≡ a.taken_old))
+
+abbrev pub Completes : ℕ → Around → Type 0
+Completes status a = IsWithoutFault a → IsComplete status a

@@ -9,3 +9,4 @@ pub mod Play
 pub mod Apps
 pub mod Family
 pub mod Job
+pub mod Computed

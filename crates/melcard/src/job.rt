@@ -1,6 +1,6 @@
 ghost use Rattle.std.specs.Prelude.{◌≡◌, true, IfOk};
 ghost use Rattle.melcard.specs.declared.job.Status.{Status};
-ghost use Rattle.melcard.specs.Job.{number_of, is_play, not_built, Says};
+ghost use Rattle.melcard.specs.Job.{number_of, is_play, not_built, Says, Completes};
 
 use crate::deck::{Refusal, read_deck};
 use crate::play::transcript_of;
@@ -121,6 +121,16 @@ pub fn melcard<S: Source, T: Sink, N: Bench, L: Ledger>(
     steps: &mut Steps<L>,
 ) -> u8
     ensures says { (s : Status) × (result ≡ number_of s) × Says s (is_play words.now) (record {
+      left_old = S.left input.old;
+      left = S.left input.new;
+      taken_old = T.taken out.old;
+      taken = T.taken out.new;
+      reads_old = S.faults input.old;
+      reads = S.faults input.new;
+      writes_old = T.faults out.old;
+      writes = T.faults out.new;
+    }) }
+    ensures complete { is_play words.now ≡ true → Completes result (record {
       left_old = S.left input.old;
       left = S.left input.new;
       taken_old = T.taken out.old;

@@ -5,6 +5,9 @@ mod deck;
 mod job;
 mod machine;
 mod play;
+mod rows;
+#[cfg(test)]
+mod tests;
 
 ghost use Rattle.std.specs.Prelude.{◌≡◌, ◌<◌};
 
