@@ -1,0 +1,210 @@
+-- What each call leaves of the entries of a bank in memory.
+use Rattle.std.proofs.Common.{◌≡◌, ℕ, ◌+◌, ◌-◌, ◌*◌, ◌≤◌, ◌<◌, false, List, [], ◌∷◌, ◌++◌, length, take, drop, slice_set, Option, Some, None, Ok, refl, sym, ap, subst, ◌∙◌, inl, arith}
+use Rattle.std.specs.Prelude.{map, is_some, IsSome}
+use Rattle.std.specs.List.{AllByRecursion}
+use Rattle.std.proofs.lemmas.List.{length-take-le, length-append, length-drop, length-replicate, length-set, take-take, drop-take}
+use Rattle.std.proofs.lemmas.List.Edits.{paste-paste}
+use Rattle.std.proofs.Math.Seq.{take-length, take-append-add}
+use Rattle.mc_model.specs.Orders.{Answer, InOrder}
+use Rattle.mc_model.specs.Bytes.{zeros, splice, lookup}
+use Rattle.mc_model.specs.Pieces.{laid_pieces, word_pieces}
+use Rattle.mc_model.specs.Card.{App}
+use Rattle.mc_model.specs.Items.{Site, BankItem, Blank, Note, Commit, Enter, Remove}
+use Rattle.mc_model.specs.Manager.{word_parts}
+use Rattle.mc_base.specs.Name.{IsName}
+use Rattle.mc_bank.specs.declared.bank.Facts.{Facts}
+use Rattle.mc_bank.specs.declared.entries.Entry.{Entry}
+use Rattle.mc_bank.specs.Bank.{name_or, app_of, FitsLimits, CanCommit, IsGood}
+use Rattle.mc_bank.specs.Memory.{facts_in, named_at, first_free, is_named, AreFacts, IsWhole, IsMemory, AreApart, app_in, apps_from, memory_room, entry_at, with_app, with_list, freed, new_facts, fixed_len, MemoryDid}
+use Rattle.mc_bank.specs.Entries.{facts_set, facts_kept, length-facts, free_has_no_name, free_is_there, no_name, apart_freed, apart_set, lookup_is, whole_set, whole_at, length-apps}
+use Rattle.mc_bank.specs.MemoryLaws.{split, app_is, memory_obeys, memory_keeps, memory_spares, memory_leaves}
+use Rattle.mc_bank.specs.Shown.{app_at}
+use Rattle.mc_bank.specs.Left.{CommitLeft, CreateLeft, DeleteLeft}
+use Rattle.mc_bank.proofs.ShownLemmas.{name_there, slot_within}
+
+-- ---- lists of bytes
+
+pub length-spliced : (x : List ℕ) (at : ℕ) (b : List ℕ) → at + length b ≤ length x → length (splice x at b) ≡ length x
+length-spliced x at b le =
+    omega (arith, le, length-append (take at x ++ b) (drop (at + length b) x), length-append (take at x) b, length-drop (at + length b) x, length-take-le at x (omega (arith, le)))
+
+pub length-laid : (x : List ℕ) (ws : List (ℕ × List ℕ)) → AllByRecursion (λ w. length w.1 ≡ 8) ws → AllByRecursion (λ w. 8 * w.0 + 8 ≤ length x) ws → length (laid_pieces x (word_pieces ws)) ≡ length x
+length-laid x [] h a = refl
+length-laid x (w ∷ ws) h a =
+    let first = a.0 in
+    let eight = h.0 in
+    let len = length-spliced x (8 * w.0) w.1 (omega (arith, first, eight)) in
+    length-laid (splice x (8 * w.0) w.1) ws h.1 (subst (λ (k : ℕ). AllByRecursion (λ (v : ℕ × List ℕ). 8 * v.0 + 8 ≤ k) ws) (sym len) a.1) ∙ len
+
+-- words of a segment end in its memory
+pub words_fit : (n k : ℕ) (ws : List (ℕ × List ℕ)) → n ≤ k → k ≡ 4096 → AllByRecursion (λ w. 8 * w.0 < n) ws → AllByRecursion (λ w. 8 * w.0 + 8 ≤ k) ws
+words_fit n k [] le is a = tt
+words_fit n k (w ∷ ws) le is a = (let lt = a.0 in omega (arith, lt, le, is), words_fit n k ws le is a.1)
+
+pub front_piece : (n : ℕ) (x : List ℕ) (at : ℕ) (b : List ℕ) → at + length b ≤ n → n ≤ length x → take n (splice x at b) ≡ splice (take n x) at b
+front_piece n x at b le long =
+    let q = take at x ++ b in
+    let len : length q ≡ at + length b = length-append (take at x) b ∙ ap (λ (k : ℕ). k + length b) (length-take-le at x (omega (arith, le, long))) in
+    let r = n - (at + length b) in
+    let all : n ≡ (at + length b) + r = omega (arith, le) in
+    ap (λ (k : ℕ). take k (q ++ drop (at + length b) x)) (all ∙ ap (λ (k : ℕ). k + r) (sym len))
+    ∙ take-append-add q (drop (at + length b) x) r
+    ∙ ap (λ (l : List ℕ). q ++ l) (sym (drop-take (at + length b) r x))
+    ∙ ap (λ (k : ℕ). q ++ drop (at + length b) (take k x)) (sym all)
+    ∙ ap (λ (l : List ℕ). (l ++ b) ++ drop (at + length b) (take n x)) (sym (take-take at n x (omega (arith, le))))
+
+pub splice-splice : (x : List ℕ) (at : ℕ) (b c : List ℕ) → at ≤ length x → splice (splice x at b) (at + length b) c ≡ splice x at (b ++ c)
+splice-splice x at b c le =
+    let paste-b : splice x at b ≡ take at x ++ take (length b) b ++ drop (at + length b) x = ap (λ (l : List ℕ). take at x ++ l ++ drop (at + length b) x) (sym (take-length b)) in
+    let both : length (b ++ c) ≡ length b + length c = length-append b c in
+    ap (λ (l : List ℕ). splice l (at + length b) c) paste-b
+    ∙ ap (λ (l : List ℕ). take (at + length b) (take at x ++ take (length b) b ++ drop (at + length b) x) ++ l ++ drop ((at + length b) + length c) (take at x ++ take (length b) b ++ drop (at + length b) x)) (sym (take-length c))
+    ∙ paste-paste x at b c (length b) (length c) refl refl le
+    ∙ ap (λ (k : ℕ). take at x ++ take k (b ++ c) ++ drop (at + k) x) (sym both)
+    ∙ ap (λ (l : List ℕ). take at x ++ l ++ drop (at + length (b ++ c)) x) (take-length (b ++ c))
+
+-- ---- names
+
+some_name : (o : Option (List ℕ)) → IsSome o → o ≡ Some (name_or o)
+some_name None h = absurd (cc h)
+some_name (Some n) h = refl
+
+-- ---- entries
+
+pub memory_kept : (m : List Entry) (k : ℕ) (x : Entry) → IsMemory m → x.facts ≡ (entry_at m k).facts → IsWhole x → IsMemory (slice_set m k x)
+memory_kept m k x h same whole =
+    record {
+      room = sym (length-facts (slice_set m k x)) ∙ ap length (facts_kept m k x same) ∙ length-facts m ∙ h.room;
+      whole = whole_set m k x h.whole whole;
+      apart = subst AreApart (sym (facts_kept m k x same)) h.apart;
+    }
+
+-- ---- a commit
+
+fixed_size : (m : List Entry) (k : ℕ) → IsMemory m → IsSome (named_at (facts_in m) k) → (length (app_at m k).fixed ≡ fixed_len (entry_at m k).facts) × (fixed_len (entry_at m k).facts ≤ length (entry_at m k).fixed)
+fixed_size m k h there =
+    let n = name_there (named_at (facts_in m) k) there in
+    let s = split m k n.0 n.1 h.apart in
+    let w = whole_at m k (slot_within m k there) h.whole in
+    let facts = subst AreFacts s.stands w.facts in
+    let le = facts.1.fixed in
+    let long = w.fixed in
+    let small : s.facts.sizes.fixed ≤ length (entry_at m k).fixed = omega (arith, le, long) in
+    let len : fixed_len (entry_at m k).facts ≡ s.facts.sizes.fixed = ap fixed_len s.stands in
+    let app : app_at m k ≡ app_in k (entry_at m k) s.facts.sizes = ap (app_of (apps_from 0 m)) n.1 ∙ app_is m k n.0 s in
+    (ap (λ (a : App). length a.fixed) app ∙ length-take-le s.facts.sizes.fixed (entry_at m k).fixed small ∙ sym len, subst (λ (i : ℕ). i ≤ length (entry_at m k).fixed) (sym len) small)
+
+pub commit_fits : (m : List Entry) (k : ℕ) (ws : List (ℕ × List ℕ)) → IsMemory m → IsSome (named_at (facts_in m) k) → CanCommit (app_at m k).fixed ws → AllByRecursion (λ w. 8 * w.0 + 8 ≤ length (entry_at m k).fixed) ws
+commit_fits m k ws h there can =
+    let size = fixed_size m k h there in
+    let a = size.0 in
+    let b = size.1 in
+    words_fit (length (app_at m k).fixed) (length (entry_at m k).fixed) ws (omega (arith, a, b)) (whole_at m k (slot_within m k there) h.whole).fixed can.within
+
+pub commit_left : (m : List Entry) (k : ℕ) (ws : List (ℕ × List ℕ)) (x : Entry) → IsMemory m → IsSome (named_at (facts_in m) k) → CanCommit (app_at m k).fixed ws → x ≡ with_list ws (entry_at m k) → CommitLeft m k ws (slice_set m k x)
+commit_left m k ws x h there can is =
+    let size = fixed_size m k h there in
+    let n = name_or (named_at (facts_in m) k) in
+    let w = whole_at m k (slot_within m k there) h.whole in
+    let whole : IsWhole (with_list ws (entry_at m k)) =
+    record { facts = w.facts; code = w.code; fixed = length-laid (entry_at m k).fixed ws can.pending.whole (commit_fits m k ws h there can) ∙ w.fixed; dir = w.dir; fci = w.fci } in
+    let e = slice_set m k x in
+    let did : MemoryDid m (Commit n ws) (Ok tt) e =
+    record {
+      answer = refl;
+      done = record {
+        slot = k;
+        named = some_name (named_at (facts_in m) k) there;
+        apart = h.apart;
+        within = subst (λ (i : ℕ). AllByRecursion (λ (v : ℕ × List ℕ). 8 * v.0 < i) ws) size.0 can.within;
+        whole = size.1;
+        after = ap (slice_set m k) is;
+      };
+    } in
+    let facts : x.facts ≡ (entry_at m k).facts = ap (λ (y : Entry). y.facts) is in
+    record {
+      memory = memory_kept m k x h facts (subst IsWhole (sym is) whole);
+      items = inl (e, did, refl);
+      apps = memory_obeys m (Commit n ws) (Ok tt) e did;
+      slots = λ j. ap (λ (fs : List (Option Facts)). named_at fs j) (facts_kept m k x facts);
+      good = memory_spares m n ws (Ok tt) e did;
+      bytes = memory_leaves m n ws (Ok tt) e did;
+    }
+
+-- ---- a deletion
+
+pub delete_left : (m : List Entry) (k : ℕ) (x : Entry) → IsMemory m → IsSome (named_at (facts_in m) k) → x ≡ freed (entry_at m k) → DeleteLeft m k (slice_set m k x)
+delete_left m k x h there is =
+    let n = name_or (named_at (facts_in m) k) in
+    let w = whole_at m k (slot_within m k there) h.whole in
+    let whole : IsWhole (freed (entry_at m k)) = record { facts = tt; code = w.code; fixed = w.fixed; dir = w.dir; fci = w.fci } in
+    let e = slice_set m k x in
+    let did : MemoryDid m (Remove n) (Ok tt) e =
+    record { answer = refl; done = record { slot = k; named = some_name (named_at (facts_in m) k) there; apart = h.apart; after = ap (slice_set m k) is } } in
+    let facts : facts_in e ≡ slice_set (facts_in m) k None = facts_set m k x ∙ ap (λ (y : Entry). slice_set (facts_in m) k y.facts) is in
+    record {
+      memory = record {
+        room = sym (length-facts e) ∙ ap length facts ∙ length-set (facts_in m) k None ∙ length-facts m ∙ h.room;
+        whole = whole_set m k x h.whole (subst IsWhole (sym is) whole);
+        apart = subst AreApart (sym facts) (apart_freed (facts_in m) k h.apart);
+      };
+      items = inl (e, did, refl);
+      apps = memory_obeys m (Remove n) (Ok tt) e did;
+      slots = λ j l named other. memory_keeps m (Remove n) (Ok tt) e did j l named other;
+    }
+
+-- ---- good sites
+
+pub free_place : (m : List Entry) (s : Site) → IsMemory m → IsGood (apps_from 0 m) (memory_room m) s → (s.place < length m) × ((entry_at m s.place).facts ≡ None)
+free_place m s h good =
+    let place : first_free (facts_in m) ≡ s.place = cc good.place in
+    let few = good.few in
+    let room = h.room in
+    let len = length-facts m in
+    let count = length-apps 0 m h.apart in
+    let there = free_is_there (facts_in m) (omega (arith, few, room, len, count)) in
+    (subst (λ (k : ℕ). k < length m) place (omega (arith, there, len)), subst (λ (k : ℕ). (entry_at m k).facts ≡ None) place (no_name m (first_free (facts_in m)) (free_has_no_name (facts_in m))))
+
+-- ---- a creation
+
+did_blanks : (m : List Entry) (s : Site) (cs : List (ℕ × List ℕ)) (is : List BankItem) (a : Answer) (e : List Entry) → InOrder MemoryDid m is a e → InOrder MemoryDid m (map (λ c. Blank s c.0 (length c.1)) cs ++ is) a e
+did_blanks m s [] is a e h = h
+did_blanks m s (c ∷ cs) is a e h = inl (m, record { answer = refl; done = refl }, did_blanks m s cs is a e h)
+
+pub create_left : (m : List Entry) (s : Site) (n : List ℕ) (x : Entry) → IsMemory m → IsGood (apps_from 0 m) (memory_room m) s → lookup (apps_from 0 m) n ≡ None → IsName n → x ≡ with_app s.sizes n (entry_at m s.place) → CreateLeft m s n (slice_set m s.place x)
+create_left m s n x h good fresh name is =
+    let free = free_place m s h good in
+    let w = whole_at m s.place free.0 h.whole in
+    let limits = good.limits in
+    let e = slice_set m s.place x in
+    let none : is_named (facts_in m) n ≡ false = sym (lookup_is 0 m n) ∙ ap is_some fresh in
+    let fixed = limits.fixed in
+    let init = limits.init in
+    let long = w.fixed in
+    let did : MemoryDid m (Enter s n) (Ok tt) e =
+    record { answer = refl; done = record { place = free.0; free = free.1; fresh = none; init = limits.init; whole = omega (arith, fixed, long); after = ap (slice_set m s.place) is } } in
+    let note : (i : ℕ) → MemoryDid m (Note s n i) (Ok tt) m = λ i. record { answer = refl; done = refl } in
+    let zs = zeros (s.sizes.fixed - s.sizes.init) in
+    let len : length zs ≡ s.sizes.fixed - s.sizes.init = length-replicate (s.sizes.fixed - s.sizes.init) 0 in
+    let new : FitsLimits (new_facts s.sizes n).sizes =
+    record { some_code = limits.some_code; code = limits.code; fixed = limits.fixed; init = omega arith; session = limits.session; dir = limits.dir; fci = limits.fci; deny = limits.deny } in
+    let whole : IsWhole (with_app s.sizes n (entry_at m s.place)) =
+    record {
+      facts = (name, new, refl);
+      code = w.code;
+      fixed = length-spliced (entry_at m s.place).fixed s.sizes.init zs (omega (arith, len, fixed, init, long)) ∙ w.fixed;
+      dir = w.dir;
+      fci = w.fci;
+    } in
+    let facts : facts_in e ≡ slice_set (facts_in m) s.place (Some (new_facts s.sizes n)) = facts_set m s.place x ∙ ap (λ (y : Entry). slice_set (facts_in m) s.place y.facts) is in
+    record {
+      memory = record {
+        room = sym (length-facts e) ∙ ap length facts ∙ length-set (facts_in m) s.place (Some (new_facts s.sizes n)) ∙ length-facts m ∙ h.room;
+        whole = whole_set m s.place x h.whole (subst IsWhole (sym is) whole);
+        apart = subst AreApart (sym facts) (apart_set (facts_in m) s.place (new_facts s.sizes n) none h.apart);
+      };
+      items = did_blanks m s (word_parts s.sizes.init (zeros (s.sizes.fixed - s.sizes.init))) (Note s n 0 ∷ Note s n 1 ∷ Note s n 2 ∷ Note s n 3 ∷ Enter s n ∷ []) (Ok tt) e
+          (inl (m, note 0, inl (m, note 1, inl (m, note 2, inl (m, note 3, inl (e, did, refl))))));
+      apps = memory_obeys m (Enter s n) (Ok tt) e did;
+      slots = λ j there. memory_keeps m (Enter s n) (Ok tt) e did j (name_or (named_at (facts_in m) j)) (some_name (named_at (facts_in m) j) there) tt ∙ sym (some_name (named_at (facts_in m) j) there);
+    }

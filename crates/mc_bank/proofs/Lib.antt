@@ -1,0 +1,5 @@
+pub mod ShownLemmas
+pub mod LeftLemmas
+pub mod FillLemmas
+pub mod OpenLemmas
+pub mod Commits

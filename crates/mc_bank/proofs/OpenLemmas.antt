@@ -1,0 +1,37 @@
+-- How a search for room is answered.
+use Rattle.std.proofs.Common.{◌≡◌, ℕ, ◌≤◌, ◌<◌, false, Bool, List, length, Some, sym, ap, ◌∙◌, arith, Ok, Err}
+use Rattle.std.specs.Prelude.{nat_le}
+use Rattle.std.proofs.lemmas.Bool.{le-leb, lt-leb}
+use Rattle.std.proofs.lemmas.List.{length-take-le}
+use Rattle.mc_model.specs.declared.card.Sizes.{Sizes}
+use Rattle.mc_model.specs.declared.card.OpenRefusal.TheVariants.{Apps}
+use Rattle.mc_model.specs.Items.{Site}
+use Rattle.mc_bank.specs.declared.entries.Entry.{Entry}
+use Rattle.mc_bank.specs.Bank.{FitsLimits, opened, IsGood, HasParts, part_len}
+use Rattle.mc_bank.specs.Memory.{facts_in, first_free, used, apps_from, memory_room, memory_standing, part_of, entry_at, IsMemory}
+use Rattle.mc_bank.specs.Entries.{length-apps}
+use Rattle.mc_bank.proofs.FillLemmas.{fill_fits}
+
+pub is_full : (m d : List Entry) (s : Sizes) (n : ℕ) → IsMemory m → d ≡ m → n ≡ used (facts_in d) → 32 ≤ n → Err Apps ≡ opened s (nat_le 32 (length (apps_from 0 m))) (memory_room m s)
+is_full m d s n h same count full =
+    let here : n ≡ used (facts_in m) = count ∙ ap (λ (l : List Entry). used (facts_in l)) same in
+    let len = length-apps 0 m h.apart in
+    sym (ap (λ (b : Bool). opened s b (memory_room m s)) (le-leb 32 (length (apps_from 0 m)) (omega (arith, len, here, full))))
+
+pub has_few : (m d : List Entry) (n : ℕ) → IsMemory m → d ≡ m → n ≡ used (facts_in d) → n < 32 → length (apps_from 0 m) < 32
+has_few m d n h same count few =
+    let here : n ≡ used (facts_in m) = count ∙ ap (λ (l : List Entry). used (facts_in l)) same in
+    let len = length-apps 0 m h.apart in
+    omega (arith, len, here, few)
+
+pub site_is : (m d : List Entry) (s : Sizes) (p : ℕ) → d ≡ m → p ≡ first_free (facts_in d) → length (apps_from 0 m) < 32 → Ok (record { sizes = s; place = p }) ≡ opened s (nat_le 32 (length (apps_from 0 m))) (memory_room m s)
+site_is m d s p same place few =
+    let here : p ≡ first_free (facts_in m) = place ∙ ap (λ (l : List Entry). first_free (facts_in l)) same in
+    ap (λ (q : ℕ). opened s false (Some q)) here ∙ sym (ap (λ (b : Bool). opened s b (memory_room m s)) (lt-leb 32 (length (apps_from 0 m)) few))
+
+pub site_good : (m d : List Entry) (s : Sizes) (p : ℕ) → FitsLimits s → d ≡ m → p ≡ first_free (facts_in d) → length (apps_from 0 m) < 32 → IsGood (apps_from 0 m) (memory_room m) (record { sizes = s; place = p })
+site_good m d s p limits same place few =
+    record { limits = limits; few = few; place = ap (λ (q : ℕ). Some q) (sym (place ∙ ap (λ (l : List Entry). first_free (facts_in l)) same)) }
+
+pub site_parts : (m : List Entry) (t : Site) → IsMemory m → IsGood (apps_from 0 m) (memory_room m) t → HasParts t (memory_standing m t)
+site_parts m t h good p = length-take-le (part_len p t.sizes) (part_of p (entry_at m t.place)) (fill_fits m t p h good)

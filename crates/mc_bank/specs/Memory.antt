@@ -1,0 +1,214 @@
+-- A bank in memory: 32 entries, each used or free, and what an item does to them.
+-- This project's profile.
+use Rattle.std.specs.Prelude.{◌≡◌, ℕ, zero, suc, ◌-◌, ◌*◌, ◌<◌, ◌≤◌, Bool, false, ◌||◌, List, [], ◌∷◌, length, take, map, bytes_eq, slice_index_or, slice_set, Option, Some, None, Ok}
+use Rattle.std.specs.List.{AllByRecursion}
+use Rattle.mc_model.specs.declared.card.Part.{Part}
+use Rattle.mc_model.specs.declared.card.Part.TheVariants.{Code, Data, Dir, Fci}
+use Rattle.mc_model.specs.declared.card.Sizes.{Sizes}
+use Rattle.mc_model.specs.Orders.{Answer}
+use Rattle.mc_model.specs.Bytes.{zeros, splice, insert}
+use Rattle.mc_model.specs.Pieces.{laid_pieces, word_pieces}
+use Rattle.mc_model.specs.Card.{App}
+use Rattle.mc_model.specs.Items.{Site, BankItem, Piece, Blank, Note, Commit, Enter, Remove}
+use Rattle.mc_base.specs.Name.{IsName}
+use Rattle.mc_bank.specs.declared.bank.Facts.{Facts}
+use Rattle.mc_bank.specs.declared.entries.Entry.{Entry}
+use Rattle.mc_bank.specs.Bank.{BankState, FitsLimits, part_len}
+
+-- ---- names
+
+-- the facts of the entries
+abbrev pub facts_in : List Entry → List (Option Facts)
+facts_in m = map (λ e. e.facts) m
+
+-- the name of an entry that is used
+abbrev pub name_in : Option Facts → Option (List ℕ)
+name_in None = None
+name_in (Some f) = Some f.aid
+
+-- the name of the entry with a number
+abbrev pub named_at : List (Option Facts) → ℕ → Option (List ℕ)
+named_at [] k = None
+named_at (f ∷ fs) zero = name_in f
+named_at (f ∷ fs) (suc k) = named_at fs k
+
+-- the number of the first free entry, and how many there are where none is free
+abbrev pub first_free : List (Option Facts) → ℕ
+first_free [] = 0
+first_free (None ∷ fs) = 0
+first_free (Some f ∷ fs) = suc (first_free fs)
+
+-- the number of used entries
+abbrev pub used : List (Option Facts) → ℕ
+used [] = 0
+used (None ∷ fs) = used fs
+used (Some f ∷ fs) = suc (used fs)
+
+-- an entry has this name
+abbrev pub has : Option Facts → List ℕ → Bool
+has None n = false
+has (Some f) n = bytes_eq f.aid n
+
+-- one of the entries has this name
+abbrev pub is_named : List (Option Facts) → List ℕ → Bool
+is_named [] n = false
+is_named (f ∷ fs) n = has f n || is_named fs n
+
+-- an entry has another name than those behind it
+abbrev pub IsApart : Option Facts → List (Option Facts) → Type 0
+IsApart None fs = Unit {0}
+IsApart (Some f) fs = is_named fs f.aid ≡ false
+
+-- no two entries have the same name
+abbrev pub AreApart : List (Option Facts) → Type 0
+AreApart [] = Unit {0}
+AreApart (f ∷ fs) = IsApart f fs × AreApart fs
+
+-- ---- applications
+
+-- the application in an entry of these sizes
+abbrev pub app_in : ℕ → Entry → Sizes → App
+app_in k e s =
+    record {
+      code = take s.code e.code;
+      fixed = take s.fixed e.fixed;
+      session = s.session;
+      deny = s.deny;
+      dir = take s.dir e.dir;
+      fci = take s.fci e.fci;
+      place = k;
+    }
+
+-- the applications with that of an entry, where it is used
+abbrev pub with_entry : ℕ → Entry → Option Facts → List (List ℕ × App) → List (List ℕ × App)
+with_entry k e None apps = apps
+with_entry k e (Some f) apps = insert apps f.aid (app_in k e f.sizes)
+
+-- the applications of entries, which are numbered from k on
+abbrev pub apps_from : ℕ → List Entry → List (List ℕ × App)
+apps_from k [] = []
+apps_from k (e ∷ es) = with_entry k e e.facts (apps_from (suc k) es)
+
+-- what a bank in memory means: it never stops
+abbrev pub memory_state : List Entry → BankState
+memory_state m = record { apps = apps_from 0 m; cuts = 0; faults = 0; stopped = false; ticks = 0 }
+
+-- there is always room
+abbrev pub memory_room : List Entry → Sizes → Option ℕ
+memory_room m s = Some (first_free (facts_in m))
+
+-- ---- entries
+
+-- a free entry without memory
+abbrev pub no_entry : Entry
+no_entry = record { facts = None; code = []; fixed = []; dir = []; fci = [] }
+
+-- the entry with a number
+abbrev pub entry_at : List Entry → ℕ → Entry
+entry_at m k = slice_index_or m k no_entry
+
+-- the memory of a section
+abbrev pub part_of : Part → Entry → List ℕ
+part_of Code e = e.code
+part_of Data e = e.fixed
+part_of Dir e = e.dir
+part_of Fci e = e.fci
+
+-- the entry with bytes in a section
+abbrev pub with_piece : Part → ℕ → List ℕ → Entry → Entry
+with_piece Code at b e = record e { code = splice e.code at b }
+with_piece Data at b e = record e { fixed = splice e.fixed at b }
+with_piece Dir at b e = record e { dir = splice e.dir at b }
+with_piece Fci at b e = record e { fci = splice e.fci at b }
+
+-- what stands in a section of a site
+abbrev pub memory_standing : List Entry → Site → Part → List ℕ
+memory_standing m s p = take (part_len p s.sizes) (part_of p (entry_at m s.place))
+
+-- the facts of a new application: its data are all its static bytes
+abbrev pub new_facts : Sizes → List ℕ → Facts
+new_facts s n = record { aid = n; sizes = record s { init = s.fixed } }
+
+-- the entry with a new application: zeros stand behind its data
+abbrev pub with_app : Sizes → List ℕ → Entry → Entry
+with_app s n e = record e { facts = Some (new_facts s n); fixed = splice e.fixed s.init (zeros (s.fixed - s.init)) }
+
+-- the entry with words laid over its static bytes
+abbrev pub with_list : List (ℕ × List ℕ) → Entry → Entry
+with_list ws e = record e { fixed = laid_pieces e.fixed (word_pieces ws) }
+
+-- the entry is free
+abbrev pub freed : Entry → Entry
+freed e = record e { facts = None }
+
+-- the size of the static segment of an entry that is used
+abbrev pub fixed_len : Option Facts → ℕ
+fixed_len None = 0
+fixed_len (Some f) = f.sizes.fixed
+
+-- ---- what holds of every bank in memory
+
+-- facts that an entry may have
+abbrev pub AreFacts : Option Facts → Type 0
+AreFacts None = Unit {0}
+AreFacts (Some f) = IsName f.aid × FitsLimits f.sizes × (f.sizes.init ≡ f.sizes.fixed)
+
+-- an entry has memory for a largest application
+pub record IsWhole (e : Entry) : Type 0 where
+  pub facts : AreFacts e.facts
+  pub code : length e.code ≡ 8192
+  pub fixed : length e.fixed ≡ 4096
+  pub dir : length e.dir ≡ 128
+  pub fci : length e.fci ≡ 128
+
+-- 32 entries, with names that are apart
+pub record IsMemory (m : List Entry) : Type 0 where
+  pub room : length m ≡ 32
+  pub whole : AllByRecursion IsWhole m
+  pub apart : AreApart (facts_in m)
+
+-- ---- items
+
+-- a piece goes into a free entry
+pub record PieceDone (m : List Entry) (s : Site) (p : Part) (at : ℕ) (b : List ℕ) (e : List Entry) : Type 0 where
+  pub free : (entry_at m s.place).facts ≡ None
+  pub after : e ≡ slice_set m s.place (with_piece p at b (entry_at m s.place))
+
+-- words go into the entry of a name
+pub record CommitDone (m : List Entry) (n : List ℕ) (ws : List (ℕ × List ℕ)) (e : List Entry) : Type 0 where
+  pub slot : ℕ
+  pub named : named_at (facts_in m) slot ≡ Some n
+  pub apart : AreApart (facts_in m)
+  pub within : AllByRecursion (λ w. 8 * w.0 < fixed_len (entry_at m slot).facts) ws
+  pub whole : fixed_len (entry_at m slot).facts ≤ length (entry_at m slot).fixed
+  pub after : e ≡ slice_set m slot (with_list ws (entry_at m slot))
+
+-- a new name comes into a free entry
+pub record EnterDone (m : List Entry) (s : Site) (n : List ℕ) (e : List Entry) : Type 0 where
+  pub place : s.place < length m
+  pub free : (entry_at m s.place).facts ≡ None
+  pub fresh : is_named (facts_in m) n ≡ false
+  pub init : s.sizes.init ≤ s.sizes.fixed
+  pub whole : s.sizes.fixed ≤ length (entry_at m s.place).fixed
+  pub after : e ≡ slice_set m s.place (with_app s.sizes n (entry_at m s.place))
+
+-- a name goes
+pub record RemoveDone (m : List Entry) (n : List ℕ) (e : List Entry) : Type 0 where
+  pub slot : ℕ
+  pub named : named_at (facts_in m) slot ≡ Some n
+  pub apart : AreApart (facts_in m)
+  pub after : e ≡ slice_set m slot (freed (entry_at m slot))
+
+-- An item is done at once. It is the creation that sets zeros behind the data; the plain writes before it leave nothing.
+abbrev pub ItemDone : List Entry → BankItem → List Entry → Type 0
+ItemDone m (Piece s p at b) e = PieceDone m s p at b e
+ItemDone m (Blank s at n) e = e ≡ m
+ItemDone m (Note s n i) e = e ≡ m
+ItemDone m (Commit n ws) e = CommitDone m n ws e
+ItemDone m (Enter s n) e = EnterDone m s n e
+ItemDone m (Remove n) e = RemoveDone m n e
+
+-- one item of a bank in memory never stops
+pub record MemoryDid (m : List Entry) (i : BankItem) (a : Answer) (e : List Entry) : Type 0 where
+  pub answer : a ≡ Ok tt
+  pub done : ItemDone m i e

@@ -1,0 +1,70 @@
+ghost use Rattle.std.specs.Prelude.{◌≡◌, ◌+◌, ◌≤◌, length, vec_len, IsSome, None};
+ghost use Rattle.mc_model.specs.Bytes.{lookup};
+ghost use Rattle.mc_base.specs.Name.{IsName};
+ghost use Rattle.mc_bank.specs.Bank.{CanCommit, IsGood, part_len};
+ghost use Rattle.mc_bank.specs.Memory.{facts_in, named_at, apps_from, memory_room, IsMemory};
+ghost use Rattle.mc_bank.specs.Shown.{app_at};
+ghost use Rattle.mc_bank.specs.Left.{CommitLeft, FillLeft, CreateLeft, DeleteLeft};
+
+use crate::bank::Site;
+use crate::entries::{Entry, put_app, put_piece, put_words};
+use mc_base::{Aid, Word};
+use mc_model::Part;
+
+/// Sets words of an application.
+pub fn commit(entries: &mut Vec<Entry>, index: u16, list: &[(u16, Word)])
+    requires memory { IsMemory entries.old.items }
+    requires there { IsSome (named_at (facts_in entries.old.items) index) }
+    requires list { CanCommit (app_at entries.old.items index).fixed list.now }
+    ensures left { CommitLeft entries.old.items index list.now entries.new.items }
+{
+    check_len(entries);
+    put_words(&mut entries[index as usize], list);
+}
+
+/// Sets bytes of a section of a good site.
+pub fn fill(entries: &mut Vec<Entry>, site: &Site, part: Part, at: u16, piece: &[u8])
+    requires memory { IsMemory entries.old.items }
+    requires good { IsGood (apps_from 0 entries.old.items) (memory_room entries.old.items) site.now }
+    requires range { at + length piece.now ≤ part_len part site.now.sizes }
+    ensures left { FillLeft entries.old.items site.now part at piece.now entries.new.items }
+{
+    check_len(entries);
+    put_piece(&mut entries[site.place as usize], part, at as usize, piece);
+}
+
+/// Makes an application of what stands at a good site.
+pub fn create(entries: &mut Vec<Entry>, site: &Site, aid: &Aid)
+    requires memory { IsMemory entries.old.items }
+    requires good { IsGood (apps_from 0 entries.old.items) (memory_room entries.old.items) site.now }
+    requires fresh { lookup (apps_from 0 entries.old.items) aid.now ≡ None }
+    ensures left { CreateLeft entries.old.items site.now aid.now entries.new.items }
+{
+    check_len(entries);
+    check_name(aid);
+    put_app(&mut entries[site.place as usize], &site.sizes, aid);
+}
+
+// A vector's length is that of its list; a caller learns it here.
+fn check_len(entries: &Vec<Entry>)
+    ensures { vec_len entries.now ≡ length entries.now.items }
+{
+    let _all = entries.as_slice();
+}
+
+// A name has 5 to 16 bytes by its type; a caller learns it here.
+fn check_name(aid: &Aid)
+    ensures { IsName aid.now }
+{
+    let _bytes = aid.bytes();
+}
+
+/// Frees the entry of an application.
+pub fn delete(entries: &mut Vec<Entry>, index: u16)
+    requires memory { IsMemory entries.old.items }
+    requires there { IsSome (named_at (facts_in entries.old.items) index) }
+    ensures left { DeleteLeft entries.old.items index entries.new.items }
+{
+    check_len(entries);
+    entries[index as usize].facts = None;
+}
