@@ -1,0 +1,44 @@
+-- What commits leave of a manager that fits.
+use Rattle.std.proofs.Common.{◌≡◌, ℕ, ◌≤◌, List, length, take, Option, Some, None, refl, sym, ap, subst, ◌∙◌}
+use Rattle.std.specs.Prelude.{option_map}
+use Rattle.std.specs.Option.{ForSome}
+use Rattle.mc_model.specs.declared.card.Part.{Part}
+use Rattle.mc_model.specs.declared.card.Part.TheVariants.{Code, Data, Dir, Fci}
+use Rattle.mc_model.specs.Items.{Site}
+use Rattle.mc_model.specs.Manager.{Open, Seat}
+use Rattle.mc_bank.specs.Bank.{part_len, IsGood}
+use Rattle.mc_manager.specs.Held.{BankView, Loaded, Held, got_len, got_at, open_of, load_of, seat_of, FitsLoad, Fits}
+
+-- slots, good sites and their bytes stay
+pub record Keeps (v w : BankView) : Type 0 where
+  pub slots : (k : ℕ) (n : List ℕ) → v.named k ≡ Some n → w.named k ≡ Some n
+  pub sites : (s : Site) → IsGood v.state.apps v.room s → IsGood w.state.apps w.room s × ((p : Part) → w.standing s p ≡ v.standing s p)
+
+load_kept : (v w : BankView) (l : Loaded) → Keeps v w → FitsLoad v l → FitsLoad w l
+load_kept v w l h fits =
+    let site = h.sites l.site fits.good in
+    record {
+      good = site.0;
+      parts = λ p. ap length (site.1 p) ∙ fits.parts p;
+      within = fits.within;
+      dir = ap (take (length l.dir)) (site.1 Dir) ∙ fits.dir;
+    }
+
+pub fits_kept : (v w : BankView) (m : Held) → Keeps v w → Fits v m → Fits w m
+fits_kept v w m h fits = record { selected = λ s is. h.slots s.slot s.aid (fits.selected s is); load = λ l is. load_kept v w l h (fits.load l is) }
+
+open_kept : (v w : BankView) (l : Loaded) → Keeps v w → FitsLoad v l → open_of w.standing l ≡ open_of v.standing l
+open_kept v w l h fits =
+    let site = h.sites l.site fits.good in
+    let code = site.1 Code in
+    let init = site.1 Data in
+    let dir = site.1 Dir in
+    let fci = site.1 Fci in
+    cc
+
+pub seat_kept : (v w : BankView) (m : Held) → Keeps v w → Fits v m → (s : List ℕ) → seat_of w.standing s m ≡ seat_of v.standing s m
+seat_kept v w m h fits s = ap (λ (x : Option Open). record (seat_of v.standing s m) { load = x }) (by_load m.load fits.load)
+  where
+    by_load : (x : Option Loaded) → ForSome x (FitsLoad v) → option_map (open_of w.standing) x ≡ option_map (open_of v.standing) x
+    by_load None f = refl
+    by_load (Some l) f = ap (λ (o : Open). Some o) (open_kept v w l h (f l refl))

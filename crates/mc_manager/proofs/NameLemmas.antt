@@ -1,0 +1,17 @@
+-- Names that are on no card.
+use Rattle.std.proofs.Common.{◌≡◌, ℕ, ◌≤◌, Bool, true, false, List, [], ◌∷◌, length, Some, None, refl, subst, arith}
+use Rattle.std.specs.List.{AllByRecursion}
+use Rattle.mc_base.specs.Name.{IsName}
+use Rattle.mc_model.specs.Bytes.{lookup}
+use Rattle.mc_model.specs.Card.{App}
+use Rattle.mc_bank.specs.Bank.{IsEntry, AreApps}
+use Rattle.mc_bank.specs.Names.{same_name}
+
+-- what is no name is under none of the entries
+pub not_among : (apps : List (List ℕ × App)) (n : List ℕ) → AllByRecursion IsEntry apps → (IsName n → ⊥) → lookup apps n ≡ None
+not_among [] n h other = refl
+not_among (e ∷ es) n h other = grind (arith, not_among es n h.1 other, same_name e.0 n, λ (p : e.0 ≡ n). other (subst IsName p h.0.name))
+
+-- so it is not on the card
+pub no_other_names : (apps : List (List ℕ × App)) (n : List ℕ) → AreApps apps → (IsName n → ⊥) → lookup apps n ≡ None
+no_other_names apps n h other = not_among apps n h.each other

@@ -1,0 +1,127 @@
+-- What a command is due by the routing and the manager's table, and how it is answered.
+-- This project's profile; status words are those of ISO/IEC 7816-4.
+use Rattle.std.specs.Prelude.{◌≡◌, ◌⊎◌, ℕ, Bool, cond, ◌&&◌, ◌==◌, List, [], option_map, Option, Some, None}
+use Rattle.mc_model.specs.declared.card.Part.{Part}
+use Rattle.mc_model.specs.Apdu.{ApduParts}
+use Rattle.mc_model.specs.Bytes.{zeros, lookup}
+use Rattle.mc_model.specs.Card.{App}
+use Rattle.mc_model.specs.Items.{Change, changed, Site, BankItem}
+use Rattle.mc_model.specs.Manager.{Selected, Seat, Route, WrongLength, WrongClass, ToSelect, ToManager, ToApplication, routed, Managed, Declines, Accepts, Accepted, Open, fresh, select, manage}
+use Rattle.mc_apdu.specs.declared.reply.Reply.{Reply}
+use Rattle.mc_bank.specs.Bank.{app_of}
+use Rattle.mc_manager.specs.declared.selection.Selection.{Selection}
+use Rattle.mc_manager.specs.declared.routed.Routed.{Routed}
+use Rattle.mc_manager.specs.declared.routed.Routed.TheVariants.{Answer, Fresh, Pass}
+use Rattle.mc_manager.specs.Held.{BankView, Held, seat_of}
+
+-- a command is refused with a status, selects, is done, or is passed to the selected application
+pub data Due : Type 0 where
+  Refuses : (sw : ℕ) → Due
+  Selects : (done : Accepted) → Due
+  Does : (done : Accepted) → Due
+  Passes : Due
+
+-- what a SELECT is due
+abbrev pub due_select : Managed → Due
+due_select (Declines sw) = Refuses sw
+due_select (Accepts d) = Selects d
+
+-- what a command of class BE is due
+abbrev pub due_manager : Managed → Due
+due_manager (Declines sw) = Refuses sw
+due_manager (Accepts d) = Does d
+
+-- what a command for the selected application is due
+abbrev pub due_application : Option Selected → Due
+due_application None = Refuses 0x6985
+due_application (Some s) = Passes
+
+-- what a command is due by its route
+abbrev pub due_on : BankView → Seat → Route → Due
+due_on v seat WrongLength = Refuses 0x6700
+due_on v seat WrongClass = Refuses 0x6E00
+due_on v seat (ToSelect a) = due_select (select v.state.apps seat a)
+due_on v seat (ToManager a) = due_manager (manage v.room v.state.apps seat a)
+due_on v seat (ToApplication a) = due_application seat.selected
+
+-- what a command is due from a manager over a bank, with the session bytes of the selection
+abbrev pub due : BankView → List ℕ → Held → ApduParts → Due
+due v session m a = due_on v (seat_of v.standing session m) (routed (Some a))
+
+-- ---- the bank
+
+-- the items that a command makes
+abbrev pub items_of : Due → List BankItem
+items_of (Refuses sw) = []
+items_of (Selects d) = d.items
+items_of (Does d) = d.items
+items_of Passes = []
+
+-- the applications after a creation or deletion
+abbrev pub with_change : Option Change → List (List ℕ × App) → List (List ℕ × App)
+with_change None apps = apps
+with_change (Some c) apps = changed c apps
+
+-- the applications after a command
+abbrev pub apps_after : Due → List (List ℕ × App) → List (List ℕ × App)
+apps_after (Refuses sw) apps = apps
+apps_after (Selects d) apps = with_change d.change apps
+apps_after (Does d) apps = with_change d.change apps
+apps_after Passes apps = apps
+
+-- ---- the answer
+
+-- a reply of these data with this status
+pub record Says (bytes : List ℕ) (status : ℕ) (r : Reply) : Type 0 where
+  pub body : r.body.items ≡ bytes
+  pub sw : r.sw ≡ status
+
+-- a refusal changes nothing
+pub record Refused (sw : ℕ) (m : Held) (r : Reply) (m' : Held) : Type 0 where
+  pub reply : Says [] sw r
+  pub unchanged : m' ≡ m
+
+-- a new selection of an application, with its slot; its session bytes are zeros, and the load stays
+pub record Chosen (d : Accepted) (v : BankView) (m : Held) (k : ℕ) (r : Reply) (m' : Held) : Type 0 where
+  pub selected : Selection
+  pub reply : Says d.body 0x9000 r
+  pub now : m'.selected ≡ Some selected
+  pub slot : selected.slot ≡ k
+  pub load : m'.load ≡ m.load
+  pub seat : seat_of v.standing (zeros (app_of v.state.apps (Some selected.aid)).session) m' ≡ d.seat
+
+-- a command of class BE that is done; selection and session bytes stay
+pub record Done (d : Accepted) (session : List ℕ) (m : Held) (r : Reply) (v' : BankView) (m' : Held) : Type 0 where
+  pub reply : Says d.body 0x9000 r
+  pub selected : m'.selected ≡ m.selected
+  pub seat : seat_of v'.standing session m' ≡ d.seat
+
+-- a command that is passed to the application of a slot
+pub record Passed (m : Held) (k : ℕ) (m' : Held) : Type 0 where
+  pub slot : option_map (λ s. s.slot) m.selected ≡ Some k
+  pub unchanged : m' ≡ m
+
+-- how a command that did not stop is answered, and what the manager holds then
+abbrev pub Leaves : Due → List ℕ → BankView → Held → Routed → BankView → Held → Type 0
+Leaves (Refuses sw) session v m (Answer r) v' m' = Refused sw m r m'
+Leaves (Selects d) session v m (Fresh slot r) v' m' = Chosen d v m slot r m'
+Leaves (Does d) session v m (Answer r) v' m' = Done d session m r v' m'
+Leaves Passes session v m (Pass slot) v' m' = Passed m slot m'
+Leaves _ session v m _ v' m' = ⊥
+
+-- ---- ticks
+
+-- OPEN: class BE, INS 12
+abbrev pub is_open : ApduParts → Bool
+is_open a = a.cla == 0xBE && a.ins == 0x12
+
+-- the most ticks of a command
+abbrev pub most_ticks : ApduParts → ℕ → ℕ
+most_ticks a ticks = cond (is_open a) ticks 0
+
+-- ---- stale bytes
+
+-- an application that is there after a command was there before, or is that of the open load: code, DIR and FCI as they were
+-- sent for it, the data as they were sent and zeros behind them, sizes and access list of its OPEN
+abbrev pub NoneStale : Option Open → List (List ℕ × App) → List (List ℕ × App) → Type 0
+NoneStale load before after = (n : List ℕ) → (a : App) → lookup after n ≡ Some a → (lookup before n ≡ Some a) ⊎ ((o : Open) × (load ≡ Some o) × (a ≡ fresh o))

@@ -1,0 +1,96 @@
+-- What the manager holds, the definition's seat that it stands for over a bank, and when it fits the bank.
+-- This project's profile.
+use Rattle.std.specs.Prelude.{◌≡◌, ℕ, ◌≤◌, List, length, take, option_map, Option, Some, IsSome}
+use Rattle.std.specs.Option.{ForSome}
+use Rattle.mc_model.specs.declared.card.Part.{Part}
+use Rattle.mc_model.specs.declared.card.Part.TheVariants.{Code, Data, Dir, Fci}
+use Rattle.mc_model.specs.declared.card.Sizes.{Sizes}
+use Rattle.mc_model.specs.Bytes.{lookup}
+use Rattle.mc_model.specs.Card.{App}
+use Rattle.mc_model.specs.Items.{Site}
+use Rattle.mc_model.specs.Manager.{Selected, Open, Seat}
+use Rattle.mc_bank.specs.Bank.{BankState, part_len, IsGood, HasParts}
+use Rattle.mc_manager.specs.declared.selection.Selection.{Selection}
+
+-- ---- a bank
+
+-- what a bank shows at one moment: its state, the names of its slots, where it has room, and what stands at its sites
+pub record BankView : Type 0 where
+  pub state : BankState
+  pub named : ℕ → Option (List ℕ)
+  pub room : Sizes → Option ℕ
+  pub standing : Site → Part → List ℕ
+
+-- the view of a bank, by the members of its trait
+abbrev pub view_of : {B : Type 0} → (B → BankState) → (B → ℕ → Option (List ℕ)) → (B → Sizes → Option ℕ) → (B → Site → Part → List ℕ) → B → BankView
+view_of state named room standing b = record { state = state b; named = named b; room = room b; standing = standing b }
+
+-- ---- a manager
+
+-- an open load: its site, how many bytes code, data and FCI have got, and the bytes that the DIR has got
+pub record Loaded : Type 0 where
+  pub site : Site
+  pub code : ℕ
+  pub init : ℕ
+  pub dir : List ℕ
+  pub fci : ℕ
+
+-- the selected application and the open load
+pub record Held : Type 0 where
+  pub selected : Option Selection
+  pub load : Option Loaded
+
+-- how many bytes a section has got
+abbrev pub got_len : Part → Loaded → ℕ
+got_len Code l = l.code
+got_len Data l = l.init
+got_len Dir l = length l.dir
+got_len Fci l = l.fci
+
+-- ---- the seat
+
+-- what a section has got: the front of what stands there
+abbrev pub got_at : (Site → Part → List ℕ) → Loaded → Part → List ℕ
+got_at standing l p = take (got_len p l) (standing l.site p)
+
+-- the definition's load
+abbrev pub open_of : (Site → Part → List ℕ) → Loaded → Open
+open_of standing l =
+    record {
+      site = l.site;
+      got = record { code = got_at standing l Code; init = got_at standing l Data; dir = got_at standing l Dir; fci = got_at standing l Fci };
+    }
+
+-- the definition's load of a manager, where one is open
+abbrev pub load_of : (Site → Part → List ℕ) → Held → Option Open
+load_of standing m = option_map (open_of standing) m.load
+
+-- the definition's selection; the session bytes are kept by whoever runs the application
+abbrev pub selected_of : List ℕ → Held → Option Selected
+selected_of session m = option_map (λ s. record { name = s.aid; session = session }) m.selected
+
+-- the definition's seat
+abbrev pub seat_of : (Site → Part → List ℕ) → List ℕ → Held → Seat
+seat_of standing session m = record { selected = selected_of session m; load = load_of standing m }
+
+-- ---- the fit
+
+-- an open load fits: its site is good, each section there has its size and has got no more, and the DIR's bytes stand there
+pub record FitsLoad (v : BankView) (l : Loaded) : Type 0 where
+  pub good : IsGood v.state.apps v.room l.site
+  pub parts : HasParts l.site (v.standing l.site)
+  pub within : (p : Part) → got_len p l ≤ part_len p l.site.sizes
+  pub dir : got_at v.standing l Dir ≡ l.dir
+
+-- a manager fits a bank: the selected application is there under its slot, and the open load fits
+pub record Fits (v : BankView) (m : Held) : Type 0 where
+  pub selected : ForSome m.selected (λ s. v.named s.slot ≡ Some s.aid)
+  pub load : ForSome m.load (FitsLoad v)
+
+-- ---- names
+
+-- the application of a name that is on the card
+pub record NamedBy (apps : List (List ℕ × App)) (named : ℕ → Option (List ℕ)) (name : List ℕ) (s : Selection) : Type 0 where
+  pub aid : s.aid ≡ name
+  pub slot : named s.slot ≡ Some s.aid
+  pub app : IsSome (lookup apps name)

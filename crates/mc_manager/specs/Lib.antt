@@ -1,0 +1,5 @@
+pub mod Held
+pub mod Due
+pub mod Load
+pub mod Calls
+pub mod Ends

@@ -1,0 +1,64 @@
+ghost use Rattle.std.specs.Prelude.{◌≡◌, ◌==◌, ◌&&◌, false, length, option_map, Some, None, Ok, IfOk, IfErr};
+ghost use Rattle.std.specs.Option.{ForSome};
+ghost use Rattle.mc_model.specs.Bytes.{lookup};
+ghost use Rattle.mc_model.specs.Manager.{create_refusals, dir_in, first_status};
+ghost use Rattle.mc_model.specs.Units.{name_of};
+ghost use Rattle.mc_apdu.specs.Command.{parts_of};
+ghost use Rattle.mc_bank.specs.Bank.{part_len};
+ghost use Rattle.mc_manager.specs.Held.{view_of, got_len, open_of, FitsLoad};
+ghost use Rattle.mc_manager.specs.Load.{is_full};
+ghost use Rattle.mc_manager.specs.Calls.{CanCreate};
+
+use crate::header::parameters;
+use crate::load::Load;
+use crate::status::{CONDITIONS, EXISTS, WRONG_DATA, WRONG_LENGTH, WRONG_PARAMETERS};
+use mc_apdu::Apdu;
+use mc_bank::{Bank, Part};
+use mc_base::Aid;
+use mc_unit::aid_of;
+
+/// The name that CREATE gives to the application of the open load, else its first refusal.
+#[tactic(auto, using(crate::proofs::LoadLemmas::complete_full))]
+pub fn creation<B: Bank>(load: &Option<Load>, bank: &B, apdu: &Apdu) -> Result<Aid, u16>
+    requires going { (B.state bank.now).stopped ≡ false }
+    requires fits { ForSome load.now (FitsLoad (view_of B.state B.named B.room B.standing bank.now)) }
+    ensures created { IfOk result (λ aid. CanCreate (view_of B.state B.named B.room B.standing bank.now) load.now (parts_of apdu.now) aid) }
+    ensures refused { IfErr result (λ sw. first_status (create_refusals (B.state bank.now).apps (option_map (open_of (B.standing bank.now)) load.now) (parts_of apdu.now)) ≡ Some sw) }
+{
+    if parameters(apdu) != 0 {
+        return Err(WRONG_PARAMETERS);
+    }
+    if !apdu.body.is_empty() {
+        return Err(WRONG_LENGTH);
+    }
+    let Some(load) = load else {
+        return Err(CONDITIONS);
+    };
+    if !is_full(load) {
+        return Err(CONDITIONS);
+    }
+    let Ok(aid) = aid_of(load.dir()) else {
+        return Err(WRONG_DATA);
+    };
+    if bank.find(&aid).is_some() {
+        return Err(EXISTS);
+    }
+    Ok(aid)
+}
+
+// Whether each section has got its bytes.
+fn is_full(load: &Load) -> bool
+    ensures { result ≡ is_full load.now }
+{
+    is_filled(load, Part::Code)
+        && is_filled(load, Part::Data)
+        && is_filled(load, Part::Dir)
+        && is_filled(load, Part::Fci)
+}
+
+// Whether a section has got its bytes.
+fn is_filled(load: &Load, part: Part) -> bool
+    ensures { result ≡ (got_len part load.now == part_len part load.now.site.sizes) }
+{
+    load.got(part) == load.size(part)
+}

@@ -1,0 +1,54 @@
+ghost use Rattle.std.specs.Prelude.{◌≡◌, ◌+◌, ◌≤◌, ℕ, false, length, map, option_map, Some, OnOk};
+ghost use Rattle.std.specs.Option.{ForSome};
+ghost use Rattle.mc_model.specs.Orders.{answer_of, InOrder};
+ghost use Rattle.mc_model.specs.Items.{Piece};
+ghost use Rattle.mc_model.specs.Manager.{first_status, load_refusals, with_got, word_parts};
+ghost use Rattle.mc_apdu.specs.Command.{parts_of};
+ghost use Rattle.mc_bank.specs.Bank.{Changes, part_len};
+ghost use Rattle.mc_manager.specs.Held.{BankView, view_of, got_len, open_of, FitsLoad};
+ghost use Rattle.mc_manager.specs.Load.{with_more};
+
+use crate::header::parameters;
+use crate::load::Load;
+use crate::status::{CONDITIONS, WRONG_DATA, WRONG_LENGTH};
+use mc_apdu::Apdu;
+use mc_bank::{Bank, Part};
+use mc_base::Stop;
+
+/// The first refusal of a LOAD for a section.
+#[tactic(auto, using(crate::proofs::LoadLemmas::length_got, crate::proofs::LoadLemmas::same_size))]
+pub fn load_refusal(load: &Option<Load>, part: Part, apdu: &Apdu) -> Option<u16>
+    ensures { (v : BankView) → ForSome load.now (FitsLoad v) → first_status (load_refusals (option_map (open_of v.standing) load.now) part (parts_of apdu.now)) ≡ result }
+{
+    if apdu.body.is_empty() {
+        return Some(WRONG_LENGTH);
+    }
+    let Some(load) = load else {
+        return Some(CONDITIONS);
+    };
+    let got = load.got(part);
+    if parameters(apdu) != got {
+        return Some(CONDITIONS);
+    }
+    if got as usize + apdu.body.len() > load.size(part) as usize {
+        return Some(WRONG_DATA);
+    }
+    None
+}
+
+/// Writes a piece behind what a section has got.
+#[tactic(auto, using(crate::proofs::LoadLemmas::fits_filled, crate::proofs::LoadLemmas::open_filled))]
+pub fn fill<B: Bank>(load: &mut Load, bank: &mut B, part: Part, piece: &[u8]) -> Result<(), Stop>
+    requires going { (B.state bank.old).stopped ≡ false }
+    requires fits { FitsLoad (view_of B.state B.named B.room B.standing bank.old) load.old }
+    requires room { got_len part load.old + length piece.now ≤ part_len part load.old.site.sizes }
+    ensures items { InOrder B.did bank.old (map (λ c. Piece load.old.site part c.0 c.1) (word_parts (got_len part load.old) piece.now)) (answer_of result) bank.new }
+    ensures apps { Changes (B.state bank.old) (B.state bank.old).apps (answer_of result) (B.state bank.new) }
+    ensures slots { (k : ℕ) → B.named bank.new k ≡ B.named bank.old k }
+    ensures open { OnOk result (open_of (B.standing bank.new) load.new ≡ record (open_of (B.standing bank.old) load.old) { got = with_got part piece.now (open_of (B.standing bank.old) load.old).got }) }
+    ensures fits { OnOk result (FitsLoad (view_of B.state B.named B.room B.standing bank.new) load.new) }
+{
+    bank.fill(load.site(), part, load.got(part), piece)?;
+    load.add(part, piece);
+    Ok(())
+}

@@ -1,0 +1,200 @@
+ghost use Rattle.std.specs.Prelude.{◌≡◌, ◌+◌, ◌≤◌, ◌==◌, cond, ℕ, List, false, Ok, None};
+ghost use Rattle.mc_model.specs.Manager.{select, open_load, load_part, create, delete, manage};
+ghost use Rattle.mc_apdu.specs.Command.{parts_of};
+ghost use Rattle.mc_manager.specs.Held.{BankView, view_of, selected_of, seat_of, load_of, Fits};
+ghost use Rattle.mc_manager.specs.Due.{due, due_application, due_select, due_manager, Leaves, most_ticks, NoneStale};
+ghost use Rattle.mc_manager.specs.Ends.{Ends};
+
+use crate::creation::creation;
+use crate::deletion::deletion;
+use crate::filling::{fill, load_refusal};
+use crate::load::Load;
+use crate::open::open;
+use crate::routed::Routed;
+use crate::select::{selected_reply, selection};
+use crate::selection::Selection;
+use crate::status::{CONDITIONS, DONE, NO_CLASS, NO_INSTRUCTION, status};
+use mc_apdu::Apdu;
+use mc_bank::{Bank, Part};
+use mc_base::{Steps, Stop};
+use std::marker::Model;
+use std::sync::ledger::Ledger;
+
+/// The card manager: the selected application and the open load. The session bytes of the selection are kept by whoever runs
+/// the application.
+#[derive(Debug, Drop)]
+pub struct Manager {
+    selected: Option<Selection>,
+    load: Option<Load>,
+}
+
+impl Model for Manager {
+    ghost use Rattle.mc_manager.specs.Held.{Held};
+
+    ghost Value = { Held };
+
+    ghost view = { λ m. record { selected = m.selected; load = m.load } };
+}
+
+impl Manager {
+    /// Nothing is selected, and no load is open. It fits every bank.
+    pub fn new() -> Manager
+        ensures empty { result ≡ record { selected = None; load = None } }
+        ensures fits { (v : BankView) → Fits v result }
+    {
+        Manager {
+            selected: None,
+            load: None,
+        }
+    }
+
+    /// One command: `Answer` with its reply, `Fresh` with a new selection and its reply, or `Pass` where the selected
+    /// application is to run it. The class FF is refused; SELECT (00 A4 04 of ISO/IEC 7816-4) and the commands of class BE
+    /// are the manager's; all else is for the selected application.
+    ///
+    /// Each command answers the first refusal of its row, and a refusal changes nothing. A `Stop` comes only where a count of
+    /// cuts or faults below the bank rose; the applications are the old or the new ones then, and the manager is of no more
+    /// use. OPEN alone ticks.
+    pub fn command<B: Bank, L: Ledger>(
+        &mut self,
+        bank: &mut B,
+        apdu: &Apdu,
+        steps: &mut Steps<L>,
+    ) -> Result<Routed, Stop>
+        requires going { (B.state bank.old).stopped ≡ false }
+        requires fits { Fits (view_of B.state B.named B.room B.standing bank.old) self.old }
+        ensures ends { Ends B.did (λ s. due (view_of B.state B.named B.room B.standing bank.old) s self.old (parts_of apdu.now)) (view_of B.state B.named B.room B.standing bank.old) self.old bank.old result (view_of B.state B.named B.room B.standing bank.new) self.new bank.new }
+        // An application that is there now was there before, or is what its own load sent.
+        ensures no_stale_byte { NoneStale (load_of (B.standing bank.old) self.old) (B.state bank.old).apps (B.state bank.new).apps }
+        ensures rises { steps.old ≤ steps.new }
+        ensures ticks { steps.new ≤ steps.old + most_ticks (parts_of apdu.now) (B.state bank.old).ticks }
+    {
+        if apdu.cla == 0xFF {
+            return Ok(Routed::Answer(status(NO_CLASS)));
+        }
+        if apdu.cla == 0x00 && apdu.ins == 0xA4 && apdu.p1 == 0x04 {
+            return Ok(self.select(bank, apdu));
+        }
+        if apdu.cla == 0xBE {
+            return self.manage(bank, apdu, steps);
+        }
+        Ok(self.pass())
+    }
+
+    // A command of class BE by its INS.
+    #[tactic(auto, unfolding(mc_model::specs::Manager::manage))]
+    fn manage<B: Bank, L: Ledger>(
+        &mut self,
+        bank: &mut B,
+        apdu: &Apdu,
+        steps: &mut Steps<L>,
+    ) -> Result<Routed, Stop>
+        requires going { (B.state bank.old).stopped ≡ false }
+        requires fits { Fits (view_of B.state B.named B.room B.standing bank.old) self.old }
+        ensures ends { Ends B.did (λ s. due_manager (manage (B.room bank.old) (B.state bank.old).apps (seat_of (B.standing bank.old) s self.old) (parts_of apdu.now))) (view_of B.state B.named B.room B.standing bank.old) self.old bank.old result (view_of B.state B.named B.room B.standing bank.new) self.new bank.new }
+        ensures rises { steps.old ≤ steps.new }
+        ensures ticks { steps.new ≤ steps.old + cond (apdu.now.ins == 0x12) (B.state bank.old).ticks 0 }
+    {
+        match apdu.ins {
+            0x12 => Ok(self.open(bank, apdu, steps)),
+            0x24 => self.load_part(bank, Part::Code, apdu),
+            0x26 => self.load_part(bank, Part::Data, apdu),
+            0x20 => self.load_part(bank, Part::Dir, apdu),
+            0x22 => self.load_part(bank, Part::Fci, apdu),
+            0x16 => self.create(bank, apdu),
+            0x18 => self.delete(bank, apdu),
+            _ => Ok(Routed::Answer(status(NO_INSTRUCTION))),
+        }
+    }
+
+    // A command for the selected application.
+    fn pass(&self) -> Routed
+        ensures { (v : BankView) → (s : List ℕ) → Leaves (due_application (selected_of s self.now)) s v self.now result v self.now }
+    {
+        match &self.selected {
+            Some(selection) => Routed::Pass(selection.slot),
+            None => Routed::Answer(status(CONDITIONS)),
+        }
+    }
+
+    // SELECT: 00 A4 04.
+    fn select<B: Bank>(&mut self, bank: &B, apdu: &Apdu) -> Routed
+        requires going { (B.state bank.now).stopped ≡ false }
+        requires fits { Fits (view_of B.state B.named B.room B.standing bank.now) self.old }
+        ensures { Ends B.did (λ s. due_select (select (B.state bank.now).apps (seat_of (B.standing bank.now) s self.old) (parts_of apdu.now))) (view_of B.state B.named B.room B.standing bank.now) self.old bank.now (Ok result) (view_of B.state B.named B.room B.standing bank.now) self.new bank.now }
+    {
+        let selection = match selection(bank, apdu) {
+            Err(sw) => return Routed::Answer(status(sw)),
+            Ok(selection) => selection,
+        };
+        let slot = selection.slot;
+        self.selected = Some(selection);
+        Routed::Fresh(slot, selected_reply(bank, slot, apdu))
+    }
+
+    // OPEN: BE 12.
+    fn open<B: Bank, L: Ledger>(&mut self, bank: &B, apdu: &Apdu, steps: &mut Steps<L>) -> Routed
+        requires going { (B.state bank.now).stopped ≡ false }
+        requires fits { Fits (view_of B.state B.named B.room B.standing bank.now) self.old }
+        ensures ends { Ends B.did (λ s. due_manager (open_load (B.room bank.now) (B.state bank.now).apps (seat_of (B.standing bank.now) s self.old) (parts_of apdu.now))) (view_of B.state B.named B.room B.standing bank.now) self.old bank.now (Ok result) (view_of B.state B.named B.room B.standing bank.now) self.new bank.now }
+        ensures rises { steps.old ≤ steps.new }
+        ensures ticks { steps.new ≤ steps.old + (B.state bank.now).ticks }
+    {
+        match open(bank, apdu, steps) {
+            Err(sw) => Routed::Answer(status(sw)),
+            Ok(load) => {
+                self.load = Some(load);
+                Routed::Answer(status(DONE))
+            }
+        }
+    }
+
+    // LOAD CODE, DATA, DIR and FCI: BE 24, 26, 20 and 22.
+    fn load_part<B: Bank>(&mut self, bank: &mut B, part: Part, apdu: &Apdu) -> Result<Routed, Stop>
+        requires going { (B.state bank.old).stopped ≡ false }
+        requires fits { Fits (view_of B.state B.named B.room B.standing bank.old) self.old }
+        ensures { Ends B.did (λ s. due_manager (load_part part (seat_of (B.standing bank.old) s self.old) (parts_of apdu.now))) (view_of B.state B.named B.room B.standing bank.old) self.old bank.old result (view_of B.state B.named B.room B.standing bank.new) self.new bank.new }
+    {
+        if let Some(sw) = load_refusal(&self.load, part, apdu) {
+            return Ok(Routed::Answer(status(sw)));
+        }
+        let Some(load) = &mut self.load else {
+            return Ok(Routed::Answer(status(CONDITIONS)));
+        };
+        fill(load, bank, part, apdu.body)?;
+        Ok(Routed::Answer(status(DONE)))
+    }
+
+    // CREATE: BE 16.
+    fn create<B: Bank>(&mut self, bank: &mut B, apdu: &Apdu) -> Result<Routed, Stop>
+        requires going { (B.state bank.old).stopped ≡ false }
+        requires fits { Fits (view_of B.state B.named B.room B.standing bank.old) self.old }
+        ensures { Ends B.did (λ s. due_manager (create (B.state bank.old).apps (seat_of (B.standing bank.old) s self.old) (parts_of apdu.now))) (view_of B.state B.named B.room B.standing bank.old) self.old bank.old result (view_of B.state B.named B.room B.standing bank.new) self.new bank.new }
+    {
+        let aid = match creation(&self.load, bank, apdu) {
+            Err(sw) => return Ok(Routed::Answer(status(sw))),
+            Ok(aid) => aid,
+        };
+        let Some(load) = &self.load else {
+            return Ok(Routed::Answer(status(CONDITIONS)));
+        };
+        bank.create(load.site(), &aid)?;
+        self.load = None;
+        Ok(Routed::Answer(status(DONE)))
+    }
+
+    // DELETE: BE 18.
+    fn delete<B: Bank>(&mut self, bank: &mut B, apdu: &Apdu) -> Result<Routed, Stop>
+        requires going { (B.state bank.old).stopped ≡ false }
+        requires fits { Fits (view_of B.state B.named B.room B.standing bank.old) self.old }
+        ensures { Ends B.did (λ s. due_manager (delete (B.state bank.old).apps (seat_of (B.standing bank.old) s self.old) (parts_of apdu.now))) (view_of B.state B.named B.room B.standing bank.old) self.old bank.old result (view_of B.state B.named B.room B.standing bank.new) self.new bank.new }
+    {
+        let slot = match deletion(&self.selected, bank, apdu) {
+            Err(sw) => return Ok(Routed::Answer(status(sw))),
+            Ok(slot) => slot,
+        };
+        bank.delete(slot)?;
+        self.load = None;
+        Ok(Routed::Answer(status(DONE)))
+    }
+}

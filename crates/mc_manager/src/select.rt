@@ -1,0 +1,70 @@
+ghost use Rattle.std.specs.Prelude.{◌≡◌, false, take, Some, IsSome, IfOk, IfErr};
+ghost use Rattle.mc_model.specs.Manager.{first_status, select_refusals, select_body};
+ghost use Rattle.mc_apdu.specs.Command.{parts_of};
+ghost use Rattle.mc_bank.specs.Bank.{app_of};
+ghost use Rattle.mc_manager.specs.Due.{Says};
+ghost use Rattle.mc_manager.specs.Held.{NamedBy};
+ghost use Rattle.mc_manager.specs.Calls.{CanSelect};
+
+use crate::names::named;
+use crate::selection::Selection;
+use crate::status::{DONE, NOT_FOUND, WRONG_LENGTH, WRONG_PARAMETERS};
+use arrayvec::ArrayVec;
+use mc_apdu::{Apdu, Reply};
+use mc_bank::{Bank, Slot};
+
+/// The application that SELECT selects, else its first refusal.
+pub fn selection<B: Bank>(bank: &B, apdu: &Apdu) -> Result<Selection, u16>
+    requires going { (B.state bank.now).stopped ≡ false }
+    ensures selected { IfOk result (λ s. CanSelect (B.state bank.now).apps (B.named bank.now) (parts_of apdu.now) s) }
+    ensures refused { IfErr result (λ sw. first_status (select_refusals (B.state bank.now).apps (parts_of apdu.now)) ≡ Some sw) }
+{
+    if apdu.p2 != 0x00 && apdu.p2 != 0x0C {
+        return Err(WRONG_PARAMETERS);
+    }
+    if apdu.body.is_empty() {
+        return Err(WRONG_LENGTH);
+    }
+    match named(bank, apdu.body) {
+        Some(selection) => Ok(selection),
+        None => Err(NOT_FOUND),
+    }
+}
+
+/// The reply to the SELECT of an application.
+pub fn selected_reply<B: Bank>(bank: &B, slot: Slot, apdu: &Apdu) -> Reply
+    requires going { (B.state bank.now).stopped ≡ false }
+    requires there { IsSome (B.named bank.now slot) }
+    ensures { Says (select_body (parts_of apdu.now) (app_of (B.state bank.now).apps (B.named bank.now slot))) 0x9000 result }
+{
+    let body = data_of(bank, slot, apdu);
+    Reply { body, sw: DONE }
+}
+
+// The data of the reply: with P2 00 the front of the FCI.
+fn data_of<B: Bank>(bank: &B, slot: Slot, apdu: &Apdu) -> ArrayVec<u8, 1024>
+    requires going { (B.state bank.now).stopped ≡ false }
+    requires there { IsSome (B.named bank.now slot) }
+    ensures { result.items ≡ select_body (parts_of apdu.now) (app_of (B.state bank.now).apps (B.named bank.now slot)) }
+{
+    if apdu.p2 != 0x00 {
+        return ArrayVec::new();
+    }
+    fci_front(bank, slot, apdu.le.unwrap_or(0))
+}
+
+// The first bytes of the FCI, at most so many.
+#[tactic(auto, using(crate::proofs::SelectLemmas::take_least))]
+fn fci_front<B: Bank>(bank: &B, slot: Slot, most: u16) -> ArrayVec<u8, 1024>
+    requires going { (B.state bank.now).stopped ≡ false }
+    requires there { IsSome (B.named bank.now slot) }
+    ensures { result.items ≡ take most (app_of (B.state bank.now).apps (B.named bank.now slot)).fci }
+{
+    let facts = bank.facts(slot);
+    let len = most.min(facts.sizes.fci) as usize;
+    let mut fci = [0; 128];
+    bank.fci(slot, 0, &mut fci[..len]);
+    let mut body = ArrayVec::new();
+    let _room = body.try_extend_from_slice(&fci[..len]);
+    body
+}
