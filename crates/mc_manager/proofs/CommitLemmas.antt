@@ -1,13 +1,13 @@
 -- What commits leave of a manager that fits.
-use Rattle.std.proofs.Common.{◌≡◌, ℕ, ◌≤◌, List, length, take, Option, Some, None, refl, sym, ap, subst, ◌∙◌}
+use Rattle.std.proofs.Common.{◌≡◌, ℕ, List, length, take, Option, Some, None, refl, ap, ◌∙◌}
 use Rattle.std.specs.Prelude.{option_map}
 use Rattle.std.specs.Option.{ForSome}
 use Rattle.mc_model.specs.declared.card.Part.{Part}
 use Rattle.mc_model.specs.declared.card.Part.TheVariants.{Code, Data, Dir, Fci}
 use Rattle.mc_model.specs.Items.{Site}
-use Rattle.mc_model.specs.Manager.{Open, Seat}
-use Rattle.mc_bank.specs.Bank.{part_len, IsGood}
-use Rattle.mc_manager.specs.Held.{BankView, Loaded, Held, got_len, got_at, open_of, load_of, seat_of, FitsLoad, Fits}
+use Rattle.mc_model.specs.Manager.{Open}
+use Rattle.mc_bank.specs.Bank.{IsGood}
+use Rattle.mc_manager.specs.Held.{BankView, Loaded, Held, open_of, seat_of, FitsLoad, Fits}
 
 -- slots, good sites and their bytes stay
 pub record Keeps (v w : BankView) : Type 0 where

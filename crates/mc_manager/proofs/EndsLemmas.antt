@@ -1,5 +1,5 @@
 -- How each command ends, from what its parts ensure.
-use Rattle.std.proofs.Common.{◌≡◌, ◌≢◌, ℕ, ◌+◌, ◌-◌, ◌≤◌, ◌<◌, Bool, true, false, List, [], ◌∷◌, ◌++◌, length, take, Option, Some, None, Ok, Err, refl, sym, ap, subst, ◌∙◌, arith}
+use Rattle.std.proofs.Common.{◌≡◌, ◌≢◌, ℕ, ◌+◌, ◌≤◌, Bool, true, false, List, [], ◌∷◌, length, Option, Some, None, Ok, Err, refl, sym, ap, subst, ◌∙◌, arith}
 use Rattle.std.specs.Prelude.{map, option_map, IsSome, is_some, is_none, Result, nat_lt, not, cond, ◌==◌, bytes_eq, unwrap_or, IfOk, ◌&&◌}
 use Rattle.std.specs.Option.{ForSome}
 use Rattle.std.proofs.lemmas.Bool.Decides.{nat_tests}
@@ -13,7 +13,7 @@ use Rattle.mc_model.specs.Bytes.{zeros, lookup, insert, remove}
 use Rattle.mc_model.specs.Apdu.{ApduParts}
 use Rattle.mc_model.specs.Card.{App}
 use Rattle.mc_model.specs.Items.{Site, BankItem, Piece, Remove}
-use Rattle.mc_model.specs.Manager.{Selected, Open, Seat, Accepted, Managed, first_status, answered, select_body, select_done, select, p1p2, is_empty, got_of, size_of, with_got, word_parts, load_refusals, load_done, load_part, create_refusals, create_done, create_items, create, dir_in, fresh, is_selected, delete_refusals, delete_done, delete, open_load, Declines, WrongClass, ToSelect, ToManager, ToApplication, manage}
+use Rattle.mc_model.specs.Manager.{Open, Seat, Accepted, Managed, first_status, answered, select_body, select_done, select, p1p2, is_empty, got_of, size_of, with_got, word_parts, load_refusals, load_done, load_part, create_refusals, create_done, create_items, create, dir_in, is_selected, delete_refusals, delete_done, delete, open_load, Declines, WrongClass, ToSelect, ToManager, ToApplication, manage}
 use Rattle.mc_model.specs.Units.{name_of}
 use Rattle.mc_apdu.specs.declared.reply.Reply.{Reply}
 use Rattle.mc_bank.specs.Bank.{part_len, no_app, app_of, name_or, entered, Changes}
@@ -22,7 +22,7 @@ use Rattle.mc_manager.specs.declared.selection.Selection.{Selection}
 use Rattle.mc_manager.specs.declared.routed.Routed.{Routed}
 use Rattle.mc_manager.specs.declared.routed.Routed.TheVariants as routed
 use Rattle.mc_manager.specs.Load.{is_full}
-use Rattle.mc_manager.specs.Held.{BankView, Loaded, Held, got_len, got_at, open_of, load_of, selected_of, seat_of, FitsLoad, Fits}
+use Rattle.mc_manager.specs.Held.{BankView, Loaded, Held, got_len, open_of, selected_of, seat_of, FitsLoad, Fits}
 use Rattle.mc_manager.specs.Due.{Due, Refuses, Selects, Does, due_select, due_manager, due_on, due, items_of, apps_after, Says, Leaves}
 use Rattle.mc_manager.specs.Calls.{CanSelect, CanCreate, CanDelete, has_selected, delete_causes}
 use Rattle.mc_manager.specs.Ends.{Ends}
@@ -257,7 +257,7 @@ create_is_due v m l n a h s =
     let seat = seat_of v.standing s m in
     let o = open_of v.standing l in
     ap (λ (x : Option Loaded).
-      due_manager (answered (first_status (create_refusals v.state.apps (option_map (open_of v.standing) x) a)) (create_done seat (option_map (open_of v.standing) x) (name_of (dir_in (option_map (open_of v.standing) x)))))) h.is
+    due_manager (answered (first_status (create_refusals v.state.apps (option_map (open_of v.standing) x) a)) (create_done seat (option_map (open_of v.standing) x) (name_of (dir_in (option_map (open_of v.standing) x)))))) h.is
     ∙ done_due (first_status (create_refusals v.state.apps (Some o) a)) (create_done seat (Some o) (name_of o.got.dir)) h.clear
     ∙ ap (λ (x : Result (List ℕ) AidFault). Does (create_done seat (Some o) x)) (ap name_of h.fits.dir ∙ h.name)
 

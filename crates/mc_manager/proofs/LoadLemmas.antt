@@ -1,17 +1,15 @@
 -- What an open load is for the definitions, and what a piece and a creation make of it.
-use Rattle.std.proofs.Common.{◌≡◌, ◌≢◌, ℕ, ◌+◌, ◌-◌, ◌≤◌, ◌<◌, Bool, true, false, List, [], ◌∷◌, ◌++◌, length, take, drop, Option, Some, None, refl, sym, ap, subst, ◌∙◌, arith}
+use Rattle.std.proofs.Common.{◌≡◌, ◌≢◌, ℕ, ◌+◌, ◌≤◌, Bool, true, false, List, ◌++◌, length, take, drop, Option, Some, refl, sym, ap, subst, ◌∙◌, arith}
 use Rattle.std.specs.Prelude.{◌==◌, ◌&&◌, option_map}
-use Rattle.std.specs.Option.{ForSome}
 use Rattle.std.proofs.lemmas.Bool.Decides.{nat_tests}
 use Rattle.std.proofs.lemmas.List.{length-take-le, length-append, take_at, take_all}
 use Rattle.mc_model.specs.declared.card.Part.{Part}
 use Rattle.mc_model.specs.declared.card.Part.TheVariants.{Code, Data, Dir, Fci}
 use Rattle.mc_model.specs.declared.card.Sizes.{Sizes}
-use Rattle.mc_model.specs.Bytes.{zeros, splice}
-use Rattle.mc_model.specs.Card.{App}
+use Rattle.mc_model.specs.Bytes.{splice}
 use Rattle.mc_model.specs.Items.{Site}
-use Rattle.mc_model.specs.Manager.{Open, Got, got_of, size_of, with_got, is_complete, can_create, fresh}
-use Rattle.mc_bank.specs.Bank.{part_len, IsGood, HasParts, StayGood, entered}
+use Rattle.mc_model.specs.Manager.{got_of, size_of, with_got, is_complete, can_create, fresh}
+use Rattle.mc_bank.specs.Bank.{part_len, IsGood, StayGood, entered}
 use Rattle.mc_bank.proofs.LeftLemmas.{length-spliced}
 use Rattle.mc_manager.specs.Held.{BankView, Loaded, got_len, got_at, open_of, FitsLoad}
 use Rattle.mc_manager.specs.Load.{with_more, is_full}

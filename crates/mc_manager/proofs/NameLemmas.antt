@@ -1,5 +1,5 @@
 -- Names that are on no card.
-use Rattle.std.proofs.Common.{◌≡◌, ℕ, ◌≤◌, Bool, true, false, List, [], ◌∷◌, length, Some, None, refl, subst, arith}
+use Rattle.std.proofs.Common.{◌≡◌, ℕ, List, [], ◌∷◌, None, refl, subst, arith}
 use Rattle.std.specs.List.{AllByRecursion}
 use Rattle.mc_base.specs.Name.{IsName}
 use Rattle.mc_model.specs.Bytes.{lookup}

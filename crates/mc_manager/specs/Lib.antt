@@ -3,3 +3,4 @@ pub mod Due
 pub mod Load
 pub mod Calls
 pub mod Ends
+pub mod Status

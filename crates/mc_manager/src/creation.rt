@@ -8,10 +8,11 @@ ghost use Rattle.mc_bank.specs.Bank.{part_len};
 ghost use Rattle.mc_manager.specs.Held.{view_of, got_len, open_of, FitsLoad};
 ghost use Rattle.mc_manager.specs.Load.{is_full};
 ghost use Rattle.mc_manager.specs.Calls.{CanCreate};
+ghost use Rattle.mc_manager.specs.Status.{word_of};
 
 use crate::header::parameters;
 use crate::load::Load;
-use crate::status::{CONDITIONS, EXISTS, WRONG_DATA, WRONG_LENGTH, WRONG_PARAMETERS};
+use crate::status::Status;
 use mc_apdu::Apdu;
 use mc_bank::{Bank, Part};
 use mc_base::Aid;
@@ -19,29 +20,29 @@ use mc_unit::aid_of;
 
 /// The name that CREATE gives to the application of the open load, else its first refusal.
 #[tactic(auto, using(crate::proofs::LoadLemmas::complete_full))]
-pub fn creation<B: Bank>(load: &Option<Load>, bank: &B, apdu: &Apdu) -> Result<Aid, u16>
+pub fn creation<B: Bank>(load: &Option<Load>, bank: &B, apdu: &Apdu) -> Result<Aid, Status>
     requires going { (B.state bank.now).stopped ≡ false }
     requires fits { ForSome load.now (FitsLoad (view_of B.state B.named B.room B.standing bank.now)) }
     ensures created { IfOk result (λ aid. CanCreate (view_of B.state B.named B.room B.standing bank.now) load.now (parts_of apdu.now) aid) }
-    ensures refused { IfErr result (λ sw. first_status (create_refusals (B.state bank.now).apps (option_map (open_of (B.standing bank.now)) load.now) (parts_of apdu.now)) ≡ Some sw) }
+    ensures refused { IfErr result (λ e. first_status (create_refusals (B.state bank.now).apps (option_map (open_of (B.standing bank.now)) load.now) (parts_of apdu.now)) ≡ Some (word_of e)) }
 {
     if parameters(apdu) != 0 {
-        return Err(WRONG_PARAMETERS);
+        return Err(Status::WrongParameters);
     }
     if !apdu.body.is_empty() {
-        return Err(WRONG_LENGTH);
+        return Err(Status::WrongLength);
     }
     let Some(load) = load else {
-        return Err(CONDITIONS);
+        return Err(Status::Conditions);
     };
     if !is_full(load) {
-        return Err(CONDITIONS);
+        return Err(Status::Conditions);
     }
     let Ok(aid) = aid_of(load.dir()) else {
-        return Err(WRONG_DATA);
+        return Err(Status::WrongData);
     };
     if bank.find(&aid).is_some() {
-        return Err(EXISTS);
+        return Err(Status::Exists);
     }
     Ok(aid)
 }

@@ -3,31 +3,36 @@ ghost use Rattle.mc_model.specs.Manager.{first_status, delete_refusals};
 ghost use Rattle.mc_apdu.specs.Command.{parts_of};
 ghost use Rattle.mc_manager.specs.Held.{seat_of, Held};
 ghost use Rattle.mc_manager.specs.Calls.{CanDelete, delete_causes, has_selected};
+ghost use Rattle.mc_manager.specs.Status.{word_of};
 
 use crate::header::parameters;
 use crate::names::named;
 use crate::selection::Selection;
-use crate::status::{CONDITIONS, NOT_FOUND, WRONG_LENGTH, WRONG_PARAMETERS};
+use crate::status::Status;
 use mc_apdu::Apdu;
 use mc_bank::{Bank, Slot};
 
 /// The application that DELETE takes out, else its first refusal.
-pub fn deletion<B: Bank>(selected: &Option<Selection>, bank: &B, apdu: &Apdu) -> Result<Slot, u16>
+pub fn deletion<B: Bank>(
+    selected: &Option<Selection>,
+    bank: &B,
+    apdu: &Apdu,
+) -> Result<Slot, Status>
     requires going { (B.state bank.now).stopped ≡ false }
     ensures deleted { IfOk result (λ slot. CanDelete (B.state bank.now).apps (B.named bank.now) selected.now (parts_of apdu.now) slot) }
-    ensures refused { IfErr result (λ sw. first_status (delete_causes (B.state bank.now).apps selected.now (parts_of apdu.now)) ≡ Some sw) }
+    ensures refused { IfErr result (λ e. first_status (delete_causes (B.state bank.now).apps selected.now (parts_of apdu.now)) ≡ Some (word_of e)) }
 {
     if parameters(apdu) != 0 {
-        return Err(WRONG_PARAMETERS);
+        return Err(Status::WrongParameters);
     }
     if apdu.body.is_empty() {
-        return Err(WRONG_LENGTH);
+        return Err(Status::WrongLength);
     }
     let Some(found) = named(bank, apdu.body) else {
-        return Err(NOT_FOUND);
+        return Err(Status::NotFound);
     };
     if is_selected(selected, apdu.body) {
-        return Err(CONDITIONS);
+        return Err(Status::Conditions);
     }
     Ok(found.slot)
 }

@@ -7,31 +7,32 @@ ghost use Rattle.mc_apdu.specs.Command.{parts_of};
 ghost use Rattle.mc_bank.specs.Bank.{Changes, part_len};
 ghost use Rattle.mc_manager.specs.Held.{BankView, view_of, got_len, open_of, FitsLoad};
 ghost use Rattle.mc_manager.specs.Load.{with_more};
+ghost use Rattle.mc_manager.specs.Status.{word_of};
 
 use crate::header::parameters;
 use crate::load::Load;
-use crate::status::{CONDITIONS, WRONG_DATA, WRONG_LENGTH};
+use crate::status::Status;
 use mc_apdu::Apdu;
 use mc_bank::{Bank, Part};
 use mc_base::Stop;
 
 /// The first refusal of a LOAD for a section.
 #[tactic(auto, using(crate::proofs::LoadLemmas::length_got, crate::proofs::LoadLemmas::same_size))]
-pub fn load_refusal(load: &Option<Load>, part: Part, apdu: &Apdu) -> Option<u16>
-    ensures { (v : BankView) → ForSome load.now (FitsLoad v) → first_status (load_refusals (option_map (open_of v.standing) load.now) part (parts_of apdu.now)) ≡ result }
+pub fn load_refusal(load: &Option<Load>, part: Part, apdu: &Apdu) -> Option<Status>
+    ensures { (v : BankView) → ForSome load.now (FitsLoad v) → first_status (load_refusals (option_map (open_of v.standing) load.now) part (parts_of apdu.now)) ≡ option_map word_of result }
 {
     if apdu.body.is_empty() {
-        return Some(WRONG_LENGTH);
+        return Some(Status::WrongLength);
     }
     let Some(load) = load else {
-        return Some(CONDITIONS);
+        return Some(Status::Conditions);
     };
     let got = load.got(part);
     if parameters(apdu) != got {
-        return Some(CONDITIONS);
+        return Some(Status::Conditions);
     }
     if got as usize + apdu.body.len() > load.size(part) as usize {
-        return Some(WRONG_DATA);
+        return Some(Status::WrongData);
     }
     None
 }

@@ -13,7 +13,7 @@ use crate::open::open;
 use crate::routed::Routed;
 use crate::select::{selected_reply, selection};
 use crate::selection::Selection;
-use crate::status::{CONDITIONS, DONE, NO_CLASS, NO_INSTRUCTION, status};
+use crate::status::Status;
 use mc_apdu::Apdu;
 use mc_bank::{Bank, Part};
 use mc_base::{Steps, Stop};
@@ -70,7 +70,7 @@ impl Manager {
         ensures ticks { steps.new ≤ steps.old + most_ticks (parts_of apdu.now) (B.state bank.old).ticks }
     {
         if apdu.cla == 0xFF {
-            return Ok(Routed::Answer(status(NO_CLASS)));
+            return Ok(Routed::Answer(Status::NoClass.reply()));
         }
         if apdu.cla == 0x00 && apdu.ins == 0xA4 && apdu.p1 == 0x04 {
             return Ok(self.select(bank, apdu));
@@ -103,7 +103,7 @@ impl Manager {
             0x22 => self.load_part(bank, Part::Fci, apdu),
             0x16 => self.create(bank, apdu),
             0x18 => self.delete(bank, apdu),
-            _ => Ok(Routed::Answer(status(NO_INSTRUCTION))),
+            _ => Ok(Routed::Answer(Status::NoInstruction.reply())),
         }
     }
 
@@ -113,7 +113,7 @@ impl Manager {
     {
         match &self.selected {
             Some(selection) => Routed::Pass(selection.slot),
-            None => Routed::Answer(status(CONDITIONS)),
+            None => Routed::Answer(Status::Conditions.reply()),
         }
     }
 
@@ -124,7 +124,7 @@ impl Manager {
         ensures { Ends B.did (λ s. due_select (select (B.state bank.now).apps (seat_of (B.standing bank.now) s self.old) (parts_of apdu.now))) (view_of B.state B.named B.room B.standing bank.now) self.old bank.now (Ok result) (view_of B.state B.named B.room B.standing bank.now) self.new bank.now }
     {
         let selection = match selection(bank, apdu) {
-            Err(sw) => return Routed::Answer(status(sw)),
+            Err(refusal) => return Routed::Answer(refusal.reply()),
             Ok(selection) => selection,
         };
         let slot = selection.slot;
@@ -141,10 +141,10 @@ impl Manager {
         ensures ticks { steps.new ≤ steps.old + (B.state bank.now).ticks }
     {
         match open(bank, apdu, steps) {
-            Err(sw) => Routed::Answer(status(sw)),
+            Err(refusal) => Routed::Answer(refusal.reply()),
             Ok(load) => {
                 self.load = Some(load);
-                Routed::Answer(status(DONE))
+                Routed::Answer(Status::Done.reply())
             }
         }
     }
@@ -155,14 +155,14 @@ impl Manager {
         requires fits { Fits (view_of B.state B.named B.room B.standing bank.old) self.old }
         ensures { Ends B.did (λ s. due_manager (load_part part (seat_of (B.standing bank.old) s self.old) (parts_of apdu.now))) (view_of B.state B.named B.room B.standing bank.old) self.old bank.old result (view_of B.state B.named B.room B.standing bank.new) self.new bank.new }
     {
-        if let Some(sw) = load_refusal(&self.load, part, apdu) {
-            return Ok(Routed::Answer(status(sw)));
+        if let Some(refusal) = load_refusal(&self.load, part, apdu) {
+            return Ok(Routed::Answer(refusal.reply()));
         }
         let Some(load) = &mut self.load else {
-            return Ok(Routed::Answer(status(CONDITIONS)));
+            return Ok(Routed::Answer(Status::Conditions.reply()));
         };
         fill(load, bank, part, apdu.body)?;
-        Ok(Routed::Answer(status(DONE)))
+        Ok(Routed::Answer(Status::Done.reply()))
     }
 
     // CREATE: BE 16.
@@ -172,15 +172,15 @@ impl Manager {
         ensures { Ends B.did (λ s. due_manager (create (B.state bank.old).apps (seat_of (B.standing bank.old) s self.old) (parts_of apdu.now))) (view_of B.state B.named B.room B.standing bank.old) self.old bank.old result (view_of B.state B.named B.room B.standing bank.new) self.new bank.new }
     {
         let aid = match creation(&self.load, bank, apdu) {
-            Err(sw) => return Ok(Routed::Answer(status(sw))),
+            Err(refusal) => return Ok(Routed::Answer(refusal.reply())),
             Ok(aid) => aid,
         };
         let Some(load) = &self.load else {
-            return Ok(Routed::Answer(status(CONDITIONS)));
+            return Ok(Routed::Answer(Status::Conditions.reply()));
         };
         bank.create(load.site(), &aid)?;
         self.load = None;
-        Ok(Routed::Answer(status(DONE)))
+        Ok(Routed::Answer(Status::Done.reply()))
     }
 
     // DELETE: BE 18.
@@ -190,11 +190,11 @@ impl Manager {
         ensures { Ends B.did (λ s. due_manager (delete (B.state bank.old).apps (seat_of (B.standing bank.old) s self.old) (parts_of apdu.now))) (view_of B.state B.named B.room B.standing bank.old) self.old bank.old result (view_of B.state B.named B.room B.standing bank.new) self.new bank.new }
     {
         let slot = match deletion(&self.selected, bank, apdu) {
-            Err(sw) => return Ok(Routed::Answer(status(sw))),
+            Err(refusal) => return Ok(Routed::Answer(refusal.reply())),
             Ok(slot) => slot,
         };
         bank.delete(slot)?;
         self.load = None;
-        Ok(Routed::Answer(status(DONE)))
+        Ok(Routed::Answer(Status::Done.reply()))
     }
 }

@@ -3,8 +3,8 @@ ghost use Rattle.mc_model.specs.Bytes.{lookup};
 ghost use Rattle.mc_manager.specs.Held.{NamedBy};
 
 use crate::selection::Selection;
-use mc_base::Aid;
 use mc_bank::Bank;
+use mc_base::Aid;
 
 /// The application whose name these bytes are, where it is on the card.
 #[tactic(auto, using(crate::proofs::NameLemmas::no_other_names))]

@@ -3,10 +3,11 @@ ghost use Rattle.mc_model.specs.Manager.{first_status, open_refusals};
 ghost use Rattle.mc_apdu.specs.Command.{parts_of};
 ghost use Rattle.mc_manager.specs.Held.{view_of};
 ghost use Rattle.mc_manager.specs.Calls.{CanOpen};
+ghost use Rattle.mc_manager.specs.Status.{word_of};
 
 use crate::header::{fits_limits, parameters, sizes_in};
 use crate::load::Load;
-use crate::status::{NO_ROOM, WRONG_DATA, WRONG_LENGTH, WRONG_PARAMETERS};
+use crate::status::Status;
 use mc_apdu::Apdu;
 use mc_bank::Bank;
 use mc_base::Steps;
@@ -16,24 +17,24 @@ use std::sync::ledger::Ledger;
 const ACCESS_LIST: u16 = 0x000F;
 
 /// The load that OPEN opens, else its first refusal.
-pub fn open<B: Bank, L: Ledger>(bank: &B, apdu: &Apdu, steps: &mut Steps<L>) -> Result<Load, u16>
+pub fn open<B: Bank, L: Ledger>(bank: &B, apdu: &Apdu, steps: &mut Steps<L>) -> Result<Load, Status>
     requires going { (B.state bank.now).stopped ≡ false }
     ensures opened { IfOk result (λ load. CanOpen (view_of B.state B.named B.room B.standing bank.now) (parts_of apdu.now) load) }
-    ensures refused { IfErr result (λ sw. first_status (open_refusals (B.room bank.now) (B.state bank.now).apps (parts_of apdu.now)) ≡ Some sw) }
+    ensures refused { IfErr result (λ e. first_status (open_refusals (B.room bank.now) (B.state bank.now).apps (parts_of apdu.now)) ≡ Some (word_of e)) }
     ensures rises { steps.old ≤ steps.new }
     ensures ticks { steps.new ≤ steps.old + (B.state bank.now).ticks }
 {
     if parameters(apdu) > ACCESS_LIST {
-        return Err(WRONG_PARAMETERS);
+        return Err(Status::WrongParameters);
     }
     let Some(sizes) = sizes_in(apdu) else {
-        return Err(WRONG_LENGTH);
+        return Err(Status::WrongLength);
     };
     if !fits_limits(&sizes) {
-        return Err(WRONG_DATA);
+        return Err(Status::WrongData);
     }
     match bank.open(&sizes, steps) {
         Ok(site) => Ok(Load::new(site)),
-        Err(_) => Err(NO_ROOM),
+        Err(_) => Err(Status::NoRoom),
     }
 }

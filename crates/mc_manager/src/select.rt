@@ -5,29 +5,30 @@ ghost use Rattle.mc_bank.specs.Bank.{app_of};
 ghost use Rattle.mc_manager.specs.Due.{Says};
 ghost use Rattle.mc_manager.specs.Held.{NamedBy};
 ghost use Rattle.mc_manager.specs.Calls.{CanSelect};
+ghost use Rattle.mc_manager.specs.Status.{word_of};
 
 use crate::names::named;
 use crate::selection::Selection;
-use crate::status::{DONE, NOT_FOUND, WRONG_LENGTH, WRONG_PARAMETERS};
+use crate::status::Status;
 use arrayvec::ArrayVec;
 use mc_apdu::{Apdu, Reply};
 use mc_bank::{Bank, Slot};
 
 /// The application that SELECT selects, else its first refusal.
-pub fn selection<B: Bank>(bank: &B, apdu: &Apdu) -> Result<Selection, u16>
+pub fn selection<B: Bank>(bank: &B, apdu: &Apdu) -> Result<Selection, Status>
     requires going { (B.state bank.now).stopped ≡ false }
     ensures selected { IfOk result (λ s. CanSelect (B.state bank.now).apps (B.named bank.now) (parts_of apdu.now) s) }
-    ensures refused { IfErr result (λ sw. first_status (select_refusals (B.state bank.now).apps (parts_of apdu.now)) ≡ Some sw) }
+    ensures refused { IfErr result (λ e. first_status (select_refusals (B.state bank.now).apps (parts_of apdu.now)) ≡ Some (word_of e)) }
 {
     if apdu.p2 != 0x00 && apdu.p2 != 0x0C {
-        return Err(WRONG_PARAMETERS);
+        return Err(Status::WrongParameters);
     }
     if apdu.body.is_empty() {
-        return Err(WRONG_LENGTH);
+        return Err(Status::WrongLength);
     }
     match named(bank, apdu.body) {
         Some(selection) => Ok(selection),
-        None => Err(NOT_FOUND),
+        None => Err(Status::NotFound),
     }
 }
 
@@ -38,7 +39,10 @@ pub fn selected_reply<B: Bank>(bank: &B, slot: Slot, apdu: &Apdu) -> Reply
     ensures { Says (select_body (parts_of apdu.now) (app_of (B.state bank.now).apps (B.named bank.now slot))) 0x9000 result }
 {
     let body = data_of(bank, slot, apdu);
-    Reply { body, sw: DONE }
+    Reply {
+        body,
+        sw: Status::Done.word(),
+    }
 }
 
 // The data of the reply: with P2 00 the front of the FCI.

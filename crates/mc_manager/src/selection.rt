@@ -1,5 +1,5 @@
-use mc_base::Aid;
 use mc_bank::Slot;
+use mc_base::Aid;
 
 /// The selected application.
 #[derive(Clone, Copy, Debug)]

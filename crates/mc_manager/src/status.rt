@@ -1,38 +1,60 @@
-ghost use Rattle.std.specs.Prelude.{[]};
+ghost use Rattle.std.specs.Prelude.{◌≡◌, []};
 ghost use Rattle.mc_manager.specs.Due.{Says};
+ghost use Rattle.mc_manager.specs.Status.{word_of};
 
 use arrayvec::ArrayVec;
 use mc_apdu::Reply;
 
-// Status words of ISO/IEC 7816-4.
+/// How a command of the manager ends (status words of ISO/IEC 7816-4).
+#[derive(Clone, Copy, Debug, PartialEq, Eq)]
+pub enum Status {
+    Done,
+    /// The command lacks data, or has data that it may not have.
+    WrongLength,
+    /// Conditions not satisfied.
+    Conditions,
+    /// Wrong data.
+    WrongData,
+    /// The name is not on the card.
+    NotFound,
+    /// 32 applications are there, or the sizes have no room.
+    NoRoom,
+    /// Wrong P1 P2.
+    WrongParameters,
+    /// The name is on the card already.
+    Exists,
+    /// The INS is not supported.
+    NoInstruction,
+    /// The CLA is not supported.
+    NoClass,
+}
 
-/// Done.
-pub const DONE: u16 = 0x9000;
-/// The command has data that it may not have, or lacks them.
-pub const WRONG_LENGTH: u16 = 0x6700;
-/// Conditions not satisfied.
-pub const CONDITIONS: u16 = 0x6985;
-/// Wrong data.
-pub const WRONG_DATA: u16 = 0x6A80;
-/// The name is not on the card.
-pub const NOT_FOUND: u16 = 0x6A82;
-/// Not enough memory.
-pub const NO_ROOM: u16 = 0x6A84;
-/// Wrong P1 P2.
-pub const WRONG_PARAMETERS: u16 = 0x6A86;
-/// The name is on the card already.
-pub const EXISTS: u16 = 0x6A89;
-/// The INS is not supported.
-pub const NO_INSTRUCTION: u16 = 0x6D00;
-/// The CLA is not supported.
-pub const NO_CLASS: u16 = 0x6E00;
+impl Status {
+    /// The status word.
+    pub fn word(self) -> u16
+        ensures { result ≡ word_of self }
+    {
+        match self {
+            Status::Done => 0x9000,
+            Status::WrongLength => 0x6700,
+            Status::Conditions => 0x6985,
+            Status::WrongData => 0x6A80,
+            Status::NotFound => 0x6A82,
+            Status::NoRoom => 0x6A84,
+            Status::WrongParameters => 0x6A86,
+            Status::Exists => 0x6A89,
+            Status::NoInstruction => 0x6D00,
+            Status::NoClass => 0x6E00,
+        }
+    }
 
-/// A reply that is a status alone.
-pub fn status(sw: u16) -> Reply
-    ensures { Says [] sw result }
-{
-    Reply {
-        body: ArrayVec::new(),
-        sw,
+    /// The reply that is this status alone.
+    pub fn reply(self) -> Reply
+        ensures { Says [] (word_of self) result }
+    {
+        Reply {
+            body: ArrayVec::new(),
+            sw: self.word(),
+        }
     }
 }

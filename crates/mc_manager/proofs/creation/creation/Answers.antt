@@ -1,4 +1,4 @@
-use Rattle.std.proofs.Common.{◌≡◌, false, Some, sym, ◌∙◌, ap, arith}
+use Rattle.std.proofs.Common.{sym, ◌∙◌, arith}
 use Rattle.mc_manager.specs.Held.{view_of}
 use Rattle.mc_manager.proofs.LoadLemmas.{cannot_create}
 use Rattle.mc_manager.proofs.creation.creation.Goals as goal

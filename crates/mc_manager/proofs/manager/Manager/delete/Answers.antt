@@ -1,8 +1,7 @@
-use Rattle.std.proofs.Common.{◌≡◌, refl, sym, ◌∙◌, ap}
-use Rattle.std.proofs.lemmas.Result.{err_from_is_err_and}
+use Rattle.std.proofs.Common.{refl, ap}
 use Rattle.mc_apdu.specs.Command.{parts_of}
 use Rattle.mc_manager.specs.Held.{Held, view_of}
-use Rattle.mc_manager.proofs.EndsLemmas.{delete_refused, ends_refused, ends_deleted, ends_delete_stopped}
+use Rattle.mc_manager.proofs.EndsLemmas.{ends_deleted}
 use Rattle.mc_manager.proofs.manager.Manager.delete.Goals as goal
 
 pub returns : goal.returns
@@ -10,5 +9,5 @@ returns g c =
     let v = view_of g.B.Bank.state g.B.Bank.named g.B.Bank.room g.B.Bank.standing c.args.bank.now in
     let w = view_of g.B.Bank.state g.B.Bank.named g.B.Bank.room g.B.Bank.standing c.delete.new.self in
     let selected = ap (λ (m : Held). m.selected) c.self.view_is in
-    ends_deleted g.B.Bank.did v c.args.self.now c.self.inside.selected (parts_of c.args.apdu.now) c.in-Ok.slot c.args.bank.now c.status-2.result w _ c.delete.new.self selected c.in-Ok.ensures.deleted c.requires.fits
-    c.in_ok-delete.ensures.items c.in_ok-delete.ensures.apps c.in_ok-delete.ensures.slots c.status-2.ensures selected refl
+    ends_deleted g.B.Bank.did v c.args.self.now c.self.inside.selected (parts_of c.args.apdu.now) c.in-Ok.slot c.args.bank.now c.reply-2.result w _ c.delete.new.self selected c.in-Ok.ensures.deleted c.requires.fits
+    c.in_ok-delete.ensures.items c.in_ok-delete.ensures.apps c.in_ok-delete.ensures.slots c.reply-2.ensures selected refl
