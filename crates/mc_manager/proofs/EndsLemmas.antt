@@ -84,6 +84,7 @@ module _ {B : Type 0} (did : B → BankItem → Answer → B → Type 0) where
         apps = λ s. subst (λ (d : Due). Changes v.state (apps_after d v.state.apps) (Ok tt) v.state) (sym (is s)) (record { apps = refl; cuts = refl; faults = refl; going = going });
         leaves = λ s. subst (λ (d : Due). Leaves d s v m (routed.Answer r) v m) (sym (is s)) (record { reply = says; unchanged = refl });
         fits = fits;
+        going = going;
       }
 
   -- what is done
@@ -98,6 +99,7 @@ module _ {B : Type 0} (did : B → BankItem → Answer → B → Type 0) where
         apps = λ s. subst (λ (x : Due). Changes v.state (apps_after x v.state.apps) (Ok tt) w.state) (sym (is s)) (apps s);
         leaves = λ s. subst (λ (x : Due). Leaves x s v m (routed.Answer r) w n) (sym (is s)) (record { reply = says s; selected = selected; seat = seat s });
         fits = fits;
+        going = (apps []).going;
       }
 
   -- what is stopped
@@ -111,6 +113,7 @@ module _ {B : Type 0} (did : B → BankItem → Answer → B → Type 0) where
         apps = λ s. subst (λ (x : Due). Changes v.state (apps_after x v.state.apps) (Err t) w.state) (sym (is s)) (apps s);
         leaves = λ s. tt;
         fits = tt;
+        going = tt;
       }
 
 -- ---- SELECT
@@ -153,6 +156,7 @@ module _ {B : Type 0} (did : B → BankItem → Answer → B → Type 0) where
           selected = λ x is. subst (λ (y : Selection). v.named y.slot ≡ Some y.aid) (cc (now, is)) h.found.slot;
           load = λ x is. fits.load x (sym load ∙ is);
         };
+        going = going;
       }
 
 -- ---- LOAD
@@ -375,6 +379,7 @@ module _ {B : Type 0} (did : B → BankItem → Answer → B → Type 0) where
         apps = λ s. subst (λ (d : Due). Changes v.state (apps_after d v.state.apps) (answer_of x) w.state) (sym (is s)) (ends.apps s);
         leaves = λ s. subst (λ (d : Due). IfOk x (λ r. Leaves d s v m r w n)) (sym (is s)) (ends.leaves s);
         fits = ends.fits;
+        going = ends.going;
       }
 
   pub ends_managed : (i : ℕ) (v : BankView) (m : Held) (a : ApduParts) (b : B) (x : Result Routed Stop) (w : BankView) (n : Held) (e : B) → a.ins ≡ i

@@ -1,0 +1,127 @@
+ghost use Rattle.std.specs.Prelude.{◌≡◌, false, true, None, IsSome, IfSome};
+ghost use Rattle.mc_manager.specs.Held.{view_of, Fits};
+
+use hex::decode;
+use mc_apdu::{Reply, parse};
+use mc_bank::{Bank, Slot};
+use mc_base::{Aid, Steps};
+use mc_manager::{Manager, Routed};
+use std::alloc::Global;
+use std::sync::ledger::Ledger;
+
+/// What a command is to come to.
+#[derive(Clone, Copy, Debug, PartialEq, Eq)]
+pub enum Want {
+    /// It is no command.
+    WrongLength,
+    /// A status without data.
+    Status(u16),
+    /// A new selection, and 9000 behind these data.
+    Fresh(&'static [u8]),
+    /// It is passed to the selected application.
+    Pass,
+}
+
+/// Whether a command comes to what it is to come to.
+pub fn comes_to<B: Bank, L: Ledger>(
+    manager: &mut Manager,
+    bank: &mut B,
+    steps: &mut Steps<L>,
+    command: &[u8],
+    want: Want,
+) -> bool
+    requires going { (B.state bank.old).stopped ≡ false }
+    requires fits { Fits (view_of B.state B.named B.room B.standing bank.old) manager.old }
+    ensures going { result ≡ true → (B.state bank.new).stopped ≡ false }
+    ensures fits { result ≡ true → Fits (view_of B.state B.named B.room B.standing bank.new) manager.new }
+{
+    let Ok(apdu) = parse(command) else {
+        return want == Want::WrongLength;
+    };
+    match manager.command(bank, &apdu, steps) {
+        Ok(Routed::Answer(reply)) => is_answer(&reply, want),
+        Ok(Routed::Fresh(_, reply)) => is_fresh(&reply, want),
+        Ok(Routed::Pass(_)) => want == Want::Pass,
+        Err(_) => false,
+    }
+}
+
+fn is_answer(reply: &Reply, want: Want) -> bool {
+    match want {
+        Want::Status(sw) => reply.sw == sw && reply.body.is_empty(),
+        _ => false,
+    }
+}
+
+fn is_fresh(reply: &Reply, want: Want) -> bool {
+    match want {
+        Want::Fresh(bytes) => reply.sw == 0x9000 && reply.body.as_slice() == bytes,
+        _ => false,
+    }
+}
+
+/// The number of the first row whose command, in hexadecimal, does not come to what it is to come to.
+pub fn first_wrong<B: Bank, L: Ledger>(
+    alloc: Global,
+    manager: &mut Manager,
+    bank: &mut B,
+    steps: &mut Steps<L>,
+    rows: &[(&'static str, Want)],
+) -> Option<usize>
+    requires going { (B.state bank.old).stopped ≡ false }
+    requires fits { Fits (view_of B.state B.named B.room B.standing bank.old) manager.old }
+    ensures going { result ≡ None → (B.state bank.new).stopped ≡ false }
+    ensures fits { result ≡ None → Fits (view_of B.state B.named B.room B.standing bank.new) manager.new }
+{
+    for (i, (text, want)) in rows.iter().enumerate() {
+        let Ok(command) = decode(alloc, *text) else {
+            return Some(i);
+        };
+        if !comes_to(manager, bank, steps, command.as_slice(), *want) {
+            return Some(i);
+        }
+    }
+    None
+}
+
+/// The first eight static bytes of an application that has eight.
+pub fn fixed_of<B: Bank>(bank: &B, name: &[u8]) -> Option<[u8; 8]>
+    requires { (B.state bank.now).stopped ≡ false }
+{
+    let slot = slot_of(bank, name)?;
+    if bank.facts(slot).sizes.fixed != 8 {
+        return None;
+    }
+    let mut fixed = [0xFF; 8];
+    bank.fixed(slot, 0, &mut fixed);
+    Some(fixed)
+}
+
+/// The access list of an application.
+pub fn deny_of<B: Bank>(bank: &B, name: &[u8]) -> Option<u16>
+    requires { (B.state bank.now).stopped ≡ false }
+{
+    Some(bank.facts(slot_of(bank, name)?).sizes.deny)
+}
+
+/// Whether an application has this code.
+pub fn has_code<B: Bank>(bank: &B, name: &[u8], code: &[u8; 1024]) -> bool
+    requires { (B.state bank.now).stopped ≡ false }
+{
+    let Some(slot) = slot_of(bank, name) else {
+        return false;
+    };
+    if bank.facts(slot).sizes.code != 1024 {
+        return false;
+    }
+    let mut found = [0; 1024];
+    bank.code(slot, 0, &mut found);
+    found == *code
+}
+
+fn slot_of<B: Bank>(bank: &B, name: &[u8]) -> Option<Slot>
+    requires { (B.state bank.now).stopped ≡ false }
+    ensures { IfSome result (λ slot. IsSome (B.named bank.now slot)) }
+{
+    bank.find(&Aid::new(name)?)
+}
