@@ -23,80 +23,71 @@ fn command(ins: u8, at: u16, data: &[u8]) -> ArrayVec<u8, 1031> {
     bytes
 }
 
-// The OPEN of an application without static bytes.
-fn open(code: u16) -> ArrayVec<u8, 1031> {
+// The OPEN of an application with eight static bytes, and DIR and FCI of nine.
+fn open(code: u16, init: u8) -> ArrayVec<u8, 1031> {
     let [high, low] = code.to_be_bytes();
-    command(0x12, 0, &[high, low, 0, 0, 0, 0, 0, 0, 0, 9, 0, 9])
+    command(0x12, 0, &[high, low, 0, 8, 0, init, 0, 0, 0, 9, 0, 9])
 }
 
-/// Whether an application named A0000000 and a byte is loaded, its code in pieces of this length.
+/// Whether an application named A0000000 and a byte is loaded, each section in pieces of this length.
 pub fn loads<B: Bank, L: Ledger>(
     manager: &mut Manager,
     bank: &mut B,
     steps: &mut Steps<L>,
     name: u8,
     code: &[u8],
+    init: &[u8],
     piece: usize,
 ) -> bool
     requires going { (B.state bank.old).stopped ≡ false }
     requires fits { Fits (view_of B.state B.named B.room B.standing bank.old) manager.old }
     requires code { length code.now ≤ 8192 }
+    requires init { length init.now ≤ 8 }
     requires piece { 0 < piece }
     ensures going { result ≡ true → (B.state bank.new).stopped ≡ false }
     ensures fits { result ≡ true → Fits (view_of B.state B.named B.room B.standing bank.new) manager.new }
 {
-    if !comes_to(
-        manager,
-        bank,
-        steps,
-        open(code.len() as u16).as_slice(),
-        DONE,
-    ) {
-        return false;
-    }
+    let open = open(code.len() as u16, init.len() as u8);
+    let dir = [0x61, 7, 0x4F, 5, 0xA0, 0, 0, 0, name];
+    let fci = [0x6F, 7, 0x84, 5, 0xA0, 0, 0, 0, name];
+    comes_to(manager, bank, steps, open.as_slice(), DONE)
+        && fills(manager, bank, steps, 0x24, code, piece)
+        && fills(manager, bank, steps, 0x26, init, piece)
+        && fills(manager, bank, steps, 0x20, &dir, piece)
+        && fills(manager, bank, steps, 0x22, &fci, piece)
+        && comes_to(manager, bank, steps, command(0x16, 0, &[]).as_slice(), DONE)
+}
+
+// Whether a section is loaded by the commands with this INS, in pieces of this length.
+fn fills<B: Bank, L: Ledger>(
+    manager: &mut Manager,
+    bank: &mut B,
+    steps: &mut Steps<L>,
+    ins: u8,
+    section: &[u8],
+    piece: usize,
+) -> bool
+    requires going { (B.state bank.old).stopped ≡ false }
+    requires fits { Fits (view_of B.state B.named B.room B.standing bank.old) manager.old }
+    requires section { length section.now ≤ 8192 }
+    requires piece { 0 < piece }
+    ensures going { result ≡ true → (B.state bank.new).stopped ≡ false }
+    ensures fits { result ≡ true → Fits (view_of B.state B.named B.room B.standing bank.new) manager.new }
+{
     let mut at = 0;
-    for bytes in code.chunks(piece) {
+    for bytes in section.chunks(piece) {
         if !comes_to(
             manager,
             bank,
             steps,
-            command(0x24, at, bytes).as_slice(),
+            command(ins, at, bytes).as_slice(),
             DONE,
         ) {
             return false;
         }
         at = at.saturating_add(bytes.len() as u16);
     }
-    finishes(manager, bank, steps, name)
-}
-
-// Whether DIR and FCI are loaded, and the application is created.
-fn finishes<B: Bank, L: Ledger>(
-    manager: &mut Manager,
-    bank: &mut B,
-    steps: &mut Steps<L>,
-    name: u8,
-) -> bool
-    requires going { (B.state bank.old).stopped ≡ false }
-    requires fits { Fits (view_of B.state B.named B.room B.standing bank.old) manager.old }
-    ensures going { result ≡ true → (B.state bank.new).stopped ≡ false }
-    ensures fits { result ≡ true → Fits (view_of B.state B.named B.room B.standing bank.new) manager.new }
-{
-    let dir = [0x61, 7, 0x4F, 5, 0xA0, 0, 0, 0, name];
-    let fci = [0x6F, 7, 0x84, 5, 0xA0, 0, 0, 0, name];
-    comes_to(
-        manager,
-        bank,
-        steps,
-        command(0x20, 0, &dir).as_slice(),
-        DONE,
-    ) && comes_to(
-        manager,
-        bank,
-        steps,
-        command(0x22, 0, &fci).as_slice(),
-        DONE,
-    ) && comes_to(manager, bank, steps, command(0x16, 0, &[]).as_slice(), DONE)
+    true
 }
 
 /// Whether a card of 32 applications has no room for one more until one of them, A000000009, is deleted.
@@ -113,14 +104,14 @@ pub fn is_full<B: Bank, L: Ledger>(
         manager,
         bank,
         steps,
-        open(0).as_slice(),
+        open(0, 0).as_slice(),
         Want::Status(0x6A80),
     ) && comes_to(
         manager,
         bank,
         steps,
-        open(1).as_slice(),
+        open(1, 0).as_slice(),
         Want::Status(0x6A84),
     ) && comes_to(manager, bank, steps, delete.as_slice(), DONE)
-        && comes_to(manager, bank, steps, open(1).as_slice(), DONE)
+        && comes_to(manager, bank, steps, open(1, 0).as_slice(), DONE)
 }

@@ -70,15 +70,26 @@ fn first_missing<L: Ledger>(alloc: Global, blank: Blank) -> Result<u8, NoMemory>
         code[at] = (at % 251) as u8;
     }
     for (name, piece) in [(1, 1024), (2, 1), (3, 7)] {
-        if !loads(&mut manager, &mut bank, &mut steps, name, &code, piece) {
+        let data = [name, 2, 3];
+        if !loads(
+            &mut manager,
+            &mut bank,
+            &mut steps,
+            name,
+            &code,
+            &data,
+            piece,
+        ) {
             return Ok(name);
         }
-        if !has_code(&bank, &[0xA0, 0, 0, 0, name], &code) {
+        let aid = [0xA0, 0, 0, 0, name];
+        let fixed = [name, 2, 3, 0, 0, 0, 0, 0];
+        if !has_code(&bank, &aid, &code) || fixed_of(&bank, &aid) != Some(fixed) {
             return Ok(name);
         }
     }
     for name in 4..33 {
-        if !loads(&mut manager, &mut bank, &mut steps, name, &[4], 1) {
+        if !loads(&mut manager, &mut bank, &mut steps, name, &[4], &[], 1) {
             return Ok(name);
         }
     }
@@ -86,7 +97,7 @@ fn first_missing<L: Ledger>(alloc: Global, blank: Blank) -> Result<u8, NoMemory>
     Ok(if full { 33 } else { 34 })
 }
 
-// Code in one piece, in bytes and in pieces of seven; 32 applications, and no more.
+// Sections in one piece, in bytes and in pieces of seven; 32 applications, and no more.
 #[test]
 fn pieces_and_room(rt: HostRuntime) -> Result<(), Fail> {
     assert_eq!(rt; first_missing::<Brand>(rt.alloc(), Blank::new(1))?, 33);

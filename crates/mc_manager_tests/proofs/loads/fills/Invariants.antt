@@ -1,6 +1,6 @@
 use Rattle.std.proofs.Common.{◌≡◌, false}
 use Rattle.mc_manager.specs.Held.{view_of, Fits}
-use Rattle.mc_manager_tests.proofs.loads.loads.Given as goal
+use Rattle.mc_manager_tests.proofs.loads.fills.Given as goal
 
 -- the manager fits the bank after each piece
 abbrev pub invariant-loop-bytes : goal.invariant-loop-bytes
