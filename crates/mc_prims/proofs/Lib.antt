@@ -1,0 +1,3 @@
+pub mod BlocksLemmas
+pub mod FrameLemmas
+pub mod PlacesLemmas

@@ -1,0 +1,10 @@
+use Rattle.std.proofs.Common.{◌≡◌, ◌-◌, ◌*◌, ◌/◌, ◌++◌, length, take, drop}
+use Rattle.mc_model.specs.Modes.{ecb, each, blocks_of}
+use Rattle.mc_prims.specs.Table.{cipher_of, turned}
+use Rattle.mc_prims.proofs.table.Cipher.turn_each.Given as goal
+
+-- what is turned, and the blocks that are left turned, are the whole turned
+abbrev pub invariant-loop-i : goal.invariant-loop-i
+invariant-loop-i l =
+    let turn = turned l.way (cipher_of l.self) l.key in
+    take (l.size * l.i) l.message ++ each turn (blocks_of (length l.fn.message / l.size - l.i) l.size (drop (l.size * l.i) l.message)) ≡ ecb turn l.size l.fn.message

@@ -1,0 +1,142 @@
+// The bytes that primitives read from segments.
+ghost use Rattle.std.specs.Prelude.{◌≡◌, ◌%◌, ◌≤◌, ◌<◌, ◌∷◌, false, length};
+ghost use Rattle.mc_model.specs.Modes.{ecb};
+ghost use Rattle.mc_model.specs.Frame.{is_outside};
+ghost use Rattle.mc_model.specs.Primitives as model;
+ghost use Rattle.mc_segs.specs.Held.{Fits, shown};
+ghost use Rattle.mc_segs.specs.Ends.{IfDue};
+ghost use Rattle.mc_prims.specs.Acting.{IsLength, Reads, ReadsCount};
+ghost use Rattle.mc_prims.specs.Table.{cipher_of, turned};
+
+use crate::ciphers::Way;
+use crate::table::Cipher;
+use mc_bank::Bank;
+use mc_model::Abend;
+use mc_segs::{Frame, Public, load};
+use std::marker::Model;
+
+/// At most 255 bytes.
+#[derive(Drop)]
+pub struct Block {
+    bytes: [u8; 255],
+    len: u8,
+}
+
+impl Model for Block {
+    ghost use Rattle.std.specs.Prelude.{ℕ, List, take};
+
+    ghost Value = { List ℕ };
+
+    ghost view = { λ b. take b.len b.bytes };
+}
+
+impl Block {
+    /// Reads so many bytes at an address. Abend 03 where they are not whole in a segment.
+    pub fn read<B: Bank>(
+        bank: &B,
+        frame: &Frame,
+        public: &Public,
+        at: u16,
+        len: u8,
+    ) -> Result<Block, Abend>
+        requires going { (B.state bank.now).stopped ≡ false }
+        requires fits { Fits (B.state bank.now) (B.named bank.now) frame.now }
+        ensures { Reads result (shown (B.state bank.now) (B.named bank.now) frame.now) public.now at len }
+    {
+        let mut bytes = [0; 255];
+        load(bank, frame, public, at, &mut bytes[..len as usize])?;
+        Ok(Block { bytes, len })
+    }
+
+    /// A count and the bytes that it counts.
+    pub fn counted(counted: &[u8]) -> Block
+        requires { length counted.now ≤ 254 }
+        ensures { result ≡ length counted.now ∷ counted.now }
+    {
+        let len = counted.len();
+        let mut bytes = [0; 255];
+        bytes[0] = len as u8;
+        bytes[1..len + 1].copy_from_slice(counted);
+        Block {
+            bytes,
+            len: len as u8 + 1,
+        }
+    }
+
+    /// Its bytes.
+    pub fn bytes(&self) -> &[u8]
+        ensures { result.now ≡ self.now }
+    {
+        &self.bytes[..self.len as usize]
+    }
+
+    /// Enciphers or deciphers it as a message, each block by itself.
+    pub fn turn(&mut self, way: Way, cipher: Cipher, key: &[u8])
+        requires key { length key.now ≡ model.key_len (cipher_of cipher) }
+        requires whole { length self.old % model.block_len (cipher_of cipher) ≡ 0 }
+        ensures size { length self.new ≡ length self.old }
+        ensures turned { self.new ≡ ecb (turned way (cipher_of cipher) key.now) (model.block_len (cipher_of cipher)) self.old }
+    {
+        let len = self.len as usize;
+        cipher.turn_each(way, key, &mut self.bytes[..len]);
+    }
+
+    /// Takes it as the start of a chain over a message of whole blocks, and becomes the last block of the chain.
+    pub fn sign(&mut self, cipher: Cipher, key: &[u8], message: &[u8])
+        requires key { length key.now ≡ model.key_len (cipher_of cipher) }
+        requires start { length self.old ≡ model.block_len (cipher_of cipher) }
+        requires whole { length message.now % model.block_len (cipher_of cipher) ≡ 0 }
+        requires some { 0 < length message.now }
+        ensures size { length self.new ≡ length self.old }
+        ensures signed { self.new ≡ model.signature (cipher_of cipher) key.now self.old message.now }
+    {
+        let len = self.len as usize;
+        cipher.sign(key, message, &mut self.bytes[..len]);
+    }
+}
+
+/// Abend 03 where so many bytes at an address are not whole in a segment.
+pub fn reach<B: Bank>(
+    bank: &B,
+    frame: &Frame,
+    public: &Public,
+    at: u16,
+    len: u8,
+) -> Result<(), Abend>
+    requires going { (B.state bank.now).stopped ≡ false }
+    requires fits { Fits (B.state bank.now) (B.named bank.now) frame.now }
+    ensures { IfDue result (is_outside (shown (B.state bank.now) (B.named bank.now) frame.now) at len) Abend.A03 }
+{
+    Block::read(bank, frame, public, at, len)?;
+    Ok(())
+}
+
+/// Reads a count at an address, and tells the address of the bytes that it counts. Abend 03 where it is in no segment.
+#[tactic(auto, using(crate::proofs::FrameLemmas::inside_low))]
+pub fn read_count<B: Bank>(
+    bank: &B,
+    frame: &Frame,
+    public: &Public,
+    at: u16,
+) -> Result<(u8, u16), Abend>
+    requires going { (B.state bank.now).stopped ≡ false }
+    requires fits { Fits (B.state bank.now) (B.named bank.now) frame.now }
+    requires room { length frame.now.frame.fixed ≤ 4096 }
+    ensures { ReadsCount result (shown (B.state bank.now) (B.named bank.now) frame.now) public.now at }
+{
+    // No segment holds the last address: the static one ends at 1000, and DT is at most 8200.
+    let _top = frame.dt();
+    let mut count = [0];
+    load(bank, frame, public, at, &mut count)?;
+    Ok((count[0], at + 1))
+}
+
+/// A length that was read. Abend 06 where it is not 1 to 255.
+pub fn as_length(len: u16) -> Result<u8, Abend>
+    ensures { IsLength result len }
+{
+    if len < 1 || len > 255 {
+        return Err(Abend::A06);
+    }
+    Ok(len as u8)
+}

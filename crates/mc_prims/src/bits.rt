@@ -1,0 +1,110 @@
+// The top of the stack under a mask, and shifted.
+ghost use Rattle.std.specs.Prelude.{◌≡◌, ◌≤◌, ◌<◌, ◌*◌, ◌==◌, cond, [], ◌∷◌, false, slice_index, length};
+ghost use Rattle.mc_model.specs.declared.machine.Abend.TheVariants.{A04};
+ghost use Rattle.mc_model.specs.Blocks.{and_blocks, is_zero};
+ghost use Rattle.mc_model.specs.Frame.{is_under, top};
+ghost use Rattle.mc_model.specs.Primitives as model;
+ghost use Rattle.mc_segs.specs.Held.{Fits, shown};
+ghost use Rattle.mc_segs.specs.Ends.{scene};
+ghost use Rattle.mc_prims.specs.Acting.{CausesAct, PopsInto};
+ghost use Rattle.mc_prims.specs.Table.{shift_block};
+
+use crate::stack::pop_into;
+use mc_arith::{Flags, and, not, or, shift_left, shift_right, xor};
+use mc_bank::Bank;
+use mc_segs::{Frame, Halt, Next, Public, push};
+
+/// Where bits go.
+#[derive(Clone, Copy, Debug, PartialEq, Eq)]
+pub enum Side {
+    Left,
+    Right,
+}
+
+/// Changes or tests the top bytes of the stack under a mask: op 0 clears its bits, 1 sets them, 2 inverts them, 3 only tests.
+#[tactic(auto, using(crate::proofs::FrameLemmas::pushed_popped))]
+pub fn manipulate_top<B: Bank, const N: usize>(
+    op: u8,
+    mask: &[u8; N],
+    frame: &mut Frame,
+    public: &mut Public,
+    bank: &mut B,
+) -> Result<Next, Halt>
+    requires going { (B.state bank.old).stopped ≡ false }
+    requires fits { Fits (B.state bank.old) (B.named bank.old) frame.old }
+    requires op { op ≤ 3 }
+    requires low { 1 ≤ N }
+    requires high { N ≤ 255 }
+    ensures { CausesAct B.did B.state B.named (scene bank.old bank.new frame.old frame.new public.old public.new) ((A04, is_under (shown (B.state bank.old) (B.named bank.old) frame.old) N) ∷ []) (model.going (model.bits_done (shown (B.state bank.old) (B.named bank.old) frame.old) public.old op (top (shown (B.state bank.old) (B.named bank.old) frame.old) N) mask.now)) result }
+{
+    let mut value = [0; N];
+    pop_into(frame, &mut value)?;
+    let z = manipulate(op, &mut value, mask);
+    push(frame, &value)?;
+    frame.set_flags(frame.c(), z);
+    Ok(Next::Go)
+}
+
+// Works on a value under a mask, and says whether the result is zero.
+fn manipulate<const N: usize>(op: u8, value: &mut [u8; N], mask: &[u8; N]) -> bool
+    requires op { op ≤ 3 }
+    requires low { 1 ≤ N }
+    requires high { N ≤ 255 }
+    ensures value { value.new ≡ model.manipulated op value.old mask.now }
+    ensures zero { result ≡ is_zero (cond (op == 3) (and_blocks value.old mask.now) (model.manipulated op value.old mask.now)) }
+{
+    match op {
+        0 => {
+            let mut kept = *mask;
+            not(&mut kept);
+            and(value, &kept)
+        }
+        1 => or(value, mask),
+        2 => xor(value, mask),
+        _ => {
+            let mut tested = *value;
+            and(&mut tested, mask)
+        }
+    }
+}
+
+/// Shifts the top bytes of the stack, so many, by so many bits.
+#[tactic(auto, using(crate::proofs::FrameLemmas::pushed_popped))]
+pub fn shift_top<B: Bank>(
+    side: Side,
+    len: u8,
+    by: u8,
+    frame: &mut Frame,
+    public: &mut Public,
+    bank: &mut B,
+) -> Result<Next, Halt>
+    requires going { (B.state bank.old).stopped ≡ false }
+    requires fits { Fits (B.state bank.old) (B.named bank.old) frame.old }
+    requires low { 1 ≤ len }
+    requires high { len ≤ 16 }
+    requires some { 1 ≤ by }
+    requires inside { by < 8 * len }
+    ensures { CausesAct B.did B.state B.named (scene bank.old bank.new frame.old frame.new public.old public.new) ((A04, is_under (shown (B.state bank.old) (B.named bank.old) frame.old) len) ∷ []) (model.going (model.shifted (shown (B.state bank.old) (B.named bank.old) frame.old) public.old (shift_block side (top (shown (B.state bank.old) (B.named bank.old) frame.old) len) by))) result }
+{
+    let mut bytes = [0; 16];
+    let value = &mut bytes[..len as usize];
+    pop_into(frame, value)?;
+    let flags = shift(side, value, by);
+    push(frame, value)?;
+    frame.set_flags(flags.c, flags.z);
+    Ok(Next::Go)
+}
+
+// Shifts a value to a side.
+fn shift(side: Side, value: &mut [u8], by: u8) -> Flags
+    requires low { 1 ≤ length value.old }
+    requires high { length value.old ≤ 16 }
+    requires some { 1 ≤ by }
+    requires inside { by < 8 * length value.old }
+    ensures { record { value = value.new; c = result.c; z = result.z } ≡ shift_block side value.old by }
+{
+    match side {
+        Side::Left => shift_left(value, by),
+        Side::Right => shift_right(value, by),
+    }
+}

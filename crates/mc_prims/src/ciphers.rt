@@ -1,0 +1,99 @@
+// Messages through ciphers.
+ghost use Rattle.std.specs.Prelude.{◌≡◌, ◌%◌, ◌<◌, length, [], ◌∷◌, false, not};
+ghost use Rattle.mc_model.specs.Modes.{ecb};
+ghost use Rattle.mc_model.specs.Primitives as model;
+ghost use Rattle.mc_prims.specs.Table.{cipher_of, turned};
+
+use crate::table::Cipher;
+use mc_aes::{aes_decipher, aes_encipher, aes_signature};
+use mc_des::{
+    des_decipher, des_encipher, des_signature, tdes_decipher, tdes_encipher, tdes_signature,
+};
+
+/// What becomes of a message.
+#[derive(Clone, Copy, Debug, PartialEq, Eq)]
+pub enum Way {
+    Encipher,
+    Decipher,
+}
+
+// An array of the bytes of a slice.
+fn array<const N: usize>(bytes: &[u8]) -> [u8; N]
+    requires { length bytes.now ≡ N }
+    ensures { result ≡ bytes.now }
+{
+    let mut array = [0; N];
+    array.copy_from_slice(bytes);
+    array
+}
+
+impl Cipher {
+    // Enciphers a block in its place.
+    fn encipher(self, key: &[u8], block: &mut [u8])
+        requires key { length key.now ≡ model.key_len (cipher_of self) }
+        requires block { length block.old ≡ model.block_len (cipher_of self) }
+        ensures { block.new ≡ model.enciphered (cipher_of self) key.now block.old }
+    {
+        match self {
+            Cipher::Des => block.copy_from_slice(&des_encipher(&array(key), &array(block))),
+            Cipher::TripleDes => block.copy_from_slice(&tdes_encipher(&array(key), &array(block))),
+            Cipher::Aes => block.copy_from_slice(&aes_encipher(&array(key), &array(block))),
+        }
+    }
+
+    // Deciphers a block in its place.
+    fn decipher(self, key: &[u8], block: &mut [u8])
+        requires key { length key.now ≡ model.key_len (cipher_of self) }
+        requires block { length block.old ≡ model.block_len (cipher_of self) }
+        ensures { block.new ≡ model.deciphered (cipher_of self) key.now block.old }
+    {
+        match self {
+            Cipher::Des => block.copy_from_slice(&des_decipher(&array(key), &array(block))),
+            Cipher::TripleDes => block.copy_from_slice(&tdes_decipher(&array(key), &array(block))),
+            Cipher::Aes => block.copy_from_slice(&aes_decipher(&array(key), &array(block))),
+        }
+    }
+
+    // Enciphers or deciphers a block in its place.
+    fn turn(self, way: Way, key: &[u8], block: &mut [u8])
+        requires key { length key.now ≡ model.key_len (cipher_of self) }
+        requires block { length block.old ≡ model.block_len (cipher_of self) }
+        ensures { block.new ≡ turned way (cipher_of self) key.now block.old }
+    {
+        match way {
+            Way::Encipher => self.encipher(key, block),
+            Way::Decipher => self.decipher(key, block),
+        }
+    }
+
+    /// Enciphers or deciphers a message of whole blocks in its place, each block by itself.
+    pub fn turn_each(self, way: Way, key: &[u8], message: &mut [u8])
+        requires key { length key.now ≡ model.key_len (cipher_of self) }
+        requires whole { length message.old % model.block_len (cipher_of self) ≡ 0 }
+        ensures { message.new ≡ ecb (turned way (cipher_of self) key.now) (model.block_len (cipher_of self)) message.old }
+    {
+        let size = self.block_len() as usize;
+        for i in 0..message.len() / size {
+            self.turn(way, key, &mut message[size * i..size * i + size]);
+        }
+    }
+
+    /// Writes the last block of a chain over a message of whole blocks; what it is written over is the start block.
+    pub fn sign(self, key: &[u8], message: &[u8], last: &mut [u8])
+        requires key { length key.now ≡ model.key_len (cipher_of self) }
+        requires start { length last.old ≡ model.block_len (cipher_of self) }
+        requires whole { length message.now % model.block_len (cipher_of self) ≡ 0 }
+        requires some { 0 < length message.now }
+        ensures { last.new ≡ model.signature (cipher_of self) key.now last.old message.now }
+    {
+        match self {
+            Cipher::Des => last.copy_from_slice(&des_signature(&array(key), &array(last), message)),
+            Cipher::TripleDes => last.copy_from_slice(&tdes_signature(
+                &array(key),
+                &array(last),
+                message,
+            )),
+            Cipher::Aes => last.copy_from_slice(&aes_signature(&array(key), &array(last), message)),
+        }
+    }
+}

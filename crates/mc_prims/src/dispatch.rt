@@ -1,0 +1,113 @@
+// A primitive by its pair of set and number.
+ghost use Rattle.std.specs.Prelude.{◌≡◌, ◌≤◌, false, length};
+ghost use Rattle.mc_model.specs.declared.instruction.Ins.TheVariants.{Prim};
+ghost use Rattle.mc_model.specs.Primitives as model;
+ghost use Rattle.mc_segs.specs.Held.{Fits, shown};
+ghost use Rattle.mc_segs.specs.Ends.{RowActs, scene};
+ghost use Rattle.mc_prims.specs.Acting.{PrimActs};
+ghost use Rattle.mc_prims.specs.Table.{known, primitive_of};
+
+use crate::bits::{Side, manipulate_top, shift_top};
+use crate::ciphers::Way;
+use crate::memory::{compare_fixed, compare_memory, copy_fixed, copy_memory, digest, look_up};
+use crate::messages::{sign_message, turn_message};
+use crate::names::{delegate, tell_delegator};
+use crate::registers::{check_case, load_flags, set_protection, store_flags};
+use crate::table::Primitive;
+use mc_bank::Bank;
+use mc_base::Aid;
+use mc_model::Abend;
+use mc_segs::{Frame, Halt, Next, Public};
+
+/// What a primitive knows besides its frame: the case of the chain's command, 1 to 4, and the name of the application
+/// whose frame delegated to the running one, where there is one.
+#[derive(Clone, Copy, Debug, PartialEq, Eq)]
+pub struct Around {
+    pub case: u8,
+    pub delegator: Option<Aid>,
+}
+
+/// Does the primitive of a set and a number. As many of the argument bytes count as the set's number says. It abends with 06
+/// where there is no such pair or the argument bytes are out of their range, then with 0A where the access list of the
+/// frame's application denies the primitive, and then by the primitive's other causes, the first that holds. An abend
+/// writes no byte. A `Stop` is the bank's, which stopped in the static change. The ciphers are DES and two-key triple DES
+/// (FIPS 46-3) and AES-128 (FIPS 197), by ECB or as the last block of CBC (FIPS 81), and the digest is SHA-1 (FIPS 180-4).
+#[tactic(auto, unfolding(mc_model::specs::Row::row, mc_model::specs::Row::causes, mc_model::specs::Row::effect))]
+pub fn prim<B: Bank>(
+    set: u8,
+    number: u8,
+    args: &[u8; 3],
+    around: &Around,
+    frame: &mut Frame,
+    public: &mut Public,
+    bank: &mut B,
+) -> Result<Next, Halt>
+    requires going { (B.state bank.old).stopped ≡ false }
+    requires fits { Fits (B.state bank.old) (B.named bank.old) frame.old }
+    ensures { RowActs B.did B.state B.named (scene bank.old bank.new frame.old frame.new public.old public.new) (Prim set number args.now) (known around.now) result }
+{
+    let Some(primitive) = Primitive::of(set, number) else {
+        return Err(Halt::Abend(Abend::A06));
+    };
+    if primitive.has_bad_argument(args) {
+        return Err(Halt::Abend(Abend::A06));
+    }
+    let sizes = bank.facts(frame.slot()).sizes;
+    if primitive.is_denied(sizes.deny) {
+        return Err(Halt::Abend(Abend::A0A));
+    }
+    run(primitive, args, around, frame, public, bank)
+}
+
+// Does a primitive whose argument bytes are good and which is not denied.
+#[tactic(auto, unfolding(mc_model::specs::Primitives::later_causes, mc_model::specs::Primitives::prim_effect))]
+fn run<B: Bank>(
+    primitive: Primitive,
+    args: &[u8; 3],
+    around: &Around,
+    frame: &mut Frame,
+    public: &mut Public,
+    bank: &mut B,
+) -> Result<Next, Halt>
+    requires going { (B.state bank.old).stopped ≡ false }
+    requires fits { Fits (B.state bank.old) (B.named bank.old) frame.old }
+    requires args { model.has_bad_argument (primitive_of primitive) args.now ≡ false }
+    requires room { length frame.old.frame.fixed ≤ 4096 }
+    ensures { PrimActs B.did B.state B.named (scene bank.old bank.new frame.old frame.new public.old public.new) (primitive_of primitive) args.now (known around.now) result }
+{
+    match primitive {
+        Primitive::CheckCase => check_case(around.case, frame, public, bank),
+        Primitive::LoadCcr => load_flags(frame, public, bank),
+        Primitive::StoreCcr => store_flags(frame, public, bank),
+        Primitive::Lookup => look_up(frame, public, bank),
+        Primitive::MemoryCompare => compare_memory(frame, public, bank),
+        Primitive::MemoryCopy => copy_memory(frame, public, bank),
+        Primitive::Delegate => delegate(frame, public, bank),
+        Primitive::DelegatorAid => tell_delegator(around.delegator, frame, public, bank),
+        Primitive::Digest => digest(frame, public, bank),
+        Primitive::CompareFixed => compare_fixed(args, frame, public, bank),
+        Primitive::CopyFixed => copy_fixed(args, frame, public, bank),
+        Primitive::SetProtection => set_protection(args, frame, public, bank),
+        Primitive::Encipher(cipher) => turn_message(
+            Way::Encipher,
+            cipher,
+            args[0],
+            frame,
+            public,
+            bank,
+        ),
+        Primitive::Decipher(cipher) => turn_message(
+            Way::Decipher,
+            cipher,
+            args[0],
+            frame,
+            public,
+            bank,
+        ),
+        Primitive::Sign(cipher) => sign_message(cipher, args, frame, public, bank),
+        Primitive::BitByte => manipulate_top(args[0], &[args[1]], frame, public, bank),
+        Primitive::ShiftLeft => shift_top(Side::Left, args[0], args[1], frame, public, bank),
+        Primitive::ShiftRight => shift_top(Side::Right, args[0], args[1], frame, public, bank),
+        Primitive::BitWord => manipulate_top(args[0], &[args[1], args[2]], frame, public, bank),
+    }
+}

@@ -1,0 +1,167 @@
+// Bytes copied, compared, digested and looked up.
+ghost use Rattle.std.specs.Prelude.{◌≡◌, ◌+◌, ◌==◌, ◌≤◌, [], ◌∷◌, false, length, position, Ok};
+ghost use Rattle.mc_model.specs.Frame.{flagged, pushed};
+ghost use Rattle.mc_model.specs.Primitives as model;
+ghost use Rattle.mc_model.specs.Primitives.{Lookup, MemoryCompare, MemoryCopy, CompareFixed, CopyFixed, Digest};
+ghost use Rattle.mc_segs.specs.Held.{Fits, shown};
+ghost use Rattle.mc_segs.specs.Ends.{scene};
+ghost use Rattle.mc_segs.specs.declared.ends.Next.TheVariants.{Go};
+ghost use Rattle.mc_prims.specs.Acting.{alone, CausesAct, PrimActs, compare_causes, flags_compared};
+
+use crate::access::{Block, as_length, reach, read_count};
+use crate::stack::{pop_byte_and_word, pop_three, pop_two};
+use mc_arith::compare;
+use mc_bank::Bank;
+use mc_segs::{Frame, Halt, Next, Public, push, store};
+use sha1::Sha1;
+
+/// Memory Copy: length, to and from are on the stack.
+#[tactic(auto, unfolding(mc_model::specs::Primitives::later_causes, mc_model::specs::Primitives::prim_effect))]
+pub fn copy_memory<B: Bank>(
+    frame: &mut Frame,
+    public: &mut Public,
+    bank: &mut B,
+) -> Result<Next, Halt>
+    requires going { (B.state bank.old).stopped ≡ false }
+    requires fits { Fits (B.state bank.old) (B.named bank.old) frame.old }
+    ensures { PrimActs B.did B.state B.named (scene bank.old bank.new frame.old frame.new public.old public.new) MemoryCopy [] alone result }
+{
+    let (len, to, from) = pop_three(frame)?;
+    let len = as_length(len)?;
+    let block = Block::read(bank, frame, public, from, len)?;
+    store(bank, frame, public, to, block.bytes())?;
+    Ok(Next::Go)
+}
+
+/// Memory Copy Fixed Length: to and from are on the stack.
+#[tactic(auto, unfolding(mc_model::specs::Primitives::later_causes, mc_model::specs::Primitives::prim_effect))]
+pub fn copy_fixed<B: Bank>(
+    args: &[u8; 3],
+    frame: &mut Frame,
+    public: &mut Public,
+    bank: &mut B,
+) -> Result<Next, Halt>
+    requires going { (B.state bank.old).stopped ≡ false }
+    requires fits { Fits (B.state bank.old) (B.named bank.old) frame.old }
+    requires args { model.has_bad_argument CopyFixed args.now ≡ false }
+    ensures { PrimActs B.did B.state B.named (scene bank.old bank.new frame.old frame.new public.old public.new) CopyFixed args.now alone result }
+{
+    let (to, from) = pop_two(frame)?;
+    let block = Block::read(bank, frame, public, from, args[0])?;
+    store(bank, frame, public, to, block.bytes())?;
+    Ok(Next::Go)
+}
+
+/// Memory Compare: length, first and second are on the stack.
+#[tactic(auto, unfolding(mc_model::specs::Primitives::later_causes, mc_model::specs::Primitives::prim_effect))]
+pub fn compare_memory<B: Bank>(
+    frame: &mut Frame,
+    public: &mut Public,
+    bank: &mut B,
+) -> Result<Next, Halt>
+    requires going { (B.state bank.old).stopped ≡ false }
+    requires fits { Fits (B.state bank.old) (B.named bank.old) frame.old }
+    ensures { PrimActs B.did B.state B.named (scene bank.old bank.new frame.old frame.new public.old public.new) MemoryCompare [] alone result }
+{
+    let (len, first, second) = pop_three(frame)?;
+    let len = as_length(len)?;
+    compare_bytes(len, first, second, frame, public, bank)
+}
+
+/// Memory Compare Fixed Length: first and second are on the stack.
+#[tactic(auto, unfolding(mc_model::specs::Primitives::later_causes, mc_model::specs::Primitives::prim_effect))]
+pub fn compare_fixed<B: Bank>(
+    args: &[u8; 3],
+    frame: &mut Frame,
+    public: &mut Public,
+    bank: &mut B,
+) -> Result<Next, Halt>
+    requires going { (B.state bank.old).stopped ≡ false }
+    requires fits { Fits (B.state bank.old) (B.named bank.old) frame.old }
+    requires args { model.has_bad_argument CompareFixed args.now ≡ false }
+    ensures { PrimActs B.did B.state B.named (scene bank.old bank.new frame.old frame.new public.old public.new) CompareFixed args.now alone result }
+{
+    let (first, second) = pop_two(frame)?;
+    compare_bytes(args[0], first, second, frame, public, bank)
+}
+
+// Sets the flags by the difference of bytes at two addresses.
+fn compare_bytes<B: Bank>(
+    len: u8,
+    first: u16,
+    second: u16,
+    frame: &mut Frame,
+    public: &mut Public,
+    bank: &mut B,
+) -> Result<Next, Halt>
+    requires going { (B.state bank.old).stopped ≡ false }
+    requires fits { Fits (B.state bank.old) (B.named bank.old) frame.old }
+    requires len { 1 ≤ len }
+    ensures { CausesAct B.did B.state B.named (scene bank.old bank.new frame.old frame.new public.old public.new) (compare_causes (shown (B.state bank.old) (B.named bank.old) frame.old) len first second) (flags_compared (shown (B.state bank.old) (B.named bank.old) frame.old) public.old len first second) result }
+{
+    let first = Block::read(bank, frame, public, first, len)?;
+    let second = Block::read(bank, frame, public, second, len)?;
+    let flags = compare(first.bytes(), second.bytes());
+    frame.set_flags(flags.c, flags.z);
+    Ok(Next::Go)
+}
+
+/// SHA-1 (FIPS 180-4): length, from and to are on the stack.
+#[tactic(auto, unfolding(mc_model::specs::Primitives::later_causes, mc_model::specs::Primitives::prim_effect))]
+pub fn digest<B: Bank>(frame: &mut Frame, public: &mut Public, bank: &mut B) -> Result<Next, Halt>
+    requires going { (B.state bank.old).stopped ≡ false }
+    requires fits { Fits (B.state bank.old) (B.named bank.old) frame.old }
+    ensures { PrimActs B.did B.state B.named (scene bank.old bank.new frame.old frame.new public.old public.new) Digest [] alone result }
+{
+    let (len, from, to) = pop_three(frame)?;
+    // The length of the digest does not hang on the one that was read: its place is tested first.
+    reach(bank, frame, public, to, 20)?;
+    let len = as_length(len)?;
+    let message = Block::read(bank, frame, public, from, len)?;
+    store(bank, frame, public, to, &Sha1::digest(message.bytes()))?;
+    Ok(Next::Go)
+}
+
+/// Lookup: a byte and an address are on the stack. At the address are a count and the bytes among which the byte is
+/// looked up.
+#[tactic(auto, unfolding(mc_model::specs::Primitives::later_causes, mc_model::specs::Primitives::prim_effect))]
+pub fn look_up<B: Bank>(frame: &mut Frame, public: &mut Public, bank: &mut B) -> Result<Next, Halt>
+    requires going { (B.state bank.old).stopped ≡ false }
+    requires fits { Fits (B.state bank.old) (B.named bank.old) frame.old }
+    requires room { length frame.old.frame.fixed ≤ 4096 }
+    ensures { PrimActs B.did B.state B.named (scene bank.old bank.new frame.old frame.new public.old public.new) Lookup [] alone result }
+{
+    let (value, at) = pop_byte_and_word(frame)?;
+    let (count, behind) = read_count(bank, frame, public, at)?;
+    let bytes = Block::read(bank, frame, public, behind, count)?;
+    match first_place(bytes.bytes(), value) {
+        Some(place) => tell_place(place, true, frame),
+        None => tell_place(0, false, frame),
+    }
+}
+
+// Pushes a place, and tells by Z whether it is one.
+fn tell_place(place: u8, found: bool, frame: &mut Frame) -> Result<Next, Halt>
+    requires room { frame.old.frame.dt + 1 ≤ 0x8200 }
+    ensures done { result ≡ Ok Go }
+    ensures told { frame.new ≡ record frame.old { frame = flagged (pushed frame.old.frame (place ∷ [])) frame.old.frame.c found } }
+{
+    push(frame, &[place])?;
+    frame.set_flags(frame.c(), found);
+    Ok(Next::Go)
+}
+
+// The first place of a byte.
+fn first_place(bytes: &[u8], value: u8) -> Option<u8>
+    requires { length bytes.now ≤ 255 }
+    ensures { result ≡ position (λ b. b == value) bytes.now }
+{
+    let mut place = 0;
+    for b in bytes {
+        if *b == value {
+            return Some(place);
+        }
+        place += 1;
+    }
+    None
+}

@@ -1,0 +1,60 @@
+// Messages enciphered, deciphered and signed.
+ghost use Rattle.std.specs.Prelude.{◌≡◌, [], ◌∷◌, false, true, get_or, slice_index};
+ghost use Rattle.mc_model.specs.Primitives as model;
+ghost use Rattle.mc_segs.specs.Held.{Fits, shown};
+ghost use Rattle.mc_segs.specs.Ends.{scene};
+ghost use Rattle.mc_prims.specs.Acting.{alone, CausesAct, PrimActs};
+ghost use Rattle.mc_prims.specs.Table.{cipher_of, turned};
+
+use crate::access::Block;
+use crate::ciphers::Way;
+use crate::stack::{pop_four, pop_three};
+use crate::table::Cipher;
+use mc_bank::Bank;
+use mc_segs::{Frame, Halt, Next, Public, store};
+
+/// Enciphers or deciphers a message of so many bytes: its address, that of the result and that of the key are on the stack.
+#[tactic(auto, using(crate::proofs::FrameLemmas::or_last, crate::proofs::FrameLemmas::message_some))]
+pub fn turn_message<B: Bank>(
+    way: Way,
+    cipher: Cipher,
+    len: u8,
+    frame: &mut Frame,
+    public: &mut Public,
+    bank: &mut B,
+) -> Result<Next, Halt>
+    requires going { (B.state bank.old).stopped ≡ false }
+    requires fits { Fits (B.state bank.old) (B.named bank.old) frame.old }
+    requires message { model.is_message (cipher_of cipher) len ≡ true }
+    ensures { CausesAct B.did B.state B.named (scene bank.old bank.new frame.old frame.new public.old public.new) (model.cipher_causes (cipher_of cipher) len (shown (B.state bank.old) (B.named bank.old) frame.old)) (model.going (model.cipher_done (turned way (cipher_of cipher)) (cipher_of cipher) len (shown (B.state bank.old) (B.named bank.old) frame.old) public.old)) result }
+{
+    let (from, to, key) = pop_three(frame)?;
+    let mut message = Block::read(bank, frame, public, from, len)?;
+    let key = Block::read(bank, frame, public, key, cipher.key_len())?;
+    message.turn(way, cipher, key.bytes());
+    store(bank, frame, public, to, message.bytes())?;
+    Ok(Next::Go)
+}
+
+/// Signs a message: the addresses of the start block, the message, the signature and the key are on the stack.
+#[tactic(auto, using(crate::proofs::FrameLemmas::or_last, crate::proofs::FrameLemmas::message_some), unfolding(mc_model::specs::Primitives::later_causes, mc_model::specs::Primitives::prim_effect))]
+pub fn sign_message<B: Bank>(
+    cipher: Cipher,
+    args: &[u8; 3],
+    frame: &mut Frame,
+    public: &mut Public,
+    bank: &mut B,
+) -> Result<Next, Halt>
+    requires going { (B.state bank.old).stopped ≡ false }
+    requires fits { Fits (B.state bank.old) (B.named bank.old) frame.old }
+    requires message { model.is_message (cipher_of cipher) (slice_index args.now 0) ≡ true }
+    ensures { PrimActs B.did B.state B.named (scene bank.old bank.new frame.old frame.new public.old public.new) (model.Sign (cipher_of cipher)) args.now alone result }
+{
+    let (start, from, to, key) = pop_four(frame)?;
+    let mut last = Block::read(bank, frame, public, start, cipher.block_len())?;
+    let message = Block::read(bank, frame, public, from, args[0])?;
+    let key = Block::read(bank, frame, public, key, cipher.key_len())?;
+    last.sign(cipher, key.bytes(), message.bytes());
+    store(bank, frame, public, to, last.bytes())?;
+    Ok(Next::Go)
+}

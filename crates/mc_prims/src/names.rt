@@ -1,0 +1,58 @@
+// The names of applications that delegate and are delegated to.
+ghost use Rattle.std.specs.Prelude.{◌≡◌, ◌≤◌, [], ◌∷◌, false, length};
+ghost use Rattle.mc_model.specs.Primitives as model;
+ghost use Rattle.mc_model.specs.Primitives.{DelegateTo, DelegatorAid};
+ghost use Rattle.mc_segs.specs.Held.{Fits};
+ghost use Rattle.mc_segs.specs.Ends.{scene};
+ghost use Rattle.mc_prims.specs.Acting.{alone, PrimActs};
+
+use crate::access::{Block, read_count};
+use crate::stack::pop_word;
+use mc_bank::Bank;
+use mc_base::Aid;
+use mc_model::Abend;
+use mc_segs::{Frame, Halt, Next, Public, store};
+
+/// Delegate: an address is on the stack, and at the address a length and a name.
+#[tactic(auto, unfolding(mc_model::specs::Primitives::later_causes, mc_model::specs::Primitives::prim_effect))]
+pub fn delegate<B: Bank>(frame: &mut Frame, public: &mut Public, bank: &mut B) -> Result<Next, Halt>
+    requires going { (B.state bank.old).stopped ≡ false }
+    requires fits { Fits (B.state bank.old) (B.named bank.old) frame.old }
+    requires room { length frame.old.frame.fixed ≤ 4096 }
+    ensures { PrimActs B.did B.state B.named (scene bank.old bank.new frame.old frame.new public.old public.new) DelegateTo [] alone result }
+{
+    let at = pop_word(frame)?;
+    let (len, behind) = read_count(bank, frame, public, at)?;
+    if len < 5 || len > 16 {
+        return Err(Halt::Abend(Abend::A06));
+    }
+    let name = Block::read(bank, frame, public, behind, len)?;
+    match Aid::new(name.bytes()) {
+        Some(name) => Ok(Next::Delegate(name)),
+        None => Err(Halt::Abend(Abend::A06)),
+    }
+}
+
+/// Get Delegator AID: an address is on the stack. Without a delegator the address is not tested.
+#[tactic(auto, unfolding(mc_model::specs::Primitives::later_causes, mc_model::specs::Primitives::prim_effect))]
+pub fn tell_delegator<B: Bank>(
+    delegator: Option<Aid>,
+    frame: &mut Frame,
+    public: &mut Public,
+    bank: &mut B,
+) -> Result<Next, Halt>
+    requires going { (B.state bank.old).stopped ≡ false }
+    requires fits { Fits (B.state bank.old) (B.named bank.old) frame.old }
+    ensures { PrimActs B.did B.state B.named (scene bank.old bank.new frame.old frame.new public.old public.new) DelegatorAid [] (record alone { delegator = delegator }) result }
+{
+    let at = pop_word(frame)?;
+    let c = frame.c();
+    let Some(name) = delegator else {
+        frame.set_flags(c, true);
+        return Ok(Next::Go);
+    };
+    let told = Block::counted(name.bytes());
+    store(bank, frame, public, at, told.bytes())?;
+    frame.set_flags(c, false);
+    Ok(Next::Go)
+}

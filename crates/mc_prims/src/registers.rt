@@ -1,0 +1,81 @@
+// The command's case, the flags as a byte, and the protection of static bytes. Each primitive is lent what every primitive
+// is lent, so that its contract is that of its row.
+ghost use Rattle.std.specs.Prelude.{◌≡◌, [], ◌∷◌, false};
+ghost use Rattle.mc_model.specs.Primitives as model;
+ghost use Rattle.mc_model.specs.Primitives.{CheckCase, LoadCcr, StoreCcr, SetProtection};
+ghost use Rattle.mc_segs.specs.Held.{Fits};
+ghost use Rattle.mc_segs.specs.Ends.{scene};
+ghost use Rattle.mc_prims.specs.Acting.{alone, PrimActs};
+
+use crate::stack::pop_byte;
+use mc_bank::Bank;
+use mc_model::Abend;
+use mc_segs::{Frame, Halt, Next, Public, protect, push};
+
+/// Check Case: a case, 1 to 4, is on the stack.
+#[tactic(auto, unfolding(mc_model::specs::Primitives::later_causes, mc_model::specs::Primitives::prim_effect))]
+pub fn check_case<B: Bank>(
+    case: u8,
+    frame: &mut Frame,
+    public: &mut Public,
+    bank: &mut B,
+) -> Result<Next, Halt>
+    requires going { (B.state bank.old).stopped ≡ false }
+    requires fits { Fits (B.state bank.old) (B.named bank.old) frame.old }
+    ensures { PrimActs B.did B.state B.named (scene bank.old bank.new frame.old frame.new public.old public.new) CheckCase [] (record alone { case = case }) result }
+{
+    let asked = pop_byte(frame)?;
+    if asked < 1 || asked > 4 {
+        return Err(Halt::Abend(Abend::A06));
+    }
+    frame.set_flags(frame.c(), asked == case);
+    Ok(Next::Go)
+}
+
+/// Load CCR: pushes the flags, C as 02 and Z as 01.
+#[tactic(auto, unfolding(mc_model::specs::Primitives::later_causes, mc_model::specs::Primitives::prim_effect))]
+pub fn load_flags<B: Bank>(
+    frame: &mut Frame,
+    public: &mut Public,
+    bank: &mut B,
+) -> Result<Next, Halt>
+    requires going { (B.state bank.old).stopped ≡ false }
+    requires fits { Fits (B.state bank.old) (B.named bank.old) frame.old }
+    ensures { PrimActs B.did B.state B.named (scene bank.old bank.new frame.old frame.new public.old public.new) LoadCcr [] alone result }
+{
+    push(frame, &[2 * frame.c() as u8 + frame.z() as u8])?;
+    Ok(Next::Go)
+}
+
+/// Store CCR: pops the flags, as Load CCR pushes them.
+#[tactic(auto, unfolding(mc_model::specs::Primitives::later_causes, mc_model::specs::Primitives::prim_effect))]
+pub fn store_flags<B: Bank>(
+    frame: &mut Frame,
+    public: &mut Public,
+    bank: &mut B,
+) -> Result<Next, Halt>
+    requires going { (B.state bank.old).stopped ≡ false }
+    requires fits { Fits (B.state bank.old) (B.named bank.old) frame.old }
+    ensures { PrimActs B.did B.state B.named (scene bank.old bank.new frame.old frame.new public.old public.new) StoreCcr [] alone result }
+{
+    let flags = pop_byte(frame)?;
+    frame.set_flags(flags / 2 % 2 == 1, flags % 2 == 1);
+    Ok(Next::Go)
+}
+
+/// Set Transaction Protection.
+#[tactic(auto, unfolding(mc_model::specs::Primitives::later_causes, mc_model::specs::Primitives::prim_effect))]
+pub fn set_protection<B: Bank>(
+    args: &[u8; 3],
+    frame: &mut Frame,
+    public: &mut Public,
+    bank: &mut B,
+) -> Result<Next, Halt>
+    requires going { (B.state bank.old).stopped ≡ false }
+    requires fits { Fits (B.state bank.old) (B.named bank.old) frame.old }
+    requires args { model.has_bad_argument SetProtection args.now ≡ false }
+    ensures { PrimActs B.did B.state B.named (scene bank.old bank.new frame.old frame.new public.old public.new) SetProtection args.now alone result }
+{
+    protect(bank, frame, args[0])?;
+    Ok(Next::Go)
+}

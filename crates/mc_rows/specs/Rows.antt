@@ -1,0 +1,137 @@
+-- How the rows of a family end, whatever their operation and the length of their operands.
+-- This project's profile.
+use Rattle.std.specs.Prelude.{◌≡◌, ℕ, ◌+◌, ◌*◌, Bool, true, false, not, ◌==◌, ℤ, List, ◌∷◌, length, Option, Some, None, Result, Ok, Err}
+use Rattle.mc_model.specs.declared.machine.Abend.{Abend}
+use Rattle.mc_model.specs.declared.machine.Abend.TheVariants.{A02, A03, A04, A06}
+use Rattle.mc_model.specs.Blocks.{Worked, add_blocks, sub_blocks, inc_block, dec_block, and_blocks, or_blocks, xor_blocks, not_block, is_zero}
+use Rattle.mc_model.specs.Frame.{Frame, address_at, bytes_at, is_outside, no_access, written, is_under, top}
+use Rattle.mc_model.specs.Primitives.{Around, Done, going, in_range}
+use Rattle.mc_model.specs.Row.{RowEnd, first_cause, judged, operand, on_stack, immediate_reads, immediate_writes, pair_writes, becomes, flags_of, place_of, value_of, first_of}
+use Rattle.mc_rows.specs.declared.operations.Binary.{Binary}
+use Rattle.mc_rows.specs.declared.operations.Binary.TheVariants.{Add, Sub, And, Or, Xor}
+use Rattle.mc_rows.specs.declared.operations.Unary.{Unary}
+use Rattle.mc_rows.specs.declared.operations.Unary.TheVariants.{Inc, Dec, Not}
+
+-- nothing is known around the frame: only primitives ask
+abbrev pub alone : Around
+alone = record { case = 0; delegator = None }
+
+-- the place of an operand: 04 where the stack is too short, 03 where there is no such address
+abbrev pub Placed : Result ℕ Abend → Bool → Option ℕ → Type 0
+Placed (Ok a) under place = (under ≡ false) × (place ≡ Some a)
+Placed (Err A04) under place = under ≡ true
+Placed (Err A03) under place = (under ≡ false) × (place ≡ None)
+Placed (Err _) under place = ⊥
+
+-- a value, or this abend exactly where it is due
+abbrev pub Gives : Result ℕ Abend → Bool → Abend → ℕ → Type 0
+Gives (Ok v) due a w = (due ≡ false) × (v ≡ w)
+Gives (Err b) due a w = (due ≡ true) × (b ≡ a)
+
+-- a return: 04 where there is none to return from, 02 where it leads to no place
+abbrev pub Returns : Result (Unit {0}) Abend → Bool → Bool → Type 0
+Returns (Ok u) none past = (none ≡ false) × (past ≡ false)
+Returns (Err A04) none past = none ≡ true
+Returns (Err A02) none past = (none ≡ false) × (past ≡ true)
+Returns (Err _) none past = ⊥
+
+-- a place to go to: 02 where there is no such address
+abbrev pub Led : Result ℕ Abend → Option ℕ → Type 0
+Led (Ok a) to = to ≡ Some a
+Led (Err b) to = (to ≡ None) × (b ≡ A02)
+
+-- the address to which n bytes from the top of the stack go: 04 where the stack is too short, 03 where the place that has it lies in no segment
+abbrev pub AddressUnder : Result ℕ Abend → Frame → List ℕ → ℕ → ℤ → ℕ → Type 0
+AddressUnder (Ok a) f public tag off n =
+    (is_under f (on_stack tag (n + 2) n) ≡ false) × (no_access f (operand f tag off (n + 2)) 2 ≡ false) × (a ≡ address_at f public (place_of f tag off (n + 2)))
+AddressUnder (Err A04) f public tag off n = is_under f (on_stack tag (n + 2) n) ≡ true
+AddressUnder (Err A03) f public tag off n = (is_under f (on_stack tag (n + 2) n) ≡ false) × (no_access f (operand f tag off (n + 2)) 2 ≡ true)
+AddressUnder (Err _) f public tag off n = ⊥
+
+-- a pair of operands: 04 where the stack is too short, 03 where the first lies in no segment, else its address and both values
+abbrev pub PairRead : Result ℕ Abend → Frame → List ℕ → ℕ → ℤ → ℕ → List ℕ → List ℕ → Type 0
+PairRead (Ok a) f public tag off n first second =
+    (is_under f (on_stack tag (2 * n) n) ≡ false) × (operand f tag off (2 * n) ≡ Some a) × (is_outside f a n ≡ false) × (first ≡ bytes_at f public a n) × (second ≡ top f n)
+PairRead (Err A04) f public tag off n first second = is_under f (on_stack tag (2 * n) n) ≡ true
+PairRead (Err A03) f public tag off n first second = (is_under f (on_stack tag (2 * n) n) ≡ false) × (no_access f (operand f tag off (2 * n)) n ≡ true)
+PairRead (Err _) f public tag off n first second = ⊥
+
+-- a row by its causes and its effect
+abbrev pub ended : List (Abend × Bool) → Done → RowEnd
+ended causes done = judged (first_cause causes) done
+
+-- ---- operations
+
+-- bits alone leave C
+abbrev pub bits : Bool → List ℕ → Worked
+bits c b = record { value = b; c = c; z = is_zero b }
+
+-- what two blocks give where C was c
+abbrev pub combined_by : Binary → Bool → List ℕ → List ℕ → Worked
+combined_by Add c a b = add_blocks a b
+combined_by Sub c a b = sub_blocks a b
+combined_by And c a b = bits c (and_blocks a b)
+combined_by Or c a b = bits c (or_blocks a b)
+combined_by Xor c a b = bits c (xor_blocks a b)
+
+-- what one block gives where C was c
+abbrev pub changed_by : Unary → Bool → List ℕ → Worked
+changed_by Inc c a = inc_block a
+changed_by Dec c a = dec_block a
+changed_by Not c a = bits c (not_block a)
+
+-- the most bytes of an operand
+abbrev pub most_binary : Binary → ℕ
+most_binary Add = 16
+most_binary Sub = 16
+most_binary And = 255
+most_binary Or = 255
+most_binary Xor = 255
+
+-- abend 06 by the length of two operands
+abbrev pub bad_binary : Binary → ℕ → Bool
+bad_binary Add n = not (in_range 1 16 n)
+bad_binary Sub n = not (in_range 1 16 n)
+bad_binary And n = n == 0
+bad_binary Or n = n == 0
+bad_binary Xor n = n == 0
+
+-- the most bytes of one operand
+abbrev pub most_unary : Unary → ℕ
+most_unary Inc = 16
+most_unary Dec = 16
+most_unary Not = 255
+
+-- abend 06 by the length of one operand
+abbrev pub bad_unary : Unary → ℕ → Bool
+bad_unary Inc n = not (in_range 1 16 n)
+bad_unary Dec n = not (in_range 1 16 n)
+bad_unary Not n = n == 0
+
+-- ---- families of rows
+
+-- bytes are set at a place
+abbrev pub set_end : Frame → List ℕ → ℕ → ℤ → List ℕ → RowEnd
+set_end f public tag off b = ended (immediate_writes f tag off (length b)) (going (written f public (place_of f tag off (length b)) b))
+
+-- bytes at a place are compared
+abbrev pub compare_end : Frame → List ℕ → ℕ → ℤ → List ℕ → RowEnd
+compare_end f public tag off b = ended (immediate_reads f tag off (length b)) (flags_of f public (sub_blocks (value_of f public tag off (length b)) b))
+
+-- bytes at a place become the result with an immediate
+abbrev pub combine_end : Binary → Frame → List ℕ → ℕ → ℤ → List ℕ → RowEnd
+combine_end w f public tag off b =
+    ended (immediate_writes f tag off (length b))
+    (becomes f public (place_of f tag off (length b)) (combined_by w f.c (value_of f public tag off (length b)) b))
+
+-- n bytes at a place are changed
+abbrev pub change_end : Unary → Frame → List ℕ → ℕ → ℤ → ℕ → RowEnd
+change_end w f public tag off n =
+    ended ((A06, bad_unary w n) ∷ immediate_writes f tag off n)
+    (becomes f public (place_of f tag off n) (changed_by w f.c (value_of f public tag off n)))
+
+-- n bytes at a place become the result with the top n bytes
+abbrev pub pair_end : Binary → Frame → List ℕ → ℕ → ℤ → ℕ → RowEnd
+pair_end w f public tag off n =
+    ended ((A06, bad_binary w n) ∷ pair_writes f tag off n)
+    (becomes f public (place_of f tag off (2 * n)) (combined_by w f.c (first_of f public tag off n) (top f n)))

@@ -1,0 +1,85 @@
+// Rows of a block of n bytes at a place.
+ghost use Rattle.std.specs.Prelude.{◌≡◌, ◌≤◌, false};
+ghost use Rattle.mc_model.specs.declared.instruction.Ins.TheVariants.{Clearn, Testn};
+ghost use Rattle.mc_segs.specs.Held.{Fits, shown};
+ghost use Rattle.mc_segs.specs.Ends.{scene, Acts, RowActs};
+ghost use Rattle.mc_rows.specs.Rows.{alone, change_end};
+
+use crate::bytes::{is_zero, zeros};
+use crate::operand::place;
+use crate::operations::{Unary, change, check_block, check_unary};
+use mc_bank::Bank;
+use mc_segs::{Frame, Halt, Next, Public, load, store};
+
+/// INCN, DECN and NOTN: the operand becomes the result.
+pub fn change_block<B: Bank>(
+    kind: Unary,
+    tag: u8,
+    off: i16,
+    n: u8,
+    frame: &mut Frame,
+    public: &mut Public,
+    bank: &mut B,
+) -> Result<Next, Halt>
+    requires going { (B.state bank.old).stopped ≡ false }
+    requires fits { Fits (B.state bank.old) (B.named bank.old) frame.old }
+    requires tag { tag ≤ 7 }
+    ensures { Acts B.did B.state B.named (scene bank.old bank.new frame.old frame.new public.old public.new) (change_end kind (shown (B.state bank.old) (B.named bank.old) frame.old) public.old tag off n) result }
+{
+    check_unary(kind, n)?;
+    let mut buffer = [0; 255];
+    let value = &mut buffer[..n as usize];
+    let at = place(frame, tag, off, n as u16)?;
+    load(bank, frame, public, at, value)?;
+    let flags = change(kind, frame.c(), value);
+    store(bank, frame, public, at, value)?;
+    frame.set_flags(flags.c, flags.z);
+    Ok(Next::Go)
+}
+
+/// CLEARN: the bytes at the operand's place become zero.
+#[tactic(auto, unfolding(mc_model::specs::Row::row, mc_model::specs::Row::causes, mc_model::specs::Row::effect))]
+pub fn clear_block<B: Bank>(
+    tag: u8,
+    off: i16,
+    n: u8,
+    frame: &mut Frame,
+    public: &mut Public,
+    bank: &mut B,
+) -> Result<Next, Halt>
+    requires going { (B.state bank.old).stopped ≡ false }
+    requires fits { Fits (B.state bank.old) (B.named bank.old) frame.old }
+    requires tag { tag ≤ 7 }
+    ensures { RowActs B.did B.state B.named (scene bank.old bank.new frame.old frame.new public.old public.new) (Clearn tag off n) alone result }
+{
+    check_block(n)?;
+    let at = place(frame, tag, off, n as u16)?;
+    let c = frame.c();
+    store(bank, frame, public, at, zeros(n))?;
+    frame.set_flags(c, true);
+    Ok(Next::Go)
+}
+
+/// TESTN: whether the operand is zero.
+#[tactic(auto, unfolding(mc_model::specs::Row::row, mc_model::specs::Row::causes, mc_model::specs::Row::effect))]
+pub fn test_block<B: Bank>(
+    tag: u8,
+    off: i16,
+    n: u8,
+    frame: &mut Frame,
+    public: &mut Public,
+    bank: &mut B,
+) -> Result<Next, Halt>
+    requires going { (B.state bank.old).stopped ≡ false }
+    requires fits { Fits (B.state bank.old) (B.named bank.old) frame.old }
+    requires tag { tag ≤ 7 }
+    ensures { RowActs B.did B.state B.named (scene bank.old bank.new frame.old frame.new public.old public.new) (Testn tag off n) alone result }
+{
+    check_block(n)?;
+    let mut buffer = [0; 255];
+    let value = &mut buffer[..n as usize];
+    let at = place(frame, tag, off, n as u16)?;
+    load(bank, frame, public, at, value)?;
+    frame.set_flags(frame.c(), is_zero(value));
+    Ok(Next::Go)
+}

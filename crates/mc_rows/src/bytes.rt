@@ -1,0 +1,43 @@
+// Words, zeros, and blocks as they stand in bytes.
+ghost use Rattle.std.specs.Prelude.{◌≡◌, length, true};
+ghost use Rattle.mc_model.specs.Bytes.{bytes2, num, zeros};
+ghost use Rattle.mc_model.specs.Blocks.{is_zero};
+
+const ZEROS: [u8; 255] = [0; 255];
+
+/// So many zero bytes.
+#[tactic(auto, using(crate::proofs::BlockLemmas::front_of_zeros, crate::proofs::BlockLemmas::zeros_are_zero))]
+pub fn zeros(count: u8) -> &'static [u8]
+    ensures value { result.now ≡ zeros count }
+    ensures length { length result.now ≡ count }
+    ensures zero { is_zero (zeros count) ≡ true }
+{
+    &ZEROS[..count as usize]
+}
+
+/// The two bytes of a word, the high byte first.
+pub fn word(value: u16) -> [u8; 2]
+    ensures { result ≡ bytes2 value }
+{
+    [(value / 256) as u8, (value % 256) as u8]
+}
+
+/// The word in two bytes.
+pub fn number(pair: [u8; 2]) -> u16
+    ensures { result ≡ num pair }
+{
+    let [high, low] = pair;
+    high as u16 * 256 + low as u16
+}
+
+/// Whether a block is the number 0.
+pub fn is_zero(block: &[u8]) -> bool
+    ensures { result ≡ is_zero block.now }
+{
+    for byte in block {
+        if *byte != 0 {
+            return false;
+        }
+    }
+    true
+}

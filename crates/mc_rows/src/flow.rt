@@ -1,0 +1,161 @@
+// Rows that go to another place of the code, and calls and returns.
+ghost use Rattle.std.specs.Prelude.{◌≡◌, ◌≤◌, ◌&&◌, ◌==◌, OnOk, OnErr, Some, false};
+ghost use Rattle.mc_model.specs.declared.instruction.Ins.TheVariants.{Branch, Jump, Call, Retio};
+ghost use Rattle.mc_model.specs.Frame.{come_back, is_under, moved, no_return, saved};
+ghost use Rattle.mc_model.specs.Row.{holds, no_place, target, without_target};
+ghost use Rattle.mc_segs.specs.Held.{Fits};
+ghost use Rattle.mc_segs.specs.Ends.{scene, IfDue, RowActs};
+ghost use Rattle.mc_rows.specs.Rows.{alone, Gives, Led, Returns};
+
+use crate::bytes::number;
+use mc_bank::Bank;
+use mc_segs::{Abend, Frame, Halt, Next, Public, come_back, enter, pop, push};
+
+/// BRANCH: where the condition holds, to a place relative to the next instruction.
+#[tactic(auto, unfolding(mc_model::specs::Row::row, mc_model::specs::Row::causes, mc_model::specs::Row::effect))]
+pub fn branch<B: Bank>(
+    cond: u8,
+    d: i8,
+    frame: &mut Frame,
+    public: &mut Public,
+    bank: &mut B,
+) -> Result<Next, Halt>
+    requires going { (B.state bank.old).stopped ≡ false }
+    requires fits { Fits (B.state bank.old) (B.named bank.old) frame.old }
+    ensures { RowActs B.did B.state B.named (scene bank.old bank.new frame.old frame.new public.old public.new) (Branch cond d) alone result }
+{
+    if holds(frame, cond) {
+        let to = moved(frame.at(), d)?;
+        check_place(frame, to)?;
+        frame.go(to);
+    }
+    Ok(Next::Go)
+}
+
+/// JUMP: where the condition holds, to an address, which condition 0 pops.
+#[tactic(auto, unfolding(mc_model::specs::Row::row, mc_model::specs::Row::causes, mc_model::specs::Row::effect))]
+pub fn jump<B: Bank>(
+    cond: u8,
+    to: u16,
+    frame: &mut Frame,
+    public: &mut Public,
+    bank: &mut B,
+) -> Result<Next, Halt>
+    requires going { (B.state bank.old).stopped ≡ false }
+    requires fits { Fits (B.state bank.old) (B.named bank.old) frame.old }
+    ensures { RowActs B.did B.state B.named (scene bank.old bank.new frame.old frame.new public.old public.new) (Jump cond to) alone result }
+{
+    let to = target(frame, cond, to)?;
+    if holds(frame, cond) {
+        check_place(frame, to)?;
+        frame.go(to);
+    }
+    Ok(Next::Go)
+}
+
+/// CALL: the same, with LB and the next place on the stack.
+#[tactic(auto, unfolding(mc_model::specs::Row::row, mc_model::specs::Row::causes, mc_model::specs::Row::effect))]
+pub fn call<B: Bank>(
+    cond: u8,
+    to: u16,
+    frame: &mut Frame,
+    public: &mut Public,
+    bank: &mut B,
+) -> Result<Next, Halt>
+    requires going { (B.state bank.old).stopped ≡ false }
+    requires fits { Fits (B.state bank.old) (B.named bank.old) frame.old }
+    ensures { RowActs B.did B.state B.named (scene bank.old bank.new frame.old frame.new public.old public.new) (Call cond to) alone result }
+{
+    let to = target(frame, cond, to)?;
+    if holds(frame, cond) {
+        check_place(frame, to)?;
+        enter(frame, to)?;
+    }
+    Ok(Next::Go)
+}
+
+/// RETIO, and with no bytes RET, RETI and RETO: the call is left, its top `o` bytes stay, and the `i` bytes below it go.
+#[tactic(auto, unfolding(mc_model::specs::Row::row, mc_model::specs::Row::causes, mc_model::specs::Row::effect))]
+pub fn return_with<B: Bank>(
+    i: u8,
+    o: u8,
+    frame: &mut Frame,
+    public: &mut Public,
+    bank: &mut B,
+) -> Result<Next, Halt>
+    requires going { (B.state bank.old).stopped ≡ false }
+    requires fits { Fits (B.state bank.old) (B.named bank.old) frame.old }
+    ensures { RowActs B.did B.state B.named (scene bank.old bank.new frame.old frame.new public.old public.new) (Retio i o) alone result }
+{
+    leave(frame, i, o)?;
+    Ok(Next::Go)
+}
+
+// Whether a condition holds: 1 to 7 are EQ, LT, LE, GT, GE, NE and ALL, and 0 has none.
+fn holds(frame: &Frame, cond: u8) -> bool
+    ensures { result ≡ holds cond frame.now.frame }
+{
+    match cond {
+        1 => frame.z(),
+        2 => frame.c(),
+        3 => frame.c() || frame.z(),
+        4 => !frame.c() && !frame.z(),
+        5 => !frame.c(),
+        6 => !frame.z(),
+        _ => true,
+    }
+}
+
+// Abend 02 where a place is not in the code.
+fn check_place(frame: &Frame, to: u16) -> Result<(), Abend>
+    ensures { IfDue result (no_place frame.now.frame (Some to)) Abend.A02 }
+{
+    if to >= frame.code_len() {
+        return Err(Abend::A02);
+    }
+    Ok(())
+}
+
+// The place that a branch leads to. Abend 02 where there is none.
+fn moved(at: u16, d: i8) -> Result<u16, Abend>
+    ensures { Led result (moved at d) }
+{
+    let to = at as i32 + d as i32;
+    if to < 0 || to > 0xFFFF {
+        return Err(Abend::A02);
+    }
+    Ok(to as u16)
+}
+
+// The address of a jump or a call, which condition 0 pops. Abend 04 where the stack has none.
+fn target(frame: &mut Frame, cond: u8, to: u16) -> Result<u16, Abend>
+    ensures due { Gives result (cond == 0 && is_under frame.old.frame 2) Abend.A04 (target frame.old.frame cond to) }
+    ensures popped { OnOk result (frame.new ≡ record frame.old { frame = without_target frame.old.frame cond }) }
+    ensures unchanged { OnErr result (frame.new ≡ frame.old) }
+{
+    if cond != 0 {
+        return Ok(to);
+    }
+    let mut address = [0; 2];
+    pop(frame, &mut address)?;
+    Ok(number(address))
+}
+
+// Leaves a call: its top `o` bytes stay, and the `i` bytes below it go. Abend 04 where no such call lies on the stack,
+// 02 where it returns to no place; no byte moves then.
+#[tactic(auto, using(crate::proofs::StackLemmas::results_put, crate::proofs::StackLemmas::room_after))]
+fn leave(frame: &mut Frame, i: u8, o: u8) -> Result<(), Abend>
+    ensures due { Returns result (no_return frame.old.frame i o) (no_place frame.old.frame (Some (saved frame.old.frame 2))) }
+    ensures back { OnOk result (frame.new ≡ record frame.old { frame = come_back frame.old.frame i o }) }
+    ensures dynamic { OnErr result (frame.new.frame.dyn ≡ frame.old.frame.dyn) }
+    ensures session { frame.new.frame.session ≡ frame.old.frame.session }
+{
+    // DT is within the stack, and the results go no higher than they lay.
+    let _dt = frame.dt();
+    let mut buffer = [0; 255];
+    let results = &mut buffer[..o as usize];
+    pop(frame, results)?;
+    come_back(frame, i, 0)?;
+    check_place(frame, frame.at())?;
+    push(frame, results)
+}

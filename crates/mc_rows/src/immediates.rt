@@ -1,0 +1,84 @@
+// Rows of a byte or a word at a place against an immediate.
+ghost use Rattle.std.specs.Prelude.{◌≡◌, ◌≤◌, false, length};
+ghost use Rattle.mc_segs.specs.Held.{Fits, shown};
+ghost use Rattle.mc_segs.specs.Ends.{scene, Acts};
+ghost use Rattle.mc_rows.specs.Rows.{set_end, compare_end, combine_end};
+
+use crate::operand::place;
+use crate::operations::{Binary, combine};
+use mc_arith::compare;
+use mc_bank::Bank;
+use mc_segs::{Frame, Halt, Next, Public, load, store};
+
+/// SETB and SETW: the bytes at the operand's place become these, one or two.
+pub fn set<B: Bank>(
+    tag: u8,
+    off: i16,
+    bytes: &[u8],
+    frame: &mut Frame,
+    public: &mut Public,
+    bank: &mut B,
+) -> Result<Next, Halt>
+    requires going { (B.state bank.old).stopped ≡ false }
+    requires fits { Fits (B.state bank.old) (B.named bank.old) frame.old }
+    requires tag { tag ≤ 7 }
+    requires low { 1 ≤ length bytes.now }
+    requires high { length bytes.now ≤ 2 }
+    ensures { Acts B.did B.state B.named (scene bank.old bank.new frame.old frame.new public.old public.new) (set_end (shown (B.state bank.old) (B.named bank.old) frame.old) public.old tag off bytes.now) result }
+{
+    let at = place(frame, tag, off, bytes.len() as u16)?;
+    store(bank, frame, public, at, bytes)?;
+    Ok(Next::Go)
+}
+
+/// CMPB and CMPW: the flags of the operand minus these bytes, one or two.
+pub fn compare_with<B: Bank>(
+    tag: u8,
+    off: i16,
+    bytes: &[u8],
+    frame: &mut Frame,
+    public: &mut Public,
+    bank: &mut B,
+) -> Result<Next, Halt>
+    requires going { (B.state bank.old).stopped ≡ false }
+    requires fits { Fits (B.state bank.old) (B.named bank.old) frame.old }
+    requires tag { tag ≤ 7 }
+    requires low { 1 ≤ length bytes.now }
+    requires high { length bytes.now ≤ 2 }
+    ensures { Acts B.did B.state B.named (scene bank.old bank.new frame.old frame.new public.old public.new) (compare_end (shown (B.state bank.old) (B.named bank.old) frame.old) public.old tag off bytes.now) result }
+{
+    let mut buffer = [0; 2];
+    let value = &mut buffer[..bytes.len()];
+    let at = place(frame, tag, off, bytes.len() as u16)?;
+    load(bank, frame, public, at, value)?;
+    let flags = compare(value, bytes);
+    frame.set_flags(flags.c, flags.z);
+    Ok(Next::Go)
+}
+
+/// ADDB, ADDW, SUBB and SUBW: the operand becomes the result with these bytes, one or two.
+pub fn combine_with<B: Bank>(
+    kind: Binary,
+    tag: u8,
+    off: i16,
+    bytes: &[u8],
+    frame: &mut Frame,
+    public: &mut Public,
+    bank: &mut B,
+) -> Result<Next, Halt>
+    requires going { (B.state bank.old).stopped ≡ false }
+    requires fits { Fits (B.state bank.old) (B.named bank.old) frame.old }
+    requires tag { tag ≤ 7 }
+    requires low { 1 ≤ length bytes.now }
+    requires high { length bytes.now ≤ 2 }
+    ensures { Acts B.did B.state B.named (scene bank.old bank.new frame.old frame.new public.old public.new) (combine_end kind (shown (B.state bank.old) (B.named bank.old) frame.old) public.old tag off bytes.now) result }
+{
+    let mut buffer = [0; 2];
+    let value = &mut buffer[..bytes.len()];
+    let at = place(frame, tag, off, bytes.len() as u16)?;
+    load(bank, frame, public, at, value)?;
+    let flags = combine(kind, frame.c(), value, bytes);
+    store(bank, frame, public, at, value)?;
+    frame.set_flags(flags.c, flags.z);
+    Ok(Next::Go)
+}

@@ -1,0 +1,16 @@
+#![tactic(auto)]
+
+// The rows of the byte code machine but those of primitives.
+mod blocks;
+mod bytes;
+mod flow;
+mod immediates;
+mod operand;
+mod operations;
+mod pairs;
+mod registers;
+mod stack;
+mod stepping;
+mod transfers;
+
+pub use stepping::step;

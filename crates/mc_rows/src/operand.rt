@@ -1,0 +1,146 @@
+// Where the operands of a row lie.
+ghost use Rattle.std.specs.Prelude.{◌≡◌, ◌+◌, ◌*◌, ◌≤◌, ◌==◌, ◌&&◌, OnOk, length, false};
+ghost use Rattle.mc_model.specs.Bytes.{num};
+ghost use Rattle.mc_model.specs.Frame.{address_at, in_two_bytes, is_outside, is_under, popped, top};
+ghost use Rattle.mc_model.specs.Row.{indexed, on_stack, operand};
+ghost use Rattle.mc_segs.specs.Held.{Fits, shown};
+ghost use Rattle.mc_segs.specs.Ends.{addressed, IfDue};
+ghost use Rattle.mc_rows.specs.Rows.{Gives, PairRead, Placed};
+
+use crate::bytes::number;
+use mc_bank::Bank;
+use mc_segs::{Abend, Frame, Public, load, pop, push, resolve};
+
+/// Abend 04 where fewer than so many bytes are on the stack.
+pub fn need(frame: &Frame, count: u16) -> Result<(), Abend>
+    requires { count ≤ 512 }
+    ensures { IfDue result (is_under frame.now.frame count) Abend.A04 }
+{
+    if frame.dt() < frame.floor() + count {
+        return Err(Abend::A04);
+    }
+    Ok(())
+}
+
+/// How many bytes an operand takes of the stack: with tag 0 these, else those.
+pub fn on_stack(tag: u8, with: u16, without: u16) -> u16
+    ensures { result ≡ on_stack tag with without }
+{
+    if tag == 0 { with } else { without }
+}
+
+/// The address of an operand: with tag 0 it begins so many bytes below the top of the stack.
+pub fn operand(frame: &Frame, tag: u8, off: i16, below: u16) -> Result<u16, Abend>
+    requires tag { tag ≤ 7 }
+    requires below { below ≤ 512 }
+    ensures { result ≡ addressed (operand frame.now.frame tag off below) }
+{
+    if tag == 0 {
+        return Ok(frame.dt() - below);
+    }
+    resolve(frame, tag, off)
+}
+
+/// The address of an operand of so many bytes; with tag 0 it is the top of the stack. Abend 04 where the stack has fewer,
+/// 03 where the address is none.
+pub fn place(frame: &Frame, tag: u8, off: i16, count: u16) -> Result<u16, Abend>
+    requires tag { tag ≤ 7 }
+    requires count { count ≤ 255 }
+    ensures { Placed result (tag == 0 && is_under frame.now.frame count) (operand frame.now.frame tag off count) }
+{
+    if tag == 0 {
+        need(frame, count)?;
+    }
+    operand(frame, tag, off, count)
+}
+
+/// Reads the top bytes of the stack, which keeps them. Abend 04 where it has fewer.
+#[tactic(auto, using(crate::proofs::StackLemmas::put_back, crate::proofs::StackLemmas::room_again))]
+pub fn top(frame: &mut Frame, into: &mut [u8]) -> Result<(), Abend>
+    ensures due { IfDue result (is_under frame.old.frame (length into.old)) Abend.A04 }
+    ensures bytes { OnOk result (into.new ≡ top frame.old.frame (length into.old)) }
+    ensures same { frame.new ≡ frame.old }
+{
+    // DT is within the stack, so there is room for what was just taken.
+    let _dt = frame.dt();
+    pop(frame, into)?;
+    push(frame, into)
+}
+
+/// Reads the address in the two bytes at another one. Abend 03 where those lie in no segment.
+pub fn read_address<B: Bank>(
+    at: u16,
+    frame: &Frame,
+    public: &Public,
+    bank: &B,
+) -> Result<u16, Abend>
+    requires going { (B.state bank.now).stopped ≡ false }
+    requires fits { Fits (B.state bank.now) (B.named bank.now) frame.now }
+    ensures { Gives result (is_outside (shown (B.state bank.now) (B.named bank.now) frame.now) at 2) Abend.A03 (address_at (shown (B.state bank.now) (B.named bank.now) frame.now) public.now at) }
+{
+    let mut address = [0; 2];
+    load(bank, frame, public, at, &mut address)?;
+    Ok(number(address))
+}
+
+/// Reads a pair of operands of one length: the first from its place, the second from the top of the stack, which keeps it.
+/// The first one's address; abend 04 where the stack has too few bytes, 03 where the first lies in no segment.
+pub fn read_pair<B: Bank>(
+    tag: u8,
+    off: i16,
+    first: &mut [u8],
+    second: &mut [u8],
+    frame: &mut Frame,
+    public: &Public,
+    bank: &B,
+) -> Result<u16, Abend>
+    requires going { (B.state bank.now).stopped ≡ false }
+    requires fits { Fits (B.state bank.now) (B.named bank.now) frame.old }
+    requires tag { tag ≤ 7 }
+    requires same { length first.old ≡ length second.old }
+    requires low { 1 ≤ length first.old }
+    requires high { length first.old ≤ 255 }
+    ensures pair { PairRead result (shown (B.state bank.now) (B.named bank.now) frame.old) public.now tag off (length first.old) first.new second.new }
+    ensures same { frame.new ≡ frame.old }
+{
+    let count = first.len() as u16;
+    need(frame, on_stack(tag, 2 * count, count))?;
+    let at = operand(frame, tag, off, 2 * count)?;
+    load(bank, frame, public, at, first)?;
+    top(frame, second)?;
+    Ok(at)
+}
+
+/// Pops an index, and with tag 0 the base that lies under it; else the base is the address of the tag. The address of the
+/// element of this size with that index. Abend 04 where the stack has too few bytes, 03 where there is no such address.
+pub fn indexed(frame: &mut Frame, tag: u8, off: i16, size: u8) -> Result<u16, Abend>
+    requires tag { tag ≤ 7 }
+    ensures place { Placed result (is_under frame.old.frame (on_stack tag 3 1)) (indexed frame.old.frame tag off size) }
+    ensures popped { OnOk result (frame.new ≡ record frame.old { frame = popped frame.old.frame (on_stack tag 3 1) }) }
+    ensures dynamic { frame.new.frame.dyn ≡ frame.old.frame.dyn }
+    ensures session { frame.new.frame.session ≡ frame.old.frame.session }
+{
+    need(frame, on_stack(tag, 3, 1))?;
+    let mut index = [0];
+    if tag == 0 {
+        let mut base = [0; 2];
+        pop(frame, &mut index)?;
+        pop(frame, &mut base)?;
+        return element(number(base), index, size);
+    }
+    let base = resolve(frame, tag, off)?;
+    pop(frame, &mut index)?;
+    element(base, index, size)
+}
+
+// The address of an element behind a base. Abend 03 where there is none.
+fn element(base: u16, index: [u8; 1], size: u8) -> Result<u16, Abend>
+    ensures { result ≡ addressed (in_two_bytes (base + num index * size)) }
+{
+    let [index] = index;
+    let at = base as u32 + index as u32 * size as u32;
+    if at > 0xFFFF {
+        return Err(Abend::A03);
+    }
+    Ok(at as u16)
+}

@@ -1,0 +1,170 @@
+// Rows that move bytes between the stack and an address.
+ghost use Rattle.std.specs.Prelude.{◌≡◌, ◌≤◌, false};
+ghost use Rattle.mc_model.specs.declared.instruction.Ins.TheVariants.{Load, Store, Loadi, Storei, Loada, Index};
+ghost use Rattle.mc_segs.specs.Held.{Fits, shown};
+ghost use Rattle.mc_segs.specs.Ends.{scene, RowActs};
+ghost use Rattle.mc_rows.specs.Rows.{alone, AddressUnder};
+
+use crate::bytes::word;
+use crate::operand::{indexed, need, on_stack, operand, place, read_address};
+use crate::operations::check_block;
+use mc_bank::Bank;
+use mc_segs::{Abend, Frame, Halt, Next, Public, load, pop, push, store};
+
+/// LOAD: the n bytes of the operand are pushed.
+#[tactic(auto, unfolding(mc_model::specs::Row::row, mc_model::specs::Row::causes, mc_model::specs::Row::effect))]
+pub fn load_block<B: Bank>(
+    tag: u8,
+    off: i16,
+    n: u8,
+    frame: &mut Frame,
+    public: &mut Public,
+    bank: &mut B,
+) -> Result<Next, Halt>
+    requires going { (B.state bank.old).stopped ≡ false }
+    requires fits { Fits (B.state bank.old) (B.named bank.old) frame.old }
+    requires tag { tag ≤ 7 }
+    ensures { RowActs B.did B.state B.named (scene bank.old bank.new frame.old frame.new public.old public.new) (Load tag off n) alone result }
+{
+    check_block(n)?;
+    let mut buffer = [0; 255];
+    let bytes = &mut buffer[..n as usize];
+    let at = place(frame, tag, off, n as u16)?;
+    load(bank, frame, public, at, bytes)?;
+    push(frame, bytes)?;
+    Ok(Next::Go)
+}
+
+/// STORE: n bytes are popped, and written to the operand's place.
+#[tactic(auto, unfolding(mc_model::specs::Row::row, mc_model::specs::Row::causes, mc_model::specs::Row::effect))]
+pub fn store_block<B: Bank>(
+    tag: u8,
+    off: i16,
+    n: u8,
+    frame: &mut Frame,
+    public: &mut Public,
+    bank: &mut B,
+) -> Result<Next, Halt>
+    requires going { (B.state bank.old).stopped ≡ false }
+    requires fits { Fits (B.state bank.old) (B.named bank.old) frame.old }
+    requires tag { tag ≤ 7 }
+    ensures { RowActs B.did B.state B.named (scene bank.old bank.new frame.old frame.new public.old public.new) (Store tag off n) alone result }
+{
+    check_block(n)?;
+    let count = n as u16;
+    need(frame, on_stack(tag, 2 * count, count))?;
+    let at = operand(frame, tag, off, 2 * count)?;
+    let mut buffer = [0; 255];
+    let bytes = &mut buffer[..n as usize];
+    pop(frame, bytes)?;
+    store(bank, frame, public, at, bytes)?;
+    Ok(Next::Go)
+}
+
+/// LOADI: the operand is the address of n bytes that are pushed.
+#[tactic(auto, unfolding(mc_model::specs::Row::row, mc_model::specs::Row::causes, mc_model::specs::Row::effect))]
+pub fn load_indirect<B: Bank>(
+    tag: u8,
+    off: i16,
+    n: u8,
+    frame: &mut Frame,
+    public: &mut Public,
+    bank: &mut B,
+) -> Result<Next, Halt>
+    requires going { (B.state bank.old).stopped ≡ false }
+    requires fits { Fits (B.state bank.old) (B.named bank.old) frame.old }
+    requires tag { tag ≤ 7 }
+    ensures { RowActs B.did B.state B.named (scene bank.old bank.new frame.old frame.new public.old public.new) (Loadi tag off n) alone result }
+{
+    check_block(n)?;
+    let at = place(frame, tag, off, 2)?;
+    let from = read_address(at, frame, public, bank)?;
+    let mut buffer = [0; 255];
+    let bytes = &mut buffer[..n as usize];
+    load(bank, frame, public, from, bytes)?;
+    push(frame, bytes)?;
+    Ok(Next::Go)
+}
+
+/// STOREI: n bytes are popped, and written to the address that the operand was before.
+#[tactic(auto, unfolding(mc_model::specs::Row::row, mc_model::specs::Row::causes, mc_model::specs::Row::effect))]
+pub fn store_indirect<B: Bank>(
+    tag: u8,
+    off: i16,
+    n: u8,
+    frame: &mut Frame,
+    public: &mut Public,
+    bank: &mut B,
+) -> Result<Next, Halt>
+    requires going { (B.state bank.old).stopped ≡ false }
+    requires fits { Fits (B.state bank.old) (B.named bank.old) frame.old }
+    requires tag { tag ≤ 7 }
+    ensures { RowActs B.did B.state B.named (scene bank.old bank.new frame.old frame.new public.old public.new) (Storei tag off n) alone result }
+{
+    check_block(n)?;
+    let to = address_under(n, tag, off, frame, public, bank)?;
+    let mut buffer = [0; 255];
+    let bytes = &mut buffer[..n as usize];
+    pop(frame, bytes)?;
+    store(bank, frame, public, to, bytes)?;
+    Ok(Next::Go)
+}
+
+/// LOADA: the operand's address is pushed, with tag 0 that of the top of the stack.
+#[tactic(auto, unfolding(mc_model::specs::Row::row, mc_model::specs::Row::causes, mc_model::specs::Row::effect))]
+pub fn load_address<B: Bank>(
+    tag: u8,
+    off: i16,
+    frame: &mut Frame,
+    public: &mut Public,
+    bank: &mut B,
+) -> Result<Next, Halt>
+    requires going { (B.state bank.old).stopped ≡ false }
+    requires fits { Fits (B.state bank.old) (B.named bank.old) frame.old }
+    requires tag { tag ≤ 7 }
+    ensures { RowActs B.did B.state B.named (scene bank.old bank.new frame.old frame.new public.old public.new) (Loada tag off) alone result }
+{
+    let at = operand(frame, tag, off, 0)?;
+    push(frame, &word(at))?;
+    Ok(Next::Go)
+}
+
+/// INDEX: the address of an element of a table is pushed; its number is popped, and with tag 0 the table's address too.
+#[tactic(auto, unfolding(mc_model::specs::Row::row, mc_model::specs::Row::causes, mc_model::specs::Row::effect))]
+pub fn index<B: Bank>(
+    tag: u8,
+    off: i16,
+    size: u8,
+    frame: &mut Frame,
+    public: &mut Public,
+    bank: &mut B,
+) -> Result<Next, Halt>
+    requires going { (B.state bank.old).stopped ≡ false }
+    requires fits { Fits (B.state bank.old) (B.named bank.old) frame.old }
+    requires tag { tag ≤ 7 }
+    ensures { RowActs B.did B.state B.named (scene bank.old bank.new frame.old frame.new public.old public.new) (Index tag off size) alone result }
+{
+    let at = indexed(frame, tag, off, size)?;
+    push(frame, &word(at))?;
+    Ok(Next::Go)
+}
+
+// The address to which STOREI writes n bytes from the top of the stack.
+fn address_under<B: Bank>(
+    n: u8,
+    tag: u8,
+    off: i16,
+    frame: &Frame,
+    public: &Public,
+    bank: &B,
+) -> Result<u16, Abend>
+    requires going { (B.state bank.now).stopped ≡ false }
+    requires fits { Fits (B.state bank.now) (B.named bank.now) frame.now }
+    requires tag { tag ≤ 7 }
+    ensures { AddressUnder result (shown (B.state bank.now) (B.named bank.now) frame.now) public.now tag off n }
+{
+    let count = n as u16;
+    need(frame, on_stack(tag, count + 2, count))?;
+    let at = operand(frame, tag, off, count + 2)?;
+    read_address(at, frame, public, bank)
+}

@@ -1,0 +1,124 @@
+-- How calls on frames end, and what they leave.
+-- This project's profile.
+use Rattle.std.specs.Prelude.{◌≡◌, ◌⊎◌, ℕ, Bool, true, false, List, [], ◌∷◌, Option, Some, None, Result, Ok, Err}
+use Rattle.mc_model.specs.declared.instruction.Ins.{Ins}
+use Rattle.mc_model.specs.declared.machine.Abend.{Abend}
+use Rattle.mc_model.specs.declared.machine.Abend.TheVariants.{A03, A08}
+use Rattle.mc_model.specs.declared.device.Stop.{Stop}
+use Rattle.mc_model.specs.Orders.{Answer, InOrder}
+use Rattle.mc_model.specs.Items.{BankItem, Commit}
+use Rattle.mc_model.specs.Pieces.{laid_pieces, HoldPieces}
+use Rattle.mc_model.specs.Frame.{Frame, Effect, is_outside, too_many}
+use Rattle.mc_model.specs.Primitives.{Around, Then, Goes, Exits, Delegates}
+use Rattle.mc_model.specs.Row.{RowEnd, Abends, Does, row}
+use Rattle.mc_bank.specs.Bank.{BankState}
+use Rattle.mc_segs.specs.Held.{Held, Fits, shown, seen}
+use Rattle.mc_segs.specs.declared.ends.Halt.{Halt}
+use Rattle.mc_segs.specs.declared.ends.Halt.TheVariants as halt
+use Rattle.mc_segs.specs.declared.ends.Next.{Next}
+use Rattle.mc_segs.specs.declared.ends.Next.TheVariants.{Go, Exit, Delegate}
+
+-- an abend exactly where it is due
+abbrev pub IfDue : Result (Unit {0}) Abend → Bool → Abend → Type 0
+IfDue (Ok u) due a = due ≡ false
+IfDue (Err b) due a = (due ≡ true) × (b ≡ a)
+
+-- an address where there is one, else abend 03
+abbrev pub addressed : Option ℕ → Result ℕ Abend
+addressed (Some a) = Ok a
+addressed None = Err A03
+
+-- ---- static changes
+
+-- A change of static bytes is one commit of the words that hold its pieces; without a change there is none. An abend is no stop.
+abbrev pub Committed : {B : Type 0} → (B → BankItem → Answer → B → Type 0) → List ℕ → List ℕ → Option (List (ℕ × List ℕ)) → B → Answer → B → Type 0
+Committed did name fixed None b a e = InOrder did b [] a e
+Committed did name fixed (Some ps) b a e = (ws : List (ℕ × List ℕ)) × HoldPieces fixed ps ws × InOrder did b (Commit name ws ∷ []) a e
+
+-- static bytes after a change
+abbrev pub changed_bytes : List ℕ → Option (List (ℕ × List ℕ)) → List ℕ
+changed_bytes l None = l
+changed_bytes l (Some ps) = laid_pieces l ps
+
+-- ---- calls on a frame, a public segment and a bank
+
+-- what a call was lent, before and after it
+pub record Scene (B : Type 0) : Type 0 where
+  pub bank : B
+  pub bank_after : B
+  pub held : Held
+  pub held_after : Held
+  pub public : List ℕ
+  pub public_after : List ℕ
+
+-- The relation of a bank's items, its meaning and its names come first in what follows.
+
+-- the frame on the bank, before and after
+abbrev pub before : {B : Type 0} → (B → BankState) → (B → ℕ → Option (List ℕ)) → Scene B → Frame
+before state named s = shown (state s.bank) (named s.bank) s.held
+
+abbrev pub after : {B : Type 0} → (B → BankState) → (B → ℕ → Option (List ℕ)) → Scene B → Frame
+after state named s = shown (state s.bank_after) (named s.bank_after) s.held_after
+
+-- the static change of an effect, by the answer of the bank
+abbrev pub Commits : {B : Type 0} → (B → BankItem → Answer → B → Type 0) → (B → BankState) → (B → ℕ → Option (List ℕ)) → Scene B → Effect → Answer → Type 0
+Commits did state named s e a = Committed did (before state named s).name (before state named s).fixed e.changes s.bank a s.bank_after
+
+-- an effect that was done: the frame fits the bank, which goes on
+pub record Left {B : Type 0} (did : B → BankItem → Answer → B → Type 0) (state : B → BankState) (named : B → ℕ → Option (List ℕ)) (s : Scene B) (e : Effect) : Type 0 where
+  pub commits : Commits did state named s e (Ok tt)
+  pub bytes : (after state named s).fixed ≡ changed_bytes (before state named s).fixed e.changes
+  pub frame : seen (after state named s) ≡ seen e.frame
+  pub public : s.public_after ≡ e.public
+  pub slot : s.held_after.slot ≡ s.held.slot
+  pub fits : Fits (state s.bank_after) (named s.bank_after) s.held_after
+  pub going : (state s.bank_after).stopped ≡ false
+
+-- an abend wrote no byte: the registers may have moved
+pub record Untouched {B : Type 0} (s : Scene B) : Type 0 where
+  pub bank : s.bank_after ≡ s.bank
+  pub public : s.public_after ≡ s.public
+  pub dyn : s.held_after.frame.dyn ≡ s.held.frame.dyn
+  pub session : s.held_after.frame.session ≡ s.held.frame.session
+
+-- what comes after an instruction, in the definition's words
+abbrev pub then_of : Next → Then
+then_of Go = Goes
+then_of Exit = Exits
+then_of (Delegate name) = Delegates name
+
+-- a call from a bank, a frame and public bytes to others
+abbrev pub scene : {B : Type 0} → B → B → Held → Held → List ℕ → List ℕ → Scene B
+scene b c h k p q = record { bank = b; bank_after = c; held = h; held_after = k; public = p; public_after = q }
+
+-- the end of a row, by the result of the call
+abbrev pub Acts : {B : Type 0} → (B → BankItem → Answer → B → Type 0) → (B → BankState) → (B → ℕ → Option (List ℕ)) → Scene B → RowEnd → Result Next Halt → Type 0
+Acts did state named s (Abends a) (Ok next) = ⊥
+Acts did state named s (Abends a) (Err (halt.Abend b)) = (b ≡ a) × Untouched s
+Acts did state named s (Abends a) (Err (halt.Stop stop)) = ⊥
+Acts did state named s (Does d) (Ok next) = (then_of next ≡ d.next) × Left did state named s d.effect
+Acts did state named s (Does d) (Err (halt.Abend b)) = ⊥
+Acts did state named s (Does d) (Err (halt.Stop stop)) = Commits did state named s d.effect (Err stop)
+
+-- the row of an instruction, by the result of the call
+abbrev pub RowActs : {B : Type 0} → (B → BankItem → Answer → B → Type 0) → (B → BankState) → (B → ℕ → Option (List ℕ)) → Scene B → Ins → Around → Result Next Halt → Type 0
+RowActs did state named s i x r = Acts did state named s (row i (before state named s) s.public x) r
+
+-- a write was refused: 03 where its n bytes lie in no segment, 08 where too many words would be pending
+abbrev pub WriteAbends : Frame → ℕ → ℕ → Abend → Type 0
+WriteAbends f a n b = ((is_outside f a n ≡ true) × (b ≡ A03)) ⊎ ((is_outside f a n ≡ false) × (too_many f a n ≡ true) × (b ≡ A08))
+
+-- neither holds
+abbrev pub CanWrite : Frame → ℕ → ℕ → Type 0
+CanWrite f a n = (is_outside f a n ≡ false) × (too_many f a n ≡ false)
+
+-- a write of n bytes at an address, by its effect and by the result of the call
+abbrev pub Stores : {B : Type 0} → (B → BankItem → Answer → B → Type 0) → (B → BankState) → (B → ℕ → Option (List ℕ)) → Scene B → ℕ → ℕ → Effect → Result (Unit {0}) Halt → Type 0
+Stores did state named s a n e (Ok u) = CanWrite (before state named s) a n × Left did state named s e
+Stores did state named s a n e (Err (halt.Abend b)) = WriteAbends (before state named s) a n b × (s.bank_after ≡ s.bank) × (s.held_after ≡ s.held) × (s.public_after ≡ s.public)
+Stores did state named s a n e (Err (halt.Stop stop)) = CanWrite (before state named s) a n × Commits did state named s e (Err stop)
+
+-- a change of protection, by the result of the call
+abbrev pub Protects : {B : Type 0} → (B → BankItem → Answer → B → Type 0) → (B → BankState) → (B → ℕ → Option (List ℕ)) → Scene B → Effect → Result (Unit {0}) Stop → Type 0
+Protects did state named s e (Ok u) = Left did state named s e
+Protects did state named s e (Err stop) = Commits did state named s e (Err stop)

@@ -1,0 +1,99 @@
+-- A frame as the code holds it, the frame that it is on a bank, and when it fits that bank.
+-- This project's profile.
+use Rattle.std.specs.Prelude.{◌≡◌, ℕ, ◌-◌, ◌*◌, ◌<◌, ◌≤◌, Bool, true, false, List, [], ◌∷◌, length, take, map, Option, IsSome}
+use Rattle.std.specs.List.{AllByRecursion}
+use Rattle.mc_model.specs.declared.card.Sizes.{Sizes}
+use Rattle.mc_model.specs.Bytes.{lookup, zeros}
+use Rattle.mc_model.specs.Card.{App}
+use Rattle.mc_model.specs.Pieces.{touched, ArePending}
+use Rattle.mc_model.specs.Frame.{Frame, static_bytes, floor, dynamic_end, new_frame}
+use Rattle.mc_bank.specs.Bank.{BankState, app_of, name_or}
+
+-- A frame without what stands on the bank: the slot of its application, and a frame without a name, whose static segment has its length
+-- and no bytes, and whose pieces are its pending words.
+pub record Held : Type 0 where
+  pub slot : ℕ
+  pub frame : Frame
+
+-- pending words as pieces of a segment of n bytes: what a word has behind the segment's end is no part of it
+abbrev pub pieces_of : ℕ → List (ℕ × List ℕ) → List (ℕ × List ℕ)
+pieces_of n ws = map (λ w. (8 * w.0, take (n - 8 * w.0) w.1)) ws
+
+-- pending words of a segment of n bytes
+pub record ArePendingIn (n : ℕ) (ws : List (ℕ × List ℕ)) : Type 0 where
+  pub few : length ws ≤ 64
+  pub pending : ArePending ws
+  pub within : AllByRecursion (λ w. 8 * w.0 < n) ws
+
+-- what every frame keeps
+pub record KeepsFrame (f : Frame) : Type 0 where
+  pub dyn : length f.dyn ≡ 512
+  pub low : floor f ≤ f.dt
+  pub high : f.dt ≤ dynamic_end
+  pub session : f.session ≤ 256
+
+-- the application of a frame
+abbrev pub app_under : BankState → (ℕ → Option (List ℕ)) → Held → App
+app_under s named h = app_of s.apps (named h.slot)
+
+-- the frame that it is on a bank, which has its name and its static bytes
+abbrev pub shown : BankState → (ℕ → Option (List ℕ)) → Held → Frame
+shown s named h = record h.frame { name = name_or (named h.slot); fixed = (app_under s named h).fixed }
+
+-- its application is on the bank, with the facts that the frame was made with
+pub record Fits (s : BankState) (named : ℕ → Option (List ℕ)) (h : Held) : Type 0 where
+  pub there : IsSome (named h.slot)
+  pub app : IsSome (lookup s.apps (name_or (named h.slot)))
+  pub code : h.frame.code_len ≡ length (app_under s named h).code
+  pub fixed : length h.frame.fixed ≡ length (app_under s named h).fixed
+  pub deny : h.frame.deny ≡ (app_under s named h).deny
+  pub session : h.frame.session ≡ (app_under s named h).session
+
+-- a new frame of an application with these sizes
+abbrev pub new_held : ℕ → Sizes → List ℕ → Held
+new_held slot sizes session = record { slot = slot; frame = new_frame [] sizes.code sizes.deny (zeros sizes.fixed) session }
+
+-- ---- frames whose pending bytes are the same
+
+-- whether there are no pieces
+abbrev pub no_pieces : List (ℕ × List ℕ) → Bool
+no_pieces [] = true
+no_pieces (p ∷ ps) = false
+
+-- a frame, whichever pieces its pending bytes come from: the static bytes as they read, the words that are pending, and whether none are
+pub record Seen : Type 0 where
+  pub name : List ℕ
+  pub code_len : ℕ
+  pub session : ℕ
+  pub deny : ℕ
+  pub fixed : List ℕ
+  pub read : List ℕ
+  pub pending : List ℕ
+  pub none : Bool
+  pub dyn : List ℕ
+  pub dt : ℕ
+  pub lb : ℕ
+  pub at : ℕ
+  pub c : Bool
+  pub z : Bool
+  pub protected : Bool
+
+abbrev pub seen : Frame → Seen
+seen f =
+    record {
+      name = f.name;
+      code_len = f.code_len;
+      session = f.session;
+      deny = f.deny;
+      fixed = f.fixed;
+      read = static_bytes f;
+      pending = touched f.pieces;
+      none = no_pieces f.pieces;
+      dyn = f.dyn;
+      dt = f.dt;
+      lb = f.lb;
+      at = f.at;
+      c = f.c;
+      z = f.z;
+      protected = f.protected;
+    }

@@ -1,0 +1,12 @@
+-- Places of the code as places of the definitions.
+-- This project's profile.
+use Rattle.mc_model.specs.Frame.{Place}
+use Rattle.mc_model.specs.Frame as model
+use Rattle.mc_segs.specs.declared.access.Place.{Place as CodePlace}
+use Rattle.mc_segs.specs.declared.access.Place.TheVariants as place
+
+-- the same place
+abbrev pub place_value : CodePlace → Place
+place_value (place.Static i) = model.Static i
+place_value (place.Dynamic i) = model.Dynamic i
+place_value (place.Public i) = model.Public i

@@ -1,0 +1,55 @@
+// Pieces of bytes in arrays.
+ghost use Rattle.std.specs.Prelude.{◌≡◌, ◌+◌, ◌≤◌, ◌<◌, length, take, drop, ◌++◌};
+ghost use Rattle.mc_model.specs.Bytes.{be2, bytes2, splice};
+
+/// Copies bytes from a place on.
+pub fn read(bytes: &[u8], at: usize, into: &mut [u8])
+    requires { at + length into.old ≤ length bytes.now }
+    ensures { into.new ≡ take (length into.old) (drop at bytes.now) }
+{
+    into.copy_from_slice(&bytes[at..at + into.len()]);
+}
+
+/// Sets bytes from a place on.
+pub fn write(into: &mut [u8], at: usize, piece: &[u8])
+    requires { at + length piece.now ≤ length into.old }
+    ensures { into.new ≡ splice into.old at piece.now }
+{
+    into[at..at + piece.len()].copy_from_slice(piece);
+}
+
+/// Moves bytes from one place to another, which may meet it.
+pub fn move_bytes(bytes: &mut [u8], from: usize, len: usize, to: usize)
+    requires from { from + len ≤ length bytes.old }
+    requires to { to + len ≤ length bytes.old }
+    ensures { bytes.new ≡ splice bytes.old to (take len (drop from bytes.old)) }
+{
+    bytes.copy_within(from..from + len, to);
+}
+
+/// The two bytes of a word.
+pub fn word(value: u16) -> [u8; 2]
+    ensures { result ≡ bytes2 value }
+{
+    [(value / 256) as u8, (value % 256) as u8]
+}
+
+/// The four bytes of two words.
+pub fn words(first: u16, second: u16) -> [u8; 4]
+    ensures { result ≡ bytes2 first ++ bytes2 second }
+{
+    [
+        (first / 256) as u8,
+        (first % 256) as u8,
+        (second / 256) as u8,
+        (second % 256) as u8,
+    ]
+}
+
+/// The word at a place.
+pub fn word_at(bytes: &[u8], at: usize) -> u16
+    requires { at + 1 < length bytes.now }
+    ensures { result ≡ be2 bytes.now at }
+{
+    bytes[at] as u16 * 256 + bytes[at + 1] as u16
+}

@@ -1,0 +1,39 @@
+use mc_base::{Aid, Stop};
+use mc_model::Abend;
+
+/// What comes after an instruction that was done: the next one, the frame's exit, or another application by its name.
+#[derive(Clone, Copy, Debug, PartialEq, Eq)]
+pub enum Next {
+    Go,
+    Exit,
+    Delegate(Aid),
+}
+
+/// Why an instruction was not done: it abends, or the bank stopped in its change.
+#[derive(Clone, Copy, Debug, PartialEq, Eq)]
+pub enum Halt {
+    Abend(Abend),
+    Stop(Stop),
+}
+
+impl From<Abend> for Halt {
+    ghost use Rattle.std.specs.Prelude.{◌≡◌};
+    ghost use Rattle.mc_segs.specs.declared.ends.Halt.TheVariants as halt;
+
+    ghost from_gives = { λ a h. h ≡ halt.Abend a };
+
+    fn from(abend: Abend) -> Self {
+        Halt::Abend(abend)
+    }
+}
+
+impl From<Stop> for Halt {
+    ghost use Rattle.std.specs.Prelude.{◌≡◌};
+    ghost use Rattle.mc_segs.specs.declared.ends.Halt.TheVariants as halt;
+
+    ghost from_gives = { λ s h. h ≡ halt.Stop s };
+
+    fn from(stop: Stop) -> Self {
+        Halt::Stop(stop)
+    }
+}

@@ -1,0 +1,153 @@
+ghost use Rattle.std.specs.Prelude.{◌≡◌, ◌≢◌, ◌-◌, ◌+◌, ◌≤◌, ◌<◌, length, true, false, OnOk, OnErr};
+ghost use Rattle.mc_model.specs.Frame.{flagged, floor, session_of};
+ghost use Rattle.mc_segs.specs.Held.{new_held};
+
+use crate::bytes::write;
+use crate::session::Session;
+use mc_bank::{Facts, Slot};
+use mc_trans::Pending;
+use std::marker::Model;
+
+/// The address of the first dynamic byte.
+pub const DYNAMIC: u16 = 0x8000;
+
+/// A running application: its slot on the bank with what its facts say, 512 dynamic bytes, the registers DT and LB as
+/// addresses, the code address, the flags C and Z, and the words that wait for a commit while protection is on.
+#[derive(Debug, Drop)]
+pub struct Frame {
+    pub(crate) slot: Slot,
+    pub(crate) code_len: u16,
+    pub(crate) fixed_len: u16,
+    pub(crate) session_len: u16,
+    pub(crate) deny: u16,
+    pub(crate) pending: Pending,
+    pub(crate) dynamic: [u8; 512],
+    pub(crate) dt: u16,
+    pub(crate) lb: u16,
+    pub(crate) at: u16,
+    pub(crate) c: bool,
+    pub(crate) z: bool,
+    pub(crate) protected: bool,
+}
+
+impl Model for Frame {
+    ghost use Rattle.mc_segs.specs.Held.{Held};
+    ghost use Rattle.mc_segs.specs.Inside.{frame_value, KeepsInside};
+
+    ghost Value = { Held };
+
+    ghost view = { frame_value };
+
+    ghost invariant = { KeepsInside };
+}
+
+impl Frame {
+    /// A frame of the application of a slot before its first instruction, with these session bytes. They are as many as
+    /// the facts say.
+    pub fn new(slot: Slot, facts: &Facts, session: &Session) -> Frame
+        requires { length session.now ≡ facts.now.sizes.session }
+        ensures { result ≡ new_held slot facts.now.sizes session.now }
+    {
+        let bytes = session.bytes();
+        let mut dynamic = [0; 512];
+        write(&mut dynamic, 0, bytes);
+        let floor = DYNAMIC + bytes.len() as u16;
+        Frame {
+            slot,
+            code_len: facts.sizes.code,
+            fixed_len: facts.sizes.fixed,
+            session_len: facts.sizes.session,
+            deny: facts.sizes.deny,
+            pending: Pending::new(),
+            dynamic,
+            dt: floor,
+            lb: floor,
+            at: 0,
+            c: false,
+            z: false,
+            protected: false,
+        }
+    }
+
+    /// The slot of its application.
+    pub fn slot(&self) -> Slot
+        ensures { result ≡ self.now.slot }
+    {
+        self.slot
+    }
+
+    /// The code address.
+    pub fn at(&self) -> u16
+        ensures { result ≡ self.now.frame.at }
+    {
+        self.at
+    }
+
+    /// The length of its application's code.
+    pub fn code_len(&self) -> u16
+        ensures { result ≡ self.now.frame.code_len }
+    {
+        self.code_len
+    }
+
+    /// DT, the address of the first free byte of the stack.
+    pub fn dt(&self) -> u16
+        ensures value { result ≡ self.now.frame.dt }
+        ensures low { 0x8000 ≤ result }
+        ensures high { result ≤ 0x8200 }
+    {
+        self.dt
+    }
+
+    /// The lowest address that DT may have.
+    pub fn floor(&self) -> u16
+        ensures value { result ≡ floor self.now.frame }
+        ensures dt { result ≤ self.now.frame.dt }
+        ensures high { result ≤ 0x8100 }
+    {
+        DYNAMIC + self.session_len
+    }
+
+    /// LB, the base of the current call.
+    pub fn lb(&self) -> u16
+        ensures { result ≡ self.now.frame.lb }
+    {
+        self.lb
+    }
+
+    /// The flag C.
+    pub fn c(&self) -> bool
+        ensures { result ≡ self.now.frame.c }
+    {
+        self.c
+    }
+
+    /// The flag Z.
+    pub fn z(&self) -> bool
+        ensures { result ≡ self.now.frame.z }
+    {
+        self.z
+    }
+
+    /// The session bytes.
+    pub fn session(&self) -> Session
+        ensures { result ≡ session_of self.now.frame }
+    {
+        Session::of(&self.dynamic[..self.session_len as usize])
+    }
+
+    /// Sets the code address, and nothing else.
+    pub fn go(&mut self, at: u16)
+        ensures { self.new ≡ record self.old { frame = record self.old.frame { at = at } } }
+    {
+        self.at = at;
+    }
+
+    /// Sets the flags, and nothing else.
+    pub fn set_flags(&mut self, c: bool, z: bool)
+        ensures { self.new ≡ record self.old { frame = flagged self.old.frame c z } }
+    {
+        self.c = c;
+        self.z = z;
+    }
+}

@@ -1,0 +1,20 @@
+#![tactic(auto)]
+
+// The segments of a running application: its frame, the public bytes of its chain, and the accesses to both.
+mod access;
+mod bytes;
+mod ends;
+mod frame;
+mod protection;
+mod public;
+mod session;
+mod stack;
+
+pub use access::{load, resolve, store};
+pub use ends::{Halt, Next};
+pub use frame::Frame;
+pub use mc_model::Abend;
+pub use protection::protect;
+pub use public::Public;
+pub use session::Session;
+pub use stack::{come_back, enter, pop, push};

@@ -1,0 +1,66 @@
+ghost use Rattle.std.specs.Prelude.{◌≡◌, ◌≤◌, length};
+ghost use Rattle.mc_model.specs.Frame.{new_public, with_la, with_sw};
+ghost use Rattle.mc_apdu.specs.Command.{parts_of};
+
+use crate::bytes::{word, words, write};
+use mc_apdu::Apdu;
+use std::marker::Model;
+
+/// The public segment, which the applications of a chain share: the data of the command and of its reply, and in its
+/// last 17 bytes the header, the lengths and the status.
+#[derive(Debug, Drop)]
+pub struct Public {
+    pub(crate) bytes: [u8; 1041],
+}
+
+impl Model for Public {
+    ghost use Rattle.std.specs.Prelude.{◌≡◌, ℕ, List, length};
+
+    ghost Value = { List ℕ };
+
+    ghost view = { λ p. p.bytes };
+
+    ghost invariant = { λ p. length p.bytes ≡ 1041 };
+}
+
+impl Public {
+    /// The public segment of a command of ISO/IEC 7816-4 with at most 1,024 bytes of data, before its first instruction.
+    pub fn new(apdu: &Apdu) -> Public
+        requires { length apdu.now.body.now ≤ 1024 }
+        ensures { result ≡ new_public (parts_of apdu.now) }
+    {
+        let mut bytes = [0; 1041];
+        let lc = apdu.body.len() as u16;
+        write(&mut bytes, 0, apdu.body);
+        write(
+            &mut bytes,
+            1028,
+            &[apdu.cla, apdu.ins, apdu.p1, apdu.p2, apdu.p3],
+        );
+        write(&mut bytes, 1033, &words(lc, apdu.le.unwrap_or(0)));
+        write(&mut bytes, 1039, &word(0x9000));
+        Public { bytes }
+    }
+
+    /// The whole segment, 1,041 bytes.
+    pub fn bytes(&self) -> &[u8]
+        ensures value { result.now ≡ self.now }
+        ensures length { length result.now ≡ 1041 }
+    {
+        &self.bytes
+    }
+
+    /// Sets the status word of the reply, and nothing else.
+    pub fn set_sw(&mut self, sw: u16)
+        ensures { self.new ≡ with_sw self.old sw }
+    {
+        write(&mut self.bytes, 1039, &word(sw));
+    }
+
+    /// Sets La, the length of the reply's data, and nothing else.
+    pub fn set_la(&mut self, la: u16)
+        ensures { self.new ≡ with_la self.old la }
+    {
+        write(&mut self.bytes, 1037, &word(la));
+    }
+}

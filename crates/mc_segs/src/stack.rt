@@ -1,0 +1,87 @@
+// The stack of a frame: bytes on its top, and the saved registers of calls.
+ghost use Rattle.std.specs.Prelude.{◌≡◌, ◌-◌, ◌+◌, ◌≤◌, length, not, OnOk, OnErr};
+ghost use Rattle.mc_model.specs.Frame as model;
+ghost use Rattle.mc_segs.specs.Ends.{IfDue};
+
+use crate::bytes::{move_bytes, read, word_at, words, write};
+use crate::frame::{DYNAMIC, Frame};
+use mc_model::Abend;
+
+/// Puts bytes on top of the stack. Abend 05 where they would pass its end, and then nothing changes.
+pub fn push(frame: &mut Frame, bytes: &[u8]) -> Result<(), Abend>
+    ensures abend { IfDue result (model.is_over frame.old.frame (length bytes.now)) Abend.A05 }
+    ensures pushed { OnOk result (frame.new ≡ record frame.old { frame = model.pushed frame.old.frame bytes.now }) }
+    ensures unchanged { OnErr result (frame.new ≡ frame.old) }
+{
+    let from = (frame.dt - DYNAMIC) as usize;
+    if bytes.len() > 512 - from {
+        return Err(Abend::A05);
+    }
+    write(&mut frame.dynamic, from, bytes);
+    frame.dt += bytes.len() as u16;
+    Ok(())
+}
+
+/// Takes bytes from the top of the stack. Abend 04 where fewer are above the floor, and then nothing changes.
+pub fn pop(frame: &mut Frame, into: &mut [u8]) -> Result<(), Abend>
+    ensures abend { IfDue result (model.is_under frame.old.frame (length into.old)) Abend.A04 }
+    ensures bytes { OnOk result (into.new ≡ model.top frame.old.frame (length into.old)) }
+    ensures popped { OnOk result (frame.new ≡ record frame.old { frame = model.popped frame.old.frame (length into.old) }) }
+    ensures unchanged { OnErr result ((frame.new ≡ frame.old) × (into.new ≡ into.old)) }
+{
+    if into.len() > (frame.dt - frame.floor()) as usize {
+        return Err(Abend::A04);
+    }
+    let from = (frame.dt - DYNAMIC) as usize - into.len();
+    read(&frame.dynamic, from, into);
+    frame.dt -= into.len() as u16;
+    Ok(())
+}
+
+/// Enters a routine: pushes LB and the code address, LB becomes DT, and the code goes on at `to`, which is not tested.
+/// Abend 05 where the four bytes would pass the end of the stack, and then nothing changes.
+pub fn enter(frame: &mut Frame, to: u16) -> Result<(), Abend>
+    ensures abend { IfDue result (model.is_over frame.old.frame 4) Abend.A05 }
+    ensures entered { OnOk result (frame.new ≡ record frame.old { frame = model.entered frame.old.frame to }) }
+    ensures unchanged { OnErr result (frame.new ≡ frame.old) }
+{
+    let saved = words(frame.lb, frame.at);
+    push(frame, &saved)?;
+    frame.lb = frame.dt;
+    frame.at = to;
+    Ok(())
+}
+
+/// Returns from a routine: the top `o` bytes move over the saved registers and the `i` bytes below them, LB and the code
+/// address are those that were saved. The place is not tested. Abend 04 where no call with `i` bytes lies below, or fewer
+/// than `o` bytes above LB, and then nothing changes.
+pub fn come_back(frame: &mut Frame, i: u8, o: u8) -> Result<(), Abend>
+    ensures abend { IfDue result (model.no_return frame.old.frame i o) Abend.A04 }
+    ensures back { OnOk result (frame.new ≡ record frame.old { frame = model.come_back frame.old.frame i o }) }
+    ensures unchanged { OnErr result (frame.new ≡ frame.old) }
+{
+    let (i, o) = (i as u16, o as u16);
+    if !returns(frame, i, o) {
+        return Err(Abend::A04);
+    }
+    let base = (frame.lb - DYNAMIC) as usize;
+    let lb = word_at(&frame.dynamic, base - 4);
+    let at = word_at(&frame.dynamic, base - 2);
+    let to = base - 4 - i as usize;
+    let from = (frame.dt - DYNAMIC) as usize - o as usize;
+    move_bytes(&mut frame.dynamic, from, o as usize, to);
+    frame.dt = DYNAMIC + (to as u16) + o;
+    frame.lb = lb;
+    frame.at = at;
+    Ok(())
+}
+
+// Whether a call with i bytes lies below LB, and o bytes above it.
+fn returns(frame: &Frame, i: u16, o: u16) -> bool
+    requires i { i ≤ 255 }
+    requires o { o ≤ 255 }
+    ensures { result ≡ not (model.no_return frame.now.frame i o) }
+{
+    let floor = frame.floor() as u32;
+    floor + 4 + i as u32 <= frame.lb as u32 && frame.lb as u32 + o as u32 <= frame.dt as u32
+}
