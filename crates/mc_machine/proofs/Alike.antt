@@ -1,0 +1,106 @@
+-- A row does the same to frames that read the same, whichever pieces their pending bytes come from.
+use Rattle.std.proofs.Common.{◌≡◌, ℕ, List, Option, Some, None, refl, sym, ap, subst, ◌∙◌}
+use Rattle.std.specs.Prelude.{◌+◌, ◌*◌, IfSome, slice_index}
+use Rattle.mc_model.specs.declared.instruction.Ins.{Ins}
+use Rattle.mc_model.specs.declared.machine.Abend.{Abend}
+use Rattle.mc_model.specs.Pieces.{laid_pieces, touched, pending_at, HoldPieces}
+use Rattle.mc_model.specs.Frame.{Frame}
+use Rattle.mc_model.specs.Primitives.{Around, Done}
+use Rattle.mc_model.specs.Row.{RowEnd, Abends, Does, causes, effect, first_cause, judged, row}
+use Rattle.mc_model.specs.Orders.{Answer}
+use Rattle.mc_model.specs.Items.{BankItem}
+use Rattle.mc_segs.specs.Held.{Seen, seen}
+use Rattle.mc_segs.specs.Ends.{Committed, changed_bytes}
+use Rattle.mc_machine.specs.Alike.{seen_end, seen_change, IsGuarded, SameDone, SameRowEnd}
+use Rattle.mc_machine.proofs.AlikeBytes.{SamePieces, with_pieces}
+use Rattle.mc_machine.proofs.AlikeCauses.{causes_same}
+use Rattle.mc_machine.proofs.AlikeEffects.{effect_same}
+
+judged_same : (fixed : List ℕ) (o : Option Abend) (d e : Done) → SameDone fixed d e → seen_end fixed (judged o d) ≡ seen_end fixed (judged o e)
+judged_same fixed (Some a) d e s = refl
+judged_same fixed None d e s = rw (s.effect.frame, s.effect.public, s.effect.changes, s.next) refl
+
+pub row_same : (i : Ins) (f : Frame) (qs : List (ℕ × List ℕ)) (public : List ℕ) (x : Around) → SamePieces f.fixed f.pieces qs → IsGuarded f → seen_end f.fixed (row i (with_pieces qs f) public x) ≡ seen_end f.fixed (row i f public x)
+unfolding row
+row_same i f qs public x s guard =
+    rw (causes_same i f qs public x s) (judged_same f.fixed (first_cause (causes i f public x)) (effect i (with_pieces qs f) public x) (effect i f public x) (effect_same i f qs public x s guard))
+
+-- the frame with these pieces that is seen as this
+abbrev frame_of : List (ℕ × List ℕ) → Seen → Frame
+frame_of qs t =
+    record {
+      name = t.name;
+      code_len = t.code_len;
+      session = t.session;
+      deny = t.deny;
+      fixed = t.fixed;
+      pieces = qs;
+      dyn = t.dyn;
+      dt = t.dt;
+      lb = t.lb;
+      at = t.at;
+      c = t.c;
+      z = t.z;
+      protected = t.protected;
+    }
+
+pub seen_pieces : (f g : Frame) → seen f ≡ seen g → SamePieces f.fixed f.pieces g.pieces
+seen_pieces f g e =
+    let fixed : f.fixed ≡ g.fixed = ap (λ (t : Seen). t.fixed) e in
+    record {
+      laid = ap (λ (l : List ℕ). laid_pieces l g.pieces) fixed ∙ sym (ap (λ (t : Seen). t.read) e);
+      words = sym (ap (λ (t : Seen). t.pending) e);
+      none = sym (ap (λ (t : Seen). t.none) e);
+    }
+
+pub rows_alike : (i : Ins) (f g : Frame) (public : List ℕ) (x : Around) → IsGuarded f → seen f ≡ seen g → seen_end f.fixed (row i f public x) ≡ seen_end g.fixed (row i g public x)
+rows_alike i f g public x guard e =
+    let same : with_pieces g.pieces f ≡ g = ap (λ (t : Seen). frame_of g.pieces t) e in
+    sym (row_same i f g.pieces public x (seen_pieces f g e) guard) ∙ ap (λ (h : Frame). seen_end h.fixed (row i h public x)) same
+
+-- ---- from what is seen back to the ends
+
+ends_seen : (fixed : List ℕ) (r t : RowEnd) → seen_end fixed r ≡ seen_end fixed t → SameRowEnd fixed r t
+ends_seen fixed (Abends a) (Abends b) e = cc e
+ends_seen fixed (Abends a) (Does d) e = absurd (cc e)
+ends_seen fixed (Does d) (Abends b) e = absurd (cc e)
+ends_seen fixed (Does d) (Does k) e = record { effect = record { frame = cc e; public = cc e; changes = cc e }; next = cc e }
+
+-- the same by cases on how the rows end
+pub rows_end_alike : (i : Ins) (f g : Frame) (public : List ℕ) (x : Around) → IsGuarded f → seen f ≡ seen g → SameRowEnd f.fixed (row i f public x) (row i g public x)
+rows_end_alike i f g public x guard e =
+    let fixed : f.fixed ≡ g.fixed = ap (λ (t : Seen). t.fixed) e in
+    ends_seen f.fixed (row i f public x) (row i g public x) (rows_alike i f g public x guard e ∙ ap (λ (l : List ℕ). seen_end l (row i g public x)) (sym fixed))
+
+-- a frame that reads the same is as guarded
+pub guarded_seen : (f g : Frame) → seen f ≡ seen g → IsGuarded f → IsGuarded g
+guarded_seen f g e guard = λ off. sym (ap (λ (t : Seen). t.none) e) ∙ guard (ap (λ (t : Seen). t.protected) e ∙ off)
+
+-- ---- static changes that are seen as one: the bytes after them, and their commit
+
+some_seen : (fixed : List ℕ) (ps qs : List (ℕ × List ℕ)) → seen_change fixed (Some ps) ≡ seen_change fixed (Some qs) → (laid_pieces fixed ps ≡ laid_pieces fixed qs) × (touched ps ≡ touched qs)
+some_seen fixed ps qs e =
+    let both : (laid_pieces fixed ps, touched ps) ≡ (laid_pieces fixed qs, touched qs) = cc e in
+    (ap (λ (t : List ℕ × List ℕ). t.0) both, ap (λ (t : List ℕ × List ℕ). t.1) both)
+
+pub changed_seen : (fixed : List ℕ) (c d : Option (List (ℕ × List ℕ))) → seen_change fixed c ≡ seen_change fixed d → changed_bytes fixed c ≡ changed_bytes fixed d
+changed_seen fixed None None e = refl
+changed_seen fixed None (Some qs) e = absurd (cc e)
+changed_seen fixed (Some ps) None e = absurd (cc e)
+changed_seen fixed (Some ps) (Some qs) e = (some_seen fixed ps qs e).0
+
+hold_seen : (fixed : List ℕ) (ps qs ws : List (ℕ × List ℕ)) → touched ps ≡ touched qs → laid_pieces fixed ps ≡ laid_pieces fixed qs → HoldPieces fixed ps ws → HoldPieces fixed qs ws
+hold_seen fixed ps qs ws words laid held = record {
+  pending = held.pending;
+  touched_words = held.touched_words ∙ words;
+  bytes = λ n k lt within. subst (λ (l : List ℕ). IfSome (pending_at ws n) (λ b. slice_index b k ≡ slice_index l (8 * n + k))) laid (held.bytes n k lt within);
+}
+
+pub committed_seen : {B : Type 0} (did : B → BankItem → Answer → B → Type 0) (name fixed : List ℕ) (c d : Option (List (ℕ × List ℕ))) (b : B) (a : Answer) (e : B)
+    → seen_change fixed c ≡ seen_change fixed d → Committed did name fixed c b a e → Committed did name fixed d b a e
+committed_seen did name fixed None None b a e s done = done
+committed_seen did name fixed None (Some qs) b a e s done = absurd (cc s)
+committed_seen did name fixed (Some ps) None b a e s done = absurd (cc s)
+committed_seen did name fixed (Some ps) (Some qs) b a e s done =
+    let same = some_seen fixed ps qs s in
+    (done.0, hold_seen fixed ps qs done.0 same.1 same.0 done.1, done.2)

@@ -1,0 +1,67 @@
+-- Frames that differ in the pieces that their pending bytes come from: what they read, and the limit of pending words.
+use Rattle.std.proofs.Common.{◌≡◌, ℕ, Bool, true, false, cond, List, [], ◌∷◌, ◌++◌, length, take, drop, Option, Some, None, refl, sym, ap, ◌∙◌}
+use Rattle.std.specs.Prelude.{nat_lt, ◌==◌}
+use Rattle.mc_model.specs.Bytes.{zeros}
+use Rattle.mc_model.specs.Pieces.{laid_pieces, touched, with_touched, with_words}
+use Rattle.mc_model.specs.Frame.{Frame, Place, Static, Dynamic, Public, where_is, bytes_in, bytes_at, passes_limit, too_many}
+use Rattle.mc_model.specs.Bytes.{splice}
+use Rattle.mc_segs.specs.Held.{no_pieces}
+
+-- pieces that lay the same bytes over a segment, and touch the same words
+pub record SamePieces (fixed : List ℕ) (ps qs : List (ℕ × List ℕ)) : Type 0 where
+  pub laid : laid_pieces fixed qs ≡ laid_pieces fixed ps
+  pub words : touched qs ≡ touched ps
+  pub none : no_pieces qs ≡ no_pieces ps
+
+-- a frame with other pieces
+abbrev pub with_pieces : List (ℕ × List ℕ) → Frame → Frame
+with_pieces qs f = record f { pieces = qs }
+
+pub laid-append : (l : List ℕ) (ps qs : List (ℕ × List ℕ)) → laid_pieces l (ps ++ qs) ≡ laid_pieces (laid_pieces l ps) qs
+laid-append l [] qs = refl
+laid-append l (p ∷ ps) qs = laid-append (splice l p.0 p.1) ps qs
+
+with_touched-append : (ns : List ℕ) (ps qs : List (ℕ × List ℕ)) → with_touched ns (ps ++ qs) ≡ with_touched (with_touched ns ps) qs
+with_touched-append ns [] qs = refl
+with_touched-append ns (p ∷ ps) qs = with_touched-append (with_words p.0 p.1 ns) ps qs
+
+touched-append : (ps qs : List (ℕ × List ℕ)) → touched (ps ++ qs) ≡ with_touched (touched ps) qs
+unfolding touched
+touched-append ps qs = with_touched-append [] ps qs
+
+no_pieces-append : (ps : List (ℕ × List ℕ)) (p : ℕ × List ℕ) → no_pieces (ps ++ p ∷ []) ≡ false
+no_pieces-append [] p = refl
+no_pieces-append (q ∷ ps) p = refl
+
+-- pieces stay the same with one more
+pub same_pushed : (fixed : List ℕ) (ps qs : List (ℕ × List ℕ)) (p : ℕ × List ℕ) → SamePieces fixed ps qs → SamePieces fixed (ps ++ p ∷ []) (qs ++ p ∷ [])
+same_pushed fixed ps qs p s = record {
+  laid = laid-append fixed qs (p ∷ []) ∙ ap (λ (l : List ℕ). laid_pieces l (p ∷ [])) s.laid ∙ sym (laid-append fixed ps (p ∷ []));
+  words = touched-append qs (p ∷ []) ∙ ap (λ (ns : List ℕ). with_touched ns (p ∷ [])) s.words ∙ sym (touched-append ps (p ∷ []));
+  none = no_pieces-append qs p ∙ sym (no_pieces-append ps p);
+}
+
+-- ---- reading
+
+bytes_in_same : (f : Frame) (qs : List (ℕ × List ℕ)) (public : List ℕ) (n : ℕ) (place : Option Place) → SamePieces f.fixed f.pieces qs → bytes_in (with_pieces qs f) public n place ≡ bytes_in f public n place
+bytes_in_same f qs public n None s = refl
+bytes_in_same f qs public n (Some (Static i)) s = ap (λ (l : List ℕ). take n (drop i l)) s.laid
+bytes_in_same f qs public n (Some (Dynamic i)) s = refl
+bytes_in_same f qs public n (Some (Public i)) s = refl
+
+pub bytes_same : (f : Frame) (qs : List (ℕ × List ℕ)) (public : List ℕ) (a n : ℕ) → SamePieces f.fixed f.pieces qs → bytes_at (with_pieces qs f) public a n ≡ bytes_at f public a n
+unfolding bytes_at
+bytes_same f qs public a n s = ap (λ (b : List ℕ). cond (n == 0) [] b) (bytes_in_same f qs public n (where_is f a n) s)
+
+-- ---- the limit of pending words
+
+passes_same : (b : Bool) (f : Frame) (qs : List (ℕ × List ℕ)) (place : Option Place) (n : ℕ) → SamePieces f.fixed f.pieces qs → passes_limit b (with_pieces qs f) place n ≡ passes_limit b f place n
+passes_same true f qs (Some (Static i)) n s = ap (λ (ns : List ℕ). nat_lt 64 (length ns)) (same_pushed f.fixed f.pieces qs (i, zeros n) s).words
+passes_same true f qs (Some (Dynamic i)) n s = refl
+passes_same true f qs (Some (Public i)) n s = refl
+passes_same true f qs None n s = refl
+passes_same false f qs place n s = refl
+
+pub too_many_same : (f : Frame) (qs : List (ℕ × List ℕ)) (a n : ℕ) → SamePieces f.fixed f.pieces qs → too_many (with_pieces qs f) a n ≡ too_many f a n
+unfolding too_many
+too_many_same f qs a n s = passes_same f.protected f qs (where_is f a n) n s

@@ -1,0 +1,101 @@
+-- What follows an instruction in a settled chain: a delegation, or an exit.
+use Rattle.std.proofs.Common.{◌≡◌, ◌≢◌, ℕ, ◌+◌, ◌-◌, ◌≤◌, Bool, true, false, cond, List, [], ◌∷◌, length, suc, Option, Some, None, refl, sym, ap, subst, ◌∙◌, arith}
+use Rattle.std.specs.Prelude.{IsSome, IfSome, bytes_eq, ◌||◌, nat_lt, nat_le, unwrap_or, is_some, take, min}
+use Rattle.std.specs.List.{AllByRecursion}
+use Rattle.std.proofs.lemmas.Bool.Decides.{nat_tests}
+use Rattle.mc_bank.specs.Bank.{BankState, app_of, name_or, no_app, sizes_of}
+use Rattle.mc_bank.specs.Names.{other_way}
+use Rattle.mc_model.specs.declared.card.Sizes.{Sizes}
+use Rattle.mc_model.specs.declared.instruction.Ins.{Ins}
+use Rattle.mc_model.specs.declared.machine.Abend.TheVariants.{A09}
+use Rattle.mc_model.specs.Bytes.{lookup, zeros}
+use Rattle.mc_model.specs.Card.{App}
+use Rattle.mc_model.specs.Frame.{Frame, with_sw, sw_of, la_of}
+use Rattle.mc_model.specs.Chain.{Chain, Follows, Continues, Ends, is_active, depth_of, called, called_app, entered_app, exited, last_exit, reply_of}
+use Rattle.mc_model.specs.Chain as model
+use Rattle.mc_segs.specs.Held.{Held, new_held}
+use Rattle.mc_machine.specs.Chains.{Chained, Reads, ReadAll, Apart, Runs}
+use Rattle.mc_machine.specs.Turns.{EndFits, Followed, Leaves, has_frame, last_end, end_value, told_of}
+use Rattle.mc_machine.specs.declared.outcome.End.{End}
+use Rattle.mc_machine.specs.declared.outcome.End.TheVariants as end
+use Rattle.mc_machine.specs.declared.outcome.Step.{Step}
+use Rattle.mc_machine.proofs.ReadsLemmas.{as_many, active_runs, app_by, entered_reads}
+
+neither : (a b : Bool) → false ≡ (a || b) → (a ≡ false) × (b ≡ false)
+neither true b e = absurd (cc e)
+neither false true e = absurd (cc e)
+neither false false e = (refl, refl)
+
+-- a name that no frame runs is none of theirs
+others_apart : (n : List ℕ) (f : Frame) (fs : List Frame) → is_active n f fs ≡ false → AllByRecursion (λ (g : Frame). bytes_eq n g.name ≡ false) (f ∷ fs)
+others_apart n f [] e = (other_way f.name n e, tt)
+others_apart n f (g ∷ gs) e =
+    let both = neither (bytes_eq f.name n) (is_active n g gs) (sym e) in
+    (other_way f.name n both.0, others_apart n g gs both.1)
+
+few_of : (k : ℕ) → nat_le 4 (k + 1) ≡ false → suc k ≤ 3
+few_of k e = grind (arith, nat_tests, e)
+
+module _ (s : BankState) (named : ℕ → Option (List ℕ)) where
+  -- ---- delegations
+
+  public_runs : (c : Chained) (ch : Chain) (sw : ℕ) → Runs s named c ch → Runs s named (record c { public = with_sw c.public sw }) (record ch { public = with_sw ch.public sw })
+  public_runs c ch sw r = record {
+    map = r.map;
+    running = r.running;
+    below = r.below;
+    public = ap (λ (p : List ℕ). with_sw p sw) r.public;
+    case = r.case;
+    le = r.le;
+    few = r.few;
+    apart = r.apart;
+  }
+
+  pub missing_call : (c : Chained) (ch : Chain) (n : List ℕ) → lookup s.apps n ≡ None → Runs s named c ch → Runs s named (record c { public = with_sw c.public 0x6A82 }) (called ch n (lookup ch.map n))
+  missing_call c ch n none r =
+      subst (λ (o : Option App). Runs s named (record c { public = with_sw c.public 0x6A82 }) (called ch n o)) (sym (ap (λ (m : List (List ℕ × App)). lookup m n) r.map ∙ none)) (public_runs c ch 0x6A82 r)
+
+  refusal_is : (c : Chained) (ch : Chain) (n : List ℕ) (b : Bool) → b ≡ (has_frame named n (c.running ∷ c.below) || nat_le 4 (length c.below + 1)) → Runs s named c ch → (is_active n ch.frame ch.below || nat_le 4 (depth_of ch)) ≡ b
+  refusal_is c ch n b is r =
+      sym (is ∙ ap (λ (x : Bool). x || nat_le 4 (length c.below + 1)) (active_runs s named c ch n r) ∙ ap (λ (k : ℕ). is_active n ch.frame ch.below || nat_le 4 (k + 1)) (as_many s named c.below ch.below r.below))
+
+  called_is : (c : Chained) (ch : Chain) (n : List ℕ) (a : App) (b : Bool) → lookup s.apps n ≡ Some a → b ≡ (has_frame named n (c.running ∷ c.below) || nat_le 4 (length c.below + 1)) → Runs s named c ch
+      → called ch n (lookup ch.map n) ≡ called_app b ch n a
+  called_is c ch n a b app is r =
+      ap (λ (o : Option App). called ch n o) (ap (λ (m : List (List ℕ × App)). lookup m n) r.map ∙ app) ∙ ap (λ (x : Bool). called_app x ch n a) (refusal_is c ch n b is r)
+
+  there_is : (l : Option App) → is_some l ≡ true → (a : App) × (l ≡ Some a)
+  there_is None e = absurd (cc e)
+  there_is (Some a) e = (a, refl)
+
+  pub refused_call : (c : Chained) (ch : Chain) (n : List ℕ) → is_some (lookup s.apps n) ≡ true → true ≡ (has_frame named n (c.running ∷ c.below) || nat_le 4 (length c.below + 1)) → Runs s named c ch
+      → Runs s named (record c { public = with_sw c.public 0x6985 }) (called ch n (lookup ch.map n))
+  refused_call c ch n there is r =
+      let app = there_is (lookup s.apps n) there in
+      subst (λ (k : Chain). Runs s named (record c { public = with_sw c.public 0x6985 }) k) (sym (called_is c ch n app.0 true app.1 is r)) (public_runs c ch 0x6985 r)
+
+  entered_runs : (c : Chained) (ch : Chain) (slot : ℕ) (n : List ℕ) (a : App) → named slot ≡ Some n → lookup s.apps n ≡ Some a → (is_active n ch.frame ch.below || nat_le 4 (depth_of ch)) ≡ false → Runs s named c ch
+      → Runs s named (record c { running = new_held slot (sizes_of a) (zeros a.session); below = c.running ∷ c.below }) (entered_app ch n a)
+  entered_runs c ch slot n a there app is r =
+      let free = neither (is_active n ch.frame ch.below) (nat_le 4 (depth_of ch)) (sym is) in
+      record {
+        map = r.map;
+        running = entered_reads s named slot n a there app;
+        below = (r.running, r.below);
+        public = r.public;
+        case = r.case;
+        le = r.le;
+        few = few_of (length ch.below) free.1;
+        apart = (others_apart n ch.frame ch.below free.0, r.apart);
+      }
+
+  pub entered_call : (c : Chained) (ch : Chain) (slot : ℕ) (n : List ℕ) (sizes : Sizes) → named slot ≡ Some n → IsSome (lookup s.apps n) → sizes ≡ sizes_of (app_of s.apps (named slot))
+      → false ≡ (has_frame named n (c.running ∷ c.below) || nat_le 4 (length c.below + 1)) → Runs s named c ch
+      → Runs s named (record c { running = new_held slot sizes (zeros sizes.session); below = c.running ∷ c.below }) (called ch n (lookup ch.map n))
+  entered_call c ch slot n sizes there app size is r =
+      let a = app_of s.apps (named slot) in
+      let found : lookup s.apps n ≡ Some a = app_by s.apps (named slot) n there (subst (λ (o : Option (List ℕ)). IsSome (lookup s.apps (name_or o))) (sym there) app) in
+      let from : Sizes → Chained = λ t. record c { running = new_held slot t (zeros t.session); below = c.running ∷ c.below } in
+      subst (λ (t : Sizes). Runs s named (from t) (called ch n (lookup ch.map n))) (sym size) (
+      subst (λ (k : Chain). Runs s named (from (sizes_of a)) k) (sym (called_is c ch n a false found is r)) (entered_runs c ch slot n a there found (refusal_is c ch n false is r) r)
+      )

@@ -1,0 +1,12 @@
+pub mod AlikeBytes
+pub mod AlikeCauses
+pub mod AlikeEffects
+pub mod Alike
+pub mod Kept
+pub mod FetchLemmas
+pub mod RunLemmas
+pub mod ActLemmas
+pub mod FollowLemmas
+pub mod ReadsLemmas
+pub mod RowFacts
+pub mod TurnLemmas

@@ -1,0 +1,147 @@
+-- A chain that runs as one of the definitions: its parts, one by one.
+use Rattle.std.proofs.Common.{◌≡◌, ℕ, ◌+◌, ◌-◌, ◌≤◌, Bool, true, false, List, [], ◌∷◌, length, suc, Option, Some, None, refl, sym, ap, subst, ◌∙◌, arith}
+use Rattle.std.specs.Prelude.{IsSome, bytes_eq, ◌||◌, unwrap_or, option_and_then}
+use Rattle.std.specs.List.{AllByRecursion}
+use Rattle.std.proofs.lemmas.List.{length-replicate}
+use Rattle.mc_bank.specs.Bank.{BankState, app_of, name_or, no_app, sizes_of}
+use Rattle.mc_bank.specs.Names.{other_way}
+use Rattle.mc_model.specs.Bytes.{lookup, zeros}
+use Rattle.mc_model.specs.Card.{App}
+use Rattle.mc_model.specs.Frame.{Frame, session_of, new_frame}
+use Rattle.mc_model.specs.Chain.{Chain, delegator_in, first_frame, chain_session, is_active, stepped}
+use Rattle.mc_segs.specs.Held.{Held, Seen, Fits, shown, seen, app_under, new_held}
+use Rattle.mc_machine.specs.Alike.{IsGuarded}
+use Rattle.mc_machine.specs.Chains.{Chained, Reads, ReadAll, Apart, Runs, first_held, session_in}
+use Rattle.mc_machine.specs.Turns.{AllFit, delegator_of, has_frame, advanced}
+
+-- ---- one frame
+
+some_name : (o : Option (List ℕ)) → IsSome o → o ≡ Some (name_or o)
+some_name None there = absurd (cc there)
+some_name (Some n) there = refl
+
+some_app : (l : Option App) → IsSome l → l ≡ Some (unwrap_or l no_app)
+some_app None there = absurd (cc there)
+some_app (Some a) there = refl
+
+pub app_by : (apps : List (List ℕ × App)) (o : Option (List ℕ)) (n : List ℕ) → o ≡ Some n → IsSome (lookup apps (name_or o)) → lookup apps n ≡ Some (app_of apps o)
+app_by apps o n is = subst (λ (p : Option (List ℕ)). IsSome (lookup apps (name_or p)) → lookup apps n ≡ Some (app_of apps p)) (sym is) (some_app (lookup apps n))
+
+module _ (s : BankState) (named : ℕ → Option (List ℕ)) where
+  -- a frame's slot has its name
+  pub name_is : (h : Held) (f : Frame) → Reads s named h f → named h.slot ≡ Some f.name
+  name_is h f r = some_name (named h.slot) r.fits.there ∙ ap Some (ap (λ (t : Seen). t.name) r.same)
+
+  -- and its application is there
+  pub app_is : (h : Held) (f : Frame) → Reads s named h f → lookup s.apps f.name ≡ Some (app_under s named h)
+  app_is h f r = app_by s.apps (named h.slot) f.name (name_is h f r) r.fits.app
+
+  pub fixed_is : (h : Held) (f : Frame) → Reads s named h f → (app_under s named h).fixed ≡ f.fixed
+  fixed_is h f r = ap (λ (t : Seen). t.fixed) r.same
+
+  session_is : (h : Held) (f : Frame) → Reads s named h f → session_of h.frame ≡ session_of f
+  session_is h f r = ap (λ (t : Seen). session_of (record h.frame { session = t.session; dyn = t.dyn })) r.same
+
+  -- ---- the frames that wait
+
+  pub as_many : (hs : List Held) (fs : List Frame) → ReadAll s named hs fs → length hs ≡ length fs
+  as_many [] [] r = refl
+  as_many [] (f ∷ fs) r = absurd r
+  as_many (h ∷ hs) [] r = absurd r
+  as_many (h ∷ hs) (f ∷ fs) r = ap suc (as_many hs fs r.1)
+
+  pub all_fit : (hs : List Held) (fs : List Frame) → ReadAll s named hs fs → AllFit s named hs
+  all_fit [] [] r = tt
+  all_fit [] (f ∷ fs) r = absurd r
+  all_fit (h ∷ hs) [] r = absurd r
+  all_fit (h ∷ hs) (f ∷ fs) r = (r.0.fits, all_fit hs fs r.1)
+
+  pub delegators : (hs : List Held) (fs : List Frame) → ReadAll s named hs fs → delegator_of named hs ≡ delegator_in fs
+  delegators [] [] r = refl
+  delegators [] (f ∷ fs) r = absurd r
+  delegators (h ∷ hs) [] r = absurd r
+  delegators (h ∷ hs) (f ∷ fs) r = name_is h f r.0
+
+  first_session : (h : Held) (f : Frame) (hs : List Held) (fs : List Frame) → Reads s named h f → ReadAll s named hs fs → session_of (first_held h hs).frame ≡ session_of (first_frame f fs)
+  first_session h f [] [] r rs = session_is h f r
+  first_session h f [] (g ∷ fs) r rs = absurd rs
+  first_session h f (k ∷ hs) [] r rs = absurd rs
+  first_session h f (k ∷ hs) (g ∷ fs) r rs = first_session k g hs fs rs.0 rs.1
+
+  pub session_runs : (c : Chained) (ch : Chain) → Runs s named c ch → session_in c ≡ chain_session ch
+  session_runs c ch r = first_session c.running ch.frame c.below ch.below r.running r.below
+
+  -- ---- names of frames
+
+  active_is : (n : List ℕ) (h : Held) (f : Frame) (hs : List Held) (fs : List Frame) → Reads s named h f → ReadAll s named hs fs → has_frame named n (h ∷ hs) ≡ is_active n f fs
+  active_is n h f [] [] r rs = or_false (bytes_eq (name_or (named h.slot)) n) ∙ ap (λ (o : Option (List ℕ)). bytes_eq (name_or o) n) (name_is h f r)
+    where
+      or_false : (b : Bool) → (b || false) ≡ b
+      or_false true = refl
+      or_false false = refl
+  active_is n h f [] (g ∷ fs) r rs = absurd rs
+  active_is n h f (k ∷ hs) [] r rs = absurd rs
+  active_is n h f (k ∷ hs) (g ∷ fs) r rs = ap (λ (o : Option (List ℕ)). bytes_eq (name_or o) n || has_frame named n (k ∷ hs)) (name_is h f r) ∙ ap (λ (b : Bool). bytes_eq f.name n || b) (active_is n k g hs fs rs.0 rs.1)
+
+  pub active_runs : (c : Chained) (ch : Chain) (n : List ℕ) → Runs s named c ch → has_frame named n (c.running ∷ c.below) ≡ is_active n ch.frame ch.below
+  active_runs c ch n r = active_is n c.running ch.frame c.below ch.below r.running r.below
+
+  -- ---- one instruction of the budget
+
+  pub advanced_reads : (h : Held) (f : Frame) (next : ℕ) → Reads s named h f → Reads s named (record h { frame = record h.frame { at = next } }) (stepped f next)
+  advanced_reads h f next r = record {
+    fits = record { there = r.fits.there; app = r.fits.app; code = r.fits.code; fixed = r.fits.fixed; deny = r.fits.deny; session = r.fits.session };
+    same = ap (λ (t : Seen). record t { at = next }) r.same;
+    guarded = r.guarded;
+  }
+
+  pub advanced_runs : (c : Chained) (ch : Chain) (next : ℕ) → Runs s named c ch → Runs s named (advanced c next) (record ch { frame = stepped ch.frame next })
+  advanced_runs c ch next r = record {
+    map = r.map;
+    running = advanced_reads c.running ch.frame next r.running;
+    below = r.below;
+    public = r.public;
+    case = r.case;
+    le = r.le;
+    few = r.few;
+    apart = r.apart;
+  }
+
+  -- ---- a frame on another state of the bank that has its application as it is
+
+  pub moved_reads : (t : BankState) (names : ℕ → Option (List ℕ)) (h : Held) (f : Frame) → names h.slot ≡ Some f.name → lookup t.apps f.name ≡ lookup s.apps f.name → Reads s named h f → Reads t names h f
+  moved_reads t names h f there app r =
+      let old = name_is h f r in
+      let name : names h.slot ≡ named h.slot = there ∙ sym old in
+      let apps : app_under t names h ≡ app_under s named h =
+      ap (λ (o : Option (List ℕ)). app_of t.apps o) there ∙ ap (λ (l : Option App). unwrap_or l no_app) app ∙ ap (λ (o : Option (List ℕ)). app_of s.apps o) (sym old) in
+      record {
+        fits = record {
+          there = subst (λ (o : Option (List ℕ)). IsSome o) (sym name) r.fits.there;
+          app = subst (λ (o : Option (List ℕ)). IsSome (lookup t.apps (name_or o))) (sym there) (subst (λ (l : Option App). IsSome l) (sym (app ∙ app_is h f r)) refl);
+          code = r.fits.code ∙ ap (λ (a : App). length a.code) (sym apps);
+          fixed = r.fits.fixed ∙ ap (λ (a : App). length a.fixed) (sym apps);
+          deny = r.fits.deny ∙ ap (λ (a : App). a.deny) (sym apps);
+          session = r.fits.session ∙ ap (λ (a : App). a.session) (sym apps);
+        };
+        same = ap (λ (o : Option (List ℕ)). seen (record h.frame { name = name_or o; fixed = (app_under t names h).fixed })) name ∙ ap (λ (a : App). seen (record h.frame { name = name_or (named h.slot); fixed = a.fixed })) apps ∙ r.same;
+        guarded = r.guarded;
+      }
+
+  -- ---- a new frame
+
+  pub entered_reads : (slot : ℕ) (n : List ℕ) (a : App) → named slot ≡ Some n → lookup s.apps n ≡ Some a → Reads s named (new_held slot (sizes_of a) (zeros a.session)) (new_frame n (length a.code) a.deny a.fixed (zeros a.session))
+  entered_reads slot n a there app =
+      let is : app_of s.apps (named slot) ≡ a = ap (λ (o : Option (List ℕ)). app_of s.apps o) there ∙ ap (λ (l : Option App). unwrap_or l no_app) app in
+      record {
+        fits = record {
+          there = subst (λ (o : Option (List ℕ)). IsSome o) (sym there) refl;
+          app = subst (λ (o : Option (List ℕ)). IsSome (lookup s.apps (name_or o))) (sym there) (subst (λ (l : Option App). IsSome l) (sym app) refl);
+          code = ap (λ (b : App). length b.code) (sym is);
+          fixed = length-replicate (length a.fixed) 0 ∙ ap (λ (b : App). length b.fixed) (sym is);
+          deny = ap (λ (b : App). b.deny) (sym is);
+          session = length-replicate a.session 0 ∙ ap (λ (b : App). b.session) (sym is);
+        };
+        same = ap (λ (o : Option (List ℕ)). seen (new_frame (name_or o) (length a.code) a.deny (app_of s.apps (named slot)).fixed (zeros a.session))) there ∙ ap (λ (b : App). seen (new_frame n (length a.code) a.deny b.fixed (zeros a.session))) is;
+        guarded = λ off. refl;
+      }

@@ -1,0 +1,215 @@
+-- A run by its turns: what is left to run leads where the whole leads.
+use Rattle.std.proofs.Common.{◌≡◌, ℕ, zero, suc, ◌+◌, ◌-◌, ◌<◌, ◌≤◌, false, List, [], ◌∷◌, ◌++◌, length, take, Option, Some, None, Result, Ok, Err, arith, refl, sym, ap, subst, ◌∙◌}
+use Rattle.std.specs.Prelude.{option_map}
+use Rattle.mc_model.specs.declared.instruction.Ins.{Ins}
+use Rattle.mc_model.specs.declared.instruction.DecodeFault.{DecodeFault}
+use Rattle.mc_model.specs.declared.instruction.DecodeFault.TheVariants.{Undefined, Past}
+use Rattle.mc_model.specs.declared.machine.Abend.TheVariants.{A07}
+use Rattle.mc_model.specs.declared.device.Stop.{Stop}
+use Rattle.mc_model.specs.Orders.{Answer, InOrder}
+use Rattle.mc_model.proofs.OrdersLemmas.{InOrder-append, InOrder-stopped}
+use Rattle.mc_model.specs.Items.{BankItem}
+use Rattle.mc_model.specs.Code.{decoded}
+use Rattle.mc_model.specs.Bytes.{lookup}
+use Rattle.mc_model.specs.Frame.{Frame, session_of}
+use Rattle.mc_model.specs.Primitives.{Then, Goes, Exits, Delegates}
+use Rattle.mc_model.specs.Row.{RowEnd, Abends, Does, row}
+use Rattle.mc_model.specs.Chain.{Chain, Outcome, Abended, Acted, Ran, Write, Follows, Continues, Ends, around, code_in, stepped, first_frame, chain_session, row_turn, fetched, acted, spent, turn_of, end_of, ends_with, goes_on, ran_on, ran}
+use Rattle.mc_bank.specs.Bank.{BankState}
+use Rattle.mc_segs.specs.Held.{Held, Seen, shown, seen}
+use Rattle.mc_machine.specs.declared.outcome.End.{End}
+use Rattle.mc_machine.specs.declared.outcome.Step.{Step}
+use Rattle.mc_machine.specs.Chains.{Chained, Reads, ReadAll, Runs, Wrote, first_held, session_in}
+use Rattle.mc_machine.specs.Turns.{Follow, Acts, ActDone, step_value, end_value}
+
+-- ---- turns of the definition
+
+-- a turn that goes on counts one
+abbrev Counts : Follows → ℕ → Type 0
+Counts (Continues c) n = n ≡ 1
+Counts (Ends o) n = n ≤ 1
+
+-- a turn tells its end, and counts one where it goes on
+record Told (t : Acted) : Type 0 where
+  end : t.turn.end ≡ end_of t.follows
+  count : Counts t.follows t.count
+
+counts_one : (f : Follows) → Counts f 1
+counts_one (Continues c) = refl
+counts_one (Ends o) = omega arith
+
+row_told : (ch : Chain) (i : Ins) (r : RowEnd) → Told (row_turn ch i r)
+row_told ch i (Abends a) = record { end = refl; count = omega arith }
+row_told ch i (Does d) = record { end = refl; count = counts_one _ }
+
+fetched_told : (ch : Chain) (r : Result (Ins × ℕ) DecodeFault) → Told (fetched ch r)
+fetched_told ch (Err Undefined) = record { end = refl; count = omega arith }
+fetched_told ch (Err Past) = record { end = refl; count = omega arith }
+fetched_told ch (Ok i) = row_told ch i.0 (row i.0 (stepped ch.frame i.1) ch.public (around ch))
+
+acted_told : (ch : Chain) → Told (acted ch)
+unfolding acted
+acted_told ch = fetched_told ch (decoded (code_in (lookup ch.map ch.frame.name)) ch.frame.at)
+
+turn_told : (n : ℕ) (ch : Chain) → Told (turn_of n ch)
+turn_told zero ch = record { end = refl; count = omega arith }
+turn_told (suc n) ch = acted_told ch
+
+-- a run whose first turn goes on
+ran_goes : (n m : ℕ) (ch next : Chain) → (turn_of n ch).follows ≡ Continues next → m + 1 ≡ n → ran n ch ≡ goes_on (turn_of n ch) (ran m next)
+unfolding ran
+ran_goes zero m ch next e size = absurd (cc e)
+ran_goes (suc n) m ch next e size =
+    let same : n ≡ m = omega (arith, size) in
+    ap (λ (f : Follows). ran_on (acted ch) (chain_session ch) f (λ c. ran n c)) e ∙ ap (λ (k : ℕ). goes_on (acted ch) (ran k next)) same
+
+-- a run whose first turn ends it
+ran_ends : (n : ℕ) (ch : Chain) (o : Outcome) → (turn_of n ch).follows ≡ Ends o → ran n ch ≡ ends_with (turn_of n ch) (chain_session ch) o
+unfolding ran
+ran_ends zero ch o e = ap (λ (p : Outcome). ends_with (spent ch) (chain_session ch) p) (cc e)
+ran_ends (suc n) ch o e = ap (λ (f : Follows). ran_on (acted ch) (chain_session ch) f (λ c. ran n c)) e
+
+ended_of : (f : Follows) (o : Outcome) → Some o ≡ end_of f → f ≡ Ends o
+ended_of (Continues c) o e = absurd (cc e)
+ended_of (Ends p) o e = ap Ends (cc e)
+
+goes_some : (n : ℕ) (ch next : Chain) → (turn_of n ch).follows ≡ Continues next → (n - 1) + 1 ≡ n
+goes_some zero ch next e = absurd (cc e)
+goes_some (suc n) ch next e = omega arith
+
+turn_count : (n : ℕ) (ch : Chain) (f : Follows) → (turn_of n ch).follows ≡ f → (turn_of n ch).count ≤ (ran n ch).count
+turn_count n ch (Ends o) e =
+    let same : (ran n ch).count ≡ (turn_of n ch).count = ap (λ (r : Ran). r.count) (ran_ends n ch o e) in
+    omega (arith, same)
+turn_count n ch (Continues next) e =
+    let same : (ran n ch).count ≡ (turn_of n ch).count + (ran (n - 1) next).count = ap (λ (r : Ran). r.count) (ran_goes n (n - 1) ch next e (goes_some n ch next e)) in
+    omega (arith, same)
+
+-- ---- session bytes of the first frame
+
+session_read : (s : BankState) (named : ℕ → Option (List ℕ)) (h : Held) (f : Frame) → Reads s named h f → session_of h.frame ≡ session_of f
+session_read s named h f r = ap (λ (x : Seen). take x.session x.dyn) r.same
+
+session_first : (s : BankState) (named : ℕ → Option (List ℕ)) (h : Held) (hs : List Held) (f : Frame) (fs : List Frame) → Reads s named h f → ReadAll s named hs fs → session_of (first_held h hs).frame ≡ session_of (first_frame f fs)
+session_first s named h [] f [] r all = session_read s named h f r
+session_first s named h [] f (g ∷ fs) r all = absurd all
+session_first s named h (k ∷ hs) f [] r all = absurd all
+session_first s named h (k ∷ hs) f (g ∷ fs) r all = session_first s named k hs g fs all.0 all.1
+
+-- the code's session bytes are the definition's
+session_runs : (s : BankState) (named : ℕ → Option (List ℕ)) (c : Chained) (ch : Chain) → Runs s named c ch → session_in c ≡ chain_session ch
+session_runs s named c ch r = session_first s named c.running c.below ch.frame ch.below r.running r.below
+
+-- ---- a run that is underway
+
+-- After some turns of a run from `start`, what is left to run from here is what is left of the whole: whatever it does from here is done
+-- by the whole from the start.
+pub record Underway {B : Type 0} (did : B → BankItem → Answer → B → Type 0) (state : B → BankState) (named : B → ℕ → Option (List ℕ)) (start : B) (whole : Ran) (ticks budget turn : ℕ) (here : B) (c : Chained) (steps : ℕ) : Type 0 where
+  pub chain : Chain
+  pub runs : Runs (state here) (named here) c chain
+  pub going : (state here).stopped ≡ false
+  pub left : c.left + turn ≡ budget
+  pub writes : (a : Answer) (e : B) → InOrder (Wrote did state) here (ran c.left chain).writes a e → InOrder (Wrote did state) start whole.writes a e
+  pub count : steps + (ran c.left chain).count ≡ ticks + whole.count
+  pub session : (ran c.left chain).session ≡ whole.session
+  pub outcome : (ran c.left chain).outcome ≡ whole.outcome
+
+-- the end of a run, after a turn that ended it
+pub record Finished {B : Type 0} (did : B → BankItem → Answer → B → Type 0) (state : B → BankState) (start : B) (whole : Ran) (ticks : ℕ) (end : B) (bytes : List ℕ) (told : Outcome) (steps : ℕ) : Type 0 where
+  pub writes : InOrder (Wrote did state) start whole.writes (Ok tt) end
+  pub going : (state end).stopped ≡ false
+  pub count : steps ≡ ticks + whole.count
+  pub session : bytes ≡ whole.session
+  pub outcome : told ≡ whole.outcome
+
+module _ {B : Type 0} (did : B → BankItem → Answer → B → Type 0) (state : B → BankState) (named : B → ℕ → Option (List ℕ)) where
+  -- a chain before its first turn
+  pub underway : (start : B) (c : Chained) (ch : Chain) (budget steps : ℕ) → (state start).stopped ≡ false → Runs (state start) (named start) c ch → c.left ≡ budget → Underway did state named start (ran budget ch) steps budget 0 start c steps
+  underway start c ch budget steps going runs left =
+      let same : ran c.left ch ≡ ran budget ch = ap (λ (n : ℕ). ran n ch) left in
+      record {
+        chain = ch;
+        runs = runs;
+        going = going;
+        left = omega (arith, left);
+        writes = λ a e w. subst (λ (r : Ran). InOrder (Wrote did state) start r.writes a e) same w;
+        count = ap (λ (r : Ran). steps + r.count) same;
+        session = ap (λ (r : Ran). r.session) same;
+        outcome = ap (λ (r : Ran). r.outcome) same;
+      }
+
+  -- a turn after which the chain goes on
+  module _ (start : B) (whole : Ran) (ticks budget turn : ℕ) (here e : B) (c d : Chained) (steps now : ℕ) (u : Underway did state named start whole ticks budget turn here c steps) where
+    goes_by : (f : Follows) → (turn_of c.left u.chain).follows ≡ f → end_of f ≡ None → Acts did state named here e c d u.chain (turn_of c.left u.chain) → now ≡ steps + (turn_of c.left u.chain).count → Underway did state named start whole ticks budget (turn + 1) e d now
+    goes_by (Ends o) follows none acts count = absurd (cc none)
+    goes_by (Continues next) follows none acts count =
+        let t = turn_of c.left u.chain in
+        let one : t.count ≡ 1 = subst (λ (f : Follows). Counts f t.count) follows (turn_told c.left u.chain).count in
+        let left = acts.left in
+        let size : d.left + 1 ≡ c.left = omega (arith, left, one) in
+        let same : ran c.left u.chain ≡ goes_on t (ran d.left next) = ran_goes c.left d.left u.chain next follows size in
+        let whole_left = u.left in
+        let whole_count : steps + (t.count + (ran d.left next).count) ≡ ticks + whole.count = ap (λ (r : Ran). steps + r.count) (sym same) ∙ u.count in
+        record {
+          chain = next;
+          runs = subst (λ (f : Follows). Follow (state e) (named e) d u.chain f) follows acts.follows;
+          going = acts.going;
+          left = omega (arith, size, whole_left);
+          writes = λ a k w. u.writes a k (subst (λ (r : Ran). InOrder (Wrote did state) here r.writes a k) (sym same) (InOrder-append (Wrote did state) t.writes (ran d.left next).writes here e k a acts.writes w));
+          count = omega (arith, count, whole_count);
+          session = ap (λ (r : Ran). r.session) (sym same) ∙ u.session;
+          outcome = ap (λ (r : Ran). r.outcome) (sym same) ∙ u.outcome;
+        }
+
+    -- a turn after which the chain goes on
+    pub underway_goes : (step : Step) → step.end ≡ None → ActDone did state named here e c d u.chain (turn_of c.left u.chain) (Ok step) → now ≡ steps + (turn_of c.left u.chain).count → Underway did state named start whole ticks budget (turn + 1) e d now
+    underway_goes step none done count =
+        goes_by (turn_of c.left u.chain).follows refl (sym (turn_told c.left u.chain).end ∙ ap (λ t. t.end) done.1 ∙ ap (option_map (end_value d.public d.le)) none) done.0 count
+
+    -- a turn that ended it
+    pub underway_ends : (step : Step) (end : End) → step.end ≡ Some end → ActDone did state named here e c d u.chain (turn_of c.left u.chain) (Ok step) → now ≡ steps + (turn_of c.left u.chain).count → Finished did state start whole ticks e (session_in d) (end_value d.public d.le end) now
+    underway_ends step end some done count =
+        let t = turn_of c.left u.chain in
+        let o = end_value d.public d.le end in
+        let told : Some o ≡ end_of t.follows = sym (ap (option_map (end_value d.public d.le)) some) ∙ sym (ap (λ t. t.end) done.1) ∙ (turn_told c.left u.chain).end in
+        let ends = ended_of t.follows o told in
+        let same : ran c.left u.chain ≡ ends_with t (chain_session u.chain) o = ran_ends c.left u.chain o ends in
+        record {
+          writes = u.writes (Ok tt) e (subst (λ (r : Ran). InOrder (Wrote did state) here r.writes (Ok tt) e) (sym same) done.0.writes);
+          going = done.0.going;
+          count = count ∙ ap (λ (r : Ran). steps + r.count) (sym same) ∙ u.count;
+          session = subst (λ (f : Follows). Follow (state e) (named e) d u.chain f) ends done.0.follows ∙ ap (λ (r : Ran). r.session) (sym same) ∙ u.session;
+          outcome = ap (λ (r : Ran). r.outcome) (sym same) ∙ u.outcome;
+        }
+
+  stops_by : (n : ℕ) (ch : Chain) (b e : B) (s : Stop) (f : Follows) → (turn_of n ch).follows ≡ f → InOrder (Wrote did state) b (turn_of n ch).writes (Err s) e → InOrder (Wrote did state) b (ran n ch).writes (Err s) e
+  stops_by n ch b e s (Ends o) ends w = subst (λ (r : Ran). InOrder (Wrote did state) b r.writes (Err s) e) (sym (ran_ends n ch o ends)) w
+  stops_by n ch b e s (Continues next) goes w =
+      let t = turn_of n ch in
+      subst (λ (r : Ran). InOrder (Wrote did state) b r.writes (Err s) e) (sym (ran_goes n (n - 1) ch next goes (goes_some n ch next goes))) (InOrder-stopped (Wrote did state) t.writes (ran (n - 1) next).writes b e s w)
+
+  -- a stop in a turn
+  pub underway_stops : (start : B) (whole : Ran) (ticks budget turn : ℕ) (here e : B) (c : Chained) (steps : ℕ) (u : Underway did state named start whole ticks budget turn here c steps) (s : Stop) → InOrder (Wrote did state) here (turn_of c.left u.chain).writes (Err s) e → InOrder (Wrote did state) start whole.writes (Err s) e
+  underway_stops start whole ticks budget turn here e c steps u s w = u.writes (Err s) e (stops_by c.left u.chain here e s (turn_of c.left u.chain).follows refl w)
+
+  -- a turn counts no more than the run
+  pub underway_most : (start : B) (whole : Ran) (ticks budget turn : ℕ) (here : B) (c : Chained) (steps now : ℕ) (u : Underway did state named start whole ticks budget turn here c steps) → now ≡ steps + (turn_of c.left u.chain).count → now ≤ ticks + whole.count
+  underway_most start whole ticks budget turn here c steps now u count =
+      let few = turn_count c.left u.chain (turn_of c.left u.chain).follows refl in
+      let all = u.count in
+      omega (arith, count, few, all)
+
+  -- no turn is left
+  pub underway_spent : (start : B) (whole : Ran) (ticks budget turn : ℕ) (here : B) (c : Chained) (steps : ℕ) → Underway did state named start whole ticks budget turn here c steps → budget ≤ turn → Finished did state start whole ticks here (session_in c) (Abended A07) steps
+  underway_spent start whole ticks budget turn here c steps u done =
+      let total = u.left in
+      let none : c.left ≡ 0 = omega (arith, total, done) in
+      let same : ran c.left u.chain ≡ ends_with (spent u.chain) (chain_session u.chain) (Abended A07) = ap (λ (n : ℕ). ran n u.chain) none ∙ ran_ends 0 u.chain (Abended A07) refl in
+      let all : steps + 0 ≡ ticks + whole.count = ap (λ (r : Ran). steps + r.count) (sym same) ∙ u.count in
+      record {
+        writes = u.writes (Ok tt) here (subst (λ (r : Ran). InOrder (Wrote did state) here r.writes (Ok tt) here) (sym same) refl);
+        going = u.going;
+        count = omega (arith, all);
+        session = session_runs (state here) (named here) c u.chain u.runs ∙ ap (λ (r : Ran). r.session) (sym same) ∙ u.session;
+        outcome = ap (λ (r : Ran). r.outcome) (sym same) ∙ u.outcome;
+      }

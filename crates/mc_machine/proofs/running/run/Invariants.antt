@@ -1,0 +1,12 @@
+use Rattle.std.proofs.Common.{◌≡◌}
+use Rattle.mc_machine.specs.Chains.{ran_of}
+use Rattle.mc_machine.proofs.RunLemmas.{Underway}
+use Rattle.mc_machine.proofs.running.run.Given as goal
+
+-- what is left to run leads where the whole run leads, and the session bytes of the selection are as they were
+abbrev pub invariant-loop-turn : goal.invariant-loop-turn
+invariant-loop-turn g l =
+    record {
+      session : l.session ≡ l.fn.session;
+      underway : Underway g.B.Bank.did g.B.Bank.state g.B.Bank.named l.fn.bank (ran_of (g.B.Bank.state l.fn.bank) (g.B.Bank.named l.fn.bank) l.fn.first l.fn.session l.fn.apdu l.fn.budget) l.fn.steps l.fn.budget l._turn l.bank l.chain l.steps;
+    }

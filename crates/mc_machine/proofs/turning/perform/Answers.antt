@@ -1,0 +1,32 @@
+use Rattle.std.proofs.Common.{◌≡◌, sym, ap, subst}
+use Rattle.mc_model.specs.Primitives.{Around}
+use Rattle.mc_model.specs.Row.{row, RowEnd}
+use Rattle.mc_segs.specs.Held.{shown}
+use Rattle.mc_segs.specs.Ends.{Acts, RowActs, scene}
+use Rattle.mc_rows.specs.Rows.{alone}
+use Rattle.mc_machine.specs.Chains.{Chained}
+use Rattle.mc_machine.specs.Turns.{delegator_of}
+use Rattle.mc_rows.proofs.AloneLemmas.{row_alone}
+use Rattle.mc_machine.proofs.RowFacts.{no_primitive}
+use Rattle.mc_machine.proofs.turning.perform.Goals as goal
+
+pub step-requires-clause-row : goal.step-requires-clause-row
+step-requires-clause-row g c = no_primitive c.args.ins.now c.in_default.not-Prim
+
+pub returns-in_default : goal.returns-in_default
+returns-in_default g c =
+    let did = g.B.Bank.did in
+    let state = g.B.Bank.state in
+    let named = g.B.Bank.named in
+    let b = c.args.bank.now in
+    let e = c.step.new.bank in
+    let now = c.args.chain.now in
+    let i = c.args.ins.now in
+    let x : Around = record { case = now.case; delegator = delegator_of (named b) now.below } in
+    let sc = scene b e now.running c.step.new.frame now.public c.step.new.public in
+    let acts : RowActs did state named sc i alone c.step.result =
+    subst (λ (k : Chained). RowActs did state named (scene b e k.running c.step.new.frame k.public c.step.new.public) i alone c.step.result) c.chain.view_is c.step.ensures in
+    record {
+      acts = subst (λ (r : RowEnd). Acts did state named sc r c.step.result) (sym (row_alone i (shown (state b) (named b) now.running) now.public x (no_primitive i c.in_default.not-Prim))) acts;
+      others = ap (λ (k : Chained). record k { running = c.step.new.frame; public = c.step.new.public }) c.chain.view_is;
+    }

@@ -1,0 +1,81 @@
+-- A chain as the code holds it, the chain of the definitions that it runs, and what a turn and a run do to it.
+-- This project's profile.
+use Rattle.std.specs.Prelude.{◌≡◌, ℕ, ◌≤◌, false, List, [], ◌∷◌, length, bytes_eq, unwrap_or, Option, Some}
+use Rattle.std.specs.List.{AllByRecursion}
+use Rattle.mc_model.specs.Orders.{Answer}
+use Rattle.mc_model.specs.Items.{BankItem, Commit}
+use Rattle.mc_model.specs.Pieces.{HoldPieces}
+use Rattle.mc_model.specs.Apdu.{apdu_case}
+use Rattle.mc_model.specs.Frame.{Frame, session_of}
+use Rattle.mc_model.specs.Chain.{Chain, Ran, Write, run}
+use Rattle.mc_bank.specs.Bank.{BankState, app_of, name_or}
+use Rattle.mc_apdu.specs.declared.command.Apdu.{Apdu}
+use Rattle.mc_apdu.specs.Command.{parts_of}
+use Rattle.mc_segs.specs.Held.{Held, Fits, shown, seen}
+use Rattle.mc_machine.specs.Alike.{IsGuarded}
+
+-- the running frame, the frames below it, of which the one that delegated to it comes first, the public segment, the case of the command,
+-- its Le, which is 0 where it has none, and how many instructions the budget has left
+pub record Chained : Type 0 where
+  pub running : Held
+  pub below : List Held
+  pub public : List ℕ
+  pub case : ℕ
+  pub le : ℕ
+  pub left : ℕ
+
+-- ---- the chain of the definitions
+
+-- a frame fits the bank, and reads there as a frame of the definitions, which has pending bytes only while protection is on
+pub record Reads (s : BankState) (named : ℕ → Option (List ℕ)) (h : Held) (f : Frame) : Type 0 where
+  pub fits : Fits s named h
+  pub same : seen (shown s named h) ≡ seen f
+  pub guarded : IsGuarded f
+
+-- each of some frames does
+abbrev pub ReadAll : BankState → (ℕ → Option (List ℕ)) → List Held → List Frame → Type 0
+ReadAll s named [] [] = Unit {0}
+ReadAll s named [] (f ∷ fs) = ⊥
+ReadAll s named (h ∷ hs) [] = ⊥
+ReadAll s named (h ∷ hs) (f ∷ fs) = Reads s named h f × ReadAll s named hs fs
+
+-- no two frames have the same name
+abbrev pub Apart : List Frame → Type 0
+Apart [] = Unit {0}
+Apart (f ∷ fs) = AllByRecursion (λ g. bytes_eq f.name g.name ≡ false) fs × Apart fs
+
+-- the chain runs as this one of the definitions
+pub record Runs (s : BankState) (named : ℕ → Option (List ℕ)) (c : Chained) (ch : Chain) : Type 0 where
+  pub map : ch.map ≡ s.apps
+  pub running : Reads s named c.running ch.frame
+  pub below : ReadAll s named c.below ch.below
+  pub public : c.public ≡ ch.public
+  pub case : c.case ≡ apdu_case ch.apdu
+  pub le : c.le ≡ unwrap_or ch.apdu.le 0
+  pub few : length ch.below ≤ 3
+  pub apart : Apart (ch.frame ∷ ch.below)
+
+-- the frames of a chain fit the bank
+abbrev pub FitsChain : BankState → (ℕ → Option (List ℕ)) → Chained → Type 0
+FitsChain s named c = (ch : Chain) × Runs s named c ch
+
+-- the first frame
+abbrev pub first_held : Held → List Held → Held
+first_held h [] = h
+first_held h (g ∷ gs) = first_held g gs
+
+-- the session bytes of the first frame
+abbrev pub session_in : Chained → List ℕ
+session_in c = session_of (first_held c.running c.below).frame
+
+-- ---- atomic writes
+
+-- an atomic write of a chain is a commit of words that hold its pieces over the static bytes
+abbrev pub Wrote : {B : Type 0} → (B → BankItem → Answer → B → Type 0) → (B → BankState) → B → Write → Answer → B → Type 0
+Wrote did state b w a e = (ws : List (ℕ × List ℕ)) × HoldPieces (app_of (state b).apps (Some w.name)).fixed w.pieces ws × did b (Commit w.name ws) a e
+
+-- ---- runs
+
+-- the run of a command to the application of a slot
+abbrev pub ran_of : BankState → (ℕ → Option (List ℕ)) → ℕ → List ℕ → Apdu → ℕ → Ran
+ran_of s named first session apdu budget = run s.apps (name_or (named first)) session (parts_of apdu) budget

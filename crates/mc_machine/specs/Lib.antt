@@ -1,0 +1,4 @@
+pub mod Alike
+pub mod Chains
+pub mod Frames
+pub mod Turns

@@ -1,0 +1,119 @@
+-- What a turn of the code tells, and what it leaves.
+-- This project's profile.
+use Rattle.std.specs.Prelude.{◌≡◌, ℕ, ◌+◌, ◌-◌, Bool, false, cond, nat_lt, ◌||◌, ◌≤◌, bytes_eq, min, List, [], ◌∷◌, length, take, option_map, Option, Some, None, Result, Ok, Err}
+use Rattle.std.specs.List.{AllByRecursion}
+use Rattle.mc_model.specs.declared.machine.Abend.TheVariants.{A09}
+use Rattle.mc_model.specs.declared.instruction.Ins.{Ins}
+use Rattle.mc_model.specs.declared.device.Stop.{Stop}
+use Rattle.mc_model.specs.Orders.{Answer, InOrder}
+use Rattle.mc_model.specs.Items.{BankItem}
+use Rattle.mc_model.specs.Frame.{la_of, sw_of}
+use Rattle.mc_model.specs.Chain.{Chain, Turn as ModelTurn, Acted, Follows, Continues, Ends, chain_session}
+use Rattle.mc_model.specs.Chain as model
+use Rattle.mc_bank.specs.Bank.{BankState, name_or}
+use Rattle.mc_segs.specs.Held.{Held, Fits}
+use Rattle.mc_segs.specs.declared.ends.Halt.{Halt}
+use Rattle.mc_segs.specs.declared.ends.Halt.TheVariants as halt
+use Rattle.mc_machine.specs.Chains.{Chained, Runs, Wrote, session_in}
+use Rattle.mc_machine.specs.declared.outcome.Outcome.{Outcome}
+use Rattle.mc_machine.specs.declared.outcome.Outcome.TheVariants as outcome
+use Rattle.mc_machine.specs.declared.outcome.End.{End}
+use Rattle.mc_machine.specs.declared.outcome.End.TheVariants as end
+use Rattle.mc_machine.specs.declared.outcome.Step.{Step}
+use Rattle.mc_machine.specs.declared.outcome.Turn.{Turn}
+
+-- ---- ends
+
+-- an outcome in the definition's words
+abbrev pub outcome_value : Outcome → model.Outcome
+outcome_value (outcome.Reply r) = model.Reply r.body.items r.sw
+outcome_value (outcome.Abend a) = model.Abended a
+
+-- the outcome of an end, with these public bytes and this Le
+abbrev pub end_value : List ℕ → ℕ → End → model.Outcome
+end_value public le end.Reply = model.Reply (take (min (la_of public) le) public) (sw_of public)
+end_value public le (end.Abend a) = model.Abended a
+
+-- a reply has at most 1,024 bytes
+abbrev pub EndFits : List ℕ → End → Type 0
+EndFits public end.Reply = la_of public ≤ 1024
+EndFits public (end.Abend a) = Unit {0}
+
+-- ---- turns
+
+-- what a turn tells, in the definition's words; how many words it wrote is not told
+abbrev pub turn_value : Turn → Option ℕ → ModelTurn
+turn_value t wrote =
+    record { depth = t.depth; at = t.at; ins = t.ins; dt = t.dt; c = t.flags.c; z = t.flags.z; end = option_map outcome_value t.end; wrote = wrote }
+
+-- the same of a turn that is told in few bytes: its frame's depth and place, and the public bytes and Le that its end speaks of
+abbrev pub step_value : ℕ → ℕ → List ℕ → ℕ → Step → Option ℕ → ModelTurn
+step_value depth at public le t wrote =
+    record { depth = depth; at = at; ins = t.ins; dt = t.dt; c = t.flags.c; z = t.flags.z; end = option_map (end_value public le) t.end; wrote = wrote }
+
+-- what follows: the chain goes on as the definition's does, or it has ended, with the session bytes that it had
+abbrev pub Follow : BankState → (ℕ → Option (List ℕ)) → Chained → Chain → Follows → Type 0
+Follow s named c ch (Continues next) = Runs s named c next
+Follow s named c ch (Ends o) = session_in c ≡ chain_session ch
+
+-- a turn that no stop hit: its atomic writes were done, the bank goes on, the budget is counted
+pub record Acts {B : Type 0} (did : B → BankItem → Answer → B → Type 0) (state : B → BankState) (named : B → ℕ → Option (List ℕ)) (b e : B) (c d : Chained) (ch : Chain) (t : Acted) : Type 0 where
+  pub writes : InOrder (Wrote did state) b t.writes (Ok tt) e
+  pub going : (state e).stopped ≡ false
+  pub left : d.left + t.count ≡ c.left
+  pub follows : Follow (state e) (named e) d ch t.follows
+
+-- a turn, by its result
+abbrev pub ActDone : {B : Type 0} → (B → BankItem → Answer → B → Type 0) → (B → BankState) → (B → ℕ → Option (List ℕ)) → B → B → Chained → Chained → Chain → Acted → Result Step Stop → Type 0
+ActDone did state named b e c d ch t (Ok step) = Acts did state named b e c d ch t × (t.turn ≡ step_value (length c.below + 1) c.running.frame.at d.public d.le step t.turn.wrote)
+ActDone did state named b e c d ch t (Err stop) = InOrder (Wrote did state) b t.writes (Err stop) e
+
+-- the same for a turn that is told whole
+abbrev pub TurnDone : {B : Type 0} → (B → BankItem → Answer → B → Type 0) → (B → BankState) → (B → ℕ → Option (List ℕ)) → B → B → Chained → Chained → Chain → Acted → Result Turn Stop → Type 0
+TurnDone did state named b e c d ch t (Ok turn) = Acts did state named b e c d ch t × (t.turn ≡ turn_value turn t.turn.wrote)
+TurnDone did state named b e c d ch t (Err stop) = InOrder (Wrote did state) b t.writes (Err stop) e
+
+-- ---- parts of a turn
+
+-- what a primitive of the running frame knows besides it
+abbrev pub delegator_of : (ℕ → Option (List ℕ)) → List Held → Option (List ℕ)
+delegator_of named [] = None
+delegator_of named (h ∷ hs) = named h.slot
+
+-- whether one of some frames runs the application of a name
+abbrev pub has_frame : (ℕ → Option (List ℕ)) → List ℕ → List Held → Bool
+has_frame named n [] = false
+has_frame named n (h ∷ hs) = bytes_eq (name_or (named h.slot)) n || has_frame named n hs
+
+-- each of some frames fits the bank
+abbrev pub AllFit : BankState → (ℕ → Option (List ℕ)) → List Held → Type 0
+AllFit s named hs = AllByRecursion (λ h. Fits s named h) hs
+
+-- the end of a chain whose first frame exits
+abbrev pub last_end : List ℕ → End
+last_end public = cond (nat_lt 1024 (la_of public)) (end.Abend A09) end.Reply
+
+-- the chain with one instruction less to go, whose running frame is behind the one at its place
+abbrev pub advanced : Chained → ℕ → Chained
+advanced c next = record c { running = record c.running { frame = record c.running.frame { at = next } }; left = c.left - 1 }
+
+-- a turn of a frame as its registers stand
+abbrev pub told_of : Held → Option Ins → Option End → Step
+told_of h ins end = record { ins = ins; dt = h.frame.dt; flags = record { c = h.frame.c; z = h.frame.z }; end = end }
+
+-- the running frame exits, by the frames that wait
+abbrev pub Leaves : Chained → Chained → Option End → List Held → Type 0
+Leaves c d result [] = (d ≡ c) × (result ≡ Some (last_end c.public))
+Leaves c d result (h ∷ hs) = (d ≡ record c { running = h; below = hs }) × (result ≡ None)
+
+-- what follows an instruction of a settled chain, and what the turn tells: with an abend the registers that were before
+abbrev pub Followed : BankState → (ℕ → Option (List ℕ)) → Chained → Chained → Ins → Step → Step → Follows → Type 0
+Followed s named c d i before step (Continues next) = Runs s named d next × (step ≡ told_of c.running (Some i) None)
+Followed s named c d i before step (Ends (model.Reply body sw)) =
+    (d ≡ c) × (step ≡ told_of c.running (Some i) (Some end.Reply)) × (end_value c.public c.le end.Reply ≡ model.Reply body sw)
+Followed s named c d i before step (Ends (model.Abended a)) = (d ≡ c) × (step ≡ record before { end = Some (end.Abend a) })
+
+-- an instruction that was not done: the turn that it tells by its abend, or the stop
+abbrev pub halted : Step → Halt → Result Step Stop
+halted before (halt.Abend a) = Ok (record before { end = Some (end.Abend a) })
+halted before (halt.Stop stop) = Err stop

@@ -1,0 +1,72 @@
+// A chain of frames: its beginning, its end, and what a frame asks of the others.
+ghost use Rattle.std.specs.Prelude.{◌≡◌, ◌≤◌, length, false, IsSome};
+ghost use Rattle.mc_model.specs.Chain.{start};
+ghost use Rattle.mc_apdu.specs.Command.{parts_of};
+ghost use Rattle.mc_bank.specs.Bank.{app_of, name_or};
+ghost use Rattle.mc_machine.specs.Chains.{Runs, session_in};
+
+use crate::waiting::Waiting;
+use mc_apdu::Apdu;
+use mc_bank::{Bank, Slot};
+use mc_segs::{Frame, Public, Session};
+use std::marker::Model;
+
+/// A command to an application that runs: the running frame and those that wait for it, the public segment, and what is
+/// left of the budget.
+#[derive(Debug, Drop)]
+pub struct Chain {
+    pub(crate) running: Frame,
+    pub(crate) waiting: Waiting,
+    pub(crate) public: Public,
+    pub(crate) case: u8,
+    pub(crate) le: u16,
+    pub(crate) left: u32,
+}
+
+impl Model for Chain {
+    ghost use Rattle.std.specs.Prelude.{◌≤◌};
+    ghost use Rattle.mc_machine.specs.Chains.{Chained};
+    ghost use Rattle.mc_machine.specs.Frames.{waiting_frames};
+
+    ghost Value = { Chained };
+
+    ghost view = { λ c. record { running = c.running; below = waiting_frames c.waiting; public = c.public; case = c.case; le = c.le; left = c.left } };
+
+    ghost invariant = { λ c. c.left ≤ 65536 };
+}
+
+/// The chain of a command to the application of a slot, with the session bytes of its selection, before its first turn. The
+/// budget is 1 to 65,536 instructions, and the command has at most 1,024 bytes of data.
+pub fn begin<B: Bank>(bank: &B, first: Slot, session: &Session, apdu: &Apdu, budget: u32) -> Chain
+    requires going { (B.state bank.now).stopped ≡ false }
+    requires there { IsSome (B.named bank.now first) }
+    requires session { length session.now ≡ (app_of (B.state bank.now).apps (B.named bank.now first)).session }
+    requires some { 1 ≤ budget }
+    requires budget { budget ≤ 65536 }
+    requires data { length apdu.now.body.now ≤ 1024 }
+    ensures runs { Runs (B.state bank.now) (B.named bank.now) result (start (B.state bank.now).apps (name_or (B.named bank.now first)) session.now (parts_of apdu.now)) }
+    ensures left { result.left ≡ budget }
+{
+    Chain {
+        running: Frame::new(first, &bank.facts(first), session),
+        waiting: Waiting::None,
+        public: Public::new(apdu),
+        case: apdu.case(),
+        le: apdu.le.unwrap_or(0),
+        left: budget,
+    }
+}
+
+impl Chain {
+    /// The session bytes of the first frame, as they stand.
+    pub fn session(&self) -> Session
+        ensures { result ≡ session_in self.now }
+    {
+        match &self.waiting {
+            Waiting::None => self.running.session(),
+            Waiting::One(first) => first.session(),
+            Waiting::Two(_, first) => first.session(),
+            Waiting::Three(_, _, first) => first.session(),
+        }
+    }
+}

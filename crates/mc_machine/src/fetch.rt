@@ -1,0 +1,29 @@
+// The instruction at the code address of a frame.
+ghost use Rattle.std.specs.Prelude.{◌≡◌, false};
+ghost use Rattle.mc_model.specs.Code.{decoded, Stands};
+ghost use Rattle.mc_segs.specs.Held.{Fits, app_under};
+
+use mc_bank::Bank;
+use mc_isa::{DecodeFault, Ins, decode};
+use mc_segs::Frame;
+
+/// How many bytes an instruction has at the most.
+const LONGEST: u16 = 6;
+
+/// The instruction at the frame's code address, and the place behind it.
+pub fn fetch<B: Bank>(bank: &B, frame: &Frame) -> Result<(Ins, u16), DecodeFault>
+    requires going { (B.state bank.now).stopped ≡ false }
+    requires fits { Fits (B.state bank.now) (B.named bank.now) frame.now }
+    ensures exact { result ≡ decoded (app_under (B.state bank.now) (B.named bank.now) frame.now).code frame.now.frame.at }
+    ensures stands { Stands (app_under (B.state bank.now) (B.named bank.now) frame.now).code frame.now.frame.at result }
+{
+    let at = frame.at();
+    if at >= frame.code_len() {
+        return Err(DecodeFault::Past);
+    }
+    let mut bytes = [0; 6];
+    let count = (frame.code_len() - at).min(LONGEST) as usize;
+    bank.code(frame.slot(), at, &mut bytes[..count]);
+    let (ins, size) = decode(&bytes[..count], 0)?;
+    Ok((ins, at + size))
+}

@@ -1,0 +1,16 @@
+#![tactic(auto)]
+
+// Chains of applications: turns, runs, delegation and exit.
+mod chain;
+mod fetch;
+mod laws;
+mod outcome;
+mod running;
+mod turning;
+mod waiting;
+
+pub use chain::{Chain, begin};
+pub use laws::{new_frames_guarded, rows_keep, rows_see};
+pub use outcome::{Outcome, Turn};
+pub use running::run;
+pub use turning::turn;

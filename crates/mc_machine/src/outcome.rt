@@ -1,0 +1,120 @@
+// How turns and chains end.
+ghost use Rattle.std.specs.Prelude.{◌≡◌, ◌≤◌, ℕ, min, take, Some, None};
+ghost use Rattle.mc_model.specs.Frame.{la_of, sw_of};
+ghost use Rattle.mc_machine.specs.Turns.{end_value, outcome_value, EndFits};
+
+use crate::chain::Chain;
+use arrayvec::ArrayVec;
+use mc_apdu::Reply;
+use mc_arith::Flags;
+use mc_isa::Ins;
+use mc_segs::{Abend, Frame};
+
+/// How a command to an application ends: with its reply, or by an abend.
+#[derive(Clone, Debug, Drop)]
+pub enum Outcome {
+    Reply(Reply),
+    Abend(Abend),
+}
+
+/// One executed instruction, or a fetch that ends the chain: the depth of its frame from 1 to 4, the code address it was at,
+/// the instruction, which is missing exactly after a fetch that abends with 01, 02 or 07, DT and the flags of the frame
+/// after it, or before it where the chain ends by an abend, and the chain's end where it came.
+#[derive(Clone, Debug, Drop)]
+pub struct Turn {
+    pub depth: u8,
+    pub at: u16,
+    pub ins: Option<Ins>,
+    pub dt: u16,
+    pub flags: Flags,
+    pub end: Option<Outcome>,
+}
+
+// The end of a chain, whose reply stands in its public segment.
+#[derive(Clone, Copy, Debug, PartialEq, Eq)]
+pub enum End {
+    Reply,
+    Abend(Abend),
+}
+
+// What a turn tells, without its place.
+#[derive(Clone, Copy, Debug, PartialEq, Eq)]
+pub struct Step {
+    pub ins: Option<Ins>,
+    pub dt: u16,
+    pub flags: Flags,
+    pub end: Option<End>,
+}
+
+impl Step {
+    /// The same, with an abend as end.
+    pub fn abends(self, abend: Abend) -> Step
+        ensures { result ≡ record self { end = Some (End.Abend abend) } }
+    {
+        Step {
+            end: Some(End::Abend(abend)),
+            ..self
+        }
+    }
+}
+
+/// A turn of a frame as its registers stand.
+pub fn told(frame: &Frame, ins: Option<Ins>, end: Option<End>) -> Step
+    ensures { result ≡ record { ins = ins; dt = frame.now.frame.dt; flags = record { c = frame.now.frame.c; z = frame.now.frame.z }; end = end } }
+{
+    Step {
+        ins,
+        dt: frame.dt(),
+        flags: Flags {
+            c: frame.c(),
+            z: frame.z(),
+        },
+        end,
+    }
+}
+
+impl Chain {
+    /// La, the length of the reply's data.
+    pub fn la(&self) -> u16
+        ensures { result ≡ la_of self.now.public }
+    {
+        let bytes = self.public.bytes();
+        bytes[1037] as u16 * 256 + bytes[1038] as u16
+    }
+
+    // SW, the status of the reply.
+    fn sw(&self) -> u16
+        ensures { result ≡ sw_of self.now.public }
+    {
+        let bytes = self.public.bytes();
+        bytes[1039] as u16 * 256 + bytes[1040] as u16
+    }
+
+    // The reply that stands in the public segment.
+    fn reply(&self) -> Reply
+        requires { la_of self.now.public ≤ 1024 }
+        ensures body { result.body.items ≡ take (min (la_of self.now.public) self.now.le) self.now.public }
+        ensures sw { result.sw ≡ sw_of self.now.public }
+    {
+        let mut body = ArrayVec::new();
+        let count = self.la().min(self.le) as usize;
+        for byte in &self.public.bytes()[..count] {
+            body.push(*byte);
+        }
+        Reply {
+            body,
+            sw: self.sw(),
+        }
+    }
+
+    /// The outcome of an end: the reply is the first bytes of the public segment, at most La and Le, with the status.
+    pub fn outcome(&self, end: End) -> Outcome
+        requires { EndFits self.now.public end }
+        ensures { outcome_value result ≡ end_value self.now.public self.now.le end }
+    {
+        match end {
+            End::Reply => Outcome::Reply(self.reply()),
+            End::Abend(abend) => Outcome::Abend(abend),
+        }
+    }
+}

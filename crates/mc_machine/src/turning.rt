@@ -1,0 +1,300 @@
+// One turn of a chain: an executed instruction, or a fetch that abends.
+ghost use Rattle.std.specs.Prelude.{◌≡◌, ◌≢◌, ◌+◌, ◌<◌, ◌∷◌, ◌||◌, false, bytes_eq, length, nat_le, option_map, ℕ, List, IfOk, IfSome};
+ghost use Rattle.mc_bank.specs.Bank.{name_or};
+ghost use Rattle.mc_model.specs.Bytes.{lookup};
+ghost use Rattle.mc_model.specs.Code.{Shaped};
+ghost use Rattle.mc_model.specs.Chain.{Chain as ModelChain, turn_of, called, follows};
+ghost use Rattle.mc_segs.specs.Held.{Fits};
+ghost use Rattle.mc_segs.specs.Ends.{scene, RowActs, then_of};
+ghost use Rattle.mc_machine.specs.Chains.{Runs, FitsChain};
+ghost use Rattle.mc_machine.specs.Frames.{waiting_frames};
+ghost use Rattle.mc_machine.specs.Turns.{ActDone, TurnDone, EndFits, Followed, Leaves, advanced, halted, delegator_of, last_end, has_frame, AllFit, outcome_value, end_value};
+
+use crate::chain::Chain;
+use crate::fetch::fetch;
+use crate::outcome::{End, Outcome, Step, Turn, told};
+use crate::waiting::Waiting;
+use mc_bank::Bank;
+use mc_base::{Aid, Steps, Stop};
+use mc_isa::{DecodeFault, Ins};
+use mc_prims::{Around, prim};
+use mc_rows::step;
+use mc_segs::{Abend, Frame, Halt, Next, Session};
+use std::mem;
+use std::sync::ledger::Ledger;
+
+/// How many frames a chain has at the most.
+const FRAMES: u8 = 4;
+
+/// Delegates to a name that is not on the card.
+const NOT_FOUND: u16 = 0x6A82;
+
+/// Delegates where that application runs already, or the chain is full.
+const NOT_ALLOWED: u16 = 0x6985;
+
+/// One turn of a chain that no end was answered for: one executed instruction, and one step, or a fetch that ends the chain.
+/// A `Stop` is that of the bank in the instruction's change.
+pub fn turn<B: Bank, L: Ledger>(
+    chain: &mut Chain,
+    bank: &mut B,
+    steps: &mut Steps<L>,
+) -> Result<Turn, Stop>
+    requires going { (B.state bank.old).stopped ≡ false }
+    requires fits { FitsChain (B.state bank.old) (B.named bank.old) chain.old }
+    ensures done { (ch : ModelChain) → Runs (B.state bank.old) (B.named bank.old) chain.old ch → TurnDone B.did B.state B.named bank.old bank.new chain.old chain.new ch (turn_of chain.old.left ch) result }
+    ensures ticks { (ch : ModelChain) → Runs (B.state bank.old) (B.named bank.old) chain.old ch → steps.new ≡ steps.old + (turn_of chain.old.left ch).count }
+{
+    let depth = chain.waiting.count() + 1;
+    let at = chain.running.at();
+    let Step {
+        ins,
+        dt,
+        flags,
+        end,
+    } = act(chain, bank, steps)?;
+    let end = chain.outcome_of(end);
+    Ok(Turn {
+        depth,
+        at,
+        ins,
+        dt,
+        flags,
+        end,
+    })
+}
+
+/// The same turn, told in few bytes.
+pub fn act<B: Bank, L: Ledger>(
+    chain: &mut Chain,
+    bank: &mut B,
+    steps: &mut Steps<L>,
+) -> Result<Step, Stop>
+    requires going { (B.state bank.old).stopped ≡ false }
+    requires fits { FitsChain (B.state bank.old) (B.named bank.old) chain.old }
+    ensures done { (ch : ModelChain) → Runs (B.state bank.old) (B.named bank.old) chain.old ch → ActDone B.did B.state B.named bank.old bank.new chain.old chain.new ch (turn_of chain.old.left ch) result }
+    ensures ticks { (ch : ModelChain) → Runs (B.state bank.old) (B.named bank.old) chain.old ch → steps.new ≡ steps.old + (turn_of chain.old.left ch).count }
+    ensures ends { IfOk result (λ step. IfSome step.end (λ end. EndFits chain.new.public end)) }
+{
+    let before = told(&chain.running, None, None);
+    if chain.left == 0 {
+        return Ok(before.abends(Abend::A07));
+    }
+    let (ins, next) = match fetch(bank, &chain.running) {
+        Ok(found) => found,
+        Err(DecodeFault::Undefined) => return Ok(before.abends(Abend::A01)),
+        Err(DecodeFault::Past) => return Ok(before.abends(Abend::A02)),
+    };
+    steps.tick();
+    chain.advance(next);
+    let before = Step {
+        ins: Some(ins),
+        ..before
+    };
+    match perform(&ins, chain, bank) {
+        Ok(next) => Ok(follow(next, ins, before, chain, bank)),
+        Err(halt) => before.halts(halt),
+    }
+}
+
+impl Step {
+    // The same for an instruction that was not done: it ends the chain by its abend, or the bank stopped.
+    fn halts(self, halt: Halt) -> Result<Step, Stop>
+        ensures value { result ≡ halted self halt }
+        ensures ends { (public : List ℕ) → IfOk result (λ step. IfSome step.end (λ end. EndFits public end)) }
+    {
+        match halt {
+            Halt::Abend(abend) => Ok(self.abends(abend)),
+            Halt::Stop(stop) => Err(stop),
+        }
+    }
+}
+
+// An instruction of the running frame, whose code address is already behind it.
+fn perform<B: Bank>(ins: &Ins, chain: &mut Chain, bank: &mut B) -> Result<Next, Halt>
+    requires going { (B.state bank.old).stopped ≡ false }
+    requires fits { Fits (B.state bank.old) (B.named bank.old) chain.old.running }
+    requires waiting { AllFit (B.state bank.old) (B.named bank.old) chain.old.below }
+    requires shaped { Shaped ins.now }
+    ensures acts { RowActs B.did B.state B.named (scene bank.old bank.new chain.old.running chain.new.running chain.old.public chain.new.public) ins.now (record { case = chain.old.case; delegator = delegator_of (B.named bank.old) chain.old.below }) result }
+    ensures others { chain.new ≡ record chain.old { running = chain.new.running; public = chain.new.public } }
+{
+    match ins {
+        Ins::Prim { set, number, args } => {
+            let around = Around {
+                case: chain.case,
+                delegator: chain.delegator(bank),
+            };
+            prim(
+                *set,
+                *number,
+                args,
+                &around,
+                &mut chain.running,
+                &mut chain.public,
+                bank,
+            )
+        }
+        _ => step(ins, &mut chain.running, &mut chain.public, bank),
+    }
+}
+
+// What follows an instruction that was done, and what the turn tells: where the chain ends by an abend, the registers that
+// were before.
+fn follow<B: Bank>(next: Next, ins: Ins, before: Step, chain: &mut Chain, bank: &B) -> Step
+    requires going { (B.state bank.now).stopped ≡ false }
+    requires fits { FitsChain (B.state bank.now) (B.named bank.now) chain.old }
+    ensures follows { (ch : ModelChain) → Runs (B.state bank.now) (B.named bank.now) chain.old ch → Followed (B.state bank.now) (B.named bank.now) chain.old chain.new ins before result (follows ch (then_of next)) }
+    ensures left { chain.new.left ≡ chain.old.left }
+    ensures le { chain.new.le ≡ chain.old.le }
+    ensures ends { IfSome result.end (λ end. EndFits chain.new.public end) }
+{
+    let after = told(&chain.running, Some(ins), None);
+    match next {
+        Next::Go => after,
+        Next::Exit => match chain.leave() {
+            None => after,
+            Some(End::Reply) => Step {
+                end: Some(End::Reply),
+                ..after
+            },
+            Some(End::Abend(abend)) => before.abends(abend),
+        },
+        Next::Delegate(aid) => {
+            chain.call(bank, &aid);
+            after
+        }
+    }
+}
+
+impl Chain {
+    // The name of the application that delegated to the running one.
+    fn delegator<B: Bank>(&self, bank: &B) -> Option<Aid>
+        requires going { (B.state bank.now).stopped ≡ false }
+        requires waiting { AllFit (B.state bank.now) (B.named bank.now) self.now.below }
+        ensures { result ≡ delegator_of (B.named bank.now) self.now.below }
+    {
+        match self.waiting.top_slot() {
+            Some(slot) => Some(bank.facts(slot).aid),
+            None => None,
+        }
+    }
+
+    // One instruction less of the budget, and the running frame's code address is behind it.
+    fn advance(&mut self, next: u16)
+        requires { self.old.left ≢ 0 }
+        ensures { self.new ≡ advanced self.old next }
+    {
+        self.left -= 1;
+        self.running.go(next);
+    }
+
+    // What the end of a turn says, if it has one.
+    fn outcome_of(&self, end: Option<End>) -> Option<Outcome>
+        requires { IfSome end (λ end. EndFits self.now.public end) }
+        ensures { option_map outcome_value result ≡ option_map (end_value self.now.public self.now.le) end }
+    {
+        match end {
+            Some(end) => Some(self.outcome(end)),
+            None => None,
+        }
+    }
+
+    // The running frame exits: the one that waits for it goes on, or the chain ends.
+    fn leave(&mut self) -> Option<End>
+        ensures { Leaves self.old self.new result self.old.below }
+    {
+        match mem::replace(&mut self.waiting, Waiting::None).without_top() {
+            Some((frame, waiting)) => {
+                self.running = frame;
+                self.waiting = waiting;
+                None
+            }
+            None => Some(self.last_exit()),
+        }
+    }
+
+    // The first frame's exit: 09 where its reply would be too long.
+    fn last_exit(&self) -> End
+        ensures { result ≡ last_end self.now.public }
+    {
+        if self.la() > 1024 {
+            End::Abend(Abend::A09)
+        } else {
+            End::Reply
+        }
+    }
+
+    // Whether a frame of the chain runs the application of a name.
+    fn is_active<B: Bank>(&self, bank: &B, aid: &Aid) -> bool
+        requires going { (B.state bank.now).stopped ≡ false }
+        requires running { Fits (B.state bank.now) (B.named bank.now) self.now.running }
+        requires waiting { AllFit (B.state bank.now) (B.named bank.now) self.now.below }
+        ensures { result ≡ has_frame (B.named bank.now) aid.now (self.now.running ∷ self.now.below) }
+    {
+        runs(bank, &self.running, aid) || waits(bank, &self.waiting, aid)
+    }
+
+    // Whether a delegation to a name that is on the card is refused.
+    fn refuses<B: Bank>(&self, bank: &B, aid: &Aid) -> bool
+        requires going { (B.state bank.now).stopped ≡ false }
+        requires running { Fits (B.state bank.now) (B.named bank.now) self.now.running }
+        requires waiting { AllFit (B.state bank.now) (B.named bank.now) self.now.below }
+        ensures { result ≡ (has_frame (B.named bank.now) aid.now (self.now.running ∷ self.now.below) || nat_le 4 (length self.now.below + 1)) }
+    {
+        self.is_active(bank, aid) || self.waiting.count() + 1 >= FRAMES
+    }
+
+    // A delegation to a name: a status where it is not on the card, where it runs already, or where the chain is full; else
+    // its application runs on top, with zero session bytes.
+    fn call<B: Bank>(&mut self, bank: &B, aid: &Aid)
+        requires going { (B.state bank.now).stopped ≡ false }
+        requires fits { FitsChain (B.state bank.now) (B.named bank.now) self.old }
+        ensures runs { (ch : ModelChain) → Runs (B.state bank.now) (B.named bank.now) self.old ch → Runs (B.state bank.now) (B.named bank.now) self.new (called ch aid.now (lookup ch.map aid.now)) }
+        ensures left { self.new.left ≡ self.old.left }
+        ensures le { self.new.le ≡ self.old.le }
+    {
+        let Some(slot) = bank.find(aid) else {
+            self.public.set_sw(NOT_FOUND);
+            return;
+        };
+        if self.refuses(bank, aid) {
+            self.public.set_sw(NOT_ALLOWED);
+            return;
+        }
+        let facts = bank.facts(slot);
+        self.enter(Frame::new(slot, &facts, &Session::new(facts.sizes.session)));
+    }
+
+    // A frame runs on top of the others, which are three at the most.
+    fn enter(&mut self, callee: Frame)
+        requires { length self.old.below < 3 }
+        ensures { self.new ≡ record self.old { running = callee; below = self.old.running ∷ self.old.below } }
+    {
+        let caller = mem::replace(&mut self.running, callee);
+        let waiting = mem::replace(&mut self.waiting, Waiting::None);
+        self.waiting = waiting.with(caller);
+    }
+}
+
+// Whether one of the frames that wait runs the application of a name.
+fn waits<B: Bank>(bank: &B, waiting: &Waiting, aid: &Aid) -> bool
+    requires going { (B.state bank.now).stopped ≡ false }
+    requires fits { AllFit (B.state bank.now) (B.named bank.now) (waiting_frames waiting.now) }
+    ensures { result ≡ has_frame (B.named bank.now) aid.now (waiting_frames waiting.now) }
+{
+    match waiting {
+        Waiting::None => false,
+        Waiting::One(a) => runs(bank, a, aid),
+        Waiting::Two(a, b) => runs(bank, a, aid) || runs(bank, b, aid),
+        Waiting::Three(a, b, c) => runs(bank, a, aid) || runs(bank, b, aid) || runs(bank, c, aid),
+    }
+}
+
+// Whether a frame runs the application of a name.
+fn runs<B: Bank>(bank: &B, frame: &Frame, aid: &Aid) -> bool
+    requires going { (B.state bank.now).stopped ≡ false }
+    requires fits { Fits (B.state bank.now) (B.named bank.now) frame.now }
+    ensures { result ≡ bytes_eq (name_or (B.named bank.now frame.now.slot)) aid.now }
+{
+    bank.facts(frame.slot()).aid.bytes() == aid.bytes()
+}
