@@ -1,6 +1,5 @@
 -- A turn by what its instruction did, and by what followed it.
-use Rattle.std.proofs.Common.{◌≡◌, ◌≢◌, ℕ, zero, suc, ◌+◌, ◌-◌, Bool, true, false, List, [], ◌∷◌, length, Option, Some, None, Result, Ok, Err, refl, sym, ap, subst, ◌∙◌, arith}
-use Rattle.std.specs.Prelude.{option_map}
+use Rattle.std.proofs.Common.{◌≡◌, ◌≢◌, ℕ, zero, suc, ◌+◌, ◌-◌, Bool, false, List, [], ◌∷◌, length, Option, Some, None, Result, Ok, Err, refl, sym, ap, subst, ◌∙◌, arith}
 use Rattle.mc_model.specs.declared.instruction.Ins.{Ins}
 use Rattle.mc_model.specs.declared.instruction.DecodeFault.{DecodeFault}
 use Rattle.mc_model.specs.declared.machine.Abend.{Abend}
@@ -11,25 +10,23 @@ use Rattle.mc_model.specs.Bytes.{lookup}
 use Rattle.mc_model.specs.Card.{App}
 use Rattle.mc_model.specs.Code.{decoded}
 use Rattle.mc_model.specs.Frame.{Frame, Effect, session_of}
-use Rattle.mc_model.specs.Primitives.{Around, Then, Goes, Exits, Delegates, Done}
+use Rattle.mc_model.specs.Primitives.{Around, Then, Goes, Exits, Delegates}
 use Rattle.mc_model.specs.Row.{RowEnd, Abends, Does, row}
-use Rattle.mc_model.specs.Chain.{Chain, Turn, Outcome, Reply, Abended, Acted, Follows, Continues, Ends, code_in, around, first_frame, chain_session, write_of, words_of_write, pair_of, settled, follows, abends_at, done_turn, row_turn, stepped, fetched, acted, turn_of}
-use Rattle.mc_bank.specs.Bank.{BankState, app_of, name_or}
+use Rattle.mc_model.specs.Chain.{Chain, Turn, Outcome, Reply, Abended, Follows, Continues, Ends, code_in, around, first_frame, chain_session, write_of, words_of_write, pair_of, settled, follows, abends_at, done_turn, row_turn, stepped, fetched, acted, turn_of}
+use Rattle.mc_bank.specs.Bank.{BankState, app_of}
 use Rattle.mc_segs.specs.declared.ends.Halt.{Halt}
 use Rattle.mc_segs.specs.declared.ends.Halt.TheVariants as halt
 use Rattle.mc_segs.specs.declared.ends.Next.{Next}
-use Rattle.mc_segs.specs.Held.{Held, Seen, Fits, shown, seen, app_under}
-use Rattle.mc_segs.specs.Ends.{Acts as CallActs, Untouched, Left, scene, then_of}
-use Rattle.mc_machine.specs.Alike.{SameEffect, SameRowEnd, IsGuarded, KeepsEffect, KeepsRow}
-use Rattle.mc_machine.specs.Chains.{Chained, Reads, ReadAll, Runs, FitsChain, Wrote, first_held, session_in}
+use Rattle.mc_segs.specs.Held.{Held, Seen, shown, seen, app_under}
+use Rattle.mc_segs.specs.Ends.{Acts as CallActs, Left, scene, then_of}
+use Rattle.mc_machine.specs.Alike.{SameEffect, SameRowEnd, KeepsEffect, KeepsRow}
+use Rattle.mc_machine.specs.Chains.{Chained, Runs, FitsChain, Wrote, first_held, session_in}
 use Rattle.mc_machine.specs.Turns.{ActDone, Followed, advanced, halted, told_of, delegator_of, end_value, step_value}
-use Rattle.mc_machine.specs.declared.outcome.End.{End}
 use Rattle.mc_machine.specs.declared.outcome.End.TheVariants as end
 use Rattle.mc_machine.specs.declared.outcome.Step.{Step}
 use Rattle.mc_machine.proofs.Alike.{rows_end_alike, guarded_seen}
-use Rattle.mc_machine.proofs.Kept.{row_keeps}
-use Rattle.mc_machine.proofs.RowFacts.{ExitKeeps, row_exits}
-use Rattle.mc_machine.proofs.ReadsLemmas.{name_is, app_is, fixed_is, as_many, delegators, session_runs, advanced_runs}
+use Rattle.mc_machine.proofs.RowFacts.{ExitKeeps}
+use Rattle.mc_machine.proofs.ReadsLemmas.{name_is, app_is, as_many, delegators, session_runs, advanced_runs}
 use Rattle.mc_machine.proofs.TurnLemmas.{BankLaws, writes_of, committed_of, settled_runs}
 
 -- ---- what a turn tells

@@ -1,13 +1,12 @@
 -- An instruction has at most five bytes of operands, so what stands at the front of six bytes of code, or of all that is left, stands at their place.
-use Rattle.std.proofs.Common.{◌≡◌, ℕ, zero, suc, ◌+◌, ◌-◌, ◌<◌, ◌≤◌, Bool, true, false, cond, List, [], ◌∷◌, ◌++◌, length, take, drop, Option, Some, None, Result, Ok, Err, arith, refl, sym, ap, subst, inl, inr, ◌∙◌, length-drop, length-take}
+use Rattle.std.proofs.Common.{◌≡◌, ℕ, zero, suc, ◌-◌, ◌<◌, ◌≤◌, Bool, true, false, cond, List, [], ◌∷◌, ◌++◌, length, take, drop, Option, Some, None, Result, Ok, Err, arith, refl, sym, ap, subst, inl, inr, ◌∙◌, length-drop, length-take}
 use Rattle.std.specs.Prelude.{min, nat_eq, replicate, slice_index, option_map}
 use Rattle.std.proofs.Math.Seq.{take-append_seam}
 use Rattle.mc_model.specs.declared.instruction.DecodeFault.{DecodeFault}
 use Rattle.mc_model.specs.declared.instruction.DecodeFault.TheVariants.{Undefined, Past}
 use Rattle.mc_model.specs.declared.instruction.Ins.{Ins}
-use Rattle.mc_model.specs.Code.{Form, Plain, OneByte, TwoBytes, Word, TwoWords, Near, Target, Primitive, Offset, ByteOffset, WordOffset, Kind, U8, U16, I16, operands, total, behind, form, kinds, spell, Stands, decoded, from_place}
+use Rattle.mc_model.specs.Code.{Form, Plain, OneByte, TwoBytes, Word, TwoWords, Near, Target, Primitive, Offset, ByteOffset, WordOffset, Kind, U8, U16, I16, operands, total, form, kinds, spell, Stands, from_place}
 use Rattle.mc_isa.proofs.RowLemmas.{Good, GoodRow, good_form}
-use Rattle.mc_isa.proofs.PlaceLemmas.{decoded_only}
 
 -- ---- lengths
 

@@ -1,24 +1,18 @@
--- What follows an instruction in a settled chain: a delegation, or an exit.
-use Rattle.std.proofs.Common.{◌≡◌, ◌≢◌, ℕ, ◌+◌, ◌-◌, ◌≤◌, Bool, true, false, cond, List, [], ◌∷◌, length, suc, Option, Some, None, refl, sym, ap, subst, ◌∙◌, arith}
-use Rattle.std.specs.Prelude.{IsSome, IfSome, bytes_eq, ◌||◌, nat_lt, nat_le, unwrap_or, is_some, take, min}
+-- A delegation in a settled chain: a status, or an application that runs on top.
+use Rattle.std.proofs.Common.{◌≡◌, ℕ, ◌+◌, ◌≤◌, Bool, true, false, List, [], ◌∷◌, length, suc, Option, Some, None, refl, sym, ap, subst, ◌∙◌, arith}
+use Rattle.std.specs.Prelude.{IsSome, bytes_eq, ◌||◌, nat_le, is_some}
 use Rattle.std.specs.List.{AllByRecursion}
 use Rattle.std.proofs.lemmas.Bool.Decides.{nat_tests}
-use Rattle.mc_bank.specs.Bank.{BankState, app_of, name_or, no_app, sizes_of}
+use Rattle.mc_bank.specs.Bank.{BankState, app_of, name_or, sizes_of}
 use Rattle.mc_bank.specs.Names.{other_way}
 use Rattle.mc_model.specs.declared.card.Sizes.{Sizes}
-use Rattle.mc_model.specs.declared.instruction.Ins.{Ins}
-use Rattle.mc_model.specs.declared.machine.Abend.TheVariants.{A09}
 use Rattle.mc_model.specs.Bytes.{lookup, zeros}
 use Rattle.mc_model.specs.Card.{App}
-use Rattle.mc_model.specs.Frame.{Frame, with_sw, sw_of, la_of}
-use Rattle.mc_model.specs.Chain.{Chain, Follows, Continues, Ends, is_active, depth_of, called, called_app, entered_app, exited, last_exit, reply_of}
-use Rattle.mc_model.specs.Chain as model
-use Rattle.mc_segs.specs.Held.{Held, new_held}
-use Rattle.mc_machine.specs.Chains.{Chained, Reads, ReadAll, Apart, Runs}
-use Rattle.mc_machine.specs.Turns.{EndFits, Followed, Leaves, has_frame, last_end, end_value, told_of}
-use Rattle.mc_machine.specs.declared.outcome.End.{End}
-use Rattle.mc_machine.specs.declared.outcome.End.TheVariants as end
-use Rattle.mc_machine.specs.declared.outcome.Step.{Step}
+use Rattle.mc_model.specs.Frame.{Frame, with_sw}
+use Rattle.mc_model.specs.Chain.{Chain, is_active, depth_of, called, called_app, entered_app}
+use Rattle.mc_segs.specs.Held.{new_held}
+use Rattle.mc_machine.specs.Chains.{Chained, Runs}
+use Rattle.mc_machine.specs.Turns.{has_frame}
 use Rattle.mc_machine.proofs.ReadsLemmas.{as_many, active_runs, app_by, entered_reads}
 
 neither : (a b : Bool) → false ≡ (a || b) → (a ≡ false) × (b ≡ false)

@@ -1,17 +1,14 @@
 -- A chain that runs as one of the definitions: its parts, one by one.
-use Rattle.std.proofs.Common.{◌≡◌, ℕ, ◌+◌, ◌-◌, ◌≤◌, Bool, true, false, List, [], ◌∷◌, length, suc, Option, Some, None, refl, sym, ap, subst, ◌∙◌, arith}
-use Rattle.std.specs.Prelude.{IsSome, bytes_eq, ◌||◌, unwrap_or, option_and_then}
-use Rattle.std.specs.List.{AllByRecursion}
+use Rattle.std.proofs.Common.{◌≡◌, ℕ, Bool, true, false, List, [], ◌∷◌, length, suc, Option, Some, None, refl, sym, ap, subst, ◌∙◌}
+use Rattle.std.specs.Prelude.{IsSome, bytes_eq, ◌||◌, unwrap_or}
 use Rattle.std.proofs.lemmas.List.{length-replicate}
 use Rattle.mc_bank.specs.Bank.{BankState, app_of, name_or, no_app, sizes_of}
-use Rattle.mc_bank.specs.Names.{other_way}
 use Rattle.mc_model.specs.Bytes.{lookup, zeros}
 use Rattle.mc_model.specs.Card.{App}
 use Rattle.mc_model.specs.Frame.{Frame, session_of, new_frame}
 use Rattle.mc_model.specs.Chain.{Chain, delegator_in, first_frame, chain_session, is_active, stepped}
-use Rattle.mc_segs.specs.Held.{Held, Seen, Fits, shown, seen, app_under, new_held}
-use Rattle.mc_machine.specs.Alike.{IsGuarded}
-use Rattle.mc_machine.specs.Chains.{Chained, Reads, ReadAll, Apart, Runs, first_held, session_in}
+use Rattle.mc_segs.specs.Held.{Held, Seen, seen, app_under, new_held}
+use Rattle.mc_machine.specs.Chains.{Chained, Reads, ReadAll, Runs, first_held, session_in}
 use Rattle.mc_machine.specs.Turns.{AllFit, delegator_of, has_frame, advanced}
 
 -- ---- one frame
@@ -35,9 +32,6 @@ module _ (s : BankState) (named : ℕ → Option (List ℕ)) where
   -- and its application is there
   pub app_is : (h : Held) (f : Frame) → Reads s named h f → lookup s.apps f.name ≡ Some (app_under s named h)
   app_is h f r = app_by s.apps (named h.slot) f.name (name_is h f r) r.fits.app
-
-  pub fixed_is : (h : Held) (f : Frame) → Reads s named h f → (app_under s named h).fixed ≡ f.fixed
-  fixed_is h f r = ap (λ (t : Seen). t.fixed) r.same
 
   session_is : (h : Held) (f : Frame) → Reads s named h f → session_of h.frame ≡ session_of f
   session_is h f r = ap (λ (t : Seen). session_of (record h.frame { session = t.session; dyn = t.dyn })) r.same

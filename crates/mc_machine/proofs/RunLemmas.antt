@@ -1,5 +1,5 @@
 -- A run by its turns: what is left to run leads where the whole leads.
-use Rattle.std.proofs.Common.{◌≡◌, ℕ, zero, suc, ◌+◌, ◌-◌, ◌<◌, ◌≤◌, false, List, [], ◌∷◌, ◌++◌, length, take, Option, Some, None, Result, Ok, Err, arith, refl, sym, ap, subst, ◌∙◌}
+use Rattle.std.proofs.Common.{◌≡◌, ℕ, zero, suc, ◌+◌, ◌-◌, ◌≤◌, false, List, [], ◌∷◌, take, Option, Some, None, Result, Ok, Err, arith, refl, sym, ap, subst, ◌∙◌}
 use Rattle.std.specs.Prelude.{option_map}
 use Rattle.mc_model.specs.declared.instruction.Ins.{Ins}
 use Rattle.mc_model.specs.declared.instruction.DecodeFault.{DecodeFault}
@@ -12,15 +12,14 @@ use Rattle.mc_model.specs.Items.{BankItem}
 use Rattle.mc_model.specs.Code.{decoded}
 use Rattle.mc_model.specs.Bytes.{lookup}
 use Rattle.mc_model.specs.Frame.{Frame, session_of}
-use Rattle.mc_model.specs.Primitives.{Then, Goes, Exits, Delegates}
 use Rattle.mc_model.specs.Row.{RowEnd, Abends, Does, row}
-use Rattle.mc_model.specs.Chain.{Chain, Outcome, Abended, Acted, Ran, Write, Follows, Continues, Ends, around, code_in, stepped, first_frame, chain_session, row_turn, fetched, acted, spent, turn_of, end_of, ends_with, goes_on, ran_on, ran}
+use Rattle.mc_model.specs.Chain.{Chain, Outcome, Abended, Acted, Ran, Follows, Continues, Ends, around, code_in, stepped, first_frame, chain_session, row_turn, fetched, acted, spent, turn_of, end_of, ends_with, goes_on, ran_on, ran}
 use Rattle.mc_bank.specs.Bank.{BankState}
-use Rattle.mc_segs.specs.Held.{Held, Seen, shown, seen}
+use Rattle.mc_segs.specs.Held.{Held, Seen}
 use Rattle.mc_machine.specs.declared.outcome.End.{End}
 use Rattle.mc_machine.specs.declared.outcome.Step.{Step}
 use Rattle.mc_machine.specs.Chains.{Chained, Reads, ReadAll, Runs, Wrote, first_held, session_in}
-use Rattle.mc_machine.specs.Turns.{Follow, Acts, ActDone, step_value, end_value}
+use Rattle.mc_machine.specs.Turns.{Follow, Acts, ActDone, end_value}
 
 -- ---- turns of the definition
 

@@ -1,5 +1,5 @@
 -- What an instruction leaves of a chain: its atomic writes, the applications after them, and the frames.
-use Rattle.std.proofs.Common.{◌≡◌, ℕ, Bool, true, false, List, [], ◌∷◌, length, Option, Some, None, Ok, Err, refl, sym, ap, subst, ◌∙◌, inl, inr}
+use Rattle.std.proofs.Common.{◌≡◌, ℕ, false, List, [], ◌∷◌, Option, Some, None, Ok, Err, sym, ap, subst, ◌∙◌, inl, inr}
 use Rattle.std.specs.Prelude.{bytes_eq, unwrap_or}
 use Rattle.std.specs.List.{AllByRecursion}
 use Rattle.mc_model.specs.Orders.{Answer, InOrder}
@@ -8,13 +8,13 @@ use Rattle.mc_model.specs.Pieces.{laid_pieces, laid_words, HoldPieces}
 use Rattle.mc_model.specs.Bytes.{lookup, insert}
 use Rattle.mc_model.specs.Card.{App}
 use Rattle.mc_model.specs.Frame.{Frame, Effect}
-use Rattle.mc_model.specs.Chain.{Chain, changed_app, map_changed, write_of, settled, with_pieces}
+use Rattle.mc_model.specs.Chain.{Chain, changed_app, map_changed, write_of, settled}
 use Rattle.mc_bank.specs.Bank.{BankState, app_of, name_or, no_app, with_words, committed, Changes}
 use Rattle.mc_bank.specs.Names.{lookup-inserted, lookup-beside}
-use Rattle.mc_segs.specs.Held.{Held, Seen, shown, seen, app_under}
+use Rattle.mc_segs.specs.Held.{Held, Seen, app_under}
 use Rattle.mc_segs.specs.Ends.{Committed, changed_bytes, scene, Left}
 use Rattle.mc_machine.specs.Alike.{SameEffect, KeepsEffect}
-use Rattle.mc_machine.specs.Chains.{Chained, Reads, ReadAll, Runs, Wrote}
+use Rattle.mc_machine.specs.Chains.{Chained, ReadAll, Runs, Wrote}
 use Rattle.mc_machine.proofs.Alike.{committed_seen, changed_seen}
 use Rattle.mc_machine.proofs.ReadsLemmas.{name_is, app_is, moved_reads}
 

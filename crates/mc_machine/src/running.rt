@@ -18,7 +18,14 @@ use std::sync::ledger::Ledger;
 /// the session bytes of the selection and leaves them as they are at its end. Each decoded instruction is one step. The
 /// outcome is a reply of ISO/IEC 7816-4 or an abend. A `Stop` is that of the bank in a change of static bytes; the changes
 /// before it stand.
-pub fn run<B: Bank, L: Ledger>(bank: &mut B, first: Slot, session: &mut Session, apdu: &Apdu, budget: u32, steps: &mut Steps<L>) -> Result<Outcome, Stop>
+pub fn run<B: Bank, L: Ledger>(
+    bank: &mut B,
+    first: Slot,
+    session: &mut Session,
+    apdu: &Apdu,
+    budget: u32,
+    steps: &mut Steps<L>,
+) -> Result<Outcome, Stop>
     requires going { (B.state bank.old).stopped ≡ false }
     requires there { IsSome (B.named bank.old first) }
     requires session { length session.old ≡ (app_of (B.state bank.old).apps (B.named bank.old first)).session }

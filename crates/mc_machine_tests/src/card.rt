@@ -71,7 +71,12 @@ fn site_for<L: Ledger>(bank: &MemBank, sizes: &Sizes, steps: &mut Steps<L>) -> R
 }
 
 /// Loads an application under a name.
-pub fn load<L: Ledger>(bank: &mut MemBank, name: &Aid, unit: &Unit<'_>, steps: &mut Steps<L>) -> Result<(), Fault> {
+pub fn load<L: Ledger>(
+    bank: &mut MemBank,
+    name: &Aid,
+    unit: &Unit<'_>,
+    steps: &mut Steps<L>,
+) -> Result<(), Fault> {
     let Some(sizes) = sizes_of(unit) else {
         return Err(Fault::AboveLimits);
     };
@@ -92,7 +97,13 @@ pub fn load<L: Ledger>(bank: &mut MemBank, name: &Aid, unit: &Unit<'_>, steps: &
 }
 
 /// A command to an application under a budget, from zero session bytes.
-pub fn command<L: Ledger>(bank: &mut MemBank, name: &Aid, bytes: &[u8], budget: u32, steps: &mut Steps<L>) -> Result<Outcome, Fault> {
+pub fn command<L: Ledger>(
+    bank: &mut MemBank,
+    name: &Aid,
+    bytes: &[u8],
+    budget: u32,
+    steps: &mut Steps<L>,
+) -> Result<Outcome, Fault> {
     if budget < 1 || budget > 65536 {
         return Err(Fault::BadBudget);
     }

@@ -39,7 +39,11 @@ pub struct Row<'a> {
 
 /// The number of the first command of a row that answers something else, or how many there are where other static bytes
 /// are left; `None` where all is as it is due.
-pub fn wrong_at<L: Ledger>(alloc: Global, blank: Blank, row: &Row<'_>) -> Result<Option<usize>, Fault>
+pub fn wrong_at<L: Ledger>(
+    alloc: Global,
+    blank: Blank,
+    row: &Row<'_>,
+) -> Result<Option<usize>, Fault>
     requires name { blank.name ≡ L.name }
     requires parts { blank.parts ≡ L.parts }
     requires some { 0 < blank.parts }
@@ -63,7 +67,12 @@ pub fn wrong_at<L: Ledger>(alloc: Global, blank: Blank, row: &Row<'_>) -> Result
     Ok(None)
 }
 
-fn load_all<L: Ledger>(alloc: Global, bank: &mut MemBank, apps: &[App<'_>], steps: &mut Steps<L>) -> Result<(), Fault> {
+fn load_all<L: Ledger>(
+    alloc: Global,
+    bank: &mut MemBank,
+    apps: &[App<'_>],
+    steps: &mut Steps<L>,
+) -> Result<(), Fault> {
     for app in apps {
         let name = name_of(alloc, app.name)?;
         let code = bytes_of(alloc, app.code)?;
@@ -79,7 +88,13 @@ fn load_all<L: Ledger>(alloc: Global, bank: &mut MemBank, apps: &[App<'_>], step
     Ok(())
 }
 
-fn wrong_command<L: Ledger>(alloc: Global, bank: &mut MemBank, name: &Aid, row: &Row<'_>, steps: &mut Steps<L>) -> Result<Option<usize>, Fault> {
+fn wrong_command<L: Ledger>(
+    alloc: Global,
+    bank: &mut MemBank,
+    name: &Aid,
+    row: &Row<'_>,
+    steps: &mut Steps<L>,
+) -> Result<Option<usize>, Fault> {
     for (at, (text, answer)) in row.commands.iter().enumerate() {
         let bytes = bytes_of(alloc, text)?;
         let outcome = command(bank, name, bytes.as_slice(), row.budget, steps)?;
@@ -123,7 +138,14 @@ fn name_of(alloc: Global, text: &str) -> Result<Aid, Fault> {
 }
 
 /// How a command to a single application without data ends, under a budget.
-pub fn lone<L: Ledger>(alloc: Global, blank: Blank, code: &[u8], fixed: u16, bytes: &[u8], budget: u32) -> Result<Outcome, Fault>
+pub fn lone<L: Ledger>(
+    alloc: Global,
+    blank: Blank,
+    code: &[u8],
+    fixed: u16,
+    bytes: &[u8],
+    budget: u32,
+) -> Result<Outcome, Fault>
     requires name { blank.name ≡ L.name }
     requires parts { blank.parts ≡ L.parts }
     requires some { 0 < blank.parts }

@@ -1,5 +1,5 @@
 -- What stands at the front of the bytes that were read stands at the code address, so it is what is decoded there.
-use Rattle.std.proofs.Common.{◌≡◌, ℕ, ◌+◌, refl, sym, ap, subst, ◌∙◌, List, [], ◌∷◌, length, take, drop, Ok, Err}
+use Rattle.std.proofs.Common.{ℕ, ◌+◌, refl, sym, ap, subst, ◌∙◌, List, [], ◌∷◌, length, take, drop, Ok, Err}
 use Rattle.std.proofs.lemmas.Result.{err_from_is_err_and}
 use Rattle.mc_model.specs.Card.{App}
 use Rattle.mc_model.specs.Code.{Stands}

@@ -1,5 +1,4 @@
-use Rattle.std.proofs.Common.{◌≡◌, ◌≢◌, ℕ, ◌+◌, List, Option, Some, None, Result, Ok, Err, refl, sym, ap, subst, ◌∙◌, arith}
-use Rattle.mc_model.specs.declared.instruction.Ins.{Ins}
+use Rattle.std.proofs.Common.{◌≡◌, ◌≢◌, ℕ, ◌+◌, Some, None, Result, Ok, Err, refl, sym, ap, subst, ◌∙◌, arith}
 use Rattle.mc_model.specs.declared.instruction.DecodeFault.{DecodeFault}
 use Rattle.mc_model.specs.declared.instruction.DecodeFault.TheVariants.{Undefined, Past}
 use Rattle.mc_model.specs.declared.machine.Abend.TheVariants.{A01, A02}
@@ -10,7 +9,7 @@ use Rattle.mc_model.specs.Row.{row}
 use Rattle.mc_model.specs.Chain.{Acted, around, stepped, row_turn, turn_of, follows}
 use Rattle.mc_segs.specs.Held.{shown, app_under}
 use Rattle.mc_segs.specs.Ends.{RowActs, scene, then_of}
-use Rattle.mc_machine.specs.Chains.{Chained, Runs, Wrote}
+use Rattle.mc_machine.specs.Chains.{Chained}
 use Rattle.mc_machine.specs.Turns.{ActDone, Followed, advanced, told_of, delegator_of}
 use Rattle.mc_machine.specs.declared.outcome.End.TheVariants as end
 use Rattle.mc_machine.specs.declared.outcome.Step.{Step}
