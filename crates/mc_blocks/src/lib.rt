@@ -6,7 +6,9 @@ mod block;
 mod chain;
 mod format;
 mod header;
+mod laws;
 mod record;
 mod walking;
 
 pub use format::format_words;
+pub use laws::walks_card;

@@ -1,0 +1,127 @@
+-- Spans in the order of their places, whatever the order of the names.
+use Rattle.std.proofs.Common.{◌≡◌, ◌≢◌, ℕ, zero, suc, ◌+◌, ◌<◌, ◌≤◌, Bool, true, false, ◌&&◌, ◌||◌, List, [], ◌∷◌, ◌++◌, length, Option, Some, None, refl, sym, ◌∙◌, ap, subst, inl, inr, arith, cond}
+use Rattle.std.specs.Prelude.{nat_le, nat_lt, bytes_eq}
+use Rattle.std.specs.List.{AllByRecursion}
+use Rattle.std.proofs.lemmas.Bool.{lt-ltb, le-ltb, cases_lt, or_cases, or_parts, cases_Bool, false_from_ne_true}
+use Rattle.std.proofs.lemmas.Bool.Decides.{nat_tests}
+use Rattle.std.proofs.lemmas.Slice.Eq.{bytes_eq-Decides}
+use Rattle.mc_model.specs.Bytes.{insert, remove, name_before, has_name}
+use Rattle.mc_model.specs.Card.{App, needed}
+use Rattle.mc_model.specs.Layout.{put_at, spans_of}
+
+-- ---- spans put in order
+
+swap-cons : {A : Type 0} (p q : ℕ) (x y : A) (e : ℕ × A) (es : List (ℕ × A)) (a b : Bool) → nat_lt p e.0 ≡ a → nat_lt q e.0 ≡ b → p ≢ q → put_at p x (put_at q y es) ≡ put_at q y (put_at p x es)
+    → put_at p x (cond b ((q, y) ∷ e ∷ es) (e ∷ put_at q y es)) ≡ put_at q y (cond a ((p, x) ∷ e ∷ es) (e ∷ put_at p x es))
+swap-cons {A} p q x y e es true true ha hb ne rest =
+    elim (cases_lt p q) [
+      | inl lt ↦ ap (λ (t : Bool). cond t ((p, x) ∷ (q, y) ∷ e ∷ es) ((q, y) ∷ put_at p x (e ∷ es))) (lt-ltb p q lt)
+          ∙ sym (ap (λ (t : Bool). cond t ((q, y) ∷ (p, x) ∷ e ∷ es) ((p, x) ∷ put_at q y (e ∷ es))) (le-ltb q p (omega arith)) ∙ ap (λ (t : Bool). (p, x) ∷ cond t ((q, y) ∷ e ∷ es) (e ∷ put_at q y es)) hb)
+      | inr le ↦ let lt : q < p = omega (arith, ne) in
+          ap (λ (t : Bool). cond t ((p, x) ∷ (q, y) ∷ e ∷ es) ((q, y) ∷ put_at p x (e ∷ es))) (le-ltb p q le) ∙ ap (λ (t : Bool). (q, y) ∷ cond t ((p, x) ∷ e ∷ es) (e ∷ put_at p x es)) ha
+          ∙ sym (ap (λ (t : Bool). cond t ((q, y) ∷ (p, x) ∷ e ∷ es) ((p, x) ∷ put_at q y (e ∷ es))) (lt-ltb q p lt))
+    ]
+swap-cons {A} p q x y e es true false ha hb ne rest =
+    let past : nat_lt q p ≡ false = grind (arith, nat_tests, ha, hb) in
+    ap (λ (t : Bool). cond t ((p, x) ∷ e ∷ put_at q y es) (e ∷ put_at p x (put_at q y es))) ha
+    ∙ sym (ap (λ (t : Bool). cond t ((q, y) ∷ (p, x) ∷ e ∷ es) ((p, x) ∷ put_at q y (e ∷ es))) past ∙ ap (λ (t : Bool). (p, x) ∷ cond t ((q, y) ∷ e ∷ es) (e ∷ put_at q y es)) hb)
+swap-cons {A} p q x y e es false true ha hb ne rest =
+    let past : nat_lt p q ≡ false = grind (arith, nat_tests, ha, hb) in
+    ap (λ (t : Bool). cond t ((p, x) ∷ (q, y) ∷ e ∷ es) ((q, y) ∷ put_at p x (e ∷ es))) past ∙ ap (λ (t : Bool). (q, y) ∷ cond t ((p, x) ∷ e ∷ es) (e ∷ put_at p x es)) ha
+    ∙ sym (ap (λ (t : Bool). cond t ((q, y) ∷ e ∷ put_at p x es) (e ∷ put_at q y (put_at p x es))) hb)
+swap-cons {A} p q x y e es false false ha hb ne rest =
+    ap (λ (t : Bool). cond t ((p, x) ∷ e ∷ put_at q y es) (e ∷ put_at p x (put_at q y es))) ha
+    ∙ ap (λ (l : List (ℕ × A)). e ∷ l) rest
+    ∙ sym (ap (λ (t : Bool). cond t ((q, y) ∷ e ∷ put_at p x es) (e ∷ put_at q y (put_at p x es))) hb)
+
+swap-one : {A : Type 0} (p q : ℕ) (x y : A) (t s : Bool) → nat_lt p q ≡ t → nat_lt q p ≡ s → p ≢ q → cond {A = List (ℕ × A)} t ((p, x) ∷ (q, y) ∷ []) ((q, y) ∷ (p, x) ∷ []) ≡ cond s ((q, y) ∷ (p, x) ∷ []) ((p, x) ∷ (q, y) ∷ [])
+swap-one p q x y true true a b ne = absurd (grind (arith, nat_tests, a, b))
+swap-one p q x y true false a b ne = refl
+swap-one p q x y false true a b ne = refl
+swap-one p q x y false false a b ne = absurd (grind (arith, nat_tests, a, b, ne))
+
+-- two at different places are put in either order
+pub put-put : {A : Type 0} (p q : ℕ) (x y : A) (l : List (ℕ × A)) → p ≢ q → put_at p x (put_at q y l) ≡ put_at q y (put_at p x l)
+put-put p q x y [] ne = swap-one p q x y (nat_lt p q) (nat_lt q p) refl refl ne
+put-put p q x y (e ∷ es) ne = swap-cons p q x y e es (nat_lt p e.0) (nat_lt q e.0) refl refl ne (put-put p q x y es ne)
+
+length-test : {A : Type 0} (t : Bool) (p : ℕ) (x : A) (e : ℕ × A) (es more : List (ℕ × A)) → length more ≡ length es + 1 → length (cond t ((p, x) ∷ e ∷ es) (e ∷ more)) ≡ length es + 2
+length-test true p x e es more h = omega arith
+length-test false p x e es more h = omega (arith, h)
+
+pub length-put : {A : Type 0} (p : ℕ) (x : A) (l : List (ℕ × A)) → length (put_at p x l) ≡ length l + 1
+length-put p x [] = refl
+length-put p x (e ∷ es) = let h = length-test (nat_lt p e.0) p x e es (put_at p x es) (length-put p x es) in omega (arith, h)
+
+-- spans from p on
+abbrev pub Above : ℕ → List (ℕ × ℕ) → Type 0
+Above p [] = Unit {0}
+Above p (e ∷ es) = (p ≤ e.0) × Above p es
+
+-- before all others
+pub put-front : (p n : ℕ) (l : List (ℕ × ℕ)) → Above (p + 1) l → put_at p n l ≡ (p, n) ∷ l
+put-front p n [] a = refl
+put-front p n (e ∷ es) a = let low : p + 1 ≤ e.0 = a.0 in ap (λ (t : Bool). cond t ((p, n) ∷ e ∷ es) (e ∷ put_at p n es)) (lt-ltb p e.0 (omega arith))
+
+pub above-weaker : (p q : ℕ) (l : List (ℕ × ℕ)) → q ≤ p → Above p l → Above q l
+above-weaker p q [] h a = tt
+above-weaker p q (e ∷ es) h a = let low : p ≤ e.0 = a.0 in (omega arith, above-weaker p q es h a.1)
+
+-- ---- a name that is put into a map
+
+-- no entry has this name, and none lies at this place
+abbrev pub Free : List ℕ → ℕ → List (List ℕ × App) → Type 0
+Free n p [] = Unit {0}
+Free n p (e ∷ es) = (bytes_eq e.0 n ≡ false) × ((e.1).place ≢ p) × Free n p es
+
+put-entry : (n : List ℕ) (a : App) (e : List ℕ × App) (es : List (List ℕ × App)) (t : Bool) → bytes_eq e.0 n ≡ false → (e.1).place ≢ a.place → spans_of (insert es n a) ≡ put_at a.place (needed a) (spans_of es)
+    → spans_of (cond t ((n, a) ∷ e ∷ es) (e ∷ insert es n a)) ≡ put_at a.place (needed a) (spans_of (e ∷ es))
+put-entry n a e es true h ne rest = refl
+put-entry n a e es false h ne rest =
+    ap (λ (l : List (ℕ × ℕ)). put_at (e.1).place (needed e.1) l) rest ∙ put-put (e.1).place a.place (needed e.1) (needed a) (spans_of es) ne
+
+-- a new application adds its span
+pub spans-insert : (es : List (List ℕ × App)) (n : List ℕ) (a : App) → Free n a.place es → spans_of (insert es n a) ≡ put_at a.place (needed a) (spans_of es)
+spans-insert [] n a f = refl
+spans-insert (e ∷ es) n a f =
+    ap (λ (t : Bool). spans_of (cond t ((n, a) ∷ es) (cond (name_before n e.0) ((n, a) ∷ e ∷ es) (e ∷ insert es n a)))) f.0
+    ∙ put-entry n a e es (name_before n e.0) f.0 f.1 (spans-insert es n a f.2)
+
+free-entry : (n k : List ℕ) (p : ℕ) (a : App) (e : List ℕ × App) (es : List (List ℕ × App)) (t s : Bool) → bytes_eq n k ≡ false → a.place ≢ p → Free k p (e ∷ es) → Free k p (insert es n a)
+    → Free k p (cond t ((n, a) ∷ es) (cond s ((n, a) ∷ e ∷ es) (e ∷ insert es n a)))
+free-entry n k p a e es true s h ne f rest = (h, ne, f.2)
+free-entry n k p a e es false true h ne f rest = (h, ne, f)
+free-entry n k p a e es false false h ne f rest = (f.0, f.1, rest)
+
+-- another name stays free
+pub free-insert : (es : List (List ℕ × App)) (n k : List ℕ) (p : ℕ) (a : App) → bytes_eq n k ≡ false → a.place ≢ p → Free k p es → Free k p (insert es n a)
+free-insert [] n k p a h ne f = (h, ne, tt)
+free-insert (e ∷ es) n k p a h ne f = free-entry n k p a e es (bytes_eq e.0 n) (name_before n e.0) h ne f (free-insert es n k p a h ne f.2)
+
+pub length-spans : (es : List (List ℕ × App)) → length (spans_of es) ≡ length es
+length-spans [] = refl
+length-spans (e ∷ es) = let more = length-put (e.1).place (needed e.1) (spans_of es) in let rest = length-spans es in omega (arith, more, rest)
+
+-- ---- names
+
+same-bytes : (k : List ℕ) → bytes_eq k k ≡ true
+same-bytes k = (bytes_eq-Decides k k).1 refl
+
+-- a name that is in a list, and one that is not, differ
+pub names-apart : (names : List (List ℕ)) (k n : List ℕ) → has_name k names ≡ true → has_name n names ≡ false → bytes_eq n k ≡ false
+names-apart [] k n yes-in not-in = absurd (cc yes-in)
+names-apart (x ∷ xs) k n there absent =
+    let parts = or_parts (bytes_eq x n) (has_name n xs) absent in
+    elim (or_cases (bytes_eq x k) (has_name k xs) there) [
+      | inl here ↦ false_from_ne_true (bytes_eq n k) (λ e.
+          let x-is : x ≡ k = (bytes_eq-Decides x k).0 here in
+          let n-is : n ≡ k = (bytes_eq-Decides n k).0 e in
+          absurd (cc (sym (ap (λ (y : List ℕ). bytes_eq y n) (x-is ∙ sym n-is) ∙ same-bytes n) ∙ parts.0)))
+      | inr behind ↦ names-apart xs k n behind parts.1
+    ]
+
+pub has-self : (k : List ℕ) (names : List (List ℕ)) → has_name k (k ∷ names) ≡ true
+has-self k names = ap (λ (t : Bool). t || has_name k names) (same-bytes k)
+
+pub has-more : (k x : List ℕ) (names : List (List ℕ)) → has_name k names ≡ true → has_name k (x ∷ names) ≡ true
+has-more k x names h = elim (cases_Bool (bytes_eq x k)) [ inl t ↦ ap (λ (s : Bool). s || has_name k names) t | inr f ↦ ap (λ (s : Bool). s || has_name k names) f ∙ h ]
