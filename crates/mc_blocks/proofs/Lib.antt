@@ -6,3 +6,4 @@ pub mod Entries
 pub mod Tiles
 pub mod Maps
 pub mod Bridge
+pub mod Search

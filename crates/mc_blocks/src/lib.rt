@@ -4,11 +4,16 @@
 // words that change where a block is taken or freed.
 mod block;
 mod chain;
+mod checks;
 mod format;
 mod header;
+mod image;
 mod laws;
 mod record;
-mod walking;
+mod room;
 
 pub use format::format_words;
+pub use image::{Shape, Unusable, walk};
 pub use laws::walks_card;
+pub use mc_model::Cause;
+pub use room::first_fit;

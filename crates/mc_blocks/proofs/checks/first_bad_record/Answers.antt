@@ -3,7 +3,7 @@ use Rattle.mc_model.specs.Card.{blocks}
 use Rattle.mc_model.specs.Layout.{bad_record}
 use Rattle.mc_blocks.specs.Blocks.{block_of}
 use Rattle.mc_blocks.proofs.Entries.{Entered, begun, ended, refused, admits}
-use Rattle.mc_blocks.proofs.walking.first_bad_record.Goals as goal
+use Rattle.mc_blocks.proofs.checks.first_bad_record.Goals as goal
 
 pub returns-then-not-admit : goal.returns-then-not-admit
 returns-then-not-admit g c =

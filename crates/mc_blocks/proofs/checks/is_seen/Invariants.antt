@@ -1,7 +1,7 @@
 use Rattle.std.proofs.Common.{◌≡◌, drop, map}
 use Rattle.mc_model.specs.Bytes.{has_name}
 use Rattle.mc_model.specs.Card.{name_in}
-use Rattle.mc_blocks.proofs.walking.is_seen.Given as goal
+use Rattle.mc_blocks.proofs.checks.is_seen.Given as goal
 
 -- the records that are left decide
 abbrev pub invariant-loop-known : goal.invariant-loop-known

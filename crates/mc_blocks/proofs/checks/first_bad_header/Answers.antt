@@ -2,7 +2,7 @@ use Rattle.std.proofs.Common.{◌≡◌, ◌≤◌, ℕ, ◌+◌, length, ◌∙
 use Rattle.mc_model.specs.Layout.{bad_block}
 use Rattle.mc_blocks.specs.Blocks.{block_of, bad_from}
 use Rattle.mc_blocks.proofs.Headers.{bad_behind, good_end}
-use Rattle.mc_blocks.proofs.walking.first_bad_header.Goals as goal
+use Rattle.mc_blocks.proofs.checks.first_bad_header.Goals as goal
 
 pub loop-place-preserved : goal.loop-place-preserved
 loop-place-preserved g c =

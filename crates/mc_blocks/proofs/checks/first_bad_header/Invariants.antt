@@ -2,7 +2,7 @@ use Rattle.std.proofs.Common.{◌≡◌, ◌-◌, ◌≤◌, false, length}
 use Rattle.mc_model.specs.Card.{heap_start}
 use Rattle.mc_model.specs.Layout.{bad_block}
 use Rattle.mc_blocks.specs.Blocks.{bad_from}
-use Rattle.mc_blocks.proofs.walking.first_bad_header.Given as goal
+use Rattle.mc_blocks.proofs.checks.first_bad_header.Given as goal
 
 -- the headers that are left decide
 abbrev pub invariant-loop-place : goal.invariant-loop-place

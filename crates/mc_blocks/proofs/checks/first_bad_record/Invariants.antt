@@ -2,7 +2,7 @@ use Rattle.std.proofs.Common.{◌-◌, [], length}
 use Rattle.mc_model.specs.Card.{blocks}
 use Rattle.mc_model.specs.Layout.{bad_record}
 use Rattle.mc_blocks.proofs.Entries.{Entered}
-use Rattle.mc_blocks.proofs.walking.first_bad_record.Given as goal
+use Rattle.mc_blocks.proofs.checks.first_bad_record.Given as goal
 
 -- the blocks that are left decide
 abbrev pub invariant-loop-block : goal.invariant-loop-block
