@@ -7,3 +7,5 @@ pub mod Tiles
 pub mod Maps
 pub mod Bridge
 pub mod Search
+pub mod Changes
+pub mod Heads

@@ -14,6 +14,6 @@ mod room;
 
 pub use format::format_words;
 pub use image::{Shape, Unusable, walk};
-pub use laws::walks_card;
+pub use laws::{plans_steps, walks_card};
 pub use mc_model::Cause;
 pub use room::first_fit;
