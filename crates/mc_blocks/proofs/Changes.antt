@@ -25,7 +25,7 @@ from-weaker p q (e ∷ es) h a = let low : p ≤ e.0 = a.0 in (omega arith, from
 other-place : (e f : ℕ × List ℕ) → e.0 ≢ f.0 → same_pair e f ≡ false
 other-place e f ne = ap (λ (t : Bool). t && bytes_eq e.1 f.1) (ne_eqb e.0 f.0 ne)
 
-none-from : (e : ℕ × List ℕ) (p : ℕ) (l : List (ℕ × List ℕ)) → e.0 < p → From p l → list_any (same_pair e) l ≡ false
+pub none-from : (e : ℕ × List ℕ) (p : ℕ) (l : List (ℕ × List ℕ)) → e.0 < p → From p l → list_any (same_pair e) l ≡ false
 none-from e p [] lt f = refl
 none-from e p (x ∷ xs) lt f =
     let low : p ≤ x.0 = f.0 in

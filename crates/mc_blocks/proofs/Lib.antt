@@ -9,3 +9,4 @@ pub mod Bridge
 pub mod Search
 pub mod Changes
 pub mod Heads
+pub mod Taking

@@ -9,6 +9,7 @@ mod format;
 mod header;
 mod image;
 mod laws;
+mod plan;
 mod record;
 mod room;
 
