@@ -57,7 +57,7 @@ front p a b (x ∷ xs) f n =
     ap (λ (t : Bool). cond (not t) (x ∷ changes (a ++ b) xs) (changes (a ++ b) xs)) (any-append (same_pair x) a b ∙ or-false (list_any (same_pair x) a) (list_any (same_pair x) b) (none-from x p b n.0 f))
     ∙ ap (λ (l : List (ℕ × List ℕ)). cond (not (list_any (same_pair x) a)) (x ∷ l) l) (front p a b xs f n.1)
 
-back : (p : ℕ) (a b new : List (ℕ × List ℕ)) → Before p a → From p new → changes (a ++ b) new ≡ changes b new
+pub back : (p : ℕ) (a b new : List (ℕ × List ℕ)) → Before p a → From p new → changes (a ++ b) new ≡ changes b new
 back p a b [] f n = refl
 back p a b (x ∷ xs) f n =
     ap (λ (t : Bool). cond (not t) (x ∷ changes (a ++ b) xs) (changes (a ++ b) xs)) (any-append (same_pair x) a b ∙ ap (λ (t : Bool). t || list_any (same_pair x) b) (none-before x p a n.0 f))

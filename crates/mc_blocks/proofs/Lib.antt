@@ -9,4 +9,6 @@ pub mod Bridge
 pub mod Search
 pub mod Changes
 pub mod Heads
+pub mod Claims
 pub mod Taking
+pub mod Freeing

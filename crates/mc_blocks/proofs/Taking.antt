@@ -12,6 +12,7 @@ use Rattle.mc_blocks.proofs.Bridge.{used-above}
 use Rattle.mc_blocks.proofs.Search.{holes-above}
 use Rattle.mc_blocks.proofs.Changes.{From, from-weaker, under-same, under-other, second-same, links-differ, none-from}
 use Rattle.mc_blocks.proofs.Heads.{heads, heads-from, heads-behind, heads-same, layout-is}
+use Rattle.mc_blocks.proofs.Claims.{Claim, not-before, later-either}
 
 -- a used block and a hole, each by its place and its words
 abbrev pub used_block : ℕ → ℕ → Block
@@ -185,48 +186,17 @@ here-list v s p need n end g bs false e some low few gap long t =
     ∙ ap (λ (l : List (ℕ × List ℕ)). (p, used_header need) ∷ l) (heads-same (p + n) true bs end t))
     ∙ ap (λ (f : ℕ). link_word v s g f ∷ (p, used_header need) ∷ []) (first-is bs)
 
--- the claim for a link g and the blocks behind it
-TakeChanges : ℕ → ℕ → ℕ → ℕ → ℕ × ℕ → List Block → List Block → Type 0
-TakeChanges v s p need g bs new =
-    changes (link_word v s g (first_hole bs) ∷ heads bs) (link_word v s g (first_hole new) ∷ heads new) ≡ take_list v s (gap_before p g (hole_spans bs)) (gaps_behind p (hole_spans bs)) p need
-
-not-before : (p : ℕ) → nat_lt p p ≡ false
-not-before p = le-ltb p p (omega arith)
+abbrev taken_at : ℕ → ℕ → ℕ → ℕ → ℕ × ℕ → List (ℕ × ℕ) → List (ℕ × List ℕ)
+taken_at v s p need g gs = take_list v s g gs p need
 
 take-here : (v s need end : ℕ) (g : ℕ × ℕ) (b : Block) (bs : List Block) → 1 ≤ need → 1 ≤ b.place → end < 65536 → g.0 < b.place → 1 ≤ b.words → Tiled (b.place + b.words) true bs end
-    → TakeChanges v s b.place need g (record b { used = false } ∷ bs) (used_block b.place need ∷ rest_of b.place need b bs)
-unfolding TakeChanges
+    → Claim v s b.place (taken_at v s b.place need) g (record b { used = false } ∷ bs) (used_block b.place need ∷ rest_of b.place need b bs)
+unfolding Claim
 take-here v s need end g b bs some low few gap long t =
     here-list v s b.place need b.words end g bs (nat_lt need b.words) refl some low few gap long t
     ∙ sym (ap (λ (x : Bool). take_list v s (cond x (gap_before b.place (b.place, b.words) (hole_spans bs)) g) (cond x (gaps_behind b.place (hole_spans bs)) ((b.place, b.words) ∷ hole_spans bs)) b.place need) (not-before b.place))
 
-later-used : (v s p need end : ℕ) (g : ℕ × ℕ) (b : Block) (a : Bool) (bs new : List Block) → g.0 < b.place → 1 ≤ b.words → Tiled (b.place + b.words) a bs end → Tiled (b.place + b.words) a new end
-    → TakeChanges v s p need g bs new → TakeChanges v s p need g (record b { used = true } ∷ bs) (record b { used = true } ∷ new)
-unfolding TakeChanges
-later-used v s p need end g b a bs new gap long t u rest =
-    second-same (link_word v s g (first_hole bs)) (link_word v s g (first_hole new)) (b.place, used_header b.words) (heads bs) (heads new) refl gap (heads-behind b.place b a bs end refl long t) (heads-behind b.place b a new end refl long u) ∙ rest
-
-later-free : (v s p need end : ℕ) (g : ℕ × ℕ) (b : Block) (a : Bool) (bs new : List Block) → g.0 < b.place → b.place < p → 1 ≤ b.words → Tiled (b.place + b.words) a bs end → Tiled (b.place + b.words) a new end
-    → TakeChanges v s p need (b.place, b.words) bs new → TakeChanges v s p need g (record b { used = false } ∷ bs) (record b { used = false } ∷ new)
-unfolding TakeChanges
-later-free v s p need end g b a bs new gap before long t u rest =
-    let ne : b.place ≢ 0 = λ e. absurd (omega (arith, e)) in
-    let f = heads-behind b.place b a bs end refl long t in
-    let h = heads-behind b.place b a new end refl long u in
-    let word : (f : ℕ) → link_word v s (b.place, b.words) f ≡ (b.place, hole_header b.words f) = λ f. ap (λ (x : Bool). (b.place, cond x (root v s f) (hole_header b.words f))) (ne_eqb b.place 0 ne) in
-    under-same (link_word v s g b.place) ((b.place, hole_header b.words (first_hole bs)) ∷ heads bs) ((b.place, hole_header b.words (first_hole new)) ∷ heads new)
-    (omega arith, from-weaker (b.place + 1) (g.0 + 1) (heads bs) (omega arith) f) (omega arith, from-weaker (b.place + 1) (g.0 + 1) (heads new) (omega arith) h)
-    ∙ sym (ap (λ (e : ℕ × List ℕ). changes (e ∷ heads bs) ((b.place, hole_header b.words (first_hole new)) ∷ heads new)) (word (first_hole bs)))
-    ∙ sym (ap (λ (e : ℕ × List ℕ). changes (link_word v s (b.place, b.words) (first_hole bs) ∷ heads bs) (e ∷ heads new)) (word (first_hole new)))
-    ∙ rest
-    ∙ sym (ap (λ (x : Bool). take_list v s (cond x (gap_before p (b.place, b.words) (hole_spans bs)) g) (cond x (gaps_behind p (hole_spans bs)) ((b.place, b.words) ∷ hole_spans bs)) p need) (lt-ltb b.place p before))
-
-later-either : (v s p need end : ℕ) (g : ℕ × ℕ) (b : Block) (a : Bool) (bs new : List Block) (u : Bool) → g.0 < b.place → b.place < p → 1 ≤ b.words → Tiled (b.place + b.words) a bs end → Tiled (b.place + b.words) a new end
-    → ((h : ℕ × ℕ) → h.0 < b.place + b.words → TakeChanges v s p need h bs new) → TakeChanges v s p need g (record b { used = u } ∷ bs) (record b { used = u } ∷ new)
-later-either v s p need end g b a bs new true gap before long t n rest = later-used v s p need end g b a bs new gap long t n (rest g (omega arith))
-later-either v s p need end g b a bs new false gap before long t n rest = later-free v s p need end g b a bs new gap before long t n (rest (b.place, b.words) (omega arith))
-
-take-all : (v s p need q : ℕ) (g : ℕ × ℕ) (a : Bool) (bs : List Block) (end : ℕ) → 1 ≤ need → 1 ≤ q → end < 65536 → g.0 < q → Tiled q a bs end → has_room p need (hole_spans bs) ≡ true → TakeChanges v s p need g bs (take_in p need bs)
+take-all : (v s p need q : ℕ) (g : ℕ × ℕ) (a : Bool) (bs : List Block) (end : ℕ) → 1 ≤ need → 1 ≤ q → end < 65536 → g.0 < q → Tiled q a bs end → has_room p need (hole_spans bs) ≡ true → Claim v s p (taken_at v s p need) g bs (take_in p need bs)
 unfolding RoomAt
 take-all v s p need q g a [] end some low few gap t room = absurd (cc room)
 take-all v s p need q g a (b ∷ bs) end some low few gap t room =
@@ -235,20 +205,20 @@ take-all v s p need q g a (b ∷ bs) end some low few gap t room =
     let tail : Tiled (b.place + b.words) (not b.used) bs end = subst (λ (r : ℕ). Tiled (r + b.words) (not b.used) bs end) (sym place) t.3 in
     elim (room-at p need q a b bs end t room) [
       | inl here ↦
-          subst (λ (l : List Block). TakeChanges v s p need g (b ∷ bs) l) (sym (taken-here p need b bs here.1))
-          (subst (λ (r : ℕ). TakeChanges v s r need g (b ∷ bs) (used_block r need ∷ rest_of r need b bs)) here.1
-          (subst (λ (u : Bool). TakeChanges v s b.place need g (record b { used = u } ∷ bs) (used_block b.place need ∷ rest_of b.place need b bs)) (sym here.0)
+          subst (λ (l : List Block). Claim v s p (taken_at v s p need) g (b ∷ bs) l) (sym (taken-here p need b bs here.1))
+          (subst (λ (r : ℕ). Claim v s r (taken_at v s r need) g (b ∷ bs) (used_block r need ∷ rest_of r need b bs)) here.1
+          (subst (λ (u : Bool). Claim v s b.place (taken_at v s b.place need) g (record b { used = u } ∷ bs) (used_block b.place need ∷ rest_of b.place need b bs)) (sym here.0)
           (take-here v s need end g b bs some (omega arith) few (omega arith) long (subst (λ (u : Bool). Tiled (b.place + b.words) (not u) bs end) here.0 tail))))
       | inr later ↦
-          subst (λ (l : List Block). TakeChanges v s p need g (b ∷ bs) l) (sym (taken-later p need b bs later.0))
-          (later-either v s p need end g b (not b.used) bs (take_in p need bs) b.used (omega arith) later.2 long tail (take-tiled p need (b.place + b.words) (not b.used) bs end some tail later.1)
+          subst (λ (l : List Block). Claim v s p (taken_at v s p need) g (b ∷ bs) l) (sym (taken-later p need b bs later.0))
+          (later-either v s p end (taken_at v s p need) g b (not b.used) bs (take_in p need bs) b.used (omega arith) later.2 long tail (take-tiled p need (b.place + b.words) (not b.used) bs end some tail later.1)
           (λ h lt. take-all v s p need (q + b.words) h (not b.used) bs end some (omega arith) few (omega arith) t.3 later.1))
     ]
 
 -- taking words changes these headers
 pub take_plan : (v size p need : ℕ) (bs : List Block) → 1 ≤ need → size < 65536 → Tiled heap_start false bs size → has_room p need (hole_spans bs) ≡ true
     → changes (layout_of v size (used_spans bs)) (layout_of v size (put_at p need (used_spans bs))) ≡ take_list v size (gap_before p (0, 0) (hole_spans bs)) (gaps_behind p (hole_spans bs)) p need
-unfolding TakeChanges
+unfolding Claim
 take_plan v size p need bs some few t room =
     ap (λ (l : List (ℕ × List ℕ)). changes l (layout_of v size (put_at p need (used_spans bs)))) (layout-is v size bs (used_spans bs) t refl)
     ∙ ap (λ (l : List (ℕ × List ℕ)). changes (link_word v size (0, 0) (first_hole bs) ∷ heads bs) l) (layout-is v size (take_in p need bs) (put_at p need (used_spans bs)) (take-tiled p need heap_start false bs size some t room) (sym (take-spans p need heap_start false bs size t room)))
