@@ -41,7 +41,6 @@ later-free v s p end due g b a bs new gap before long t u rest =
 
 -- a block before the change stays
 pub later-either : (v s p end : ℕ) (due : ℕ × ℕ → List (ℕ × ℕ) → List (ℕ × List ℕ)) (g : ℕ × ℕ) (b : Block) (a : Bool) (bs new : List Block) (u : Bool) → g.0 < b.place → b.place < p → 1 ≤ b.words → Tiled (b.place + b.words) a bs end → Tiled (b.place + b.words) a new end
-    → ((h : ℕ × ℕ) → h.0 < b.place + b.words → Claim v s p due h bs new) → Claim v s p due g (record b { used = u } ∷ bs) (record b { used = u } ∷ new)
-later-either v s p end due g b a bs new true gap before long t n rest = later-used v s p end due g b a bs new gap long t n (rest g (omega arith))
-later-either v s p end due g b a bs new false gap before long t n rest = later-free v s p end due g b a bs new gap before long t n (rest (b.place, b.words) (omega arith))
-
+    → (u ≡ true → Claim v s p due g bs new) → (u ≡ false → Claim v s p due (b.place, b.words) bs new) → Claim v s p due g (record b { used = u } ∷ bs) (record b { used = u } ∷ new)
+later-either v s p end due g b a bs new true gap before long t n behind-used behind-hole = later-used v s p end due g b a bs new gap long t n (behind-used refl)
+later-either v s p end due g b a bs new false gap before long t n behind-used behind-hole = later-free v s p end due g b a bs new gap before long t n (behind-hole refl)

@@ -353,5 +353,146 @@ free-here v s n p end g a bs low some few gap apart t =
       ∙ ap (λ (l : List (ℕ × List ℕ)). hole ∷ l) (rest-none (p + n) a bs end t))
     ∙ sym (ap (λ (x : Bool). cond x ((g.0, hole_header (g.1 + joined_words p n (hole_spans bs)) (joined_next p n (hole_spans bs))) ∷ []) (link_word v s g p ∷ hole ∷ [])) apart)
 
-pub shift : (n : ℕ) → n ≡ n
-shift n = refl
+claim-here : (v s end : ℕ) (g : ℕ × ℕ) (a : Bool) (b : Block) (bs : List Block) → 1 ≤ b.place → 1 ≤ b.words → end < 65536 → g.0 < b.place → touches g b.place ≡ false → Tiled (b.place + b.words) a bs end
+    → Claim v s b.place (freed_at v s b.place b.words) g (record b { used = true } ∷ bs) (with_hole b.place b.words bs)
+unfolding Claim
+claim-here v s end g a b bs low some few gap apart t =
+    let above : Above b.place (hole_spans bs) = above-weaker (b.place + b.words) b.place (hole_spans bs) (omega arith) (holes-above (b.place + b.words) a bs end t) in
+    free-here v s b.words b.place end g a bs low some few gap apart t
+    ∙ sym (ap (λ (h : ℕ × ℕ). free_list v s h (gaps_behind b.place (hole_spans bs)) b.place b.words) (gap-none b.place g (hole_spans bs) above) ∙ ap (λ (l : List (ℕ × ℕ)). free_list v s g l b.place b.words) (behind-all b.place (hole_spans bs) above))
+
+-- a hole that the next joins is no shorter, and ends in time
+joined-kind : (q k : ℕ) (c : Block) (cs : List Block) (end : ℕ) (u : Bool) → c.place ≡ q + k → Above (q + k + 1) (hole_spans cs) → q + k + c.words ≤ end
+    → (k ≤ joined_words q k (cond u (hole_spans cs) ((c.place, c.words) ∷ hole_spans cs))) × (q + joined_words q k (cond u (hole_spans cs) ((c.place, c.words) ∷ hole_spans cs)) ≤ end)
+joined-kind q k c cs end true place above ends =
+    let is : joined_words q k (hole_spans cs) ≡ k = (not-joined q k (q + k) (hole_spans cs) refl above).0 in
+    (omega (arith, is), omega (arith, is))
+joined-kind q k c cs end false place above ends =
+    let is : cond (c.place == q + k) (k + c.words) k ≡ k + c.words = ap (λ (t : Bool). cond t (k + c.words) k) (eq-eqb c.place (q + k) place) in
+    (omega (arith, is), omega (arith, is))
+
+joined-range : (q k : ℕ) (a : Bool) (bs : List Block) (end : ℕ) → Tiled (q + k) a bs end → (k ≤ joined_words q k (hole_spans bs)) × (q + joined_words q k (hole_spans bs) ≤ end)
+joined-range q k a [] end t = (omega arith, omega (arith, t))
+joined-range q k a (c ∷ cs) end t =
+    let low : 1 ≤ c.words = t.1 in
+    joined-kind q k c cs end c.used t.0 (above-weaker (q + k + c.words) (q + k + 1) (hole_spans cs) (omega arith) (holes-above (q + k + c.words) (not c.used) cs end t.3)) (tiled-end (q + k + c.words) (not c.used) cs end t.3)
+
+-- a block freed behind a hole that ends at it
+touch-list : (v s h k n end : ℕ) (g : ℕ × ℕ) (a : Bool) (cs : List Block) → g.0 < h → 1 ≤ k → 1 ≤ n → end < 65536 → Tiled (h + k + n) a cs end
+    → changes (link_word v s g h ∷ (h, hole_header k (first_hole cs)) ∷ (h + k, used_header n) ∷ heads cs) (link_word v s g (first_hole (with_hole h (k + n) cs)) ∷ heads (with_hole h (k + n) cs))
+    ≡ (h, hole_header (k + joined_words (h + k) n (hole_spans cs)) (joined_next (h + k) n (hole_spans cs))) ∷ []
+touch-list v s h k n end g a cs gap long some few t =
+    let same : h + k + n ≡ h + (k + n) = omega arith in
+    let u : Tiled (h + (k + n)) a cs end = subst (λ (r : ℕ). Tiled r a cs end) same t in
+    let range = joined-range h (k + n) a cs end u in
+    let longer : k + n ≤ joined_words h (k + n) (hole_spans cs) = range.0 in
+    let ends : h + joined_words h (k + n) (hole_spans cs) ≤ end = range.1 in
+    let ne : joined_words h (k + n) (hole_spans cs) ≢ k = λ e. absurd (omega (arith, e)) in
+    let rest : From (h + k + n) (heads (rest_after cs)) = rest-from (h + k + n) a cs end t in
+    let behind : From (h + k + n) (heads cs) = heads-from (h + k + n) a cs end t in
+    let joined : ℕ × List ℕ = (h, hole_header (joined_words h (k + n) (hole_spans cs)) (joined_next h (k + n) (hole_spans cs))) in
+    let old : List (ℕ × List ℕ) = (h + k, used_header n) ∷ heads cs in
+    let old-from : From (h + 1) old = (omega arith, from-weaker (h + k + n) (h + 1) (heads cs) (omega arith) behind) in
+    let new-from : From (h + 1) (heads (rest_after cs)) = from-weaker (h + k + n) (h + 1) (heads (rest_after cs)) (omega arith) rest in
+    let shifted = joined-shift h k n (hole_spans cs) in
+    ap (λ (f : ℕ). changes (link_word v s g h ∷ (h, hole_header k (first_hole cs)) ∷ old) (link_word v s g f ∷ heads (with_hole h (k + n) cs))) (with-first h (k + n) cs)
+    ∙ ap (λ (l : List (ℕ × List ℕ)). changes (link_word v s g h ∷ (h, hole_header k (first_hole cs)) ∷ old) (link_word v s g h ∷ l)) (with-heads h (k + n) a cs end u)
+    ∙ under-same (link_word v s g h) ((h, hole_header k (first_hole cs)) ∷ old) (joined ∷ heads (rest_after cs)) (omega arith, from-weaker (h + 1) (g.0 + 1) old (omega arith) old-from) (omega arith, from-weaker (h + 1) (g.0 + 1) (heads (rest_after cs)) (omega arith) new-from)
+    ∙ under-other (h, hole_header k (first_hole cs)) joined old (heads (rest_after cs)) refl
+      (lengths-differ (joined_words h (k + n) (hole_spans cs)) k (joined_next h (k + n) (hole_spans cs)) (first_hole cs) (omega arith) (omega (arith, tiled-end (h + k + n) a cs end t)) ne) old-from new-from
+    ∙ ap (λ (l : List (ℕ × List ℕ)). joined ∷ l) (dropped (h + k, used_header n) (heads cs) (heads (rest_after cs)) (from-weaker (h + k + n) (h + k + 1) (heads (rest_after cs)) (omega arith) rest) ∙ rest-none (h + k + n) a cs end t)
+    ∙ ap (λ (w : ℕ). (h, hole_header w (joined_next h (k + n) (hole_spans cs))) ∷ []) shifted.0
+    ∙ ap (λ (x : ℕ). (h, hole_header (k + joined_words (h + k) n (hole_spans cs)) x) ∷ []) shifted.1
+
+touch-due : (v s h k n : ℕ) (g : ℕ × ℕ) (hs : List (ℕ × ℕ)) → 1 ≤ h → 1 ≤ k → Above (h + k) hs
+    → freed_at v s (h + k) n (gap_before (h + k) g ((h, k) ∷ hs)) (gaps_behind (h + k) ((h, k) ∷ hs)) ≡ (h, hole_header (k + joined_words (h + k) n hs) (joined_next (h + k) n hs)) ∷ []
+touch-due v s h k n g hs low long above =
+    let p = h + k in
+    let ne : h ≢ 0 = λ e. absurd (omega (arith, e)) in
+    let meets : touches (h, k) p ≡ true = and_from (not (h == 0)) (h + k == p) (ap not (ne_eqb h 0 ne)) (eq-eqb (h + k) p refl) in
+    ap (λ (x : Bool). freed_at v s p n (cond x (gap_before p (h, k) hs) g) (cond x (gaps_behind p hs) ((h, k) ∷ hs))) (lt-ltb h p (omega arith))
+    ∙ ap (λ (f : ℕ × ℕ). freed_at v s p n f (gaps_behind p hs)) (gap-none p (h, k) hs above)
+    ∙ ap (λ (l : List (ℕ × ℕ)). freed_at v s p n (h, k) l) (behind-all p hs above)
+    ∙ ap (λ (x : Bool). cond x ((h, hole_header (k + joined_words p n hs) (joined_next p n hs)) ∷ []) (link_word v s (h, k) p ∷ (p, hole_header (joined_words p n hs) (joined_next p n hs)) ∷ [])) meets
+
+claim-touch : (v s end : ℕ) (g : ℕ × ℕ) (a : Bool) (b c : Block) (cs : List Block) → 1 ≤ b.place → g.0 < b.place → 1 ≤ b.words → 1 ≤ c.words → end < 65536 → Tiled (b.place + b.words + c.words) a cs end
+    → Claim v s (b.place + b.words) (freed_at v s (b.place + b.words) c.words) g (record b { used = false } ∷ record c { used = true; place = b.place + b.words } ∷ cs) (with_hole b.place (b.words + c.words) cs)
+unfolding Claim
+claim-touch v s end g a b c cs low gap long some few t =
+    touch-list v s b.place b.words c.words end g a cs gap long some few t
+    ∙ sym (touch-due v s b.place b.words c.words g (hole_spans cs) low long
+      (above-weaker (b.place + b.words + c.words) (b.place + b.words) (hole_spans cs) (omega arith) (holes-above (b.place + b.words + c.words) a cs end t)))
+
+-- ---- the words of the block
+
+words-here : (p n r : ℕ) (ss : List (ℕ × ℕ)) → r ≡ p → words_at p ((r, n) ∷ ss) ≡ n
+words-here p n r ss e = ap (λ (t : Bool). cond t n (words_at p ss)) (eq-eqb r p e)
+
+words-later : (p : ℕ) (b : Block) (us : List (ℕ × ℕ)) (u : Bool) → (b.place == p) ≡ false → words_at p (cond u ((b.place, b.words) ∷ us) us) ≡ words_at p us
+words-later p b us true e = ap (λ (t : Bool). cond t b.words (words_at p us)) e
+words-later p b us false e = refl
+
+-- ---- all blocks
+
+whole-touch : (v s p q n : ℕ) (g : ℕ × ℕ) (a : Bool) (b c : Block) (cs bs : List Block) (end : ℕ) → bs ≡ c ∷ cs → 1 ≤ q → end < 65536 → g.0 < q → Tiled q a (b ∷ bs) end → b.used ≡ false → (b.place == p) ≡ false → c.used ≡ true → c.place ≡ p
+    → words_at p (used_spans (b ∷ bs)) ≡ n → Claim v s p (freed_at v s p n) g (b ∷ bs) (free_in p (b ∷ bs))
+whole-touch v s p q n g a b c cs bs end is low few gap t free other used here words =
+    let tail : Tiled (q + b.words) (not b.used) (c ∷ cs) end = subst (λ (l : List Block). Tiled (q + b.words) (not b.used) l end) is t.3 in
+    let place : b.place ≡ q = t.0 in
+    let long : 1 ≤ b.words = t.1 in
+    let some : 1 ≤ c.words = tail.1 in
+    let at : b.place + b.words ≡ p = omega (arith, tail.0, here, place) in
+    let count : c.words ≡ n = sym (ap (λ (l : List (ℕ × ℕ)). words_at p l) (used-not b (used_spans bs) free ∙ ap used_spans is ∙ used-first c (used_spans cs) used) ∙ words-here p c.words c.place (used_spans cs) here) ∙ words in
+    let behind : Tiled (b.place + b.words + c.words) (not c.used) cs end = subst (λ (r : ℕ). Tiled (r + b.words + c.words) (not c.used) cs end) (sym place) tail.3 in
+    let first : Claim v s (b.place + b.words) (freed_at v s (b.place + b.words) c.words) g (record b { used = false } ∷ record c { used = true; place = b.place + b.words } ∷ cs) (with_hole b.place (b.words + c.words) cs) =
+    claim-touch v s end g (not c.used) b c cs (omega arith) (omega arith) long some few behind in
+    let second : Claim v s p (freed_at v s p c.words) g (record b { used = false } ∷ record c { used = true; place = p } ∷ cs) (with_hole b.place (b.words + c.words) cs) =
+    subst (λ (x : ℕ). Claim v s x (freed_at v s x c.words) g (record b { used = false } ∷ record c { used = true; place = x } ∷ cs) (with_hole b.place (b.words + c.words) cs)) at first in
+    let third : Claim v s p (freed_at v s p c.words) g (record b { used = false } ∷ record c { used = true } ∷ cs) (with_hole b.place (b.words + c.words) cs) =
+    subst (λ (x : ℕ). Claim v s p (freed_at v s p c.words) g (record b { used = false } ∷ record c { used = true; place = x } ∷ cs) (with_hole b.place (b.words + c.words) cs)) (sym here) second in
+    let fourth : Claim v s p (freed_at v s p c.words) g (record b { used = false } ∷ c ∷ cs) (with_hole b.place (b.words + c.words) cs) =
+    subst (λ (x : Bool). Claim v s p (freed_at v s p c.words) g (record b { used = false } ∷ record c { used = x } ∷ cs) (with_hole b.place (b.words + c.words) cs)) (sym used) third in
+    let fifth : Claim v s p (freed_at v s p c.words) g (b ∷ c ∷ cs) (with_hole b.place (b.words + c.words) cs) =
+    subst (λ (x : Bool). Claim v s p (freed_at v s p c.words) g (record b { used = x } ∷ c ∷ cs) (with_hole b.place (b.words + c.words) cs)) (sym free) fourth in
+    subst (λ (l : List Block). Claim v s p (freed_at v s p n) g (b ∷ l) (free_in p (b ∷ l))) (sym is)
+    (subst (λ (m : ℕ). Claim v s p (freed_at v s p m) g (b ∷ c ∷ cs) (free_in p (b ∷ c ∷ cs))) count
+    (subst (λ (l : List Block). Claim v s p (freed_at v s p c.words) g (b ∷ c ∷ cs) l) (sym (freed-touching p b c cs free other here)) fifth))
+
+-- the link of a hole that does not end at p
+no-touch : (p : ℕ) (b : Block) → b.place + b.words ≢ p → touches (b.place, b.words) p ≡ false
+no-touch p b ne = and_right (not (b.place == 0)) (b.place + b.words == p) (ne_eqb (b.place + b.words) p ne)
+
+free-all : (v s p n q : ℕ) (g : ℕ × ℕ) (a : Bool) (bs : List Block) (end : ℕ) → 1 ≤ q → end < 65536 → g.0 < q → touches g p ≡ false → Tiled q a bs end → has_span p (used_spans bs) ≡ true → words_at p (used_spans bs) ≡ n
+    → Claim v s p (freed_at v s p n) g bs (free_in p bs)
+unfolding SpanAt
+free-all v s p n q g a [] end low few gap apart t span words = absurd (cc span)
+free-all v s p n q g a (b ∷ bs) end low few gap apart t span words =
+    let place : b.place ≡ q = t.0 in
+    let long : 1 ≤ b.words = t.1 in
+    let tail : Tiled (b.place + b.words) (not b.used) bs end = subst (λ (r : ℕ). Tiled (r + b.words) (not b.used) bs end) (sym place) t.3 in
+    elim (span-at p q a b bs end t span) [
+      | inl here ↦
+          let count : b.words ≡ n = sym (ap (λ (l : List (ℕ × ℕ)). words_at p l) (used-first b (used_spans bs) here.0) ∙ words-here p b.words b.place (used_spans bs) here.1) ∙ words in
+          subst (λ (l : List Block). Claim v s p (freed_at v s p n) g (b ∷ bs) l) (sym (freed-here p b bs here.1))
+          (subst (λ (m : ℕ). Claim v s p (freed_at v s p m) g (b ∷ bs) (with_hole p b.words bs)) count
+          (subst (λ (r : ℕ). Claim v s r (freed_at v s r b.words) g (b ∷ bs) (with_hole r b.words bs)) here.1
+          (subst (λ (u : Bool). Claim v s b.place (freed_at v s b.place b.words) g (record b { used = u } ∷ bs) (with_hole b.place b.words bs)) (sym here.0)
+          (claim-here v s end g (not b.used) b bs (omega arith) long few (omega arith) (subst (λ (r : ℕ). touches g r ≡ false) (sym here.1) apart) tail))))
+      | inr (inl touch) ↦ whole-touch v s p q n g a b touch.next touch.rest bs end touch.is low few gap t touch.hole touch.other touch.used touch.place words
+      | inr (inr later) ↦
+          let still : words_at p (used_spans bs) ≡ n = sym (words-later p b (used_spans bs) b.used later.other) ∙ words in
+          subst (λ (l : List Block). Claim v s p (freed_at v s p n) g (b ∷ bs) l) (sym (freed-later p b bs later.other later.apart))
+          (later-either v s p end (freed_at v s p n) g b (not b.used) bs (free_in p bs) b.used (omega arith) later.before long tail
+          (free-tiled p (b.place + b.words) (not b.used) bs end (later-apart p b.place b refl later.ends) tail later.span)
+          (λ _. free-all v s p n (q + b.words) g (not b.used) bs end (omega arith) few (omega arith) apart t.3 later.span still)
+          (λ free. free-all v s p n (q + b.words) (b.place, b.words) (not b.used) bs end (omega arith) few (omega arith) (no-touch p b (later.ends free)) t.3 later.span still))
+    ]
+
+-- freeing a block changes these headers
+pub free_plan : (v size p : ℕ) (bs : List Block) → size < 65536 → Tiled heap_start false bs size → has_span p (used_spans bs) ≡ true
+    → changes (layout_of v size (used_spans bs)) (layout_of v size (without p (used_spans bs))) ≡ free_list v size (gap_before p (0, 0) (hole_spans bs)) (gaps_behind p (hole_spans bs)) p (words_at p (used_spans bs))
+unfolding Claim
+free_plan v size p bs few t span =
+    ap (λ (l : List (ℕ × List ℕ)). changes l (layout_of v size (without p (used_spans bs)))) (layout-is v size bs (used_spans bs) t refl)
+    ∙ ap (λ (l : List (ℕ × List ℕ)). changes (link_word v size (0, 0) (first_hole bs) ∷ heads bs) l) (layout-is v size (free_in p bs) (without p (used_spans bs)) (free-tiled p heap_start false bs size (λ e. absurd (cc e)) t span) (sym (free-spans p heap_start false bs size t span)))
+    ∙ free-all v size p (words_at p (used_spans bs)) heap_start (0, 0) false bs size (omega arith) few (omega arith) refl t span refl

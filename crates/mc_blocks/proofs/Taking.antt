@@ -212,7 +212,8 @@ take-all v s p need q g a (b ∷ bs) end some low few gap t room =
       | inr later ↦
           subst (λ (l : List Block). Claim v s p (taken_at v s p need) g (b ∷ bs) l) (sym (taken-later p need b bs later.0))
           (later-either v s p end (taken_at v s p need) g b (not b.used) bs (take_in p need bs) b.used (omega arith) later.2 long tail (take-tiled p need (b.place + b.words) (not b.used) bs end some tail later.1)
-          (λ h lt. take-all v s p need (q + b.words) h (not b.used) bs end some (omega arith) few (omega arith) t.3 later.1))
+          (λ _. take-all v s p need (q + b.words) g (not b.used) bs end some (omega arith) few (omega arith) t.3 later.1)
+          (λ _. take-all v s p need (q + b.words) (b.place, b.words) (not b.used) bs end some (omega arith) few (omega arith) t.3 later.1))
     ]
 
 -- taking words changes these headers

@@ -8,7 +8,7 @@ use arrayvec::ArrayVec;
 use mc_base::Word;
 use mc_nvm::Nvm;
 
-#[tactic(auto, using(crate::proofs::Taking::take_plan, crate::proofs::Freeing::shift))]
+#[tactic(auto, using(crate::proofs::Taking::take_plan, crate::proofs::Freeing::free_plan))]
 pub fn first_try<N: Nvm>(device: &N, place: u16, need: u16) -> ArrayVec<(u16, Word), 4>
     requires closed { look (N.state device.now).words ≡ Closed }
     requires laid { IsWellLaid (N.state device.now).words }
