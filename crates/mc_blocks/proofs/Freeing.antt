@@ -148,7 +148,7 @@ used-apart : (p : ℕ) (b : Block) (bs : List Block) → b.used ≡ true → tou
 used-apart p b [] e = refl
 used-apart p b (c ∷ cs) e = ap (λ (u : Bool). not u && c.place == p) e
 
-span-from : (q p : ℕ) (ss : List (ℕ × ℕ)) → Above q ss → has_span p ss ≡ true → q ≤ p
+pub span-from : (q p : ℕ) (ss : List (ℕ × ℕ)) → Above q ss → has_span p ss ≡ true → q ≤ p
 span-from q p [] a h = absurd (cc h)
 span-from q p (s ∷ ss) a h =
     let low : q ≤ s.0 = a.0 in

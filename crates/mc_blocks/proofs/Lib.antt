@@ -12,3 +12,5 @@ pub mod Heads
 pub mod Claims
 pub mod Taking
 pub mod Freeing
+pub mod Links
+pub mod Plans

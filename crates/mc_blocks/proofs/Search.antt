@@ -94,7 +94,7 @@ pub record OnTheWay (m : List (List ℕ)) (need : ℕ) (whole : List (ℕ × ℕ
   pub next : be2 (word m place) 2 < need → Search m need whole (be2 (word m place) 4) start (steps + 1)
   pub nearer : left_of (length m) (be2 (word m place) 4) < left_of (length m) place
 
-next-nearer : (size place : ℕ) (gs : List (ℕ × ℕ)) → 1 ≤ place → place < size → Above (place + 1) gs → left_of size (first_place gs) < left_of size place
+pub next-nearer : (size place : ℕ) (gs : List (ℕ × ℕ)) → 1 ≤ place → place < size → Above (place + 1) gs → left_of size (first_place gs) < left_of size place
 next-nearer size place [] low high a =
     let ne : place ≢ 0 = λ e. absurd (omega (arith, e)) in
     subst (λ (t : Bool). 0 < cond t 0 (size - place)) (sym (ne_eqb place 0 ne)) (omega arith)

@@ -43,17 +43,25 @@ abbrev pub gaps_behind : ℕ → List (ℕ × ℕ) → List (ℕ × ℕ)
 gaps_behind p [] = []
 gaps_behind p (h ∷ hs) = cond (nat_lt h.0 p) (gaps_behind p hs) (h ∷ hs)
 
+-- whether a link names a gap before p
+abbrev pub names_before : ℕ → ℕ → Bool
+names_before next p = not (next == 0) && nat_lt next p
+
 -- a link of the chain with the word that names `next`: the root where it stands at 0, else a hole of so many words
 abbrev pub link_word : ℕ → ℕ → ℕ × ℕ → ℕ → ℕ × List ℕ
 link_word version size g next = (g.0, cond (g.0 == 0) (root version size next) (hole_header g.1 next))
 
--- words taken from the front of the first of these gaps, at p: the link before it, the used header, and what is left
+-- words taken from the front of a hole at p that names next: the link before it, the used header, and what is left
+abbrev pub take_front : ℕ → ℕ → ℕ × ℕ → ℕ → ℕ → ℕ → ℕ → List (ℕ × List ℕ)
+take_front version size before p words next need =
+    cond (nat_lt need words)
+    (link_word version size before (p + need) ∷ (p, used_header need) ∷ (p + need, hole_header (words - need) next) ∷ [])
+    (link_word version size before next ∷ (p, used_header need) ∷ [])
+
+-- the same of the first of these gaps
 abbrev pub take_list : ℕ → ℕ → ℕ × ℕ → List (ℕ × ℕ) → ℕ → ℕ → List (ℕ × List ℕ)
 take_list version size before [] p need = []
-take_list version size before (g ∷ gs) p need =
-    cond (nat_lt need g.1)
-    (link_word version size before (p + need) ∷ (p, used_header need) ∷ (p + need, hole_header (g.1 - need) (first_place gs)) ∷ [])
-    (link_word version size before (first_place gs) ∷ (p, used_header need) ∷ [])
+take_list version size before (g ∷ gs) p need = take_front version size before p g.1 (first_place gs) need
 
 -- a hole of n words at p and the gap behind it, where they touch, as one
 abbrev pub joined_words : ℕ → ℕ → List (ℕ × ℕ) → ℕ
@@ -69,9 +77,13 @@ joined_next p n (g ∷ gs) = cond (g.0 == p + n) (first_place gs) g.0
 abbrev pub touches : ℕ × ℕ → ℕ → Bool
 touches g p = not (g.0 == 0) && g.0 + g.1 == p
 
--- a block of n words at p freed: one hole with the gap before it, or a hole of its own that the link before it names
-abbrev pub free_list : ℕ → ℕ → ℕ × ℕ → List (ℕ × ℕ) → ℕ → ℕ → List (ℕ × List ℕ)
-free_list version size before gs p n =
+-- a hole put at p that names next: one hole with the gap before it, or a hole of its own that the link before it names
+abbrev pub put_hole : ℕ → ℕ → ℕ × ℕ → ℕ → ℕ → ℕ → List (ℕ × List ℕ)
+put_hole version size before p words next =
     cond (touches before p)
-    ((before.0, hole_header (before.1 + joined_words p n gs) (joined_next p n gs)) ∷ [])
-    (link_word version size before p ∷ (p, hole_header (joined_words p n gs) (joined_next p n gs)) ∷ [])
+    ((before.0, hole_header (before.1 + words) next) ∷ [])
+    (link_word version size before p ∷ (p, hole_header words next) ∷ [])
+
+-- a block of n words at p freed, before these gaps
+abbrev pub free_list : ℕ → ℕ → ℕ × ℕ → List (ℕ × ℕ) → ℕ → ℕ → List (ℕ × List ℕ)
+free_list version size before gs p n = put_hole version size before p (joined_words p n gs) (joined_next p n gs)
