@@ -10,11 +10,12 @@ use Rattle.mc_model.specs.Device.{IsImage}
 use Rattle.mc_model.specs.Card.{App, Card, Block, word, header, blocks, cells, section, record_at, name_in, name_at, app_at, app_of, apps_of, card_of, words_after, means, needed, needed_of, heap_start}
 use Rattle.mc_model.specs.Layout.{spans, spans_of, gaps, gaps_from, put_at, no_root, is_record, bad_block, bad_record, bad_chain, bad_link, first_hole, first_place, by_cause, words_fault, fault_of, fault, IsWellLaid}
 use Rattle.mc_model.specs.declared.card.Cause.{Cause}
+use Rattle.mc_blocks.specs.Chains.{Above}
 use Rattle.mc_blocks.specs.Blocks.{blocks_at, used_spans, hole_spans, admitted}
 use Rattle.mc_blocks.proofs.Steps.{blocks_all}
 use Rattle.mc_blocks.proofs.Headers.{bad_all}
 use Rattle.mc_blocks.proofs.Tiles.{Tiled, AreRead, Walked, all-walked, gaps_are_holes}
-use Rattle.mc_blocks.proofs.Maps.{Above, put-front, above-weaker, Free, spans-insert, free-insert, length-spans, names-apart, has-self, has-more}
+use Rattle.mc_blocks.proofs.Maps.{put-front, above-weaker, Free, spans-insert, free-insert, length-spans, names-apart, has-self, has-more}
 
 -- ---- the parts of a fault
 
@@ -105,7 +106,7 @@ named-step m names b x y used P Q true true ht hs f g none =
     let inner = and_parts (is_record (record_at m b.place) b.words) (not (has_name (name_in (record_at m b.place)) names)) outer.0 in
     (inner.0, not-true (has_name (name_in (record_at m b.place)) names) inner.1, f none)
 
-named : (m : List (List ℕ)) (bs : List Block) (names : List (List ℕ)) (used : ℕ) → bad_record m bs names used ≡ None → AreNamed m names bs
+pub named : (m : List (List ℕ)) (bs : List Block) (names : List (List ℕ)) (used : ℕ) → bad_record m bs names used ≡ None → AreNamed m names bs
 unfolding bad_record
 named m [] names used h = tt
 named m (b ∷ bs) names used h =
@@ -114,14 +115,14 @@ named m (b ∷ bs) names used h =
 
 -- ---- the map of a walk
 
-abbrev with-block : List (List ℕ) → Block → List Block → List (List ℕ × App)
+abbrev pub with-block : List (List ℕ) → Block → List Block → List (List ℕ × App)
 with-block m b bs = insert (apps_of m bs) (name_at m b.place) (app_at m b.place)
 
-some-apps : (m : List (List ℕ)) (b : Block) (bs : List Block) → apps_of m (b ∷ bs) ≡ cond b.used (with-block m b bs) (apps_of m bs)
+pub some-apps : (m : List (List ℕ)) (b : Block) (bs : List Block) → apps_of m (b ∷ bs) ≡ cond b.used (with-block m b bs) (apps_of m bs)
 unfolding apps_of
 some-apps m b bs = refl
 
-no-apps : (m : List (List ℕ)) → apps_of m [] ≡ []
+pub no-apps : (m : List (List ℕ)) → apps_of m [] ≡ []
 unfolding apps_of
 no-apps m = refl
 
@@ -134,7 +135,7 @@ free-step m names k q b bs true there low n rest =
     (rest (name_at m b.place ∷ names) (has-more k (name_at m b.place) names there) n.2)
 free-step m names k q b bs false there low n rest = rest names there n
 
-free-all : (m : List (List ℕ)) (bs : List Block) (p : ℕ) (a : Bool) (end : ℕ) (names : List (List ℕ)) (k : List ℕ) (q : ℕ) → Tiled p a bs end → q < p → has_name k names ≡ true → AreNamed m names bs → Free k q (apps_of m bs)
+pub free-all : (m : List (List ℕ)) (bs : List Block) (p : ℕ) (a : Bool) (end : ℕ) (names : List (List ℕ)) (k : List ℕ) (q : ℕ) → Tiled p a bs end → q < p → has_name k names ≡ true → AreNamed m names bs → Free k q (apps_of m bs)
 free-all m [] p a end names k q t low there n = subst (λ (l : List (List ℕ × App)). Free k q l) (sym (no-apps m)) tt
 free-all m (b ∷ bs) p a end names k q t low there n =
     let place : b.place ≡ p = t.0 in

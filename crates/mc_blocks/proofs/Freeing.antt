@@ -4,10 +4,11 @@ use Rattle.std.specs.Prelude.{nat_lt, nat_le, ◌==◌, bytes_eq}
 use Rattle.std.proofs.lemmas.Bool.{lt-ltb, le-ltb, eq-eqb, ne_eqb, eqb-true, eqb-false, or_cases, and_from, and_right, not-false, not-true, cases_eq, false_from_ne_true}
 use Rattle.mc_model.specs.Card.{Card, Block, heap_start}
 use Rattle.mc_model.specs.Layout.{first_hole, first_place, hole_header, used_header, root}
+use Rattle.mc_blocks.specs.Chains.{Above}
 use Rattle.mc_blocks.specs.Blocks.{used_spans, hole_spans}
 use Rattle.mc_blocks.specs.Plans.{changes, layout_of, link_word, has_span, without, gap_before, gaps_behind, joined_words, joined_next, touches, free_list}
 use Rattle.mc_blocks.proofs.Tiles.{Tiled, first-is}
-use Rattle.mc_blocks.proofs.Maps.{Above, above-weaker}
+use Rattle.mc_blocks.proofs.Maps.{above-weaker}
 use Rattle.mc_blocks.proofs.Bridge.{used-above}
 use Rattle.mc_blocks.proofs.Search.{holes-above}
 use Rattle.mc_blocks.proofs.Changes.{From, Before, from-weaker, split, under-same, under-other, links-differ, lengths-differ, back}

@@ -14,3 +14,4 @@ pub mod Taking
 pub mod Freeing
 pub mod Links
 pub mod Plans
+pub mod Applications

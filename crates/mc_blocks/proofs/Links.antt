@@ -7,10 +7,10 @@ use Rattle.mc_model.specs.Image.{Closed, look}
 use Rattle.mc_model.specs.Device.{IsImage}
 use Rattle.mc_model.specs.Card.{means, word, blocks}
 use Rattle.mc_model.specs.Layout.{first_place, gaps, IsWellLaid}
+use Rattle.mc_blocks.specs.Chains.{Above, IsChain}
 use Rattle.mc_blocks.specs.Blocks.{hole_spans}
 use Rattle.mc_blocks.specs.Plans.{names_before, gap_before, gaps_behind, joined_words, joined_next, has_room}
-use Rattle.mc_blocks.proofs.Maps.{Above}
-use Rattle.mc_blocks.proofs.Search.{IsChain, Chain, chain-of, left_of, next-nearer}
+use Rattle.mc_blocks.proofs.Search.{Chain, chain-of, left_of, next-nearer}
 
 chain-cut : (m : List (List ℕ)) (p : ℕ) (g : ℕ × ℕ) (gs : List (ℕ × ℕ)) (t : Bool) → IsChain m (g ∷ gs) → IsChain m (gaps_behind p gs) → IsChain m (cond t (gaps_behind p gs) (g ∷ gs))
 chain-cut m p g gs true c rest = rest

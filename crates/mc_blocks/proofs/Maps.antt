@@ -1,13 +1,15 @@
 -- Spans in the order of their places, whatever the order of the names.
 use Rattle.std.proofs.Common.{◌≡◌, ◌≢◌, ℕ, zero, suc, ◌+◌, ◌<◌, ◌≤◌, Bool, true, false, ◌&&◌, ◌||◌, List, [], ◌∷◌, ◌++◌, length, Option, Some, None, refl, sym, ◌∙◌, ap, subst, inl, inr, arith, cond}
-use Rattle.std.specs.Prelude.{nat_le, nat_lt, bytes_eq}
+use Rattle.std.specs.Prelude.{nat_le, nat_lt, ◌==◌, bytes_eq}
 use Rattle.std.specs.List.{AllByRecursion}
-use Rattle.std.proofs.lemmas.Bool.{lt-ltb, le-ltb, cases_lt, or_cases, or_parts, cases_Bool, false_from_ne_true}
+use Rattle.std.proofs.lemmas.Bool.{lt-ltb, le-ltb, ltb-true, ltb-false, eq-eqb, eqb-true, eqb-false, cases_lt, or_cases, or_parts, cases_Bool, false_from_ne_true}
 use Rattle.std.proofs.lemmas.Bool.Decides.{nat_tests}
 use Rattle.std.proofs.lemmas.Slice.Eq.{bytes_eq-Decides}
-use Rattle.mc_model.specs.Bytes.{insert, remove, name_before, has_name}
+use Rattle.mc_model.specs.Bytes.{insert, remove, lookup, name_before, has_name}
 use Rattle.mc_model.specs.Card.{App, needed}
 use Rattle.mc_model.specs.Layout.{put_at, spans_of}
+use Rattle.mc_blocks.specs.Chains.{Above}
+use Rattle.mc_blocks.specs.Plans.{has_span, without}
 
 -- ---- spans put in order
 
@@ -52,11 +54,6 @@ length-test false p x e es more h = omega (arith, h)
 pub length-put : {A : Type 0} (p : ℕ) (x : A) (l : List (ℕ × A)) → length (put_at p x l) ≡ length l + 1
 length-put p x [] = refl
 length-put p x (e ∷ es) = let h = length-test (nat_lt p e.0) p x e es (put_at p x es) (length-put p x es) in omega (arith, h)
-
--- spans from p on
-abbrev pub Above : ℕ → List (ℕ × ℕ) → Type 0
-Above p [] = Unit {0}
-Above p (e ∷ es) = (p ≤ e.0) × Above p es
 
 -- before all others
 pub put-front : (p n : ℕ) (l : List (ℕ × ℕ)) → Above (p + 1) l → put_at p n l ≡ (p, n) ∷ l
@@ -125,3 +122,124 @@ has-self k names = ap (λ (t : Bool). t || has_name k names) (same-bytes k)
 
 pub has-more : (k x : List ℕ) (names : List (List ℕ)) → has_name k names ≡ true → has_name k (x ∷ names) ≡ true
 has-more k x names h = elim (cases_Bool (bytes_eq x k)) [ inl t ↦ ap (λ (s : Bool). s || has_name k names) t | inr f ↦ ap (λ (s : Bool). s || has_name k names) f ∙ h ]
+
+-- ---- spans of maps
+
+or-swap : (a b c : Bool) → (a || (b || c)) ≡ (b || (a || c))
+or-swap true true c = refl
+or-swap true false c = refl
+or-swap false b c = refl
+
+has-test : (p q n : ℕ) (e : ℕ × ℕ) (es more : List (ℕ × ℕ)) (t : Bool) → has_span p more ≡ (q == p || has_span p es) → has_span p (cond t ((q, n) ∷ e ∷ es) (e ∷ more)) ≡ (q == p || has_span p (e ∷ es))
+has-test p q n e es more true h = refl
+has-test p q n e es more false h = ap (λ (b : Bool). e.0 == p || b) h ∙ or-swap (e.0 == p) (q == p) (has_span p es)
+
+-- a span that was put is there
+pub has-put : (p q n : ℕ) (l : List (ℕ × ℕ)) → has_span p (put_at q n l) ≡ (q == p || has_span p l)
+has-put p q n [] = refl
+has-put p q n (e ∷ es) = has-test p q n e es (put_at q n es) (nat_lt q e.0) (has-put p q n es)
+
+free-kind : (n : List ℕ) (p : ℕ) (e : List ℕ × App) (es : List (List ℕ × App)) (t : Bool) → bytes_eq e.0 n ≡ t → cond t (Some e.1) (lookup es n) ≡ None → has_span p (put_at (e.1).place (needed e.1) (spans_of es)) ≡ false
+    → (lookup es n ≡ None → has_span p (spans_of es) ≡ false → Free n p es) → Free n p (e ∷ es)
+free-kind n p e es true h l s rest = absurd (cc l)
+free-kind n p e es false h l s rest =
+    let parts = or_parts ((e.1).place == p) (has_span p (spans_of es)) (sym (has-put p (e.1).place (needed e.1) (spans_of es)) ∙ s) in
+    (h, eqb-false (e.1).place p parts.0, rest l parts.1)
+
+-- a name that is not there at a place where no span begins
+pub free-from : (n : List ℕ) (p : ℕ) (es : List (List ℕ × App)) → lookup es n ≡ None → has_span p (spans_of es) ≡ false → Free n p es
+free-from n p [] l s = tt
+free-from n p (e ∷ es) l s = free-kind n p e es (bytes_eq e.0 n) refl l s (free-from n p es)
+
+-- spans that ascend
+abbrev pub Sorted : List (ℕ × ℕ) → Type 0
+Sorted [] = Unit {0}
+Sorted (e ∷ es) = Above e.0 es × Sorted es
+
+above-test : (r p n : ℕ) (e : ℕ × ℕ) (es more : List (ℕ × ℕ)) (t : Bool) → r ≤ p → Above r (e ∷ es) → Above r more → Above r (cond t ((p, n) ∷ e ∷ es) (e ∷ more))
+above-test r p n e es more true h a rest = (h, a)
+above-test r p n e es more false h a rest = (a.0, rest)
+
+above-put : (r p n : ℕ) (l : List (ℕ × ℕ)) → r ≤ p → Above r l → Above r (put_at p n l)
+above-put r p n [] h a = (h, tt)
+above-put r p n (e ∷ es) h a = above-test r p n e es (put_at p n es) (nat_lt p e.0) h a (above-put r p n es h a.1)
+
+sorted-test : (p n : ℕ) (e : ℕ × ℕ) (es : List (ℕ × ℕ)) (t : Bool) → nat_lt p e.0 ≡ t → Sorted (e ∷ es) → Sorted (put_at p n es) → Sorted (cond t ((p, n) ∷ e ∷ es) (e ∷ put_at p n es))
+sorted-test p n e es true h s rest = let lt : p < e.0 = ltb-true p e.0 h in ((omega arith, above-weaker e.0 p es (omega arith) s.0), s)
+sorted-test p n e es false h s rest = (above-put e.0 p n es (ltb-false p e.0 h) s.0, rest)
+
+sorted-put : (p n : ℕ) (l : List (ℕ × ℕ)) → Sorted l → Sorted (put_at p n l)
+sorted-put p n [] s = (tt, tt)
+sorted-put p n (e ∷ es) s = sorted-test p n e es (nat_lt p e.0) refl s (sorted-put p n es s.1)
+
+sorted-spans : (es : List (List ℕ × App)) → Sorted (spans_of es)
+sorted-spans [] = tt
+sorted-spans (e ∷ es) = sorted-put (e.1).place (needed e.1) (spans_of es) (sorted-spans es)
+
+above-kept : (r p : ℕ) (e : ℕ × ℕ) (es : List (ℕ × ℕ)) (t : Bool) → r ≤ e.0 → Above r (without p es) → Above r (cond t (without p es) (e ∷ without p es))
+above-kept r p e es true h a = a
+above-kept r p e es false h a = (h, a)
+
+above-without : (r p : ℕ) (l : List (ℕ × ℕ)) → Above r l → Above r (without p l)
+above-without r p [] a = tt
+above-without r p (e ∷ es) a = above-kept r p e es (e.0 == p) a.0 (above-without r p es a.1)
+
+kept-test : (p q n : ℕ) (e : ℕ × ℕ) (es : List (ℕ × ℕ)) (t : Bool) → nat_lt q e.0 ≡ false → without p (put_at q n es) ≡ put_at q n (without p es)
+    → cond t (without p (put_at q n es)) (e ∷ without p (put_at q n es)) ≡ put_at q n (cond t (without p es) (e ∷ without p es))
+kept-test p q n e es true past h = h
+kept-test p q n e es false past h = ap (λ (l : List (ℕ × ℕ)). e ∷ l) h ∙ sym (ap (λ (b : Bool). cond b ((q, n) ∷ e ∷ without p es) (e ∷ put_at q n (without p es))) past)
+
+without-test : (p q n : ℕ) (e : ℕ × ℕ) (es : List (ℕ × ℕ)) (t : Bool) → nat_lt q e.0 ≡ t → (q == p) ≡ false → Above e.0 es → without p (put_at q n es) ≡ put_at q n (without p es)
+    → without p (cond t ((q, n) ∷ e ∷ es) (e ∷ put_at q n es)) ≡ put_at q n (without p (e ∷ es))
+without-test p q n e es true lt ne a h =
+    let less : q < e.0 = ltb-true q e.0 lt in
+    let above : Above (q + 1) (e ∷ es) = (omega arith, above-weaker e.0 (q + 1) es (omega arith) a) in
+    ap (λ (b : Bool). cond b (without p (e ∷ es)) ((q, n) ∷ without p (e ∷ es))) ne
+    ∙ sym (put-front q n (without p (e ∷ es)) (above-without (q + 1) p (e ∷ es) above))
+without-test p q n e es false lt ne a h = kept-test p q n e es (e.0 == p) lt h
+
+-- a span at another place is put before or after
+without-put : (p q n : ℕ) (l : List (ℕ × ℕ)) → Sorted l → (q == p) ≡ false → without p (put_at q n l) ≡ put_at q n (without p l)
+without-put p q n [] s ne = ap (λ (b : Bool). cond b [] ((q, n) ∷ [])) ne
+without-put p q n (e ∷ es) s ne = without-test p q n e es (nat_lt q e.0) refl ne s.0 (without-put p q n es s.1 ne)
+
+gone-kept : (p : ℕ) (e : ℕ × ℕ) (es more : List (ℕ × ℕ)) (t : Bool) → more ≡ without p es → cond t more (e ∷ more) ≡ cond t (without p es) (e ∷ without p es)
+gone-kept p e es more true h = h
+gone-kept p e es more false h = ap (λ (l : List (ℕ × ℕ)). e ∷ l) h
+
+gone-test : (p n : ℕ) (e : ℕ × ℕ) (es : List (ℕ × ℕ)) (t : Bool) → without p (put_at p n es) ≡ without p es → without p (cond t ((p, n) ∷ e ∷ es) (e ∷ put_at p n es)) ≡ without p (e ∷ es)
+gone-test p n e es true h = ap (λ (b : Bool). cond b (without p (e ∷ es)) ((p, n) ∷ without p (e ∷ es))) (eq-eqb p p refl)
+gone-test p n e es false h = gone-kept p e es (without p (put_at p n es)) (e.0 == p) h
+
+-- a span at the place is gone
+without-gone : (p n : ℕ) (l : List (ℕ × ℕ)) → without p (put_at p n l) ≡ without p l
+without-gone p n [] = ap (λ (b : Bool). cond b [] ((p, n) ∷ [])) (eq-eqb p p refl)
+without-gone p n (e ∷ es) = gone-test p n e es (nat_lt p e.0) (without-gone p n es)
+
+-- the entries of this name are those at this place
+abbrev pub OneAt : List ℕ → ℕ → List (List ℕ × App) → Type 0
+OneAt n p [] = Unit {0}
+OneAt n p (e ∷ es) = (bytes_eq e.0 n ≡ ((e.1).place == p)) × OneAt n p es
+
+remove-test : (n : List ℕ) (p : ℕ) (e : List ℕ × App) (es : List (List ℕ × App)) (t : Bool) → bytes_eq e.0 n ≡ t → bytes_eq e.0 n ≡ ((e.1).place == p) → spans_of (remove es n) ≡ without p (spans_of es)
+    → spans_of (cond t (remove es n) (e ∷ remove es n)) ≡ without p (put_at (e.1).place (needed e.1) (spans_of es))
+remove-test n p e es true h same rest =
+    let here : (e.1).place ≡ p = eqb-true (e.1).place p (sym same ∙ h) in
+    rest ∙ sym (ap (λ (q : ℕ). without p (put_at q (needed e.1) (spans_of es))) here ∙ without-gone p (needed e.1) (spans_of es))
+remove-test n p e es false h same rest =
+    ap (λ (l : List (ℕ × ℕ)). put_at (e.1).place (needed e.1) l) rest ∙ sym (without-put p (e.1).place (needed e.1) (spans_of es) (sorted-spans es) (sym same ∙ h))
+
+-- an application that is removed takes its span away
+pub spans-remove : (es : List (List ℕ × App)) (n : List ℕ) (p : ℕ) → OneAt n p es → spans_of (remove es n) ≡ without p (spans_of es)
+spans-remove [] n p o = refl
+spans-remove (e ∷ es) n p o = remove-test n p e es (bytes_eq e.0 n) refl o.0 (spans-remove es n p o.1)
+
+one-test : (n k : List ℕ) (p : ℕ) (a : App) (e : List ℕ × App) (es : List (List ℕ × App)) (t s : Bool) → bytes_eq k n ≡ (a.place == p) → OneAt n p (e ∷ es) → OneAt n p (insert es k a)
+    → OneAt n p (cond t ((k, a) ∷ es) (cond s ((k, a) ∷ e ∷ es) (e ∷ insert es k a)))
+one-test n k p a e es true s h o rest = (h, o.1)
+one-test n k p a e es false true h o rest = (h, o)
+one-test n k p a e es false false h o rest = (o.0, rest)
+
+pub one-insert : (es : List (List ℕ × App)) (n k : List ℕ) (p : ℕ) (a : App) → bytes_eq k n ≡ (a.place == p) → OneAt n p es → OneAt n p (insert es k a)
+one-insert [] n k p a h o = (h, tt)
+one-insert (e ∷ es) n k p a h o = one-test n k p a e es (bytes_eq e.0 k) (name_before k e.0) h o (one-insert es n k p a h o.1)

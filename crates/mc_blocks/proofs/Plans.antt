@@ -8,13 +8,13 @@ use Rattle.mc_model.specs.Device.{IsImage}
 use Rattle.mc_model.specs.Stopped.{IsAtomic}
 use Rattle.mc_model.specs.Card.{Card, Block, means, card_of, word, header, blocks, heap_start}
 use Rattle.mc_model.specs.Layout.{first_place, gaps, spans, layout, put_at, hole_header, used_header, IsWellLaid}
+use Rattle.mc_blocks.specs.Chains.{Above, IsChain}
 use Rattle.mc_blocks.specs.Blocks.{used_spans, hole_spans}
 use Rattle.mc_blocks.specs.Plans.{changes, layout_of, plan, without, has_room, has_span, link_word, gap_before, gaps_behind, touches, take_front, take_list, joined_words, joined_next, put_hole, free_list}
 use Rattle.mc_blocks.proofs.Steps.{HeaderIs, header-is}
 use Rattle.mc_blocks.proofs.Tiles.{Tiled, AreRead}
-use Rattle.mc_blocks.proofs.Maps.{Above}
 use Rattle.mc_blocks.proofs.Bridge.{Laid, well-laid, means-closed, used-above}
-use Rattle.mc_blocks.proofs.Search.{IsChain, holes-above}
+use Rattle.mc_blocks.proofs.Search.{holes-above}
 use Rattle.mc_blocks.proofs.Heads.{layout-spans}
 use Rattle.mc_blocks.proofs.Taking as taking
 use Rattle.mc_blocks.proofs.Freeing as freeing

@@ -7,17 +7,12 @@ use Rattle.mc_model.specs.Image.{Closed, look}
 use Rattle.mc_model.specs.Device.{IsImage}
 use Rattle.mc_model.specs.Card.{Card, Block, word, header, blocks, means, card_of}
 use Rattle.mc_model.specs.Layout.{first_hole, first_place, first_fitting, gaps, bad_link, bad_chain, IsWellLaid}
+use Rattle.mc_blocks.specs.Chains.{Above, IsChain}
 use Rattle.mc_blocks.specs.Blocks.{hole_spans}
 use Rattle.mc_blocks.proofs.Steps.{HeaderIs, header-is}
 use Rattle.mc_blocks.proofs.Tiles.{Tiled, AreRead, first-is}
-use Rattle.mc_blocks.proofs.Maps.{Above, above-weaker}
+use Rattle.mc_blocks.proofs.Maps.{above-weaker}
 use Rattle.mc_blocks.proofs.Bridge.{Laid, well-laid, means-closed}
-
--- holes by place and words, each with its header in its place that names the next
-abbrev pub IsChain : List (List ℕ) → List (ℕ × ℕ) → Type 0
-IsChain m [] = Unit {0}
-IsChain m (g ∷ gs) =
-    (1 ≤ g.0) × (g.0 + g.1 ≤ length m) × (1 ≤ g.1) × (be2 (word m g.0) 2 ≡ g.1) × (be2 (word m g.0) 4 ≡ first_place gs) × Above (g.0 + 1) gs × IsChain m gs
 
 -- ---- the chain of a well laid image
 

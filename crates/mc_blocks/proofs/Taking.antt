@@ -4,10 +4,11 @@ use Rattle.std.specs.Prelude.{nat_lt, nat_le, ◌==◌, bytes_eq}
 use Rattle.std.proofs.lemmas.Bool.{lt-ltb, le-ltb, ltb-true, ltb-false, eq-eqb, ne_eqb, eqb-true, eqb-false, and_parts, leb-true, or_cases, and_right, cases_lt}
 use Rattle.mc_model.specs.Card.{Card, Block, heap_start}
 use Rattle.mc_model.specs.Layout.{first_hole, first_place, hole_header, used_header, root, put_at}
+use Rattle.mc_blocks.specs.Chains.{Above}
 use Rattle.mc_blocks.specs.Blocks.{used_spans, hole_spans}
 use Rattle.mc_blocks.specs.Plans.{changes, layout_of, link_word, has_room, gap_before, gaps_behind, take_list}
 use Rattle.mc_blocks.proofs.Tiles.{Tiled, first-is}
-use Rattle.mc_blocks.proofs.Maps.{Above, above-weaker, put-front}
+use Rattle.mc_blocks.proofs.Maps.{above-weaker, put-front}
 use Rattle.mc_blocks.proofs.Bridge.{used-above}
 use Rattle.mc_blocks.proofs.Search.{holes-above}
 use Rattle.mc_blocks.proofs.Changes.{From, from-weaker, under-same, under-other, second-same, links-differ, none-from}

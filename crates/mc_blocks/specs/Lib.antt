@@ -2,3 +2,4 @@ pub mod Blocks
 pub mod Records
 pub mod Faults
 pub mod Plans
+pub mod Chains
