@@ -1,15 +1,15 @@
 -- The applications of a well laid image: their number, and one of them found by its name.
-use Rattle.std.proofs.Common.{◌≡◌, ◌≢◌, ℕ, ◌+◌, ◌<◌, ◌≤◌, Bool, true, false, ◌&&◌, ◌||◌, List, [], ◌∷◌, length, Option, Some, None, refl, sym, ◌∙◌, ap, subst, arith, cond, not}
+use Rattle.std.proofs.Common.{◌≡◌, ◌≢◌, ℕ, ◌+◌, ◌<◌, ◌≤◌, Bool, true, false, ◌&&◌, List, [], ◌∷◌, length, Option, Some, None, refl, sym, ◌∙◌, ap, subst, arith, cond, not}
 use Rattle.std.specs.Prelude.{nat_lt, ◌==◌, bytes_eq, MatchBool}
-use Rattle.std.proofs.lemmas.Bool.{and_parts, eq-eqb, ne_eqb, ltb-true, false_from_ne_true, or_right, or_left}
+use Rattle.std.proofs.lemmas.Bool.{and_parts, eq-eqb, ne_eqb, ltb-true, or_right, or_left}
 use Rattle.std.proofs.lemmas.Slice.Eq.{bytes_eq-Decides}
 use Rattle.mc_model.specs.Bytes.{insert, lookup, name_before, has_name}
 use Rattle.mc_model.specs.Image.{Closed, look}
 use Rattle.mc_model.specs.Device.{IsImage}
-use Rattle.mc_model.specs.Card.{App, Card, Block, means, card_of, blocks, name_in, name_at, app_at, apps_of, record_at}
-use Rattle.mc_model.specs.Layout.{spans, spans_of, is_record, bad_record, IsWellLaid}
+use Rattle.mc_model.specs.Card.{App, Card, Block, means, blocks, name_in, name_at, app_at, apps_of, record_at}
+use Rattle.mc_model.specs.Layout.{spans, is_record, bad_record, IsWellLaid}
 use Rattle.mc_blocks.specs.Blocks.{used_spans, admitted}
-use Rattle.mc_blocks.specs.Plans.{has_span, without}
+use Rattle.mc_blocks.specs.Plans.{has_span}
 use Rattle.mc_blocks.proofs.Tiles.{Tiled}
 use Rattle.mc_blocks.proofs.Maps.{Free, OneAt, one-insert, has-self}
 use Rattle.mc_blocks.proofs.Bridge.{Laid, well-laid, means-closed, with-block, some-apps, no-apps, AreNamed, named, free-all, Faultless, faultless, fault-closed}
@@ -91,9 +91,11 @@ found-kind m n a b bs names true true long e nm rest free l =
     let is : Some (app_at m b.place) ≡ Some a = sym (lookup-insert (apps_of m bs) k n (app_at m b.place) ∙ ap (λ (x : Bool). cond x (Some (app_at m b.place)) (lookup (apps_of m bs) n)) e) ∙ l in
     let same : app_at m b.place ≡ a = cc in
     let place : b.place ≡ a.place = ap (λ (x : App). x.place) same in
-    let clear : Free n b.place (apps_of m bs) = subst (λ (x : List ℕ). Free x b.place (apps_of m bs)) (same-name k n e) (free (k ∷ names) k (has-self k names) nm.2) in
-    (omega (arith, place), or_left (b.place == a.place) (has_span a.place (used_spans bs)) (eq-eqb b.place a.place place),
-    one-insert (apps_of m bs) n k a.place (app_at m b.place) (e ∙ sym (eq-eqb b.place a.place place)) (free-one n a.place (apps_of m bs) (subst (λ (q : ℕ). Free n q (apps_of m bs)) place clear)))
+    let clear : Free n b.place (apps_of m bs) = subst (λ (x : List ℕ). Free x b.place (apps_of m bs)) (same-name k n e) (free (k ∷ names) k (has-self k names) nm.2) in (
+      omega (arith, place),
+      or_left (b.place == a.place) (has_span a.place (used_spans bs)) (eq-eqb b.place a.place place),
+      one-insert (apps_of m bs) n k a.place (app_at m b.place) (e ∙ sym (eq-eqb b.place a.place place)) (free-one n a.place (apps_of m bs) (subst (λ (q : ℕ). Free n q (apps_of m bs)) place clear)),
+    )
 found-kind m n a b bs names true false long e nm rest free l =
     let k = name_at m b.place in
     let behind : lookup (apps_of m bs) n ≡ Some a = sym (lookup-insert (apps_of m bs) k n (app_at m b.place) ∙ ap (λ (x : Bool). cond x (Some (app_at m b.place)) (lookup (apps_of m bs) n)) e) ∙ l in
@@ -108,15 +110,16 @@ found-all m n a (b ∷ bs) p x end names t nm l =
     let place : b.place ≡ p = t.0 in
     let long : 1 ≤ b.words = t.1 in
     let f = found-kind m n a b bs names b.used (bytes_eq (name_at m b.place) n) long refl nm
-        (λ ns ok h. subst (λ (q : ℕ). Found m n bs (q + b.words) a) (sym place) (found-all m n a bs (p + b.words) (not b.used) end ns t.3 ok h))
-        (λ ns k is ok. free-all m bs (p + b.words) (not b.used) end ns k b.place t.3 (omega arith) is ok)
-        (sym (ap (λ (es : List (List ℕ × App)). lookup es n) (some-apps m b bs)) ∙ l) in
+    (λ ns ok h. subst (λ (q : ℕ). Found m n bs (q + b.words) a) (sym place) (found-all m n a bs (p + b.words) (not b.used) end ns t.3 ok h))
+    (λ ns k is ok. free-all m bs (p + b.words) (not b.used) end ns k b.place t.3 (omega arith) is ok)
+    (sym (ap (λ (es : List (List ℕ × App)). lookup es n) (some-apps m b bs)) ∙ l) in
     record { low = omega (arith, f.0, place); span = f.1; one = subst (λ (es : List (List ℕ × App)). OneAt n a.place es) (sym (some-apps m b bs)) f.2 }
 
 pub found-application : (m : List (List ℕ)) (n : List ℕ) (a : App) → IsImage m → look m ≡ Closed → IsWellLaid m → lookup (means m).apps n ≡ Some a → (has_span a.place (spans (means m)) ≡ true) × OneAt n a.place (means m).apps
 found-application m n a image closed h l =
     let f : Faultless m = faultless m (sym (fault-closed m closed) ∙ h) in
     let laid : Laid m = well-laid m image closed h in
-    let found : Found m n (blocks m) 131 a = found-all m n a (blocks m) 131 false (length m) [] laid.tiled (named m (blocks m) [] 0 f.records) (sym (ap (λ (k : Card). lookup k.apps n) (means-closed m closed)) ∙ l) in
-    (subst (λ (ss : List (ℕ × ℕ)). has_span a.place ss ≡ true) (sym (ap (λ (k : Card). spans k) (means-closed m closed) ∙ laid.spans)) found.span,
-    subst (λ (k : Card). OneAt n a.place k.apps) (sym (means-closed m closed)) found.one)
+    let found : Found m n (blocks m) 131 a = found-all m n a (blocks m) 131 false (length m) [] laid.tiled (named m (blocks m) [] 0 f.records) (sym (ap (λ (k : Card). lookup k.apps n) (means-closed m closed)) ∙ l) in (
+      subst (λ (ss : List (ℕ × ℕ)). has_span a.place ss ≡ true) (sym (ap (λ (k : Card). spans k) (means-closed m closed) ∙ laid.spans)) found.span,
+      subst (λ (k : Card). OneAt n a.place k.apps) (sym (means-closed m closed)) found.one,
+    )

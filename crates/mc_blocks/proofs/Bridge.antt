@@ -1,17 +1,17 @@
 -- On a well laid image the holes of the walk are the gaps of the card, and its used blocks are the card's spans.
-use Rattle.std.proofs.Common.{◌≡◌, ◌≢◌, ℕ, zero, suc, ◌+◌, ◌-◌, ◌*◌, ◌<◌, ◌≤◌, Bool, true, false, ◌&&◌, List, [], ◌∷◌, ◌++◌, length, take, drop, Option, Some, None, refl, sym, ◌∙◌, ap, subst, inl, inr, arith, cond, not, length-append, length-take, min}
-use Rattle.std.specs.Prelude.{nat_le, nat_lt, ◌==◌, slice_index, bytes_eq, MatchBool}
+use Rattle.std.proofs.Common.{◌≡◌, ℕ, zero, suc, ◌+◌, ◌*◌, ◌<◌, ◌≤◌, Bool, true, false, ◌&&◌, List, [], ◌∷◌, ◌++◌, length, take, Option, Some, None, refl, sym, ◌∙◌, ap, subst, arith, cond, not, length-append, length-take, min}
+use Rattle.std.specs.Prelude.{nat_lt, ◌==◌, slice_index, MatchBool}
 use Rattle.std.specs.List.{concat}
-use Rattle.std.proofs.lemmas.Bool.{and_parts, eqb-true, leb-true, not-true}
+use Rattle.std.proofs.lemmas.Bool.{and_parts, eqb-true, not-true}
 use Rattle.std.proofs.lemmas.List.{drop_more}
 use Rattle.mc_model.specs.Bytes.{up, be2, has_name, or_else, insert}
-use Rattle.mc_model.specs.Image.{Look, Closed, look, Words, replayed}
+use Rattle.mc_model.specs.Image.{Look, Closed, look, replayed}
 use Rattle.mc_model.specs.Device.{IsImage}
-use Rattle.mc_model.specs.Card.{App, Card, Block, word, header, blocks, cells, section, record_at, name_in, name_at, app_at, app_of, apps_of, card_of, words_after, means, needed, needed_of, heap_start}
-use Rattle.mc_model.specs.Layout.{spans, spans_of, gaps, gaps_from, put_at, no_root, is_record, bad_block, bad_record, bad_chain, bad_link, first_hole, first_place, by_cause, words_fault, fault_of, fault, IsWellLaid}
+use Rattle.mc_model.specs.Card.{App, Block, word, blocks, cells, section, record_at, name_in, name_at, app_at, apps_of, card_of, words_after, means, needed, needed_of, heap_start}
+use Rattle.mc_model.specs.Layout.{spans, spans_of, gaps, gaps_from, put_at, no_root, is_record, bad_block, bad_record, bad_chain, by_cause, words_fault, fault_of, fault, IsWellLaid}
 use Rattle.mc_model.specs.declared.card.Cause.{Cause}
 use Rattle.mc_blocks.specs.Chains.{Above}
-use Rattle.mc_blocks.specs.Blocks.{blocks_at, used_spans, hole_spans, admitted}
+use Rattle.mc_blocks.specs.Blocks.{used_spans, hole_spans, admitted}
 use Rattle.mc_blocks.proofs.Steps.{blocks_all}
 use Rattle.mc_blocks.proofs.Headers.{bad_all}
 use Rattle.mc_blocks.proofs.Tiles.{Tiled, AreRead, Walked, all-walked, gaps_are_holes}

@@ -1,12 +1,11 @@
 -- What one list of pairs has that another has not, where the places of both ascend.
-use Rattle.std.proofs.Common.{◌≡◌, ◌≢◌, ℕ, zero, suc, ◌+◌, ◌-◌, ◌*◌, ◌/◌, ◌%◌, ◌<◌, ◌≤◌, Bool, true, false, ◌&&◌, ◌||◌, List, [], ◌∷◌, ◌++◌, length, refl, sym, ◌∙◌, ap, subst, inl, inr, arith, cond, not}
-use Rattle.std.specs.Prelude.{nat_lt, nat_le, ◌==◌, bytes_eq, filter}
+use Rattle.std.proofs.Common.{◌≡◌, ◌≢◌, ℕ, ◌+◌, ◌/◌, ◌%◌, ◌<◌, ◌≤◌, Bool, true, false, ◌&&◌, ◌||◌, List, [], ◌∷◌, ◌++◌, refl, sym, ◌∙◌, ap, arith, cond, not}
+use Rattle.std.specs.Prelude.{◌==◌, bytes_eq}
 use Rattle.std.specs.List.{list_any}
-use Rattle.std.proofs.lemmas.Bool.{eq-eqb, ne_eqb, and_from, and_right, false_from_ne_true, not_from_true, or_left, cases_Bool}
+use Rattle.std.proofs.lemmas.Bool.{eq-eqb, ne_eqb, and_from, and_right, false_from_ne_true}
 use Rattle.std.proofs.lemmas.List.Elements.{filter-append}
 use Rattle.std.proofs.lemmas.Slice.Eq.{bytes_eq-Decides}
-use Rattle.mc_model.specs.Bytes.{bytes2}
-use Rattle.mc_model.specs.Layout.{same_pair, hole_header, used_header, root}
+use Rattle.mc_model.specs.Layout.{same_pair, hole_header, root}
 use Rattle.mc_blocks.specs.Plans.{changes, link_word}
 
 -- all places from p on, and all places before p
@@ -114,26 +113,26 @@ bytes2-same a b la lb h l = omega arith
 pub holes-differ : (n k l j : ℕ) → l < 65536 → j < 65536 → l ≢ j → bytes_eq (hole_header n l) (hole_header k j) ≡ false
 holes-differ n k l j ll lj ne =
     false_from_ne_true (bytes_eq (hole_header n l) (hole_header k j)) (λ e.
-      let same : hole_header n l ≡ hole_header k j = (bytes_eq-Decides (hole_header n l) (hole_header k j)).0 e in
-      let high : l / 256 % 256 ≡ j / 256 % 256 = cc in
-      let low : l % 256 ≡ j % 256 = cc in
-      ne (bytes2-same l j ll lj high low))
+    let same : hole_header n l ≡ hole_header k j = (bytes_eq-Decides (hole_header n l) (hole_header k j)).0 e in
+    let high : l / 256 % 256 ≡ j / 256 % 256 = cc in
+    let low : l % 256 ≡ j % 256 = cc in
+    ne (bytes2-same l j ll lj high low))
 
 pub lengths-differ : (n k l j : ℕ) → n < 65536 → k < 65536 → n ≢ k → bytes_eq (hole_header n l) (hole_header k j) ≡ false
 lengths-differ n k l j ln lk ne =
     false_from_ne_true (bytes_eq (hole_header n l) (hole_header k j)) (λ e.
-      let same : hole_header n l ≡ hole_header k j = (bytes_eq-Decides (hole_header n l) (hole_header k j)).0 e in
-      let high : n / 256 % 256 ≡ k / 256 % 256 = cc in
-      let low : n % 256 ≡ k % 256 = cc in
-      ne (bytes2-same n k ln lk high low))
+    let same : hole_header n l ≡ hole_header k j = (bytes_eq-Decides (hole_header n l) (hole_header k j)).0 e in
+    let high : n / 256 % 256 ≡ k / 256 % 256 = cc in
+    let low : n % 256 ≡ k % 256 = cc in
+    ne (bytes2-same n k ln lk high low))
 
 pub roots-differ : (v s l j : ℕ) → l < 65536 → j < 65536 → l ≢ j → bytes_eq (root v s l) (root v s j) ≡ false
 roots-differ v s l j ll lj ne =
     false_from_ne_true (bytes_eq (root v s l) (root v s j)) (λ e.
-      let same : root v s l ≡ root v s j = (bytes_eq-Decides (root v s l) (root v s j)).0 e in
-      let high : l / 256 % 256 ≡ j / 256 % 256 = cc in
-      let low : l % 256 ≡ j % 256 = cc in
-      ne (bytes2-same l j ll lj high low))
+    let same : root v s l ≡ root v s j = (bytes_eq-Decides (root v s l) (root v s j)).0 e in
+    let high : l / 256 % 256 ≡ j / 256 % 256 = cc in
+    let low : l % 256 ≡ j % 256 = cc in
+    ne (bytes2-same l j ll lj high low))
 
 links-by : (v s n l j : ℕ) (t : Bool) → l < 65536 → j < 65536 → l ≢ j → bytes_eq (cond t (root v s l) (hole_header n l)) (cond t (root v s j) (hole_header n j)) ≡ false
 links-by v s n l j true ll lj ne = roots-differ v s l j ll lj ne

@@ -1,9 +1,9 @@
 -- A used block freed: the blocks afterwards, and the headers that change.
-use Rattle.std.proofs.Common.{◌≡◌, ◌≢◌, ◌⊎◌, ℕ, zero, suc, ◌+◌, ◌-◌, ◌<◌, ◌≤◌, Bool, true, false, ◌&&◌, ◌||◌, List, [], ◌∷◌, ◌++◌, length, refl, sym, ◌∙◌, ap, subst, inl, inr, arith, cond, not}
-use Rattle.std.specs.Prelude.{nat_lt, nat_le, ◌==◌, bytes_eq}
+use Rattle.std.proofs.Common.{◌≡◌, ◌≢◌, ◌⊎◌, ℕ, ◌+◌, ◌<◌, ◌≤◌, Bool, true, false, ◌&&◌, ◌||◌, List, [], ◌∷◌, refl, sym, ◌∙◌, ap, subst, inl, inr, arith, cond, not}
+use Rattle.std.specs.Prelude.{◌==◌}
 use Rattle.std.proofs.lemmas.Bool.{lt-ltb, le-ltb, eq-eqb, ne_eqb, eqb-true, eqb-false, or_cases, and_from, and_right, not-false, not-true, cases_eq, false_from_ne_true}
-use Rattle.mc_model.specs.Card.{Card, Block, heap_start}
-use Rattle.mc_model.specs.Layout.{first_hole, first_place, hole_header, used_header, root}
+use Rattle.mc_model.specs.Card.{Block, heap_start}
+use Rattle.mc_model.specs.Layout.{first_hole, first_place, hole_header, used_header}
 use Rattle.mc_blocks.specs.Chains.{Above}
 use Rattle.mc_blocks.specs.Blocks.{used_spans, hole_spans}
 use Rattle.mc_blocks.specs.Plans.{changes, layout_of, link_word, has_span, without, gap_before, gaps_behind, joined_words, joined_next, touches, free_list}
@@ -11,9 +11,9 @@ use Rattle.mc_blocks.proofs.Tiles.{Tiled, first-is}
 use Rattle.mc_blocks.proofs.Maps.{above-weaker}
 use Rattle.mc_blocks.proofs.Bridge.{used-above}
 use Rattle.mc_blocks.proofs.Search.{holes-above}
-use Rattle.mc_blocks.proofs.Changes.{From, Before, from-weaker, split, under-same, under-other, links-differ, lengths-differ, back}
+use Rattle.mc_blocks.proofs.Changes.{From, from-weaker, under-same, under-other, links-differ, lengths-differ, back}
 use Rattle.mc_blocks.proofs.Heads.{heads, heads-from, heads-behind, heads-same, layout-is}
-use Rattle.mc_blocks.proofs.Claims.{Claim, not-before, later-either}
+use Rattle.mc_blocks.proofs.Claims.{Claim, later-either}
 use Rattle.mc_blocks.proofs.Taking.{free_block, tiled-end, first-range}
 
 -- a hole of k words at q and the blocks behind it, of which the first joins it where it is a hole
@@ -348,10 +348,10 @@ free-here v s n p end g a bs low some few gap apart t =
     ap (λ (f : ℕ). changes (link_word v s g (first_hole bs) ∷ (p, used_header n) ∷ heads bs) (link_word v s g f ∷ heads (with_hole p n bs))) (with-first p n bs)
     ∙ ap (λ (l : List (ℕ × List ℕ)). changes (link_word v s g (first_hole bs) ∷ (p, used_header n) ∷ heads bs) (link_word v s g p ∷ l)) (with-heads p n a bs end t)
     ∙ under-other (link_word v s g (first_hole bs)) (link_word v s g p) ((p, used_header n) ∷ heads bs) (hole ∷ heads (rest_after bs)) refl (links-differ v s g p (first_hole bs) (omega arith) within ne)
-      (omega arith, from-weaker (p + n) (g.0 + 1) (heads bs) (omega arith) behind) (omega arith, from-weaker (p + n) (g.0 + 1) (heads (rest_after bs)) (omega arith) rest)
+    (omega arith, from-weaker (p + n) (g.0 + 1) (heads bs) (omega arith) behind) (omega arith, from-weaker (p + n) (g.0 + 1) (heads (rest_after bs)) (omega arith) rest)
     ∙ ap (λ (l : List (ℕ × List ℕ)). link_word v s g p ∷ l)
-      (under-other (p, used_header n) hole (heads bs) (heads (rest_after bs)) refl refl (from-weaker (p + n) (p + 1) (heads bs) (omega arith) behind) (from-weaker (p + n) (p + 1) (heads (rest_after bs)) (omega arith) rest)
-      ∙ ap (λ (l : List (ℕ × List ℕ)). hole ∷ l) (rest-none (p + n) a bs end t))
+    (under-other (p, used_header n) hole (heads bs) (heads (rest_after bs)) refl refl (from-weaker (p + n) (p + 1) (heads bs) (omega arith) behind) (from-weaker (p + n) (p + 1) (heads (rest_after bs)) (omega arith) rest)
+    ∙ ap (λ (l : List (ℕ × List ℕ)). hole ∷ l) (rest-none (p + n) a bs end t))
     ∙ sym (ap (λ (x : Bool). cond x ((g.0, hole_header (g.1 + joined_words p n (hole_spans bs)) (joined_next p n (hole_spans bs))) ∷ []) (link_word v s g p ∷ hole ∷ [])) apart)
 
 claim-here : (v s end : ℕ) (g : ℕ × ℕ) (a : Bool) (b : Block) (bs : List Block) → 1 ≤ b.place → 1 ≤ b.words → end < 65536 → g.0 < b.place → touches g b.place ≡ false → Tiled (b.place + b.words) a bs end
@@ -400,7 +400,7 @@ touch-list v s h k n end g a cs gap long some few t =
     ∙ ap (λ (l : List (ℕ × List ℕ)). changes (link_word v s g h ∷ (h, hole_header k (first_hole cs)) ∷ old) (link_word v s g h ∷ l)) (with-heads h (k + n) a cs end u)
     ∙ under-same (link_word v s g h) ((h, hole_header k (first_hole cs)) ∷ old) (joined ∷ heads (rest_after cs)) (omega arith, from-weaker (h + 1) (g.0 + 1) old (omega arith) old-from) (omega arith, from-weaker (h + 1) (g.0 + 1) (heads (rest_after cs)) (omega arith) new-from)
     ∙ under-other (h, hole_header k (first_hole cs)) joined old (heads (rest_after cs)) refl
-      (lengths-differ (joined_words h (k + n) (hole_spans cs)) k (joined_next h (k + n) (hole_spans cs)) (first_hole cs) (omega arith) (omega (arith, tiled-end (h + k + n) a cs end t)) ne) old-from new-from
+    (lengths-differ (joined_words h (k + n) (hole_spans cs)) k (joined_next h (k + n) (hole_spans cs)) (first_hole cs) (omega arith) (omega (arith, tiled-end (h + k + n) a cs end t)) ne) old-from new-from
     ∙ ap (λ (l : List (ℕ × List ℕ)). joined ∷ l) (dropped (h + k, used_header n) (heads cs) (heads (rest_after cs)) (from-weaker (h + k + n) (h + k + 1) (heads (rest_after cs)) (omega arith) rest) ∙ rest-none (h + k + n) a cs end t)
     ∙ ap (λ (w : ℕ). (h, hole_header w (joined_next h (k + n) (hole_spans cs))) ∷ []) shifted.0
     ∙ ap (λ (x : ℕ). (h, hole_header (k + joined_words (h + k) n (hole_spans cs)) x) ∷ []) shifted.1
@@ -422,7 +422,7 @@ unfolding Claim
 claim-touch v s end g a b c cs low gap long some few t =
     touch-list v s b.place b.words c.words end g a cs gap long some few t
     ∙ sym (touch-due v s b.place b.words c.words g (hole_spans cs) low long
-      (above-weaker (b.place + b.words + c.words) (b.place + b.words) (hole_spans cs) (omega arith) (holes-above (b.place + b.words + c.words) a cs end t)))
+    (above-weaker (b.place + b.words + c.words) (b.place + b.words) (hole_spans cs) (omega arith) (holes-above (b.place + b.words + c.words) a cs end t)))
 
 -- ---- the words of the block
 

@@ -1,16 +1,14 @@
 -- The headers of blocks side by side are the layout of their spans.
-use Rattle.std.proofs.Common.{◌≡◌, ◌≢◌, ℕ, zero, suc, ◌+◌, ◌-◌, ◌<◌, ◌≤◌, Bool, true, false, ◌&&◌, ◌||◌, List, [], ◌∷◌, ◌++◌, length, refl, sym, ◌∙◌, ap, subst, inl, inr, arith, cond, not}
-use Rattle.std.specs.Prelude.{nat_lt, nat_le, ◌==◌}
+use Rattle.std.proofs.Common.{◌≡◌, ℕ, ◌+◌, ◌≤◌, Bool, true, false, List, [], ◌∷◌, refl, sym, ◌∙◌, ap, arith, cond, not}
 use Rattle.std.proofs.lemmas.Bool.{lt-ltb, le-ltb}
 use Rattle.mc_model.specs.Card.{Card, Block, heap_start}
-use Rattle.mc_model.specs.Layout.{first_hole, first_place, hole_header, used_header, root, chained, with_used, put_at, gaps, gaps_from, spans, layout}
+use Rattle.mc_model.specs.Layout.{first_hole, first_place, hole_header, used_header, root, chained, with_used, put_at, spans, layout}
 use Rattle.mc_blocks.specs.Chains.{Above}
 use Rattle.mc_blocks.specs.Blocks.{used_spans, hole_spans}
 use Rattle.mc_blocks.specs.Plans.{changes, layout_of, link_word}
 use Rattle.mc_blocks.proofs.Tiles.{Tiled, gaps_are_holes, first-is}
 use Rattle.mc_blocks.proofs.Maps.{above-weaker}
 use Rattle.mc_blocks.proofs.Bridge.{used-above}
-use Rattle.mc_blocks.proofs.Search.{holes-above}
 use Rattle.mc_blocks.proofs.Changes.{From, from-weaker, under-same}
 
 -- the headers of blocks

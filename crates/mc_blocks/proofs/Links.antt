@@ -1,7 +1,7 @@
 -- Links of the chain before and behind a place.
-use Rattle.std.proofs.Common.{◌≡◌, ◌≢◌, ◌⊎◌, ℕ, ◌+◌, ◌-◌, ◌<◌, ◌≤◌, Bool, true, false, ◌&&◌, ◌||◌, List, [], ◌∷◌, length, refl, sym, ◌∙◌, ap, subst, inl, inr, arith, cond, not}
+use Rattle.std.proofs.Common.{◌≡◌, ◌≢◌, ◌⊎◌, ℕ, ◌+◌, ◌<◌, ◌≤◌, Bool, true, false, ◌&&◌, List, [], ◌∷◌, length, refl, sym, ◌∙◌, ap, subst, inl, inr, arith, cond, not}
 use Rattle.std.specs.Prelude.{nat_lt, nat_le, ◌==◌}
-use Rattle.std.proofs.lemmas.Bool.{lt-ltb, le-ltb, ltb-true, eq-eqb, ne_eqb, eqb-true, and_parts, and_from, leb-true, or_cases, not-true, eqb-false}
+use Rattle.std.proofs.lemmas.Bool.{lt-ltb, le-ltb, ltb-true, eq-eqb, ne_eqb, eqb-true, and_parts, leb-true, or_cases, not-true, eqb-false}
 use Rattle.mc_model.specs.Bytes.{be2}
 use Rattle.mc_model.specs.Image.{Closed, look}
 use Rattle.mc_model.specs.Device.{IsImage}

@@ -1,14 +1,14 @@
 -- The plans of a well laid image: what the code lists is what changes.
-use Rattle.std.proofs.Common.{◌≡◌, ◌≢◌, ◌⊎◌, ℕ, ◌+◌, ◌-◌, ◌<◌, ◌≤◌, Bool, true, false, ◌&&◌, ◌||◌, List, [], ◌∷◌, length, map, not, Option, Some, refl, sym, ◌∙◌, ap, subst, inl, inr, arith, cond}
+use Rattle.std.proofs.Common.{◌≡◌, ◌≢◌, ◌⊎◌, ℕ, ◌+◌, ◌-◌, ◌<◌, ◌≤◌, Bool, true, false, ◌&&◌, List, [], ◌∷◌, length, not, Some, refl, sym, ◌∙◌, ap, subst, inl, inr, arith, cond}
 use Rattle.std.specs.Prelude.{nat_lt, nat_le, ◌==◌, slice_index}
 use Rattle.std.proofs.lemmas.Bool.{lt-ltb, le-leb, ltb-true, eq-eqb, ne_eqb, eqb-true, or_cases, and_from, or_left, or_right}
 use Rattle.mc_model.specs.Bytes.{be2}
 use Rattle.mc_model.specs.Image.{Closed, look, within, ascend}
 use Rattle.mc_model.specs.Device.{IsImage}
 use Rattle.mc_model.specs.Stopped.{IsAtomic}
-use Rattle.mc_model.specs.Card.{Card, Block, means, card_of, word, header, blocks, heap_start}
-use Rattle.mc_model.specs.Layout.{first_place, gaps, spans, layout, put_at, hole_header, used_header, IsWellLaid}
-use Rattle.mc_blocks.specs.Chains.{Above, IsChain}
+use Rattle.mc_model.specs.Card.{Card, Block, means, card_of, word, header, blocks}
+use Rattle.mc_model.specs.Layout.{gaps, spans, put_at, hole_header, used_header, IsWellLaid}
+use Rattle.mc_blocks.specs.Chains.{Above}
 use Rattle.mc_blocks.specs.Blocks.{used_spans, hole_spans}
 use Rattle.mc_blocks.specs.Plans.{changes, layout_of, plan, without, has_room, has_span, link_word, gap_before, gaps_behind, touches, take_front, take_list, joined_words, joined_next, put_hole, free_list}
 use Rattle.mc_blocks.proofs.Steps.{HeaderIs, header-is}
@@ -129,9 +129,9 @@ take-is m p need image closed h some room =
     let ends : p + be2 (word m p) 2 ≤ length m = hole.ends in
     let front = take_front v (length m) (gap_before p (0, 0) gs) p (be2 (word m p) 2) (be2 (word m p) 4) need in
     let listed : plan (means m) (put_at p need (spans (means m))) ≡ take_list v (length m) (gap_before p (0, 0) gs) (gaps_behind p gs) p need =
-        plan-is m (put_at p need) image closed h
-        ∙ taking.take_plan v (length m) p need (blocks m) some (omega arith) l.tiled (subst (λ (x : List (ℕ × ℕ)). has_room p need x ≡ true) (gaps-are m image closed h) room)
-        ∙ ap (λ (x : List (ℕ × ℕ)). take_list v (length m) (gap_before p (0, 0) x) (gaps_behind p x) p need) (sym (gaps-are m image closed h)) in
+    plan-is m (put_at p need) image closed h
+    ∙ taking.take_plan v (length m) p need (blocks m) some (omega arith) l.tiled (subst (λ (x : List (ℕ × ℕ)). has_room p need x ≡ true) (gaps-are m image closed h) room)
+    ∙ ap (λ (x : List (ℕ × ℕ)). take_list v (length m) (gap_before p (0, 0) x) (gaps_behind p x) p need) (sym (gaps-are m image closed h)) in
     record {
       within = omega arith;
       ends = ends;
@@ -148,12 +148,12 @@ pub take-listed : (m : List (List ℕ)) (p need : ℕ) (before : ℕ × ℕ) (at
 take-listed m p need before at words next items t a b c d e =
     let v = slice_index (word m 0) 3 in
     let same : items ≡ t.list =
-        e
-        ∙ ap (λ (g : ℕ × ℕ). take_front v (length m) g at words next need) a
-        ∙ ap (λ (x : ℕ). take_front v (length m) (gap_before p (0, 0) (gaps (means m))) x words next need) b
-        ∙ ap (λ (x : ℕ). take_front v (length m) (gap_before p (0, 0) (gaps (means m))) p x next need) c
-        ∙ ap (λ (x : ℕ). take_front v (length m) (gap_before p (0, 0) (gaps (means m))) p (be2 (word m p) 2) x need) d
-        ∙ sym t.is in
+    e
+    ∙ ap (λ (g : ℕ × ℕ). take_front v (length m) g at words next need) a
+    ∙ ap (λ (x : ℕ). take_front v (length m) (gap_before p (0, 0) (gaps (means m))) x words next need) b
+    ∙ ap (λ (x : ℕ). take_front v (length m) (gap_before p (0, 0) (gaps (means m))) p x next need) c
+    ∙ ap (λ (x : ℕ). take_front v (length m) (gap_before p (0, 0) (gaps (means m))) p (be2 (word m p) 2) x need) d
+    ∙ sym t.is in
     (same ∙ t.plan, subst (λ (l : List (ℕ × List ℕ)). Few (length m) l) (sym same) t.few)
 
 -- ---- freeing
@@ -212,10 +212,10 @@ free-is m p image closed h span =
     let ends : p + n ≤ length m = block.ends in
     let high : length m ≤ 16384 = image.high in
     let listed : plan (means m) (without p (spans (means m))) ≡ free_list v (length m) (gap_before p (0, 0) gs) (gaps_behind p gs) p n =
-        plan-is m (without p) image closed h
-        ∙ freeing.free_plan v (length m) p (blocks m) (omega arith) l.tiled there
-        ∙ ap (λ (x : List (ℕ × ℕ)). free_list v (length m) (gap_before p (0, 0) x) (gaps_behind p x) p (freeing.words_at p (used_spans (blocks m)))) (sym (gaps-are m image closed h))
-        ∙ ap (λ (w : ℕ). free_list v (length m) (gap_before p (0, 0) gs) (gaps_behind p gs) p w) (sym block.words) in
+    plan-is m (without p) image closed h
+    ∙ freeing.free_plan v (length m) p (blocks m) (omega arith) l.tiled there
+    ∙ ap (λ (x : List (ℕ × ℕ)). free_list v (length m) (gap_before p (0, 0) x) (gaps_behind p x) p (freeing.words_at p (used_spans (blocks m)))) (sym (gaps-are m image closed h))
+    ∙ ap (λ (w : ℕ). free_list v (length m) (gap_before p (0, 0) gs) (gaps_behind p gs) p w) (sym block.words) in
     record {
       low = low;
       within = omega arith;
@@ -241,11 +241,11 @@ free-listed m p before at words next n items f a b k c d e =
     let v = slice_index (word m 0) 3 in
     let hs = gaps_behind p (gaps (means m)) in
     let same : items ≡ f.list =
-        e
-        ∙ ap (λ (g : ℕ × ℕ). put_hole v (length m) g at words next) a
-        ∙ ap (λ (x : ℕ). put_hole v (length m) (gap_before p (0, 0) (gaps (means m))) x words next) b
-        ∙ ap (λ (x : ℕ). put_hole v (length m) (gap_before p (0, 0) (gaps (means m))) p x next) c
-        ∙ ap (λ (x : ℕ). put_hole v (length m) (gap_before p (0, 0) (gaps (means m))) p (joined_words p n hs) x) d
-        ∙ ap (λ (x : ℕ). put_hole v (length m) (gap_before p (0, 0) (gaps (means m))) p (joined_words p x hs) (joined_next p x hs)) k
-        ∙ sym f.is in
+    e
+    ∙ ap (λ (g : ℕ × ℕ). put_hole v (length m) g at words next) a
+    ∙ ap (λ (x : ℕ). put_hole v (length m) (gap_before p (0, 0) (gaps (means m))) x words next) b
+    ∙ ap (λ (x : ℕ). put_hole v (length m) (gap_before p (0, 0) (gaps (means m))) p x next) c
+    ∙ ap (λ (x : ℕ). put_hole v (length m) (gap_before p (0, 0) (gaps (means m))) p (joined_words p n hs) x) d
+    ∙ ap (λ (x : ℕ). put_hole v (length m) (gap_before p (0, 0) (gaps (means m))) p (joined_words p x hs) (joined_next p x hs)) k
+    ∙ sym f.is in
     (same ∙ f.plan, subst (λ (l : List (ℕ × List ℕ)). Few (length m) l) (sym same) f.few)

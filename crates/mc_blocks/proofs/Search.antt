@@ -1,12 +1,12 @@
 -- The chain of holes, and a search along it.
-use Rattle.std.proofs.Common.{◌≡◌, ◌≢◌, ℕ, zero, suc, ◌+◌, ◌-◌, ◌*◌, ◌<◌, ◌≤◌, Bool, true, false, ◌&&◌, List, [], ◌∷◌, length, Option, Some, None, refl, sym, ◌∙◌, ap, subst, arith, cond, not}
+use Rattle.std.proofs.Common.{◌≡◌, ◌≢◌, ℕ, ◌+◌, ◌-◌, ◌<◌, ◌≤◌, Bool, true, false, List, [], ◌∷◌, length, Option, Some, None, refl, sym, ◌∙◌, ap, subst, arith, cond, not}
 use Rattle.std.specs.Prelude.{nat_le, ◌==◌}
-use Rattle.std.proofs.lemmas.Bool.{le-leb, lt-leb, eq-eqb, ne_eqb, eqb-true}
+use Rattle.std.proofs.lemmas.Bool.{leb-false, le-leb, lt-leb, ne_eqb, eqb-true}
 use Rattle.mc_model.specs.Bytes.{be2, or_else}
 use Rattle.mc_model.specs.Image.{Closed, look}
 use Rattle.mc_model.specs.Device.{IsImage}
-use Rattle.mc_model.specs.Card.{Card, Block, word, header, blocks, means, card_of}
-use Rattle.mc_model.specs.Layout.{first_hole, first_place, first_fitting, gaps, bad_link, bad_chain, IsWellLaid}
+use Rattle.mc_model.specs.Card.{Card, Block, word, header, blocks, means}
+use Rattle.mc_model.specs.Layout.{first_hole, first_place, first_fitting, gaps, bad_link, IsWellLaid}
 use Rattle.mc_blocks.specs.Chains.{Above, IsChain}
 use Rattle.mc_blocks.specs.Blocks.{hole_spans}
 use Rattle.mc_blocks.proofs.Steps.{HeaderIs, header-is}
@@ -150,8 +150,9 @@ search-begins m need place start steps x image closed h is here one =
 
 -- a hole that is too short is passed
 pub search-on : (m : List (List ℕ)) (need : ℕ) (whole : List (ℕ × ℕ)) (place start steps : ℕ) (x : List ℕ) (words next after : ℕ) → Search m need whole place start steps → place ≢ 0 → x ≡ word m place
-    → words ≡ be2 x 2 → words < need → next ≡ be2 x 4 → after ≡ steps + 1 → Search m need whole next start after
-search-on m need whole place start steps x words next after s ne is e short f one =
+    → words ≡ be2 x 2 → nat_le need words ≡ false → next ≡ be2 x 4 → after ≡ steps + 1 → Search m need whole next start after
+search-on m need whole place start steps x words next after s ne is e less f one =
+    let short : words < need = leb-false need words less in
     let way : OnTheWay m need whole place start steps = on-the-way m need whole place start steps s ne in
     let long : words ≡ be2 (word m place) 2 = e ∙ ap (λ (w : List ℕ). be2 w 2) is in
     let link : next ≡ be2 (word m place) 4 = f ∙ ap (λ (w : List ℕ). be2 w 4) is in

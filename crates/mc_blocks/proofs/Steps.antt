@@ -1,12 +1,11 @@
 -- One step of a walk by lengths: the block at a place, and the blocks behind it.
-use Rattle.std.proofs.Common.{◌≡◌, ℕ, zero, suc, ◌+◌, ◌-◌, ◌*◌, ◌<◌, ◌≤◌, Bool, true, false, ◌&&◌, ◌||◌, List, [], ◌∷◌, length, Option, Some, None, refl, sym, ◌∙◌, ap, subst, arith, cond, not}
-use Rattle.std.specs.Prelude.{nat_le, nat_lt, ◌==◌, slice_index}
-use Rattle.std.proofs.lemmas.Bool.{and_parts, leb-true, le-leb, lt-leb, leb-false, or_parts, lt-ltb, ltb-false, ltb-true, le-ltb}
+use Rattle.std.proofs.Common.{◌≡◌, ℕ, zero, suc, ◌+◌, ◌-◌, ◌<◌, ◌≤◌, Bool, true, false, ◌&&◌, ◌||◌, List, [], ◌∷◌, length, Option, Some, None, refl, sym, ◌∙◌, ap, subst, arith, cond}
+use Rattle.std.specs.Prelude.{nat_le, ◌==◌, slice_index}
+use Rattle.std.proofs.lemmas.Bool.{and_parts, leb-true}
 use Rattle.std.proofs.lemmas.List.{get_or_past}
 use Rattle.mc_model.specs.Bytes.{be2}
 use Rattle.mc_model.specs.Card.{Block, used_tag, hole_tag, word, is_header, header, block_and, blocks_from}
-use Rattle.mc_model.specs.Layout.{bad_header, next_block, is_hole, bad_block}
-use Rattle.mc_blocks.specs.Blocks.{fitting, blocks_at, bad_from}
+use Rattle.mc_blocks.specs.Blocks.{fitting, blocks_at}
 
 -- what is known of a block whose header was read
 pub record HeaderIs (p : ℕ) (x : List ℕ) (b : Block) : Type 0 where

@@ -1,9 +1,9 @@
 -- Words taken from the front of a hole: the blocks afterwards, and the headers that change.
-use Rattle.std.proofs.Common.{◌≡◌, ◌≢◌, ◌⊎◌, ℕ, zero, suc, ◌+◌, ◌-◌, ◌<◌, ◌≤◌, Bool, true, false, ◌&&◌, ◌||◌, List, [], ◌∷◌, ◌++◌, length, refl, sym, ◌∙◌, ap, subst, inl, inr, arith, cond, not}
-use Rattle.std.specs.Prelude.{nat_lt, nat_le, ◌==◌, bytes_eq}
-use Rattle.std.proofs.lemmas.Bool.{lt-ltb, le-ltb, ltb-true, ltb-false, eq-eqb, ne_eqb, eqb-true, eqb-false, and_parts, leb-true, or_cases, and_right, cases_lt}
-use Rattle.mc_model.specs.Card.{Card, Block, heap_start}
-use Rattle.mc_model.specs.Layout.{first_hole, first_place, hole_header, used_header, root, put_at}
+use Rattle.std.proofs.Common.{◌≡◌, ◌≢◌, ◌⊎◌, ℕ, ◌+◌, ◌-◌, ◌<◌, ◌≤◌, Bool, true, false, ◌&&◌, List, [], ◌∷◌, refl, sym, ◌∙◌, ap, subst, inl, inr, arith, cond, not}
+use Rattle.std.specs.Prelude.{nat_lt, nat_le, ◌==◌}
+use Rattle.std.proofs.lemmas.Bool.{le-ltb, ltb-true, ltb-false, eq-eqb, ne_eqb, eqb-true, and_parts, leb-true, or_cases}
+use Rattle.mc_model.specs.Card.{Block, heap_start}
+use Rattle.mc_model.specs.Layout.{first_hole, first_place, hole_header, used_header, put_at}
 use Rattle.mc_blocks.specs.Chains.{Above}
 use Rattle.mc_blocks.specs.Blocks.{used_spans, hole_spans}
 use Rattle.mc_blocks.specs.Plans.{changes, layout_of, link_word, has_room, gap_before, gaps_behind, take_list}
@@ -11,8 +11,8 @@ use Rattle.mc_blocks.proofs.Tiles.{Tiled, first-is}
 use Rattle.mc_blocks.proofs.Maps.{above-weaker, put-front}
 use Rattle.mc_blocks.proofs.Bridge.{used-above}
 use Rattle.mc_blocks.proofs.Search.{holes-above}
-use Rattle.mc_blocks.proofs.Changes.{From, from-weaker, under-same, under-other, second-same, links-differ, none-from}
-use Rattle.mc_blocks.proofs.Heads.{heads, heads-from, heads-behind, heads-same, layout-is}
+use Rattle.mc_blocks.proofs.Changes.{From, from-weaker, under-other, links-differ, none-from}
+use Rattle.mc_blocks.proofs.Heads.{heads, heads-from, heads-same, layout-is}
 use Rattle.mc_blocks.proofs.Claims.{Claim, not-before, later-either}
 
 -- a used block and a hole, each by its place and its words

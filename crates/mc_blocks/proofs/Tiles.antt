@@ -1,11 +1,10 @@
 -- Blocks side by side: their gaps are their holes.
-use Rattle.std.proofs.Common.{◌≡◌, ◌≢◌, ℕ, zero, suc, ◌+◌, ◌-◌, ◌<◌, ◌≤◌, Bool, true, false, ◌&&◌, List, [], ◌∷◌, ◌++◌, length, Option, Some, None, refl, sym, ◌∙◌, ap, subst, inl, inr, arith, cond, not, append-nil}
-use Rattle.std.specs.Prelude.{nat_le, nat_lt}
-use Rattle.std.specs.List.{AllByRecursion}
+use Rattle.std.proofs.Common.{◌≡◌, ℕ, zero, suc, ◌+◌, ◌-◌, ◌<◌, ◌≤◌, Bool, true, false, ◌&&◌, List, [], ◌∷◌, ◌++◌, length, Option, Some, None, refl, sym, ◌∙◌, ap, subst, inl, inr, arith, cond, not, append-nil}
+use Rattle.std.specs.Prelude.{nat_lt}
 use Rattle.std.proofs.lemmas.Bool.{lt-ltb, le-ltb, le-leb, cases_lt, or_parts}
 use Rattle.std.proofs.lemmas.List.{get_or_past}
 use Rattle.mc_model.specs.Card.{Block, word, header}
-use Rattle.mc_model.specs.Layout.{gap, gaps_from, first_place, first_hole, put_at, bad_header}
+use Rattle.mc_model.specs.Layout.{gap, gaps_from, first_place, first_hole, bad_header}
 use Rattle.mc_blocks.specs.Blocks.{fitting, blocks_at, bad_from, used_spans, hole_spans}
 use Rattle.mc_blocks.proofs.Steps.{HeaderIs, header-is, blocks_step, blocks_stop}
 use Rattle.mc_blocks.proofs.Headers.{bad_here, bad_behind, good_end}

@@ -29,7 +29,16 @@ impl Block {
 pub fn decode(place: u16, word: Word) -> Option<Block>
     ensures { read_block result ≡ header place word }
 {
-    let [tag, second, words_high, words_low, link_high, link_low, seventh, eighth] = word;
+    let [
+        tag,
+        second,
+        words_high,
+        words_low,
+        link_high,
+        link_low,
+        seventh,
+        eighth,
+    ] = word;
     let words = number_of(words_high, words_low);
     if (tag != USED && tag != HOLE) || second != 0 || words == 0 || seventh != 0 || eighth != 0 {
         return None;

@@ -49,5 +49,7 @@ pub fn root_word(version: u8, size: u16, first: u16) -> Word
 {
     let [size_high, size_low] = bytes_of(size);
     let [first_high, first_low] = bytes_of(first);
-    [b'M', b'E', b'L', version, size_high, size_low, first_high, first_low]
+    [
+        b'M', b'E', b'L', version, size_high, size_low, first_high, first_low,
+    ]
 }

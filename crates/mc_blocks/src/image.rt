@@ -46,16 +46,28 @@ fn first_fault<N: Nvm>(device: &N) -> Option<Unusable>
     ensures { fault_named result ≡ words_fault (N.state device.now).words }
 {
     if let Some(place) = missing_root(device) {
-        return Some(Unusable { cause: Cause::NoRoot, place });
+        return Some(Unusable {
+            cause: Cause::NoRoot,
+            place,
+        });
     }
     if let Some(place) = first_bad_header(device) {
-        return Some(Unusable { cause: Cause::BadBlock, place });
+        return Some(Unusable {
+            cause: Cause::BadBlock,
+            place,
+        });
     }
     if let Some(place) = first_bad_record(device) {
-        return Some(Unusable { cause: Cause::BadRecord, place });
+        return Some(Unusable {
+            cause: Cause::BadRecord,
+            place,
+        });
     }
     if let Some(place) = first_bad_place(device) {
-        return Some(Unusable { cause: Cause::BadChain, place });
+        return Some(Unusable {
+            cause: Cause::BadChain,
+            place,
+        });
     }
     None
 }

@@ -26,7 +26,15 @@ pub fn link_at<N: Nvm>(device: &N, place: u16) -> Link
     ensures words { result.words ≡ be2 (word (N.state device.now).words place) 2 }
     ensures next { result.next ≡ be2 (word (N.state device.now).words place) 4 }
 {
-    let header = device.read(place as u32);
+    link_of(place, device.read(place as u32))
+}
+
+/// A header with its place as a link.
+pub fn link_of(place: u16, header: Word) -> Link
+    ensures place { result.place ≡ place }
+    ensures words { result.words ≡ be2 header 2 }
+    ensures next { result.next ≡ be2 header 4 }
+{
     Link {
         place,
         words: number_of(header[2], header[3]),

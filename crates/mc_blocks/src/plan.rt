@@ -80,7 +80,10 @@ fn free_words<N: Nvm>(device: &N, before: &Link, hole: &Link) -> ArrayVec<(u16, 
 {
     let mut list = ArrayVec::new();
     if before.place != 0 && before.place + before.words == hole.place {
-        list.push((before.place, hole_word(before.words + hole.words, hole.next)));
+        list.push((
+            before.place,
+            hole_word(before.words + hole.words, hole.next),
+        ));
         return list;
     }
     list.push(relinked(device, before, hole.place));

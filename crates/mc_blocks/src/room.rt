@@ -1,4 +1,4 @@
-ghost use Rattle.std.specs.Prelude.{◌≡◌, ◌+◌, ◌≤◌, length};
+ghost use Rattle.std.specs.Prelude.{◌≡◌, ◌+◌, ◌≤◌, nat_le, length};
 ghost use Rattle.mc_model.specs.Image.{Closed, look};
 ghost use Rattle.mc_model.specs.Device.{IsImage};
 ghost use Rattle.mc_model.specs.Card.{means};
@@ -6,6 +6,7 @@ ghost use Rattle.mc_model.specs.Layout.{first_fitting, gaps, IsWellLaid};
 ghost use Rattle.mc_nvm.specs.Probe.{probed};
 
 use crate::header::number_of;
+use crate::link::{Link, link_of};
 use mc_base::Steps;
 use mc_nvm::{Nvm, Probe};
 use std::sync::ledger::Ledger;
@@ -13,7 +14,11 @@ use std::sync::ledger::Ledger;
 /// The place of the first hole of at least so many words, 1 or more, on a well laid image with no open journal; `None`
 /// where there is none. It follows the chain of holes and reads through the probe alone: one step for each read, at
 /// most two more than there are holes.
-pub fn first_fit<N: Nvm, L: Ledger>(device: &Probe<'_, N, L>, need: u16, steps: &mut Steps<L>) -> Option<u16>
+pub fn first_fit<N: Nvm, L: Ledger>(
+    device: &Probe<'_, N, L>,
+    need: u16,
+    steps: &mut Steps<L>,
+) -> Option<u16>
     requires image { IsImage (N.state (probed device.now)).words }
     requires closed { look (N.state (probed device.now)).words ≡ Closed }
     requires laid { IsWellLaid (N.state (probed device.now)).words }
@@ -25,11 +30,19 @@ pub fn first_fit<N: Nvm, L: Ledger>(device: &Probe<'_, N, L>, need: u16, steps: 
     let root = device.read(0, steps);
     let mut place = number_of(root[6], root[7]);
     while place != 0 {
-        let hole = device.read(place as u32, steps);
-        if number_of(hole[2], hole[3]) >= need {
+        let header = device.read(place as u32, steps);
+        let hole = link_of(place, header);
+        if is_long_enough(&hole, need) {
             return Some(place);
         }
-        place = number_of(hole[4], hole[5]);
+        place = hole.next;
     }
     None
+}
+
+// Whether a hole has so many words.
+fn is_long_enough(hole: &Link, need: u16) -> bool
+    ensures { result ≡ nat_le need hole.now.words }
+{
+    hole.words >= need
 }

@@ -1,4 +1,4 @@
-use Rattle.std.proofs.Common.{◌≡◌, ℕ, ap, sym, ◌∙◌}
+use Rattle.std.proofs.Common.{ℕ, ap, sym, ◌∙◌}
 use Rattle.mc_model.specs.Layout.{first_hole}
 use Rattle.mc_blocks.specs.Blocks.{block_of, blocks_at}
 use Rattle.mc_blocks.proofs.Chains.{hole_here, hole_behind}

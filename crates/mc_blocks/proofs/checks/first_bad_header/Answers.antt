@@ -1,5 +1,4 @@
-use Rattle.std.proofs.Common.{◌≡◌, ◌≤◌, ℕ, ◌+◌, length, ◌∙◌, sym, ap, subst, arith, not}
-use Rattle.mc_model.specs.Layout.{bad_block}
+use Rattle.std.proofs.Common.{ℕ, ◌∙◌, sym, ap, arith, not}
 use Rattle.mc_blocks.specs.Blocks.{block_of, bad_from}
 use Rattle.mc_blocks.proofs.Headers.{bad_behind, good_end}
 use Rattle.mc_blocks.proofs.checks.first_bad_header.Goals as goal

@@ -1,8 +1,8 @@
-use Rattle.std.proofs.Common.{◌≡◌, ◌∙◌, ℕ, [], List, sym, subst}
+use Rattle.std.proofs.Common.{ℕ, [], sym, subst}
 use Rattle.mc_model.specs.Card.{blocks}
 use Rattle.mc_model.specs.Layout.{bad_record}
 use Rattle.mc_blocks.specs.Blocks.{block_of}
-use Rattle.mc_blocks.proofs.Entries.{Entered, begun, ended, refused, admits}
+use Rattle.mc_blocks.proofs.Entries.{Entered, ended, refused, admits}
 use Rattle.mc_blocks.proofs.checks.first_bad_record.Goals as goal
 
 pub returns-then-not-admit : goal.returns-then-not-admit

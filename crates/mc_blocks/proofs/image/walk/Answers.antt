@@ -1,4 +1,4 @@
-use Rattle.std.proofs.Common.{◌≡◌, List, length, ap, sym, ◌∙◌}
+use Rattle.std.proofs.Common.{length, ap, sym, ◌∙◌}
 use Rattle.mc_model.specs.Card.{Card}
 use Rattle.mc_model.specs.Layout.{gaps}
 use Rattle.mc_blocks.proofs.Bridge.{Laid, laid, means-closed}

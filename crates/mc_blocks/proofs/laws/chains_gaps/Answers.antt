@@ -1,4 +1,4 @@
-use Rattle.std.proofs.Common.{◌≡◌, sym, ap, ◌∙◌}
+use Rattle.std.proofs.Common.{sym, ap, ◌∙◌}
 use Rattle.mc_model.specs.Layout.{first_place}
 use Rattle.mc_blocks.proofs.Search.{chain-of}
 use Rattle.mc_blocks.proofs.Links.{gaps-chain}

@@ -1,4 +1,4 @@
-use Rattle.std.proofs.Common.{◌≡◌, List, length, ap, ◌∙◌}
+use Rattle.std.proofs.Common.{length, ap, ◌∙◌}
 use Rattle.mc_model.specs.Card.{Card}
 use Rattle.mc_model.specs.Layout.{spans, gaps}
 use Rattle.mc_blocks.proofs.Bridge.{well-laid, means-closed}

@@ -1,4 +1,4 @@
-use Rattle.std.proofs.Common.{◌≡◌, ◌≤◌, ℕ, ◌+◌, length, ◌∙◌, ap, arith}
+use Rattle.std.proofs.Common.{◌≤◌, ℕ, length, ◌∙◌, ap, arith}
 use Rattle.mc_model.specs.Card.{means}
 use Rattle.mc_model.specs.Layout.{gaps}
 use Rattle.mc_blocks.specs.Plans.{gaps_behind, joined_words}

@@ -1,4 +1,4 @@
-use Rattle.std.proofs.Common.{◌≡◌, ◌≤◌, ℕ, length, arith}
+use Rattle.std.proofs.Common.{◌≤◌, length, arith}
 use Rattle.mc_blocks.proofs.Plans.{TakeIs, take-is, take-listed}
 use Rattle.mc_blocks.proofs.plan.take_plan.Goals as goal
 

@@ -1,3 +1,4 @@
+use Rattle.std.proofs.Common.{sym, ◌∙◌}
 use Rattle.mc_model.specs.Card.{means}
 use Rattle.mc_model.specs.Layout.{gaps}
 use Rattle.mc_nvm.specs.Probe.{probed}
@@ -12,5 +13,5 @@ loop-place-init g c =
 pub loop-place-preserved : goal.loop-place-preserved
 loop-place-preserved g c =
     let m = (g.N.Nvm.state (probed c.args.device.now)).words in
-    search-on m c.args.need (gaps (means m)) c.loop-place.place c.args.steps.now c.loop-place.steps c.read-hole.result c.number_of.result c.number_of-place-in-loop-place.result c.read-hole.new.steps
-    c.loop-place.invariant c.loop-place-test.true c.read-hole.ensures.word c.number_of.ensures c.if-number_of-need.false c.number_of-place-in-loop-place.ensures c.read-hole.ensures.ticks
+    search-on m c.args.need (gaps (means m)) c.loop-place.place c.args.steps.now c.loop-place.steps c.read-header.result c.link_of-hole.result.words c.link_of-hole.result.next c.read-header.new.steps
+    c.loop-place.invariant c.loop-place-test.true c.read-header.ensures.word c.link_of-hole.ensures.words (sym c.is_long_enough.ensures ∙ c.if-is_long_enough.false) c.link_of-hole.ensures.next c.read-header.ensures.ticks
