@@ -32,13 +32,15 @@ few-all m (b ∷ bs) names used low h =
     few-kind m names b used (bad_record m bs (name_in (record_at m b.place) ∷ names) (used + 1)) (bad_record m bs names used) (used_spans bs) b.used (admitted m b names used) refl
     (λ none more. few-all m bs (name_in (record_at m b.place) ∷ names) (used + 1) more none) (λ none. few-all m bs names used low none) h
 
+pub few-blocks : (m : List (List ℕ)) → Faultless m → length (used_spans (blocks m)) ≤ 32
+few-blocks m f = let few : 0 + length (used_spans (blocks m)) ≤ 32 = few-all m (blocks m) [] 0 (omega arith) f.records in omega (arith, few)
+
 pub few-applications : (m : List (List ℕ)) → IsImage m → look m ≡ Closed → IsWellLaid m → length (means m).apps ≤ 32
 few-applications m image closed h =
     let f : Faultless m = faultless m (sym (fault-closed m closed) ∙ h) in
     let l : Laid m = well-laid m image closed h in
     let same : length (means m).apps ≡ length (used_spans (blocks m)) = ap (λ (k : Card). length k.apps) (means-closed m closed) ∙ l.apps in
-    let few : 0 + length (used_spans (blocks m)) ≤ 32 = few-all m (blocks m) [] 0 (omega arith) f.records in
-    omega (arith, same, few)
+    omega (arith, same, few-blocks m f)
 
 -- ---- found by its name
 

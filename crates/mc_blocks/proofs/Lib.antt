@@ -15,3 +15,4 @@ pub mod Freeing
 pub mod Links
 pub mod Plans
 pub mod Applications
+pub mod Built

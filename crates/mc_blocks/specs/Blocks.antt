@@ -1,8 +1,8 @@
 -- What the code reads of a block, the blocks from a place on, and the spans of used blocks and of holes.
 -- This project's profile.
-use Rattle.std.specs.Prelude.{◌≡◌, ℕ, ◌+◌, ◌-◌, Bool, true, false, cond, not, ◌&&◌, ◌||◌, nat_le, nat_lt, ◌==◌, List, [], ◌∷◌, ◌++◌, length, take, map, slice_index, bytes_eq, Option, Some, None, MatchBool}
+use Rattle.std.specs.Prelude.{◌≡◌, ℕ, ◌+◌, ◌-◌, ◌<◌, ◌≤◌, Bool, true, false, cond, not, ◌&&◌, ◌||◌, nat_le, nat_lt, ◌==◌, List, [], ◌∷◌, ◌++◌, length, take, map, slice_index, bytes_eq, Option, Some, None, MatchBool}
 use Rattle.mc_model.specs.Bytes.{has_name}
-use Rattle.mc_model.specs.Card.{Block, blocks_from, record_at, name_in}
+use Rattle.mc_model.specs.Card.{Block, word, blocks_from, record_at, name_in}
 use Rattle.mc_model.specs.Layout.{is_record, root, bad_header, bad_block}
 use Rattle.mc_blocks.specs.declared.block.Block.{Block as Read}
 
@@ -58,3 +58,9 @@ used_spans (b ∷ bs) = cond b.used ((b.place, b.words) ∷ used_spans bs) (used
 abbrev pub hole_spans : List Block → List (ℕ × ℕ)
 hole_spans [] = []
 hole_spans (b ∷ bs) = cond b.used (hole_spans bs) ((b.place, b.words) ∷ hole_spans bs)
+
+-- words n with the header of each of these blocks of m, and all words of those that are used
+abbrev pub Agree : List (List ℕ) → List (List ℕ) → List Block → Type 0
+Agree m n [] = Unit {0}
+Agree m n (b ∷ bs) =
+    (word n b.place ≡ word m b.place) × (b.used ≡ true → (i : ℕ) → b.place ≤ i → i < b.place + b.words → word n i ≡ word m i) × Agree m n bs

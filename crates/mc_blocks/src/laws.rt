@@ -2,9 +2,9 @@ ghost use Rattle.std.specs.Prelude.{◌≡◌, ℕ, ◌≤◌, List, [], ◌∷�
 ghost use Rattle.mc_model.specs.Bytes.{be2, lookup, insert, remove};
 ghost use Rattle.mc_model.specs.Image.{Closed, look};
 ghost use Rattle.mc_model.specs.Device.{IsImage};
-ghost use Rattle.mc_model.specs.Card.{App, Card, needed, blocks, means, word};
-ghost use Rattle.mc_model.specs.Layout.{spans, spans_of, put_at, gaps, first_place, first_fitting, step_of, IsWellLaid};
-ghost use Rattle.mc_blocks.specs.Blocks.{used_spans, hole_spans};
+ghost use Rattle.mc_model.specs.Card.{App, Card, needed, blocks, card_of, means, word};
+ghost use Rattle.mc_model.specs.Layout.{spans, spans_of, put_at, gaps, first_place, first_fitting, step_of, words_fault, IsWellLaid};
+ghost use Rattle.mc_blocks.specs.Blocks.{used_spans, hole_spans, Agree};
 ghost use Rattle.mc_blocks.specs.Chains.{IsChain};
 ghost use Rattle.mc_blocks.specs.Plans.{changes, layout_of, plan, has_room, has_span, without};
 
@@ -25,6 +25,12 @@ pub fn chains_gaps()
 /// It has at most 32 applications.
 pub fn counts_applications()
     ensures { (m : List (List ℕ)) → IsImage m → look m ≡ Closed → IsWellLaid m → length (means m).apps ≤ 32 }
+{}
+
+/// Words with the same root, and in each block the same header and where it is used the same words, hold the same card.
+pub fn keeps_card()
+    ensures laid { (m n : List (List ℕ)) → IsImage m → words_fault m ≡ None → length n ≡ length m → word n 0 ≡ word m 0 → Agree m n (blocks m) → words_fault n ≡ None }
+    ensures card { (m n : List (List ℕ)) → IsImage m → words_fault m ≡ None → length n ≡ length m → word n 0 ≡ word m 0 → Agree m n (blocks m) → card_of n ≡ card_of m }
 {}
 
 /// Where the first gap of so many words is, there is room for them.
