@@ -4,9 +4,10 @@ ghost use Rattle.mc_model.specs.Layout.{hole_header, used_header, root};
 
 use mc_base::Word;
 
-/// The first byte of the header of a used block, and of a hole.
+/// The first byte of the header of a used block.
 pub const USED: u8 = 0x55;
 
+/// The first byte of the header of a hole.
 pub const HOLE: u8 = 0x48;
 
 /// The first word of the heap.

@@ -1,9 +1,9 @@
-ghost use Rattle.std.specs.Prelude.{◌≡◌, ℕ, ◌≤◌, List, [], ◌∷◌, length, true, false, Some, None};
+ghost use Rattle.std.specs.Prelude.{◌≡◌, ℕ, ◌-◌, ◌≤◌, List, [], ◌∷◌, length, true, false, Some, None};
 ghost use Rattle.mc_model.specs.Bytes.{be2, lookup, insert, remove};
-ghost use Rattle.mc_model.specs.Image.{Closed, look};
+ghost use Rattle.mc_model.specs.Image.{Closed, look, shut};
 ghost use Rattle.mc_model.specs.Device.{IsImage};
-ghost use Rattle.mc_model.specs.Card.{App, Card, needed, blocks, card_of, means, word};
-ghost use Rattle.mc_model.specs.Layout.{spans, spans_of, put_at, gaps, first_place, first_fitting, step_of, words_fault, IsWellLaid};
+ghost use Rattle.mc_model.specs.Card.{App, Card, needed, blocks, card_of, heap_start, means, word};
+ghost use Rattle.mc_model.specs.Layout.{spans, spans_of, put_at, gaps, hole_header, root, first_place, first_fitting, step_of, words_fault, IsWellLaid};
 ghost use Rattle.mc_blocks.specs.Blocks.{used_spans, hole_spans, Agree};
 ghost use Rattle.mc_blocks.specs.Chains.{IsChain};
 ghost use Rattle.mc_blocks.specs.Plans.{changes, layout_of, plan, has_room, has_span, without};
@@ -49,7 +49,14 @@ pub fn removes_span()
     ensures gone { (m : List (List ℕ)) (name : List ℕ) (app : App) → IsImage m → look m ≡ Closed → IsWellLaid m → lookup (means m).apps name ≡ Some app → spans_of (remove (means m).apps name) ≡ without app.place (spans (means m)) }
 {}
 
-/// Twelve words taken from an empty card of 8,192 words, and a block freed between two holes of twelve words.
+/// The words of an empty card of 8,192 words that `format_words` sets.
+pub fn format_rows()
+    ensures root { root 2 8192 heap_start ≡ 0x4D ∷ 0x45 ∷ 0x4C ∷ 2 ∷ 0x20 ∷ 0 ∷ 0 ∷ 0x83 ∷ [] }
+    ensures gate { shut ≡ 0x53 ∷ 0x48 ∷ 0x55 ∷ 0x54 ∷ 0x2D ∷ 0x2D ∷ 0x2D ∷ 0x2D ∷ [] }
+    ensures hole { hole_header (8192 - heap_start) 0 ≡ 0x48 ∷ 0 ∷ 0x1F ∷ 0x7D ∷ 0 ∷ 0 ∷ 0 ∷ 0 ∷ [] }
+{}
+
+/// Words taken from the front of a hole and of a whole hole, a block freed between two holes, and one that touches none.
 #[tactic(auto, unfolding(crate::specs::Plans::layout_of))]
 pub fn plan_rows()
     ensures taken { changes (layout_of 2 8192 []) (layout_of 2 8192 ((131, 12) ∷ []))
