@@ -1,13 +1,12 @@
 -- Words that hold the headers and records of blocks side by side are well laid, and words that agree in what is read mean the same card.
-use Rattle.std.proofs.Common.{◌≡◌, ◌≢◌, ℕ, zero, suc, ◌+◌, ◌-◌, ◌<◌, ◌≤◌, Bool, true, false, ◌&&◌, ◌||◌, List, [], ◌∷◌, ◌++◌, length, take, drop, Option, Some, None, refl, sym, ◌∙◌, ap, subst, arith, cond, not}
-use Rattle.std.specs.Prelude.{nat_le, nat_lt, ◌==◌, slice_index, MatchBool}
+use Rattle.std.proofs.Common.{◌≡◌, ℕ, zero, suc, ◌+◌, ◌<◌, ◌≤◌, Bool, true, false, ◌&&◌, ◌||◌, List, [], ◌∷◌, ◌++◌, length, take, Option, Some, None, refl, sym, ◌∙◌, ap, subst, arith, cond, not}
+use Rattle.std.specs.Prelude.{nat_lt, ◌==◌, slice_index, MatchBool}
 use Rattle.std.specs.List.{concat}
-use Rattle.std.proofs.lemmas.Bool.{le-ltb, lt-ltb, le-leb, eq-eqb, and_from, and_parts, eqb-true, cases_Bool}
+use Rattle.std.proofs.lemmas.Bool.{le-ltb, lt-ltb, le-leb, eq-eqb, and_from, and_parts, eqb-true}
 use Rattle.std.proofs.lemmas.List.{drop_more, get_or_past}
 use Rattle.mc_model.specs.Bytes.{be2, or_else, has_name, insert, up}
-use Rattle.mc_model.specs.Image.{Closed, look}
 use Rattle.mc_model.specs.Device.{IsImage}
-use Rattle.mc_model.specs.Card.{App, Card, Block, word, header, blocks, heap_start, cells, section, record_at, name_in, name_at, app_at, app_of, apps_of, card_of, needed_of}
+use Rattle.mc_model.specs.Card.{App, Block, word, header, blocks, heap_start, cells, section, record_at, name_in, name_at, app_at, app_of, apps_of, card_of, needed_of}
 use Rattle.mc_model.specs.Layout.{no_root, is_record, bad_header, bad_block, bad_record, bad_link, bad_chain, first_hole, by_cause, words_fault}
 use Rattle.mc_model.specs.declared.card.Cause.TheVariants.{NoRoot, BadBlock, BadRecord, BadChain}
 use Rattle.mc_blocks.specs.Blocks.{fitting, blocks_at, bad_from, admitted, used_spans, is_root_word, Follows, Agree}
