@@ -16,3 +16,4 @@ pub mod Links
 pub mod Plans
 pub mod Applications
 pub mod Built
+pub mod Written
