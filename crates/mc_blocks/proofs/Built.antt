@@ -125,11 +125,11 @@ abbrev App-of : ℕ → List ℕ → List ℕ → List ℕ → List ℕ → List
 App-of p r code fixed dir fci = record { code = code; fixed = fixed; session = be2 r 24; deny = be2 r 26; dir = dir; fci = fci; place = p }
 
 -- what a used block holds
-record SameBlock (m n : List (List ℕ)) (p : ℕ) : Type 0 where
-  entry : record_at n p ≡ record_at m p
-  app : app_at n p ≡ app_at m p
+pub record SameBlock (m n : List (List ℕ)) (p : ℕ) : Type 0 where
+  pub entry : record_at n p ≡ record_at m p
+  pub app : app_at n p ≡ app_at m p
 
-same-block : (m n : List (List ℕ)) (p words : ℕ) → length n ≡ length m → p + words ≤ length m → is_record (record_at m p) words ≡ true → ((i : ℕ) → p ≤ i → i < p + words → word n i ≡ word m i) → SameBlock m n p
+pub same-block : (m n : List (List ℕ)) (p words : ℕ) → length n ≡ length m → p + words ≤ length m → is_record (record_at m p) words ≡ true → ((i : ℕ) → p ≤ i → i < p + words → word n i ≡ word m i) → SameBlock m n p
 same-block m n p words size h good same =
     let r = record_at m p in
     let code = be2 r 20 in

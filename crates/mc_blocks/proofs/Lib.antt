@@ -17,3 +17,4 @@ pub mod Plans
 pub mod Applications
 pub mod Built
 pub mod Written
+pub mod Cards

@@ -101,7 +101,7 @@ new-read n p a (b ∷ bs) end few size t r =
 abbrev pub Kept : List (List ℕ) → List (List ℕ) → ℕ → List (ℕ × List ℕ) → Type 0
 Kept m n low list = (q : ℕ) → low ≤ q → AllByRecursion (λ p. p.0 ≢ q) list → word n q ≡ word m q
 
-from-apart : (q : ℕ) (l : List (ℕ × List ℕ)) (p : ℕ) → q < p → From p l → AllByRecursion (λ e. e.0 ≢ q) l
+pub from-apart : (q : ℕ) (l : List (ℕ × List ℕ)) (p : ℕ) → q < p → From p l → AllByRecursion (λ e. e.0 ≢ q) l
 from-apart q [] p lt f = tt
 from-apart q (e ∷ es) p lt f = let low : p ≤ e.0 = f.0 in ((λ h. absurd (omega (arith, h))), from-apart q es p lt f.1)
 
@@ -109,7 +109,7 @@ changes-kind : (p : ℕ) (e : ℕ × List ℕ) (l : List (ℕ × List ℕ)) (t :
 changes-kind p e l true h f = (h, f)
 changes-kind p e l false h f = f
 
-changes-from : (p : ℕ) (old new : List (ℕ × List ℕ)) → From p new → From p (changes old new)
+pub changes-from : (p : ℕ) (old new : List (ℕ × List ℕ)) → From p new → From p (changes old new)
 changes-from p old [] f = tt
 changes-from p old (e ∷ es) f = changes-kind p e (changes old es) (not (list_any (same_pair e) old)) f.0 (changes-from p old es f.1)
 
