@@ -188,7 +188,7 @@ same-all m n names (b ∷ bs) size r nm a =
       apps = some-apps n b bs ∙ all.2 ∙ sym (some-apps m b bs);
     }
 
-chain-parts : (x first : ℕ) (rest : Option ℕ) (t : Bool) → (x == first) ≡ t → or_else (cond t None (Some 0)) rest ≡ None → (x ≡ first) × (rest ≡ None)
+pub chain-parts : (x first : ℕ) (rest : Option ℕ) (t : Bool) → (x == first) ≡ t → or_else (cond t None (Some 0)) rest ≡ None → (x ≡ first) × (rest ≡ None)
 chain-parts x first rest true e h = (eqb-true x first e, h)
 chain-parts x first rest false e h = absurd (cc h)
 
@@ -204,7 +204,7 @@ pub record SameCard (m n : List (List ℕ)) : Type 0 where
   pub blocks : blocks n ≡ blocks m
   pub card : card_of n ≡ card_of m
 
-root-good : (m : List (List ℕ)) (t : Bool) → cond {A = Option ℕ} t None (Some 0) ≡ None → t ≡ true
+pub root-good : (m : List (List ℕ)) (t : Bool) → cond {A = Option ℕ} t None (Some 0) ≡ None → t ≡ true
 root-good m true h = refl
 root-good m false h = absurd (cc h)
 

@@ -28,7 +28,7 @@ abbrev pub In : ℕ × ℕ → List (ℕ × ℕ) → Type 0
 In s [] = ⊥
 In s (t ∷ ts) = (t ≡ s) ⊎ In s ts
 
-in-above : (p : ℕ) (s : ℕ × ℕ) (l : List (ℕ × ℕ)) → Above p l → In s l → p ≤ s.0
+pub in-above : (p : ℕ) (s : ℕ × ℕ) (l : List (ℕ × ℕ)) → Above p l → In s l → p ≤ s.0
 in-above p s [] a i = absurd i
 in-above p s (t ∷ ts) a i = elim i [ inl here ↦ subst (λ (x : ℕ × ℕ). p ≤ x.0) here a.0 | inr later ↦ in-above p s ts a.1 later ]
 
@@ -44,7 +44,7 @@ old-kind s b bs true i rest =
       | inr later ↦ or_right (same_pair (s.0, used_header s.1) (b.place, used_header b.words)) (list_any (same_pair (s.0, used_header s.1)) (heads bs)) (rest later)
     ]
 
-in-old : (s : ℕ × ℕ) (bs : List Block) → In s (used_spans bs) → list_any (same_pair (s.0, used_header s.1)) (heads bs) ≡ true
+pub in-old : (s : ℕ × ℕ) (bs : List Block) → In s (used_spans bs) → list_any (same_pair (s.0, used_header s.1)) (heads bs) ≡ true
 in-old s [] i = absurd i
 in-old s (b ∷ bs) i = old-kind s b bs b.used i (in-old s bs)
 

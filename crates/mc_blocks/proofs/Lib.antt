@@ -18,3 +18,4 @@ pub mod Applications
 pub mod Built
 pub mod Written
 pub mod Cards
+pub mod Outcome

@@ -149,41 +149,43 @@ root-word : (v s f : ℕ) → (v == 1 || v == 2) ≡ true → is_root_word (root
 root-word v s f h = and_from (v == 1 || v == 2) (bytes_eq (take 6 (root v s 0)) (take 6 (root v s 0))) h ((bytes_eq-Decides (take 6 (root v s 0)) (take 6 (root v s 0))).1 refl)
 
 -- word 0 after the plan: the root that names the first hole
-record RootIs (n : List (List ℕ)) (s place : ℕ) : Type 0 where
+record RootIs (m n : List (List ℕ)) (s place : ℕ) : Type 0 where
   root : is_root_word (word n 0) s ≡ true
   first : be2 (word n 0) 6 ≡ place
+  version : slice_index (word n 0) 3 ≡ slice_index (word m 0) 3
 
 root-is : (m n : List (List ℕ)) (v s f g : ℕ) (rest : List (ℕ × List ℕ)) → v ≡ slice_index (word m 0) 3 → f < 65536 → g < 65536 → is_root_word (word m 0) s ≡ true → be2 (word m 0) 6 ≡ f → From 131 rest
-    → Holds n (changes ((0, root v s f) ∷ []) ((0, root v s g) ∷ []) ++ rest) → (AllByRecursion (λ p. p.0 ≢ 0) (changes ((0, root v s f) ∷ []) ((0, root v s g) ∷ []) ++ rest) → word n 0 ≡ word m 0) → RootIs n s g
+    → Holds n (changes ((0, root v s f) ∷ []) ((0, root v s g) ∷ []) ++ rest) → (AllByRecursion (λ p. p.0 ≢ 0) (changes ((0, root v s f) ∷ []) ((0, root v s g) ∷ []) ++ rest) → word n 0 ≡ word m 0) → RootIs m n s g
 root-is m n v s f g rest version low high good first far holds kept =
     elim (cases_eq f g) [
       | inl same ↦
           let none : changes ((0, root v s f) ∷ []) ((0, root v s g) ∷ []) ≡ [] = ap (λ (x : ℕ). changes ((0, root v s f) ∷ []) ((0, root v s x) ∷ [])) (sym same) ∙ one-same (0, root v s f) in
           let free : AllByRecursion (λ p. p.0 ≢ 0) (changes ((0, root v s f) ∷ []) ((0, root v s g) ∷ []) ++ rest) = subst (λ (l : List (ℕ × List ℕ)). AllByRecursion (λ (p : ℕ × List ℕ). p.0 ≢ 0) (l ++ rest)) (sym none) (from-apart 0 rest 131 (omega arith) far) in
           let stays : word n 0 ≡ word m 0 = kept free in
-          record { root = ap (λ (w : List ℕ). is_root_word w s) stays ∙ good; first = ap (λ (w : List ℕ). be2 w 6) stays ∙ first ∙ same }
+          record { root = ap (λ (w : List ℕ). is_root_word w s) stays ∙ good; first = ap (λ (w : List ℕ). be2 w 6) stays ∙ first ∙ same; version = ap (λ (w : List ℕ). slice_index w 3) stays }
       | inr apart ↦
           let other : changes ((0, root v s f) ∷ []) ((0, root v s g) ∷ []) ≡ (0, root v s g) ∷ [] = one-other (0, root v s f) (0, root v s g) (links-differ v s (0, 0) g f high low (λ e. apart (sym e))) in
           let all : Holds n ((0, root v s g) ∷ rest) = subst (λ (l : List (ℕ × List ℕ)). Holds n (l ++ rest)) other holds in
           let versions : (v == 1 || v == 2) ≡ true = subst (λ (x : ℕ). (x == 1 || x == 2) ≡ true) (sym version) (and_parts (slice_index (word m 0) 3 == 1 || slice_index (word m 0) 3 == 2) (bytes_eq (take 6 (word m 0)) (take 6 (root (slice_index (word m 0) 3) s 0))) good).0 in
-          record { root = ap (λ (w : List ℕ). is_root_word w s) all.0 ∙ root-word v s g versions; first = ap (λ (w : List ℕ). be2 w 6) all.0 ∙ two-bytes g high }
+          record { root = ap (λ (w : List ℕ). is_root_word w s) all.0 ∙ root-word v s g versions; first = ap (λ (w : List ℕ). be2 w 6) all.0 ∙ two-bytes g high; version = ap (λ (w : List ℕ). slice_index w 3) all.0 ∙ version }
     ]
 
 -- ---- the blocks afterwards
 
 -- what stands after a plan: all but the records
-pub record Relaid (n : List (List ℕ)) (bs : List Block) : Type 0 where
+pub record Relaid (m n : List (List ℕ)) (bs : List Block) : Type 0 where
+  pub version : slice_index (word n 0) 3 ≡ slice_index (word m 0) 3
   pub root : is_root_word (word n 0) (length n) ≡ true
   pub first : be2 (word n 0) 6 ≡ first_hole (relink bs)
   pub tiled : Tiled 131 false (relink bs) (length n)
   pub read : AreRead n (relink bs)
   pub links : bad_link (relink bs) ≡ None
 
-second-part : (n : List (List ℕ)) (xs ys : List (ℕ × List ℕ)) → Holds n (xs ++ ys) → Holds n ys
+pub second-part : (n : List (List ℕ)) (xs ys : List (ℕ × List ℕ)) → Holds n (xs ++ ys) → Holds n ys
 second-part n [] ys h = h
 second-part n (x ∷ xs) ys h = second-part n xs ys h.1
 
-root-apart : (v s f g q : ℕ) → 131 ≤ q → (t : Bool) → AllByRecursion {X = ℕ × List ℕ} (λ p. p.0 ≢ q) (cond (not t) ((0, root v s g) ∷ []) [])
+pub root-apart : (v s f g q : ℕ) → 131 ≤ q → (t : Bool) → AllByRecursion {X = ℕ × List ℕ} (λ p. p.0 ≢ q) (cond (not t) ((0, root v s g) ∷ []) [])
 root-apart v s f g q low true = tt
 root-apart v s f g q low false = ((λ e. absurd (omega (arith, e))), tt)
 
@@ -192,7 +194,7 @@ pub written : (m n : List (List ℕ)) (bs new : List Block) → length m < 65536
     → Holds n (changes (link_word (slice_index (word m 0) 3) (length m) (0, 0) (first_hole bs) ∷ heads bs) (link_word (slice_index (word m 0) 3) (length m) (0, 0) (first_hole new) ∷ heads new))
     → (AllByRecursion (λ p. p.0 ≢ 0) (changes (link_word (slice_index (word m 0) 3) (length m) (0, 0) (first_hole bs) ∷ heads bs) (link_word (slice_index (word m 0) 3) (length m) (0, 0) (first_hole new) ∷ heads new)) → word n 0 ≡ word m 0)
     → Kept m n 131 (changes (link_word (slice_index (word m 0) 3) (length m) (0, 0) (first_hole bs) ∷ heads bs) (link_word (slice_index (word m 0) 3) (length m) (0, 0) (first_hole new) ∷ heads new))
-    → Relaid n new
+    → Relaid m n new
 written m n bs new few size good first tiled read links later holds zero-kept kept =
     let v = slice_index (word m 0) 3 in
     let s = length m in
@@ -206,9 +208,10 @@ written m n bs new few size good first tiled read links later holds zero-kept ke
     subst (λ (l : List (ℕ × List ℕ)). AllByRecursion (λ (p : ℕ × List ℕ). p.0 ≢ 0) l → word n 0 ≡ word m 0) parts zero-kept in
     let split-kept : Kept m n 131 (changes (old-root ∷ []) (new-root ∷ []) ++ changes (heads bs) (heads new)) = subst (λ (l : List (ℕ × List ℕ)). Kept m n 131 l) parts kept in
     let heads-kept : Kept m n 131 (changes (heads bs) (heads new)) = λ q low apart. split-kept q low (all-append (λ (p : ℕ × List ℕ). p.0 ≢ q) (changes (old-root ∷ []) (new-root ∷ [])) (changes (heads bs) (heads new)) (root-apart v s (first_hole bs) (first_hole new) q low (list_any (same_pair new-root) (old-root ∷ []))) apart) in
-    let r : RootIs n s (first_hole new) = root-is m n v s (first_hole bs) (first_hole new) (changes (heads bs) (heads new)) refl (first-small 131 false bs s tiled few) (first-small 131 false new s later few) good first (changes-from 131 (heads bs) (heads new) (heads-from 131 false new s later)) split-holds split-zero in
+    let r : RootIs m n s (first_hole new) = root-is m n v s (first_hole bs) (first_hole new) (changes (heads bs) (heads new)) refl (first-small 131 false bs s tiled few) (first-small 131 false new s later few) good first (changes-from 131 (heads bs) (heads new) (heads-from 131 false new s later)) split-holds split-zero in
     let all : AllRead n (heads new) = heads-read m n 131 (heads bs) 131 false new s (old-read m 131 false bs s few tiled read links) (omega arith) later (second-part n (changes (old-root ∷ []) (new-root ∷ [])) (changes (heads bs) (heads new)) split-holds) heads-kept in
     record {
+      version = r.version;
       root = subst (λ (x : ℕ). is_root_word (word n 0) x ≡ true) (sym size) r.root;
       first = r.first ∙ sym (relink-first new);
       tiled = subst (λ (x : ℕ). Tiled 131 false (relink new) x) (sym size) (relink-tiled 131 false new s later);
