@@ -77,17 +77,18 @@ pub record Found (m : List (List ℕ)) (n : List ℕ) (bs : List Block) (p : ℕ
   pub low : p ≤ a.place
   pub span : has_span a.place (used_spans bs) ≡ true
   pub one : OneAt n a.place (apps_of m bs)
+  pub name : name_at m a.place ≡ n
 
 found-kind : (m : List (List ℕ)) (n : List ℕ) (a : App) (b : Block) (bs : List Block) (names : List (List ℕ)) (u t : Bool) → 1 ≤ b.words → bytes_eq (name_at m b.place) n ≡ t
     → MatchBool u ((is_record (record_at m b.place) b.words ≡ true) × (has_name (name_at m b.place) names ≡ false) × AreNamed m (name_at m b.place ∷ names) bs) (AreNamed m names bs)
     → ((ns : List (List ℕ)) → AreNamed m ns bs → lookup (apps_of m bs) n ≡ Some a → Found m n bs (b.place + b.words) a)
     → ((ns : List (List ℕ)) (k : List ℕ) → has_name k ns ≡ true → AreNamed m ns bs → Free k b.place (apps_of m bs))
     → lookup (cond u (with-block m b bs) (apps_of m bs)) n ≡ Some a
-    → (b.place ≤ a.place) × (has_span a.place (cond u ((b.place, b.words) ∷ used_spans bs) (used_spans bs)) ≡ true) × OneAt n a.place (cond u (with-block m b bs) (apps_of m bs))
+    → (b.place ≤ a.place) × (has_span a.place (cond u ((b.place, b.words) ∷ used_spans bs) (used_spans bs)) ≡ true) × OneAt n a.place (cond u (with-block m b bs) (apps_of m bs)) × (name_at m a.place ≡ n)
 found-kind m n a b bs names false t long e nm rest free l =
     let f = rest names nm l in
     let low : b.place + b.words ≤ a.place = f.low in
-    (omega arith, f.span, f.one)
+    (omega arith, f.span, f.one, f.name)
 found-kind m n a b bs names true true long e nm rest free l =
     let k = name_at m b.place in
     let is : Some (app_at m b.place) ≡ Some a = sym (lookup-insert (apps_of m bs) k n (app_at m b.place) ∙ ap (λ (x : Bool). cond x (Some (app_at m b.place)) (lookup (apps_of m bs) n)) e) ∙ l in
@@ -97,6 +98,7 @@ found-kind m n a b bs names true true long e nm rest free l =
       omega (arith, place),
       or_left (b.place == a.place) (has_span a.place (used_spans bs)) (eq-eqb b.place a.place place),
       one-insert (apps_of m bs) n k a.place (app_at m b.place) (e ∙ sym (eq-eqb b.place a.place place)) (free-one n a.place (apps_of m bs) (subst (λ (q : ℕ). Free n q (apps_of m bs)) place clear)),
+      sym (ap (λ (q : ℕ). name_at m q) place) ∙ same-name k n e,
     )
 found-kind m n a b bs names true false long e nm rest free l =
     let k = name_at m b.place in
@@ -104,7 +106,7 @@ found-kind m n a b bs names true false long e nm rest free l =
     let f = rest (k ∷ names) nm.2 behind in
     let low : b.place + b.words ≤ a.place = f.low in
     let ne : b.place ≢ a.place = λ h. absurd (omega (arith, h)) in
-    (omega arith, or_right (b.place == a.place) (has_span a.place (used_spans bs)) f.span, one-insert (apps_of m bs) n k a.place (app_at m b.place) (e ∙ sym (ne_eqb b.place a.place ne)) f.one)
+    (omega arith, or_right (b.place == a.place) (has_span a.place (used_spans bs)) f.span, one-insert (apps_of m bs) n k a.place (app_at m b.place) (e ∙ sym (ne_eqb b.place a.place ne)) f.one, f.name)
 
 found-all : (m : List (List ℕ)) (n : List ℕ) (a : App) (bs : List Block) (p : ℕ) (x : Bool) (end : ℕ) (names : List (List ℕ)) → Tiled p x bs end → AreNamed m names bs → lookup (apps_of m bs) n ≡ Some a → Found m n bs p a
 found-all m n a [] p x end names t nm l = absurd (cc (sym (ap (λ (es : List (List ℕ × App)). lookup es n) (no-apps m)) ∙ l))
@@ -115,13 +117,21 @@ found-all m n a (b ∷ bs) p x end names t nm l =
     (λ ns ok h. subst (λ (q : ℕ). Found m n bs (q + b.words) a) (sym place) (found-all m n a bs (p + b.words) (not b.used) end ns t.3 ok h))
     (λ ns k is ok. free-all m bs (p + b.words) (not b.used) end ns k b.place t.3 (omega arith) is ok)
     (sym (ap (λ (es : List (List ℕ × App)). lookup es n) (some-apps m b bs)) ∙ l) in
-    record { low = omega (arith, f.0, place); span = f.1; one = subst (λ (es : List (List ℕ × App)). OneAt n a.place es) (sym (some-apps m b bs)) f.2 }
+    record { low = omega (arith, f.0, place); span = f.1; one = subst (λ (es : List (List ℕ × App)). OneAt n a.place es) (sym (some-apps m b bs)) f.2; name = f.3 }
 
-pub found-application : (m : List (List ℕ)) (n : List ℕ) (a : App) → IsImage m → look m ≡ Closed → IsWellLaid m → lookup (means m).apps n ≡ Some a → (has_span a.place (spans (means m)) ≡ true) × OneAt n a.place (means m).apps
+-- an application that is found by its name: its span, its place and its name
+pub record FoundIn (m : List (List ℕ)) (n : List ℕ) (a : App) : Type 0 where
+  pub span : has_span a.place (spans (means m)) ≡ true
+  pub one : OneAt n a.place (means m).apps
+  pub name : name_at m a.place ≡ n
+
+pub found-application : (m : List (List ℕ)) (n : List ℕ) (a : App) → IsImage m → look m ≡ Closed → IsWellLaid m → lookup (means m).apps n ≡ Some a → FoundIn m n a
 found-application m n a image closed h l =
     let f : Faultless m = faultless m (sym (fault-closed m closed) ∙ h) in
     let laid : Laid m = well-laid m image closed h in
-    let found : Found m n (blocks m) 131 a = found-all m n a (blocks m) 131 false (length m) [] laid.tiled (named m (blocks m) [] 0 f.records) (sym (ap (λ (k : Card). lookup k.apps n) (means-closed m closed)) ∙ l) in (
-      subst (λ (ss : List (ℕ × ℕ)). has_span a.place ss ≡ true) (sym (ap (λ (k : Card). spans k) (means-closed m closed) ∙ laid.spans)) found.span,
-      subst (λ (k : Card). OneAt n a.place k.apps) (sym (means-closed m closed)) found.one,
-    )
+    let found : Found m n (blocks m) 131 a = found-all m n a (blocks m) 131 false (length m) [] laid.tiled (named m (blocks m) [] 0 f.records) (sym (ap (λ (k : Card). lookup k.apps n) (means-closed m closed)) ∙ l) in
+    record {
+      span = subst (λ (ss : List (ℕ × ℕ)). has_span a.place ss ≡ true) (sym (ap (λ (k : Card). spans k) (means-closed m closed) ∙ laid.spans)) found.span;
+      one = subst (λ (k : Card). OneAt n a.place k.apps) (sym (means-closed m closed)) found.one;
+      name = found.name;
+    }

@@ -18,7 +18,8 @@ use Rattle.mc_blocks.proofs.Applications.{lookup-insert}
 use Rattle.mc_blocks.proofs.Taking.{used_block, free_block, rest_of, take_in, RoomAt, room-at, taken-here, taken-later}
 use Rattle.mc_blocks.proofs.Maps.{names-apart, has-self, has-more}
 use Rattle.mc_blocks.proofs.Freeing.{with_hole, free_in, SpanAt, span-at, Touches, Later, freed-here, freed-touching, freed-later}
-use Rattle.mc_blocks.proofs.Written.{relink, Kept, from-apart, changes-from}
+use Rattle.mc_blocks.proofs.Names.{insert-swap}
+use Rattle.mc_blocks.proofs.Written.{relink, from-apart, changes-from}
 use Rattle.mc_blocks.proofs.Built.{SameBlock, same-block}
 
 -- ---- the words that a plan leaves
@@ -202,21 +203,17 @@ rest-apps n p need b bs false = refl
 
 -- ---- a block created
 
--- insertions of two names in either order
-abbrev pub Swaps : Type 0
-Swaps = (es : List (List ℕ × App)) (n : List ℕ) (a : App) (k : List ℕ) (b : App) → bytes_eq n k ≡ false → insert (insert es n a) k b ≡ insert (insert es k b) n a
-
 pub record Created (m n : List (List ℕ)) (names : List (List ℕ)) (k : List ℕ) (a : App) (bs new : List Block) : Type 0 where
   pub named : AreNamed n names new
   pub apps : apps_of n new ≡ insert (apps_of m bs) k a
 
-created-kind : (m n : List (List ℕ)) (names : List (List ℕ)) (k : List ℕ) (a : App) (b : Block) (bs new : List Block) (u : Bool) → Swaps → has_name k names ≡ false → (u ≡ true → bytes_eq (name_at m b.place) k ≡ false) → (u ≡ true → SameBlock m n b.place)
+created-kind : (m n : List (List ℕ)) (names : List (List ℕ)) (k : List ℕ) (a : App) (b : Block) (bs new : List Block) (u : Bool) → has_name k names ≡ false → (u ≡ true → bytes_eq (name_at m b.place) k ≡ false) → (u ≡ true → SameBlock m n b.place)
     → MatchBool u ((is_record (record_at m b.place) b.words ≡ true) × (has_name (name_at m b.place) names ≡ false) × AreNamed m (name_at m b.place ∷ names) bs) (AreNamed m names bs)
     → ((ns : List (List ℕ)) → has_name k ns ≡ false → AreNamed m ns bs → Created m n ns k a bs new)
     → MatchBool u ((is_record (record_at n b.place) b.words ≡ true) × (has_name (name_at n b.place) names ≡ false) × AreNamed n (name_at n b.place ∷ names) new) (AreNamed n names new)
     × (cond u (insert (apps_of n new) (name_at n b.place) (app_at n b.place)) (apps_of n new) ≡ insert (cond u (with-block m b bs) (apps_of m bs)) k a)
-created-kind m n names k a b bs new false swaps fresh apart block nm rest = let c = rest names fresh nm in (c.named, c.apps)
-created-kind m n names k a b bs new true swaps fresh apart block nm rest =
+created-kind m n names k a b bs new false fresh apart block nm rest = let c = rest names fresh nm in (c.named, c.apps)
+created-kind m n names k a b bs new true fresh apart block nm rest =
     let x = name_at m b.place in
     let c = rest (x ∷ names) (ap (λ (t : Bool). t || has_name k names) (apart refl) ∙ fresh) nm.2 in
     let e : record_at n b.place ≡ record_at m b.place = (block refl).entry in
@@ -225,14 +222,14 @@ created-kind m n names k a b bs new true swaps fresh apart block nm rest =
       ap (λ (y : List ℕ). insert (apps_of n new) y (app_at n b.place)) name
           ∙ ap (λ (y : App). insert (apps_of n new) x y) (block refl).app
           ∙ ap (λ (es : List (List ℕ × App)). insert es x (app_at m b.place)) c.apps
-          ∙ swaps (apps_of m bs) k a x (app_at m b.place) (turned x k (apart refl)),
+          ∙ insert-swap (apps_of m bs) k a x (app_at m b.place) (turned x k (apart refl)),
     )
 
-pub created : (m n : List (List ℕ)) (p need q : ℕ) (a : Bool) (names : List (List ℕ)) (bs : List Block) (end : ℕ) → Swaps → Tiled q a bs end → AreNamed m names bs → SameUsed m n p bs → NotNamed m (name_at n p) bs → has_room p need (hole_spans bs) ≡ true
+pub created : (m n : List (List ℕ)) (p need q : ℕ) (a : Bool) (names : List (List ℕ)) (bs : List Block) (end : ℕ) → Tiled q a bs end → AreNamed m names bs → SameUsed m n p bs → NotNamed m (name_at n p) bs → has_room p need (hole_spans bs) ≡ true
     → has_name (name_at n p) names ≡ false → is_record (record_at n p) need ≡ true → Created m n names (name_at n p) (app_at n p) bs (take_in p need bs)
 unfolding RoomAt OneMore
-created m n p need q a names [] end swaps t nm s free room fresh good = absurd (cc room)
-created m n p need q a names (b ∷ bs) end swaps t nm s free room fresh good =
+created m n p need q a names [] end t nm s free room fresh good = absurd (cc room)
+created m n p need q a names (b ∷ bs) end t nm s free room fresh good =
     let k = name_at n p in
     let place : b.place ≡ q = t.0 in
     let long : 1 ≤ b.words = t.1 in
@@ -248,8 +245,8 @@ created m n p need q a names (b ∷ bs) end swaps t nm s free room fresh good =
           (record { named = (good, fresh, rest-named n p need (k ∷ names) b bs (nat_lt need b.words) same.named); apps = apps })
       | inr later ↦
           let ne : b.place ≢ p = λ e. absurd (omega (arith, e, later.2)) in
-          let c = created-kind m n names k (app_at n p) b bs (take_in p need bs) b.used swaps fresh free.0 (λ u. s.0 u ne) nm
-          (λ ns no ok. created m n p need (q + b.words) (not b.used) ns bs end swaps t.3 ok s.1 free.1 later.1 no good) in
+          let c = created-kind m n names k (app_at n p) b bs (take_in p need bs) b.used fresh free.0 (λ u. s.0 u ne) nm
+          (λ ns no ok. created m n p need (q + b.words) (not b.used) ns bs end t.3 ok s.1 free.1 later.1 no good) in
           subst (λ (l : List Block). Created m n names k (app_at n p) (b ∷ bs) l) (sym (taken-later p need b bs later.0))
           (record { named = c.0; apps = some-apps n b (take_in p need bs) ∙ c.1 ∙ ap (λ (es : List (List ℕ × App)). insert es k (app_at n p)) (sym (some-apps m b bs)) })
     ]
@@ -324,14 +321,14 @@ deleted-here m n p q h w a names b bs end used place lt t s nm =
       gone = ap (λ (es : List (List ℕ × App)). lookup es k) apps ∙ absent m k (k ∷ names) bs (has-self k names) behind;
     }
 
-deleted-kind : (m n : List (List ℕ)) (names : List (List ℕ)) (k : List ℕ) (a : App) (b : Block) (bs new : List Block) (u : Bool) → Swaps → (u ≡ true → bytes_eq k (name_at m b.place) ≡ false) → (u ≡ true → SameBlock m n b.place)
+deleted-kind : (m n : List (List ℕ)) (names : List (List ℕ)) (k : List ℕ) (a : App) (b : Block) (bs new : List Block) (u : Bool) → (u ≡ true → bytes_eq k (name_at m b.place) ≡ false) → (u ≡ true → SameBlock m n b.place)
     → MatchBool u ((is_record (record_at m b.place) b.words ≡ true) × (has_name (name_at m b.place) names ≡ false) × AreNamed m (name_at m b.place ∷ names) bs) (AreNamed m names bs)
     → ((ns : List (List ℕ)) → AreNamed m ns bs → Deleted m n ns k a bs new)
     → MatchBool u ((is_record (record_at n b.place) b.words ≡ true) × (has_name (name_at n b.place) names ≡ false) × AreNamed n (name_at n b.place ∷ names) new) (AreNamed n names new)
     × (cond u (with-block m b bs) (apps_of m bs) ≡ insert (cond u (insert (apps_of n new) (name_at n b.place) (app_at n b.place)) (apps_of n new)) k a)
     × (lookup (cond u (insert (apps_of n new) (name_at n b.place) (app_at n b.place)) (apps_of n new)) k ≡ None)
-deleted-kind m n names k a b bs new false swaps apart block nm rest = let d = rest names nm in (d.named, d.apps, d.gone)
-deleted-kind m n names k a b bs new true swaps apart block nm rest =
+deleted-kind m n names k a b bs new false apart block nm rest = let d = rest names nm in (d.named, d.apps, d.gone)
+deleted-kind m n names k a b bs new true apart block nm rest =
     let x = name_at m b.place in
     let d = rest (x ∷ names) nm.2 in
     let e : record_at n b.place ≡ record_at m b.place = (block refl).entry in
@@ -339,7 +336,7 @@ deleted-kind m n names k a b bs new true swaps apart block nm rest =
     let inserted : insert (apps_of n new) (name_at n b.place) (app_at n b.place) ≡ insert (apps_of n new) x (app_at m b.place) =
     ap (λ (y : List ℕ). insert (apps_of n new) y (app_at n b.place)) name ∙ ap (λ (y : App). insert (apps_of n new) x y) (block refl).app in (
       (subst (λ (r : List ℕ). is_record r b.words ≡ true) (sym e) nm.0, subst (λ (y : List ℕ). has_name y names ≡ false) (sym name) nm.1, subst (λ (y : List ℕ). AreNamed n (y ∷ names) new) (sym name) d.named),
-      ap (λ (es : List (List ℕ × App)). insert es x (app_at m b.place)) d.apps ∙ swaps (apps_of n new) k a x (app_at m b.place) (apart refl) ∙ ap (λ (es : List (List ℕ × App)). insert es k a) (sym inserted),
+      ap (λ (es : List (List ℕ × App)). insert es x (app_at m b.place)) d.apps ∙ insert-swap (apps_of n new) k a x (app_at m b.place) (apart refl) ∙ ap (λ (es : List (List ℕ × App)). insert es k a) (sym inserted),
       ap (λ (es : List (List ℕ × App)). lookup es k) inserted
           ∙ lookup-insert (apps_of n new) x k (app_at m b.place)
           ∙ ap (λ (t : Bool). cond t (Some (app_at m b.place)) (lookup (apps_of n new) k)) (turned k x (apart refl))
@@ -370,11 +367,11 @@ first-name : (m : List (List ℕ)) (names : List (List ℕ)) (b : Block) (bs : L
 first-name m names b bs true nm h = nm.2
 first-name m names b bs false nm h = absurd (cc h)
 
-pub deleted : (m n : List (List ℕ)) (p q : ℕ) (a : Bool) (names : List (List ℕ)) (bs : List Block) (end : ℕ) → Swaps → Tiled q a bs end → AreNamed m names bs → SameUsed m n p bs → has_span p (used_spans bs) ≡ true
+pub deleted : (m n : List (List ℕ)) (p q : ℕ) (a : Bool) (names : List (List ℕ)) (bs : List Block) (end : ℕ) → Tiled q a bs end → AreNamed m names bs → SameUsed m n p bs → has_span p (used_spans bs) ≡ true
     → Deleted m n names (name_at m p) (app_at m p) bs (free_in p bs)
 unfolding SpanAt
-deleted m n p q a names [] end swaps t nm s span = absurd (cc span)
-deleted m n p q a names (b ∷ bs) end swaps t nm s span =
+deleted m n p q a names [] end t nm s span = absurd (cc span)
+deleted m n p q a names (b ∷ bs) end t nm s span =
     let k = name_at m p in
     let place : b.place ≡ q = t.0 in
     let long : 1 ≤ b.words = t.1 in
@@ -385,9 +382,9 @@ deleted m n p q a names (b ∷ bs) end swaps t nm s span =
       | inr (inl touch) ↦ deleted-touch m n p q a names b touch.next touch.rest bs end touch.is t touch.hole touch.other touch.used touch.place s nm
       | inr (inr later) ↦
           let ne : b.place ≢ p = λ e. absurd (omega (arith, e, later.before)) in
-          let d = deleted-kind m n names k (app_at m p) b bs (free_in p bs) b.used swaps
+          let d = deleted-kind m n names k (app_at m p) b bs (free_in p bs) b.used
           (λ u. name-behind m p (name_at m b.place) (name_at m b.place ∷ names) bs (has-self (name_at m b.place) names) (first-name m names b bs b.used nm u) later.span) (λ u. s.0 u ne) nm
-          (λ ns ok. deleted m n p (q + b.words) (not b.used) ns bs end swaps t.3 ok s.1 later.span) in
+          (λ ns ok. deleted m n p (q + b.words) (not b.used) ns bs end t.3 ok s.1 later.span) in
           subst (λ (l : List Block). Deleted m n names k (app_at m p) (b ∷ bs) l) (sym (freed-later p b bs later.other later.apart))
           (record {
             named = d.0;

@@ -19,3 +19,4 @@ pub mod Built
 pub mod Written
 pub mod Cards
 pub mod Outcome
+pub mod Names

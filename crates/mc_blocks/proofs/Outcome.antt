@@ -3,33 +3,28 @@ use Rattle.std.proofs.Common.{◌≡◌, ◌≢◌, ◌⊎◌, ℕ, ◌+◌, ◌
 use Rattle.std.specs.Prelude.{nat_lt, ◌==◌, slice_index, MatchBool}
 use Rattle.std.specs.List.{AllByRecursion, list_any}
 use Rattle.std.proofs.lemmas.Bool.{eqb-true}
-use Rattle.mc_model.specs.Bytes.{be2, insert, lookup, has_name}
+use Rattle.mc_model.specs.Bytes.{be2, insert, lookup, remove, has_name}
 use Rattle.mc_model.specs.Image.{Closed, look}
 use Rattle.mc_model.specs.Device.{IsImage}
 use Rattle.mc_model.specs.Card.{App, Card, Block, word, blocks, heap_start, means, card_of, record_at, name_at, app_at, apps_of}
 use Rattle.mc_model.specs.Layout.{first_hole, gaps, spans, put_at, root, same_pair, is_record, words_fault, IsWellLaid}
 use Rattle.mc_model.proofs.ImageLemmas.{Holds, all-append}
 use Rattle.mc_blocks.specs.Blocks.{used_spans, hole_spans}
+use Rattle.mc_blocks.specs.Outcomes.{Kept, Planned, Leaves}
 use Rattle.mc_blocks.specs.Plans.{changes, layout_of, plan, link_word, without, has_room, has_span}
 use Rattle.mc_blocks.proofs.Tiles.{Tiled, AreRead}
 use Rattle.mc_blocks.proofs.Maps.{length-put}
 use Rattle.mc_blocks.proofs.Bridge.{Laid, well-laid, means-closed, used-above, AreNamed, named, Faultless, faultless, fault-closed}
-use Rattle.mc_blocks.proofs.Applications.{few-blocks}
+use Rattle.mc_blocks.proofs.Applications.{few-blocks, found-application}
+use Rattle.mc_blocks.proofs.Names.{remove-inserted}
 use Rattle.mc_blocks.proofs.Changes.{From, from-weaker, split}
 use Rattle.mc_blocks.proofs.Heads.{heads, heads-from, layout-is}
 use Rattle.mc_blocks.proofs.Plans.{plan-is, gaps-are, spans-are}
 use Rattle.mc_blocks.proofs.Taking.{take_in, take-tiled, take-spans}
 use Rattle.mc_blocks.proofs.Freeing.{free_in, free-tiled, free-spans}
 use Rattle.mc_blocks.proofs.Built.{Built, Stands, built, SameBlock, same-block, chain-parts, root-good}
-use Rattle.mc_blocks.proofs.Written.{relink, relink-used, Kept, Relaid, written, root-apart}
-use Rattle.mc_blocks.proofs.Cards.{In, in-above, in-old, changes-apart, SameUsed, NotNamed, not-named, relink-named, relink-apps, Swaps, Created, created, Deleted, deleted}
-
--- words n after the plan for these spans, from words m
-pub record Planned (m n : List (List ℕ)) (ss : List (ℕ × ℕ)) : Type 0 where
-  pub size : length n ≡ length m
-  pub holds : Holds n (plan (means m) ss)
-  pub root : AllByRecursion (λ e. e.0 ≢ 0) (plan (means m) ss) → word n 0 ≡ word m 0
-  pub kept : Kept m n 131 (plan (means m) ss)
+use Rattle.mc_blocks.proofs.Written.{relink, relink-used, Relaid, written, root-apart}
+use Rattle.mc_blocks.proofs.Cards.{In, in-above, in-old, changes-apart, SameUsed, NotNamed, not-named, relink-named, relink-apps, Created, created, Deleted, deleted}
 
 -- what stands after a plan for the spans of these blocks
 record After (m n : List (List ℕ)) (new : List Block) : Type 0 where
@@ -48,14 +43,14 @@ after-plan m n f new image closed h planned tiled spans-new =
     plan-is m f image closed h
     ∙ ap (λ (x : List (ℕ × List ℕ)). changes x (layout_of v (length m) (f (used_spans bs)))) (layout-is v (length m) bs (used_spans bs) l.tiled refl)
     ∙ ap (λ (x : List (ℕ × List ℕ)). changes old-list x) (layout-is v (length m) new (f (used_spans bs)) tiled spans-new) in
-    let kept : Kept m n 131 (changes old-list new-list) = subst (λ (x : List (ℕ × List ℕ)). Kept m n 131 x) listed planned.kept in
+    let kept : Kept m n 131 (changes old-list new-list) = subst (λ (x : List (ℕ × List ℕ)). Kept m n 131 x) listed planned.heap in
     let links = chain-parts (be2 (word m 0) 6) (first_hole bs) _ (be2 (word m 0) 6 == first_hole bs) refl l.chain in
     let one : 0 < 1 = omega arith in
     let parts : changes old-list new-list ≡ changes ((0, root v (length m) (first_hole bs)) ∷ []) ((0, root v (length m) (first_hole new)) ∷ []) ++ changes (heads bs) (heads new) =
     split 1 ((0, root v (length m) (first_hole bs)) ∷ []) (heads bs) ((0, root v (length m) (first_hole new)) ∷ []) (heads new) (one, tt) (from-weaker 131 1 (heads bs) (omega arith) (heads-from 131 false bs (length m) l.tiled)) (one, tt) (from-weaker 131 1 (heads new) (omega arith) (heads-from 131 false new (length m) tiled)) in
     record {
       relaid = written m n bs new (omega arith) planned.size (root-good m _ l.root) links.0 l.tiled l.read links.1 tiled
-          (subst (λ (x : List (ℕ × List ℕ)). Holds n x) listed planned.holds)
+          (subst (λ (x : List (ℕ × List ℕ)). Holds n x) listed planned.stand)
           (subst (λ (x : List (ℕ × List ℕ)). AllByRecursion (λ (e : ℕ × List ℕ). e.0 ≢ 0) x → word n 0 ≡ word m 0) listed planned.root)
           kept;
       same = λ s here there i low below.
@@ -120,16 +115,11 @@ length-without p (e ∷ es) = let h = less-kind p e es (without p es) (e.0 == p)
 
 -- ---- the cards
 
--- words with no fault that hold a card with these applications
-pub record Leaves (m n : List (List ℕ)) (apps : List (List ℕ × App)) : Type 0 where
-  pub good : words_fault n ≡ None
-  pub card : card_of n ≡ record (means m) { apps = apps }
-
 leaves : (m n : List (List ℕ)) (new : List Block) (apps : List (List ℕ × App)) → look m ≡ Closed → length n ≡ length m → Relaid m n new → AreNamed n [] new → length (used_spans new) ≤ 32 → apps_of n new ≡ apps → Leaves m n apps
 leaves m n new apps closed size r nm few is =
     let s : Stands n (relink new) = built n (relink new) (record { root = r.root; first = r.first; tiled = r.tiled; read = r.read; links = r.links; named = relink-named n [] new nm; few = subst (λ (l : List (ℕ × ℕ)). length l ≤ 32) (sym (relink-used new)) few }) in
     record {
-      good = s.good;
+      laid = s.good;
       card = ap (λ (x : ℕ). record { size = x; layout = slice_index (word n 0) 3; apps = apps_of n (blocks n) }) size
           ∙ ap (λ (x : ℕ). record { size = length m; layout = x; apps = apps_of n (blocks n) }) r.version
           ∙ ap (λ (x : List (List ℕ × App)). record { size = length m; layout = slice_index (word m 0) 3; apps = x }) (ap (λ (l : List Block). apps_of n l) s.blocks ∙ relink-apps n new ∙ is)
@@ -137,9 +127,9 @@ leaves m n new apps closed size r nm few is =
     }
 
 -- words taken for an application whose record stands there
-pub creates : (m n : List (List ℕ)) (p need : ℕ) → Swaps → IsImage m → look m ≡ Closed → IsWellLaid m → 1 ≤ need → has_room p need (gaps (means m)) ≡ true → Planned m n (put_at p need (spans (means m)))
+pub creates : (m n : List (List ℕ)) (p need : ℕ) → IsImage m → look m ≡ Closed → IsWellLaid m → 1 ≤ need → has_room p need (gaps (means m)) ≡ true → Planned m n (put_at p need (spans (means m)))
     → is_record (record_at n p) need ≡ true → lookup (means m).apps (name_at n p) ≡ None → length (means m).apps < 32 → Leaves m n (insert (means m).apps (name_at n p) (app_at n p))
-creates m n p need swaps image closed h some room planned good fresh few =
+creates m n p need image closed h some room planned good fresh few =
     let l : Laid m = well-laid m image closed h in
     let f : Faultless m = faultless m (sym (fault-closed m closed) ∙ h) in
     let bs = blocks m in
@@ -152,24 +142,20 @@ creates m n p need swaps image closed h some room planned good fresh few =
     let means-apps : (means m).apps ≡ apps_of m bs = ap (λ (k : Card). k.apps) (means-closed m closed) in
     let used : SameUsed m n p bs = same-used m n p [] bs planned.size l.read names (λ s i ne. after.same s i (subst (λ (x : List (ℕ × ℕ)). In s x) (sym same-spans) (in-put s p need (used_spans bs) i))) in
     let unnamed : NotNamed m (name_at n p) bs = not-named m (name_at n p) bs (sym (ap (λ (es : List (List ℕ × App)). lookup es (name_at n p)) means-apps) ∙ fresh) in
-    let c : Created m n [] (name_at n p) (app_at n p) bs new = created m n p need 131 false [] bs (length m) swaps l.tiled names used unnamed free refl good in
+    let c : Created m n [] (name_at n p) (app_at n p) bs new = created m n p need 131 false [] bs (length m) l.tiled names used unnamed free refl good in
     let count : length (used_spans bs) < 32 = subst (λ (k : ℕ). k < 32) (ap (λ (es : List (List ℕ × App)). length es) means-apps ∙ l.apps) few in
     let more : length (used_spans new) ≤ 32 = omega (arith, ap length same-spans, length-put p need (used_spans bs), count) in
     leaves m n new (insert (means m).apps (name_at n p) (app_at n p)) closed planned.size after.relaid c.named more (c.apps ∙ ap (λ (es : List (List ℕ × App)). insert es (name_at n p) (app_at n p)) (sym means-apps))
 
--- a block freed: the card before is the card left with that application
-pub record Removes (m n : List (List ℕ)) (p : ℕ) : Type 0 where
-  pub apps : List (List ℕ × App)
-  pub leaves : Leaves m n apps
-  pub before : (means m).apps ≡ insert apps (name_at m p) (app_at m p)
-  pub gone : lookup apps (name_at m p) ≡ None
-
-pub deletes : (m n : List (List ℕ)) (p : ℕ) → Swaps → IsImage m → look m ≡ Closed → IsWellLaid m → has_span p (spans (means m)) ≡ true → Planned m n (without p (spans (means m))) → Removes m n p
-deletes m n p swaps image closed h span planned =
+-- a block freed: the card loses its application
+pub deletes : (m n : List (List ℕ)) (k : List ℕ) (a : App) → IsImage m → look m ≡ Closed → IsWellLaid m → lookup (means m).apps k ≡ Some a → Planned m n (without a.place (spans (means m))) → Leaves m n (remove (means m).apps k)
+deletes m n k a image closed h found planned =
     let l : Laid m = well-laid m image closed h in
     let f : Faultless m = faultless m (sym (fault-closed m closed) ∙ h) in
     let bs = blocks m in
-    let there : has_span p (used_spans bs) ≡ true = subst (λ (x : List (ℕ × ℕ)). has_span p x ≡ true) (spans-are m image closed h) span in
+    let p = a.place in
+    let at = found-application m k a image closed h found in
+    let there : has_span p (used_spans bs) ≡ true = subst (λ (x : List (ℕ × ℕ)). has_span p x ≡ true) (spans-are m image closed h) at.span in
     let new = free_in p bs in
     let tiled : Tiled 131 false new (length m) = free-tiled p 131 false bs (length m) (λ e. absurd (cc e)) l.tiled there in
     let same-spans : used_spans new ≡ without p (used_spans bs) = free-spans p 131 false bs (length m) l.tiled there in
@@ -177,11 +163,10 @@ deletes m n p swaps image closed h span planned =
     let names : AreNamed m [] bs = named m bs [] 0 f.records in
     let means-apps : (means m).apps ≡ apps_of m bs = ap (λ (k : Card). k.apps) (means-closed m closed) in
     let used : SameUsed m n p bs = same-used m n p [] bs planned.size l.read names (λ s i ne. after.same s i (subst (λ (x : List (ℕ × ℕ)). In s x) (sym same-spans) (in-without s p (used_spans bs) ne i))) in
-    let d : Deleted m n [] (name_at m p) (app_at m p) bs new = deleted m n p 131 false [] bs (length m) swaps l.tiled names used there in
+    let d : Deleted m n [] (name_at m p) (app_at m p) bs new = deleted m n p 131 false [] bs (length m) l.tiled names used there in
     let few : length (used_spans new) ≤ 32 = omega (arith, ap length same-spans, length-without p (used_spans bs), few-blocks m f) in
-    record {
-      apps = apps_of n new;
-      leaves = leaves m n new (apps_of n new) closed planned.size after.relaid d.named few refl;
-      before = means-apps ∙ d.apps;
-      gone = d.gone;
-    }
+    let left : remove (means m).apps k ≡ apps_of n new =
+    ap (λ (es : List (List ℕ × App)). remove es k) (means-apps ∙ d.apps)
+    ∙ ap (λ (x : List ℕ). remove (insert (apps_of n new) (name_at m p) (app_at m p)) x) (sym at.name)
+    ∙ remove-inserted (apps_of n new) (name_at m p) (app_at m p) d.gone in
+    leaves m n new (remove (means m).apps k) closed planned.size after.relaid d.named few (sym left)

@@ -9,6 +9,7 @@ use Rattle.mc_model.specs.Card.{Block, word, header}
 use Rattle.mc_model.specs.Layout.{first_hole, hole_header, used_header, root, same_pair, bad_link}
 use Rattle.mc_model.proofs.ImageLemmas.{Holds, all-append}
 use Rattle.mc_blocks.specs.Blocks.{used_spans, hole_spans, is_root_word}
+use Rattle.mc_blocks.specs.Outcomes.{Kept}
 use Rattle.mc_blocks.specs.Plans.{changes, link_word}
 use Rattle.mc_blocks.proofs.Tiles.{Tiled, AreRead}
 use Rattle.mc_blocks.proofs.Taking.{tiled-end, first-range}
@@ -96,10 +97,6 @@ new-read n p a (b ∷ bs) end few size t r =
     (r.0 ∙ formal-kind b (first_hole bs) b.used low (omega arith) (first-small (p + b.words) (not b.used) bs end t.3 few), omega (arith, size), new-read n (p + b.words) (not b.used) bs end few size t.3 r.1)
 
 -- ---- what is written, and what is kept
-
--- from a place on, every word that the list does not name is kept
-abbrev pub Kept : List (List ℕ) → List (List ℕ) → ℕ → List (ℕ × List ℕ) → Type 0
-Kept m n low list = (q : ℕ) → low ≤ q → AllByRecursion (λ p. p.0 ≢ q) list → word n q ≡ word m q
 
 pub from-apart : (q : ℕ) (l : List (ℕ × List ℕ)) (p : ℕ) → q < p → From p l → AllByRecursion (λ e. e.0 ≢ q) l
 from-apart q [] p lt f = tt

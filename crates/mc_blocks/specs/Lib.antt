@@ -3,3 +3,4 @@ pub mod Records
 pub mod Faults
 pub mod Plans
 pub mod Chains
+pub mod Outcomes

@@ -1,11 +1,12 @@
-ghost use Rattle.std.specs.Prelude.{◌≡◌, ℕ, ◌-◌, ◌≤◌, List, [], ◌∷◌, length, true, false, Some, None};
+ghost use Rattle.std.specs.Prelude.{◌≡◌, ℕ, ◌-◌, ◌<◌, ◌≤◌, List, [], ◌∷◌, length, true, false, Some, None};
 ghost use Rattle.mc_model.specs.Bytes.{be2, lookup, insert, remove};
 ghost use Rattle.mc_model.specs.Image.{Closed, look, shut};
 ghost use Rattle.mc_model.specs.Device.{IsImage};
-ghost use Rattle.mc_model.specs.Card.{App, Card, needed, blocks, card_of, heap_start, means, word};
-ghost use Rattle.mc_model.specs.Layout.{spans, spans_of, put_at, gaps, hole_header, root, first_place, first_fitting, step_of, words_fault, IsWellLaid};
+ghost use Rattle.mc_model.specs.Card.{App, Card, needed, blocks, card_of, heap_start, means, word, record_at, name_at, app_at};
+ghost use Rattle.mc_model.specs.Layout.{spans, spans_of, put_at, gaps, hole_header, root, first_place, first_fitting, step_of, is_record, words_fault, IsWellLaid};
 ghost use Rattle.mc_blocks.specs.Blocks.{used_spans, hole_spans, Agree};
 ghost use Rattle.mc_blocks.specs.Chains.{IsChain};
+ghost use Rattle.mc_blocks.specs.Outcomes.{Planned, Leaves};
 ghost use Rattle.mc_blocks.specs.Plans.{changes, layout_of, plan, has_room, has_span, without};
 
 /// On a well laid image with no open journal the holes of the walk by lengths are the gaps of the card, and its used
@@ -47,6 +48,20 @@ pub fn inserts_span()
 pub fn removes_span()
     ensures there { (m : List (List ℕ)) (name : List ℕ) (app : App) → IsImage m → look m ≡ Closed → IsWellLaid m → lookup (means m).apps name ≡ Some app → has_span app.place (spans (means m)) ≡ true }
     ensures gone { (m : List (List ℕ)) (name : List ℕ) (app : App) → IsImage m → look m ≡ Closed → IsWellLaid m → lookup (means m).apps name ≡ Some app → spans_of (remove (means m).apps name) ≡ without app.place (spans (means m)) }
+{}
+
+/// After the plan for words at a place where there is room, and where a good record of so many words stands under a new
+/// name, the words hold the card with that application.
+pub fn creates_application()
+    ensures { (m n : List (List ℕ)) (p need : ℕ) → IsImage m → look m ≡ Closed → IsWellLaid m → 1 ≤ need → has_room p need (gaps (means m)) ≡ true → Planned m n (put_at p need (spans (means m)))
+        → is_record (record_at n p) need ≡ true → lookup (means m).apps (name_at n p) ≡ None → length (means m).apps < 32
+        → Leaves m n (insert (means m).apps (name_at n p) (app_at n p)) }
+{}
+
+/// After the plan that frees the block of an application the words hold the card without it.
+pub fn deletes_application()
+    ensures { (m n : List (List ℕ)) (name : List ℕ) (app : App) → IsImage m → look m ≡ Closed → IsWellLaid m → lookup (means m).apps name ≡ Some app → Planned m n (without app.place (spans (means m)))
+        → Leaves m n (remove (means m).apps name) }
 {}
 
 /// The words of an empty card of 8,192 words that `format_words` sets.
