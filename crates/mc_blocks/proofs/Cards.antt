@@ -115,7 +115,7 @@ one-more : (k x : List ℕ) (names more : List (List ℕ)) → OneMore k names m
 unfolding OneMore
 one-more k x names more h = λ y. ap (λ (b : Bool). bytes_eq x y || b) (h y) ∙ or-swap (bytes_eq x y) (bytes_eq k y) (has_name y names)
 
-turned : (a b : List ℕ) → bytes_eq a b ≡ false → bytes_eq b a ≡ false
+pub turned : (a b : List ℕ) → bytes_eq a b ≡ false → bytes_eq b a ≡ false
 turned a b h = false_from_ne_true (bytes_eq b a) (λ e. absurd (cc (sym ((bytes_eq-Decides a b).1 (sym ((bytes_eq-Decides b a).0 e))) ∙ h)))
 
 -- no used block has this name
@@ -166,9 +166,9 @@ named-less m k names more [] one nm = tt
 named-less m k names more (b ∷ bs) one nm = less-kind m k names more b bs b.used one nm (λ xs ys h ok. named-less m k xs ys bs h ok)
 
 -- the blocks behind p, in both words
-record Same (m n : List (List ℕ)) (names : List (List ℕ)) (bs : List Block) : Type 0 where
-  named : AreNamed n names bs
-  apps : apps_of n bs ≡ apps_of m bs
+pub record Same (m n : List (List ℕ)) (names : List (List ℕ)) (bs : List Block) : Type 0 where
+  pub named : AreNamed n names bs
+  pub apps : apps_of n bs ≡ apps_of m bs
 
 same-kind : (m n : List (List ℕ)) (names : List (List ℕ)) (b : Block) (bs : List Block) (u : Bool) → (u ≡ true → SameBlock m n b.place)
     → MatchBool u ((is_record (record_at m b.place) b.words ≡ true) × (has_name (name_at m b.place) names ≡ false) × AreNamed m (name_at m b.place ∷ names) bs) (AreNamed m names bs)
@@ -185,7 +185,7 @@ same-kind m n names b bs true block nm rest =
       ap (λ (x : List ℕ). insert (apps_of n bs) x (app_at n b.place)) name ∙ ap (λ (x : App). insert (apps_of n bs) k x) (block refl).app ∙ ap (λ (es : List (List ℕ × App)). insert es k (app_at m b.place)) s.apps,
     )
 
-same-named : (m n : List (List ℕ)) (p q : ℕ) (a : Bool) (names : List (List ℕ)) (bs : List Block) (end : ℕ) → p < q → Tiled q a bs end → SameUsed m n p bs → AreNamed m names bs → Same m n names bs
+pub same-named : (m n : List (List ℕ)) (p q : ℕ) (a : Bool) (names : List (List ℕ)) (bs : List Block) (end : ℕ) → p < q → Tiled q a bs end → SameUsed m n p bs → AreNamed m names bs → Same m n names bs
 same-named m n p q a names [] end lt t s nm = record { named = tt; apps = no-apps n ∙ sym (no-apps m) }
 same-named m n p q a names (b ∷ bs) end lt t s nm =
     let place : b.place ≡ q = t.0 in
@@ -285,7 +285,7 @@ behind-kind m p x ns b bs true there nm span rest =
       | inr later ↦ rest (name_at m b.place ∷ ns) (has-more x (name_at m b.place) ns there) nm.2 later
     ]
 
-name-behind : (m : List (List ℕ)) (p : ℕ) (x : List ℕ) (ns : List (List ℕ)) (bs : List Block) → has_name x ns ≡ true → AreNamed m ns bs → has_span p (used_spans bs) ≡ true → bytes_eq (name_at m p) x ≡ false
+pub name-behind : (m : List (List ℕ)) (p : ℕ) (x : List ℕ) (ns : List (List ℕ)) (bs : List Block) → has_name x ns ≡ true → AreNamed m ns bs → has_span p (used_spans bs) ≡ true → bytes_eq (name_at m p) x ≡ false
 name-behind m p x ns [] there nm span = absurd (cc span)
 name-behind m p x ns (b ∷ bs) there nm span = behind-kind m p x ns b bs b.used there nm span (λ xs is ok later. name-behind m p x xs bs is ok later)
 
@@ -362,7 +362,7 @@ deleted-touch m n p q a names b c cs bs end is t free other used here s nm =
       gone = ap (λ (l : List Block). lookup (apps_of n l) k) new ∙ d.gone;
     }
 
-first-name : (m : List (List ℕ)) (names : List (List ℕ)) (b : Block) (bs : List Block) (u : Bool) → MatchBool u ((is_record (record_at m b.place) b.words ≡ true) × (has_name (name_at m b.place) names ≡ false) × AreNamed m (name_at m b.place ∷ names) bs) (AreNamed m names bs)
+pub first-name : (m : List (List ℕ)) (names : List (List ℕ)) (b : Block) (bs : List Block) (u : Bool) → MatchBool u ((is_record (record_at m b.place) b.words ≡ true) × (has_name (name_at m b.place) names ≡ false) × AreNamed m (name_at m b.place ∷ names) bs) (AreNamed m names bs)
     → u ≡ true → AreNamed m (name_at m b.place ∷ names) bs
 first-name m names b bs true nm h = nm.2
 first-name m names b bs false nm h = absurd (cc h)

@@ -20,3 +20,4 @@ pub mod Written
 pub mod Cards
 pub mod Outcome
 pub mod Names
+pub mod Setting

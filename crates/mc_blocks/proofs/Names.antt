@@ -70,3 +70,8 @@ remove-none (e ∷ es) n h = grind (arith, h, remove-none es n)
 pub remove-inserted : (es : List (List ℕ × App)) (n : List ℕ) (a : App) → lookup es n ≡ None → remove (insert es n a) n ≡ es
 remove-inserted [] n a h = grind (arith, itself n)
 remove-inserted (e ∷ es) n a h = grind (arith, h, itself n, remove-none es n, remove-inserted es n a)
+
+-- a second insertion under a name takes the place of the first
+pub insert-twice : (es : List (List ℕ × App)) (n : List ℕ) (a b : App) → insert (insert es n a) n b ≡ insert es n b
+insert-twice [] n a b = grind (arith, itself n)
+insert-twice (e ∷ es) n a b = grind (arith, itself n, insert-twice es n a b)

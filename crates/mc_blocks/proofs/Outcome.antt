@@ -63,12 +63,12 @@ after-plan m n f new image closed h planned tiled spans-new =
 
 -- ---- used blocks have their words
 
-good-of : (m : List (List ℕ)) (names : List (List ℕ)) (b : Block) (bs : List Block) (u : Bool) → u ≡ true → MatchBool u ((is_record (record_at m b.place) b.words ≡ true) × (has_name (name_at m b.place) names ≡ false) × AreNamed m (name_at m b.place ∷ names) bs) (AreNamed m names bs)
+pub good-of : (m : List (List ℕ)) (names : List (List ℕ)) (b : Block) (bs : List Block) (u : Bool) → u ≡ true → MatchBool u ((is_record (record_at m b.place) b.words ≡ true) × (has_name (name_at m b.place) names ≡ false) × AreNamed m (name_at m b.place ∷ names) bs) (AreNamed m names bs)
     → is_record (record_at m b.place) b.words ≡ true
 good-of m names b bs true e nm = nm.0
 good-of m names b bs false e nm = absurd (cc e)
 
-tail-of : (m : List (List ℕ)) (names : List (List ℕ)) (b : Block) (bs : List Block) (u : Bool) → MatchBool u ((is_record (record_at m b.place) b.words ≡ true) × (has_name (name_at m b.place) names ≡ false) × AreNamed m (name_at m b.place ∷ names) bs) (AreNamed m names bs)
+pub tail-of : (m : List (List ℕ)) (names : List (List ℕ)) (b : Block) (bs : List Block) (u : Bool) → MatchBool u ((is_record (record_at m b.place) b.words ≡ true) × (has_name (name_at m b.place) names ≡ false) × AreNamed m (name_at m b.place ∷ names) bs) (AreNamed m names bs)
     → AreNamed m (cond u (name_at m b.place ∷ names) names) bs
 tail-of m names b bs true nm = nm.2
 tail-of m names b bs false nm = nm

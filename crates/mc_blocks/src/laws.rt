@@ -6,7 +6,7 @@ ghost use Rattle.mc_model.specs.Card.{App, Card, needed, blocks, card_of, heap_s
 ghost use Rattle.mc_model.specs.Layout.{spans, spans_of, put_at, gaps, hole_header, root, first_place, first_fitting, step_of, is_record, words_fault, IsWellLaid};
 ghost use Rattle.mc_blocks.specs.Blocks.{used_spans, hole_spans, Agree};
 ghost use Rattle.mc_blocks.specs.Chains.{IsChain};
-ghost use Rattle.mc_blocks.specs.Outcomes.{Planned, Leaves};
+ghost use Rattle.mc_blocks.specs.Outcomes.{AgreeBut, Planned, Leaves};
 ghost use Rattle.mc_blocks.specs.Plans.{changes, layout_of, plan, has_room, has_span, without};
 
 /// On a well laid image with no open journal the holes of the walk by lengths are the gaps of the card, and its used
@@ -62,6 +62,13 @@ pub fn creates_application()
 pub fn deletes_application()
     ensures { (m n : List (List ℕ)) (name : List ℕ) (app : App) → IsImage m → look m ≡ Closed → IsWellLaid m → lookup (means m).apps name ≡ Some app → Planned m n (without app.place (spans (means m)))
         → Leaves m n (remove (means m).apps name) }
+{}
+
+/// Where words of one used block were set behind its record, the words hold the card with the application that stands
+/// there then.
+pub fn sets_application()
+    ensures { (m n : List (List ℕ)) (p : ℕ) → IsImage m → look m ≡ Closed → IsWellLaid m → has_span p (spans (means m)) ≡ true → length n ≡ length m → word n 0 ≡ word m 0 → AgreeBut m n p (blocks m) → record_at n p ≡ record_at m p
+        → Leaves m n (insert (means m).apps (name_at m p) (app_at n p)) }
 {}
 
 /// The words of an empty card of 8,192 words that `format_words` sets.

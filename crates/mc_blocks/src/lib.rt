@@ -18,7 +18,8 @@ pub use format::format_words;
 pub use image::{Shape, Unusable, walk};
 pub use laws::{
     chains_gaps, counts_applications, creates_application, deletes_application, fits_room,
-    format_rows, inserts_span, keeps_card, plan_rows, plans_steps, removes_span, walks_card,
+    format_rows, inserts_span, keeps_card, plan_rows, plans_steps, removes_span, sets_application,
+    walks_card,
 };
 pub use mc_model::Cause;
 pub use plan::{free_plan, take_plan};
