@@ -208,26 +208,44 @@ pub root-good : (m : List (List ℕ)) (t : Bool) → cond {A = Option ℕ} t Non
 root-good m true h = refl
 root-good m false h = absurd (cc h)
 
-pub same-card : (m n : List (List ℕ)) → IsImage m → words_fault m ≡ None → length n ≡ length m → word n 0 ≡ word m 0 → Agree m n (blocks m) → SameCard m n
-same-card m n image h size same agree =
+-- words that agree in what is read of the blocks, with a root that names the same hole: the same applications
+pub record SameBlocks (m n : List (List ℕ)) : Type 0 where
+  pub good : words_fault n ≡ None
+  pub apps : apps_of n (blocks n) ≡ apps_of m (blocks m)
+  pub blocks : blocks n ≡ blocks m
+
+pub same-blocks : (m n : List (List ℕ)) → IsImage m → words_fault m ≡ None → length n ≡ length m → is_root_word (word n 0) (length n) ≡ true → be2 (word n 0) 6 ≡ be2 (word m 0) 6 → Agree m n (blocks m) → SameBlocks m n
+same-blocks m n image h size root first agree =
     let f : Faultless m = faultless m h in
     let l : Laid m = laid m image h in
     let bs = blocks m in
     let names = named m bs [] 0 f.records in
     let s : SameAll m n [] bs = same-all m n [] bs size l.read names agree in
-    let root : is_root_word (word m 0) (length m) ≡ true = root-good m (is_root_word (word m 0) (length m)) f.root in
     let links = chain-parts (be2 (word m 0) 6) (first_hole bs) (bad_link bs) (be2 (word m 0) 6 == first_hole bs) refl f.chain in
     let stands : Stands n bs = built n bs (record {
-      root = ap (λ (x : List ℕ). is_root_word x (length n)) same ∙ ap (λ (x : ℕ). is_root_word (word m 0) x) size ∙ root;
-      first = ap (λ (x : List ℕ). be2 x 6) same ∙ links.0;
+      root = root;
+      first = first ∙ links.0;
       tiled = subst (λ (e : ℕ). Tiled 131 false bs e) (sym size) l.tiled;
       read = s.read;
       links = links.1;
       named = s.named;
       few = few-blocks m f;
     }) in
-    record {
-      good = stands.good;
-      blocks = stands.blocks;
-      card = card-parts n m size (ap (λ (x : List ℕ). slice_index x 3) same) (ap (λ (l : List Block). apps_of n l) stands.blocks ∙ s.apps);
-    }
+    record { good = stands.good; blocks = stands.blocks; apps = ap (λ (l : List Block). apps_of n l) stands.blocks ∙ s.apps }
+
+-- the same words 0: the same card
+pub same-card : (m n : List (List ℕ)) → IsImage m → words_fault m ≡ None → length n ≡ length m → word n 0 ≡ word m 0 → Agree m n (blocks m) → SameCard m n
+same-card m n image h size same agree =
+    let root : is_root_word (word m 0) (length m) ≡ true = root-good m (is_root_word (word m 0) (length m)) (faultless m h).root in
+    let b : SameBlocks m n = same-blocks m n image h size (ap (λ (x : List ℕ). is_root_word x (length n)) same ∙ ap (λ (x : ℕ). is_root_word (word m 0) x) size ∙ root) (ap (λ (x : List ℕ). be2 x 6) same) agree in
+    record { good = b.good; blocks = b.blocks; card = card-parts n m size (ap (λ (x : List ℕ). slice_index x 3) same) b.apps }
+
+-- another version in the root: the same card in that layout
+pub other-layout : (m n : List (List ℕ)) → IsImage m → words_fault m ≡ None → length n ≡ length m → is_root_word (word n 0) (length n) ≡ true → be2 (word n 0) 6 ≡ be2 (word m 0) 6 → Agree m n (blocks m)
+    → (words_fault n ≡ None) × (card_of n ≡ record (card_of m) { layout = slice_index (word n 0) 3 })
+other-layout m n image h size root first agree =
+    let b : SameBlocks m n = same-blocks m n image h size root first agree in (
+      b.good,
+      ap (λ (x : ℕ). record { size = x; layout = slice_index (word n 0) 3; apps = apps_of n (blocks n) }) size
+          ∙ ap (λ (x : List (List ℕ × App)). record { size = length m; layout = slice_index (word n 0) 3; apps = x }) b.apps,
+    )

@@ -1,26 +1,26 @@
 -- Which words a plan leaves, and the applications of the blocks afterwards.
-use Rattle.std.proofs.Common.{◌≡◌, ◌≢◌, ◌⊎◌, ℕ, zero, suc, ◌+◌, ◌-◌, ◌<◌, ◌≤◌, Bool, true, false, ◌&&◌, ◌||◌, List, [], ◌∷◌, ◌++◌, length, Option, Some, None, refl, sym, ◌∙◌, ap, subst, inl, inr, arith, cond, not}
+use Rattle.std.proofs.Common.{◌≡◌, ◌≢◌, ◌⊎◌, ℕ, ◌+◌, ◌-◌, ◌<◌, ◌≤◌, Bool, true, false, ◌||◌, List, [], ◌∷◌, Option, Some, None, refl, sym, ◌∙◌, ap, subst, inl, inr, arith, cond, not}
 use Rattle.std.specs.Prelude.{nat_lt, ◌==◌, bytes_eq, MatchBool}
 use Rattle.std.specs.List.{AllByRecursion, list_any}
-use Rattle.std.proofs.lemmas.Bool.{eq-eqb, ne_eqb, and_from, or_left, or_right, or_parts, or_cases, eqb-true, false_from_ne_true}
+use Rattle.std.proofs.lemmas.Bool.{eq-eqb, and_from, or_left, or_right, or_parts, or_cases, eqb-true, false_from_ne_true}
 use Rattle.std.proofs.lemmas.Slice.Eq.{bytes_eq-Decides}
 use Rattle.mc_model.specs.Bytes.{insert, lookup, has_name}
-use Rattle.mc_model.specs.Card.{App, Block, word, record_at, name_in, name_at, app_at, apps_of}
-use Rattle.mc_model.specs.Layout.{first_hole, hole_header, used_header, same_pair, put_at, is_record}
+use Rattle.mc_model.specs.Card.{App, Block, record_at, name_in, name_at, app_at, apps_of}
+use Rattle.mc_model.specs.Layout.{first_hole, hole_header, used_header, same_pair, is_record}
 use Rattle.mc_blocks.specs.Blocks.{used_spans, hole_spans}
-use Rattle.mc_blocks.specs.Plans.{changes, without, has_room, has_span}
+use Rattle.mc_blocks.specs.Plans.{changes, has_room, has_span}
 use Rattle.mc_blocks.specs.Chains.{Above}
-use Rattle.mc_blocks.proofs.Tiles.{Tiled, AreRead}
-use Rattle.mc_blocks.proofs.Bridge.{AreNamed, with-block, some-apps, no-apps, used-above, free-all}
+use Rattle.mc_blocks.proofs.Tiles.{Tiled}
+use Rattle.mc_blocks.proofs.Bridge.{AreNamed, with-block, some-apps, no-apps, used-above}
 use Rattle.mc_blocks.proofs.Changes.{From}
 use Rattle.mc_blocks.proofs.Heads.{heads, heads-from}
 use Rattle.mc_blocks.proofs.Applications.{lookup-insert}
 use Rattle.mc_blocks.proofs.Taking.{used_block, free_block, rest_of, take_in, RoomAt, room-at, taken-here, taken-later}
 use Rattle.mc_blocks.proofs.Maps.{names-apart, has-self, has-more}
-use Rattle.mc_blocks.proofs.Freeing.{with_hole, free_in, SpanAt, span-at, Touches, Later, freed-here, freed-touching, freed-later}
+use Rattle.mc_blocks.proofs.Freeing.{with_hole, free_in, SpanAt, span-at, freed-here, freed-touching, freed-later}
 use Rattle.mc_blocks.proofs.Names.{insert-swap}
 use Rattle.mc_blocks.proofs.Written.{relink, from-apart, changes-from}
-use Rattle.mc_blocks.proofs.Built.{SameBlock, same-block}
+use Rattle.mc_blocks.proofs.Built.{SameBlock}
 
 -- ---- the words that a plan leaves
 

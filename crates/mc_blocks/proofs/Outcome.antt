@@ -1,14 +1,16 @@
 -- What a plan makes of a card: written to the words of a well laid image, it leaves the card with the application or without it.
-use Rattle.std.proofs.Common.{◌≡◌, ◌≢◌, ◌⊎◌, ℕ, ◌+◌, ◌-◌, ◌<◌, ◌≤◌, Bool, true, false, ◌&&◌, ◌||◌, List, [], ◌∷◌, ◌++◌, length, Option, Some, None, refl, sym, ◌∙◌, ap, subst, inl, inr, arith, cond, not}
+use Rattle.std.proofs.Common.{◌≡◌, ◌≢◌, ◌⊎◌, ℕ, ◌+◌, ◌<◌, ◌≤◌, Bool, true, false, List, [], ◌∷◌, ◌++◌, length, Some, None, refl, sym, ◌∙◌, ap, subst, inl, inr, arith, cond}
 use Rattle.std.specs.Prelude.{nat_lt, ◌==◌, slice_index, MatchBool}
 use Rattle.std.specs.List.{AllByRecursion, list_any}
 use Rattle.std.proofs.lemmas.Bool.{eqb-true}
 use Rattle.mc_model.specs.Bytes.{be2, insert, lookup, remove, has_name}
 use Rattle.mc_model.specs.Image.{Closed, look}
 use Rattle.mc_model.specs.Device.{IsImage}
-use Rattle.mc_model.specs.Card.{App, Card, Block, word, blocks, heap_start, means, card_of, record_at, name_at, app_at, apps_of}
-use Rattle.mc_model.specs.Layout.{first_hole, gaps, spans, put_at, root, same_pair, is_record, words_fault, IsWellLaid}
-use Rattle.mc_model.proofs.ImageLemmas.{Holds, all-append}
+use Rattle.mc_model.specs.Card.{App, Card, Block, word, blocks, means, record_at, name_at, app_at, apps_of}
+use Rattle.mc_model.specs.Layout.{first_hole, gaps, spans, put_at, root, same_pair, is_record, IsWellLaid}
+use Rattle.mc_model.specs.Image.{Two}
+use Rattle.mc_model.specs.Stopped.{Inside, Stands as WrittenBy}
+use Rattle.mc_model.proofs.ImageLemmas.{Holds, all-append, laid-other, length-laid}
 use Rattle.mc_blocks.specs.Blocks.{used_spans, hole_spans}
 use Rattle.mc_blocks.specs.Outcomes.{Kept, Planned, Leaves}
 use Rattle.mc_blocks.specs.Plans.{changes, layout_of, plan, link_word, without, has_room, has_span}
@@ -17,12 +19,12 @@ use Rattle.mc_blocks.proofs.Maps.{length-put}
 use Rattle.mc_blocks.proofs.Bridge.{Laid, well-laid, means-closed, used-above, AreNamed, named, Faultless, faultless, fault-closed}
 use Rattle.mc_blocks.proofs.Applications.{few-blocks, found-application}
 use Rattle.mc_blocks.proofs.Names.{remove-inserted}
-use Rattle.mc_blocks.proofs.Changes.{From, from-weaker, split}
+use Rattle.mc_blocks.proofs.Changes.{from-weaker, split}
 use Rattle.mc_blocks.proofs.Heads.{heads, heads-from, layout-is}
 use Rattle.mc_blocks.proofs.Plans.{plan-is, gaps-are, spans-are}
 use Rattle.mc_blocks.proofs.Taking.{take_in, take-tiled, take-spans}
 use Rattle.mc_blocks.proofs.Freeing.{free_in, free-tiled, free-spans}
-use Rattle.mc_blocks.proofs.Built.{Built, Stands, built, SameBlock, same-block, chain-parts, root-good}
+use Rattle.mc_blocks.proofs.Built.{Stands, built, same-block, chain-parts, root-good}
 use Rattle.mc_blocks.proofs.Written.{relink, relink-used, Relaid, written, root-apart}
 use Rattle.mc_blocks.proofs.Cards.{In, in-above, in-old, changes-apart, SameUsed, NotNamed, not-named, relink-named, relink-apps, Created, created, Deleted, deleted}
 
@@ -170,3 +172,23 @@ deletes m n k a image closed h found planned =
     ∙ ap (λ (x : List ℕ). remove (insert (apps_of n new) (name_at m p) (app_at m p)) x) (sym at.name)
     ∙ remove-inserted (apps_of n new) (name_at m p) (app_at m p) d.gone in
     leaves m n new (remove (means m).apps k) closed planned.size after.relaid d.named few (sym left)
+
+-- ---- an atomic write of the plan
+
+outside : (q : ℕ) → (q ≡ 0) ⊎ (131 ≤ q) → Inside Two q → ⊥
+outside q (inl z) (inl i) = absurd (omega (arith, z, i.0))
+outside q (inl z) (inr e) = absurd (omega (arith, z, e))
+outside q (inr h) (inl i) = absurd (omega (arith, h, i.1))
+outside q (inr h) (inr e) = absurd (omega (arith, h, e))
+
+-- what it leaves of words 0 and the heap
+pub written-plan : (m n : List (List ℕ)) (ss : List (ℕ × ℕ)) → WrittenBy Two m (plan (means m) ss) n → Planned m n ss
+written-plan m n ss s =
+    let list = plan (means m) ss in
+    let stays : (q : ℕ) → (q ≡ 0) ⊎ (131 ≤ q) → AllByRecursion (λ (e : ℕ × List ℕ). e.0 ≢ q) list → word n q ≡ word m q = λ q at free. s.same.words q (outside q at) ∙ laid-other m list q free in
+    record {
+      size = s.same.size ∙ length-laid m list;
+      stand = s.targets;
+      root = λ free. stays 0 (inl refl) free;
+      heap = λ q low free. stays q (inr low) free;
+    }

@@ -1,11 +1,11 @@
 -- Words within a used block that are set, behind its record.
-use Rattle.std.proofs.Common.{◌≡◌, ◌≢◌, ℕ, ◌+◌, ◌<◌, ◌≤◌, Bool, true, false, ◌&&◌, ◌||◌, List, [], ◌∷◌, length, Option, Some, None, refl, sym, ◌∙◌, ap, subst, inl, inr, arith, cond, not}
+use Rattle.std.proofs.Common.{◌≡◌, ◌≢◌, ℕ, ◌+◌, ◌<◌, ◌≤◌, Bool, true, false, ◌||◌, List, [], ◌∷◌, length, refl, sym, ◌∙◌, ap, subst, inl, inr, arith, cond, not}
 use Rattle.std.specs.Prelude.{◌==◌, bytes_eq, slice_index, MatchBool}
-use Rattle.std.proofs.lemmas.Bool.{cases_eq, ne_eqb, or_parts}
+use Rattle.std.proofs.lemmas.Bool.{cases_eq, ne_eqb}
 use Rattle.mc_model.specs.Bytes.{be2, insert, has_name}
 use Rattle.mc_model.specs.Image.{Closed, look}
 use Rattle.mc_model.specs.Device.{IsImage}
-use Rattle.mc_model.specs.Card.{App, Card, Block, word, header, blocks, means, card_of, record_at, name_in, name_at, app_at, apps_of}
+use Rattle.mc_model.specs.Card.{App, Card, Block, word, header, blocks, means, record_at, name_in, name_at, app_at, apps_of}
 use Rattle.mc_model.specs.Layout.{first_hole, spans, bad_link, is_record, IsWellLaid}
 use Rattle.mc_blocks.specs.Blocks.{used_spans, is_root_word}
 use Rattle.mc_blocks.specs.Chains.{Above}
@@ -14,11 +14,11 @@ use Rattle.mc_blocks.specs.Plans.{has_span}
 use Rattle.mc_blocks.proofs.Tiles.{Tiled, AreRead}
 use Rattle.mc_blocks.proofs.Maps.{has-self}
 use Rattle.mc_blocks.proofs.Names.{insert-swap, insert-twice}
-use Rattle.mc_blocks.proofs.Bridge.{Laid, well-laid, means-closed, AreNamed, named, with-block, some-apps, no-apps, used-above, Faultless, faultless, fault-closed}
+use Rattle.mc_blocks.proofs.Bridge.{Laid, well-laid, means-closed, AreNamed, named, with-block, some-apps, used-above, Faultless, faultless, fault-closed}
 use Rattle.mc_blocks.proofs.Applications.{few-blocks}
 use Rattle.mc_blocks.proofs.Plans.{spans-are}
 use Rattle.mc_blocks.proofs.Freeing.{span-from}
-use Rattle.mc_blocks.proofs.Built.{Built, Stands, built, SameBlock, same-block, chain-parts, root-good}
+use Rattle.mc_blocks.proofs.Built.{Stands, built, SameBlock, same-block, chain-parts, root-good}
 use Rattle.mc_blocks.proofs.Cards.{SameUsed, Same, same-named, Created, name-behind, first-name, turned}
 use Rattle.mc_blocks.proofs.Outcome.{good-of, tail-of}
 

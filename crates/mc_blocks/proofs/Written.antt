@@ -1,6 +1,6 @@
 -- A plan that is written to the words makes the blocks afterwards stand: their headers are read, and root and holes name each other.
-use Rattle.std.proofs.Common.{◌≡◌, ◌≢◌, ℕ, zero, suc, ◌+◌, ◌-◌, ◌*◌, ◌/◌, ◌%◌, ◌<◌, ◌≤◌, Bool, true, false, ◌&&◌, ◌||◌, List, [], ◌∷◌, ◌++◌, length, take, Option, Some, None, refl, sym, ◌∙◌, ap, subst, inl, inr, arith, cond, not}
-use Rattle.std.specs.Prelude.{nat_le, nat_lt, ◌==◌, slice_index, bytes_eq}
+use Rattle.std.proofs.Common.{◌≡◌, ◌≢◌, ℕ, ◌+◌, ◌*◌, ◌/◌, ◌%◌, ◌<◌, ◌≤◌, Bool, true, false, ◌&&◌, ◌||◌, List, [], ◌∷◌, ◌++◌, length, take, Option, Some, None, refl, sym, ◌∙◌, ap, subst, inl, inr, arith, cond, not}
+use Rattle.std.specs.Prelude.{nat_le, ◌==◌, slice_index, bytes_eq}
 use Rattle.std.specs.List.{AllByRecursion, list_any}
 use Rattle.std.proofs.lemmas.Bool.{le-leb, eq-eqb, eqb-true, and_parts, and_from, or_cases, cases_eq}
 use Rattle.std.proofs.lemmas.Slice.Eq.{bytes_eq-Decides}
@@ -8,12 +8,12 @@ use Rattle.mc_model.specs.Bytes.{be2}
 use Rattle.mc_model.specs.Card.{Block, word, header}
 use Rattle.mc_model.specs.Layout.{first_hole, hole_header, used_header, root, same_pair, bad_link}
 use Rattle.mc_model.proofs.ImageLemmas.{Holds, all-append}
-use Rattle.mc_blocks.specs.Blocks.{used_spans, hole_spans, is_root_word}
+use Rattle.mc_blocks.specs.Blocks.{used_spans, is_root_word}
 use Rattle.mc_blocks.specs.Outcomes.{Kept}
 use Rattle.mc_blocks.specs.Plans.{changes, link_word}
 use Rattle.mc_blocks.proofs.Tiles.{Tiled, AreRead}
 use Rattle.mc_blocks.proofs.Taking.{tiled-end, first-range}
-use Rattle.mc_blocks.proofs.Changes.{From, Before, from-weaker, split, one-other, one-same, links-differ}
+use Rattle.mc_blocks.proofs.Changes.{From, from-weaker, split, one-other, one-same, links-differ}
 use Rattle.mc_blocks.proofs.Heads.{heads, heads-from, heads-behind}
 
 -- ---- blocks with the links that are due

@@ -2,7 +2,7 @@
 -- This project's profile.
 use Rattle.std.specs.Prelude.{◌≡◌, ◌≢◌, ℕ, ◌+◌, ◌<◌, ◌≤◌, true, List, [], ◌∷◌, length, None}
 use Rattle.std.specs.List.{AllByRecursion}
-use Rattle.mc_model.specs.Card.{App, Block, Card, word, means, card_of}
+use Rattle.mc_model.specs.Card.{App, Block, word, means, card_of}
 use Rattle.mc_model.specs.Layout.{words_fault}
 use Rattle.mc_blocks.specs.Plans.{plan}
 

@@ -1,10 +1,11 @@
-ghost use Rattle.std.specs.Prelude.{◌≡◌, ℕ, ◌-◌, ◌<◌, ◌≤◌, List, [], ◌∷◌, length, true, false, Some, None};
+ghost use Rattle.std.specs.Prelude.{◌≡◌, ℕ, ◌-◌, ◌<◌, ◌≤◌, List, [], ◌∷◌, length, slice_index, true, false, Some, None};
 ghost use Rattle.mc_model.specs.Bytes.{be2, lookup, insert, remove};
-ghost use Rattle.mc_model.specs.Image.{Closed, look, shut};
+ghost use Rattle.mc_model.specs.Image.{Closed, Two, look, shut};
 ghost use Rattle.mc_model.specs.Device.{IsImage};
+ghost use Rattle.mc_model.specs.Stopped.{Stands as WrittenBy};
 ghost use Rattle.mc_model.specs.Card.{App, Card, needed, blocks, card_of, heap_start, means, word, record_at, name_at, app_at};
 ghost use Rattle.mc_model.specs.Layout.{spans, spans_of, put_at, gaps, hole_header, root, first_place, first_fitting, step_of, is_record, words_fault, IsWellLaid};
-ghost use Rattle.mc_blocks.specs.Blocks.{used_spans, hole_spans, Agree};
+ghost use Rattle.mc_blocks.specs.Blocks.{used_spans, hole_spans, is_root_word, Agree};
 ghost use Rattle.mc_blocks.specs.Chains.{IsChain};
 ghost use Rattle.mc_blocks.specs.Outcomes.{AgreeBut, Planned, Leaves};
 ghost use Rattle.mc_blocks.specs.Plans.{changes, layout_of, plan, has_room, has_span, without};
@@ -69,6 +70,18 @@ pub fn deletes_application()
 pub fn sets_application()
     ensures { (m n : List (List ℕ)) (p : ℕ) → IsImage m → look m ≡ Closed → IsWellLaid m → has_span p (spans (means m)) ≡ true → length n ≡ length m → word n 0 ≡ word m 0 → AgreeBut m n p (blocks m) → record_at n p ≡ record_at m p
         → Leaves m n (insert (means m).apps (name_at m p) (app_at n p)) }
+{}
+
+/// Another version in a root that names the same hole makes the same card in that layout.
+pub fn changes_layout()
+    ensures laid { (m n : List (List ℕ)) → IsImage m → words_fault m ≡ None → length n ≡ length m → is_root_word (word n 0) (length n) ≡ true → be2 (word n 0) 6 ≡ be2 (word m 0) 6 → Agree m n (blocks m) → words_fault n ≡ None }
+    ensures card { (m n : List (List ℕ)) → IsImage m → words_fault m ≡ None → length n ≡ length m → is_root_word (word n 0) (length n) ≡ true → be2 (word n 0) 6 ≡ be2 (word m 0) 6 → Agree m n (blocks m)
+        → card_of n ≡ record (card_of m) { layout = slice_index (word n 0) 3 } }
+{}
+
+/// An atomic write of a plan in the journal of layout 2 leaves the words after that plan.
+pub fn writes_plan()
+    ensures { (m n : List (List ℕ)) (ss : List (ℕ × ℕ)) → WrittenBy Two m (plan (means m) ss) n → Planned m n ss }
 {}
 
 /// The words of an empty card of 8,192 words that `format_words` sets.

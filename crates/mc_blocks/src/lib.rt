@@ -17,9 +17,9 @@ mod room;
 pub use format::format_words;
 pub use image::{Shape, Unusable, walk};
 pub use laws::{
-    chains_gaps, counts_applications, creates_application, deletes_application, fits_room,
-    format_rows, inserts_span, keeps_card, plan_rows, plans_steps, removes_span, sets_application,
-    walks_card,
+    chains_gaps, changes_layout, counts_applications, creates_application, deletes_application,
+    fits_room, format_rows, inserts_span, keeps_card, plan_rows, plans_steps, removes_span,
+    sets_application, walks_card, writes_plan,
 };
 pub use mc_model::Cause;
 pub use plan::{free_plan, take_plan};
