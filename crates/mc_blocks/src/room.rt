@@ -1,6 +1,5 @@
 ghost use Rattle.std.specs.Prelude.{◌≡◌, ◌+◌, ◌≤◌, nat_le, length};
 ghost use Rattle.mc_model.specs.Image.{Closed, look};
-ghost use Rattle.mc_model.specs.Device.{IsImage};
 ghost use Rattle.mc_model.specs.Card.{means};
 ghost use Rattle.mc_model.specs.Layout.{first_fitting, gaps, IsWellLaid};
 ghost use Rattle.mc_nvm.specs.Probe.{probed};
@@ -19,7 +18,6 @@ pub fn first_fit<N: Nvm, L: Ledger>(
     need: u16,
     steps: &mut Steps<L>,
 ) -> Option<u16>
-    requires image { IsImage (N.state (probed device.now)).words }
     requires closed { look (N.state (probed device.now)).words ≡ Closed }
     requires laid { IsWellLaid (N.state (probed device.now)).words }
     requires some { 1 ≤ need }
@@ -27,6 +25,8 @@ pub fn first_fit<N: Nvm, L: Ledger>(
     ensures rises { steps.old ≤ steps.new }
     ensures ticks { steps.new ≤ steps.old + length (gaps (means (N.state (probed device.now)).words)) + 2 }
 {
+    // The length is asked for what it says of the words.
+    let _size = device.len();
     let root = device.read(0, steps);
     let mut place = number_of(root[6], root[7]);
     while place != 0 {

@@ -1,4 +1,5 @@
 ghost use Rattle.std.specs.Prelude.{◌≡◌, ◌+◌, ◌<◌, length, slice_index_or, []};
+ghost use Rattle.mc_model.specs.Device.{IsImage};
 ghost use Rattle.mc_nvm.specs.Probe.{probed};
 
 use crate::device::Nvm;
@@ -27,7 +28,8 @@ impl<'a, N: Nvm, L: Ledger> Probe<'a, N, L> {
 
     /// The device's number of words.
     pub fn len(&self) -> u32
-        ensures { result ≡ length (N.state (probed self.now)).words }
+        ensures len { result ≡ length (N.state (probed self.now)).words }
+        ensures image { IsImage (N.state (probed self.now)).words }
     {
         self.device.len()
     }

@@ -8,7 +8,7 @@ use Rattle.mc_blocks.proofs.room.first_fit.Goals as goal
 pub loop-place-init : goal.loop-place-init
 loop-place-init g c =
     search-begins (g.N.Nvm.state (probed c.args.device.now)).words c.args.need c.number_of-place.result c.args.steps.now c.read-root.new.steps c.read-root.result
-    c.requires.image c.requires.closed c.requires.laid c.read-root.ensures.word c.number_of-place.ensures c.read-root.ensures.ticks
+    c.len-size.ensures.image c.requires.closed c.requires.laid c.read-root.ensures.word c.number_of-place.ensures c.read-root.ensures.ticks
 
 pub loop-place-preserved : goal.loop-place-preserved
 loop-place-preserved g c =
