@@ -1,0 +1,119 @@
+// The code of a text.
+ghost use Rattle.std.specs.Prelude.{◌≡◌, ◌+◌, ◌≤◌, ℕ, pos, ◌-ℤ◌, List, [], ◌++◌, length, Some, None, Ok, Err, IfOk, IfErr, MatchResult};
+ghost use Rattle.mc_model.specs.Text.{lines, numbered};
+ghost use Rattle.mc_model.specs.Assembly.{emitted, assembled};
+ghost use Rattle.mc_asm.specs.Items.{item_of, Ready};
+ghost use Rattle.mc_asm.specs.Passes.{AreLabels, Refuses, code_and_end, coded, near};
+
+use crate::item::Item;
+use crate::labels::{Labels, end_of, labels_of, place_of};
+use crate::line::read_line;
+use crate::refusal::{AsmRefusal, refused};
+use crate::text::next_line;
+use arrayvec::ArrayVec;
+use mc_isa::encode;
+use mc_model::{AsmCause, Ins};
+use std::alloc::Global;
+
+// The displacement of a branch at a place: the distance from the place behind the branch.
+fn distance(to: u16, place: u16) -> Option<i8>
+    requires { place ≤ 8192 }
+    ensures { result ≡ near (pos to -ℤ pos (place + 2)) }
+{
+    let d = to as i32 - (place as i32 + 2);
+    if d < -128 || d > 127 {
+        return None;
+    }
+    Some(d as i8)
+}
+
+// What an item at a place puts into the code.
+fn emitted<'a>(
+    item: &Item<'a>,
+    place: u16,
+    labels: &Labels<'a>,
+) -> Result<ArrayVec<u8, 6>, AsmCause>
+    requires ready { Ready item.now }
+    requires place { place ≤ 8192 }
+    ensures { (l : List (List ℕ × ℕ)) → AreLabels labels.now l → MatchResult result (λ v. emitted l place (item_of item.now) ≡ Ok v.items) (λ e. emitted l place (item_of item.now) ≡ Err e) }
+{
+    match *item {
+        Item::Nothing => Ok(ArrayVec::new()),
+        Item::Raw(byte) => {
+            let mut bytes = ArrayVec::new();
+            bytes.push(byte);
+            Ok(bytes)
+        }
+        Item::Plain(ins) => Ok(encode(&ins)),
+        Item::ToPlace(name, cond, label) => {
+            let Some(to) = place_of(labels, label) else {
+                return Err(AsmCause::UnknownLabel);
+            };
+            Ok(encode(&name.with(cond, to)))
+        }
+        Item::ToDistance(cond, label) => {
+            let Some(to) = place_of(labels, label) else {
+                return Err(AsmCause::UnknownLabel);
+            };
+            let Some(d) = distance(to, place) else {
+                return Err(AsmCause::FarBranch);
+            };
+            Ok(encode(&Ins::Branch { cond, d }))
+        }
+    }
+}
+
+// The code of a line at a place, and the place behind the line.
+fn code_and_end<'a>(
+    line: &'a [u8],
+    place: u16,
+    labels: &Labels<'a>,
+) -> Result<(ArrayVec<u8, 6>, u16), AsmCause>
+    requires { place ≤ 8192 }
+    ensures value { (l : List (List ℕ × ℕ)) → AreLabels labels.now l → MatchResult result (λ p. code_and_end l place line.now ≡ Ok (p.0.items, p.1)) (λ e. code_and_end l place line.now ≡ Err e) }
+    ensures bound { IfOk result (λ p. p.1 ≤ 8192) }
+{
+    let line = read_line(line)?;
+    let end = end_of(&line.item, place)?;
+    Ok((emitted(&line.item, place, labels)?, end))
+}
+
+// The code of a text whose labels are known.
+fn code_of<'a>(
+    alloc: Global,
+    text: &'a [u8],
+    labels: &Labels<'a>,
+) -> Result<Vec<u8>, AsmRefusal>
+    ensures { (l : List (List ℕ × ℕ)) → AreLabels labels.now l → MatchResult result (λ v. coded l 0 (numbered 1 (lines text.now)) ≡ Ok v.items) (λ e. Refuses (coded l 0 (numbered 1 (lines text.now))) e) }
+{
+    let mut code = Vec::new(alloc);
+    let mut place = 0;
+    let mut number = 1;
+    let mut rest = text;
+    while let Some((line, behind)) = next_line(rest) {
+        match code_and_end(line, place, labels) {
+            Err(cause) => return Err(refused(number, cause)),
+            Ok((bytes, end)) => {
+                code.extend_from_slice(bytes.as_slice())?;
+                place = end;
+            }
+        }
+        number += 1;
+        rest = behind;
+    }
+    Ok(code)
+}
+
+/// The code of an assembly text. A line is `[LABEL:] [WORD [OPERANDS]] [; comment]`, and ends with a line feed, which the
+/// last line may lack; the code has at most 8,192 bytes. The words and the forms of their operands are this project's own.
+///
+/// `At` names the first refused line, counted from 1, and its cause: the first line that is refused by itself, and where
+/// there is none, the first whose label is unknown or too far for a branch.
+#[tactic(auto, using(crate::proofs::PassLemmas::refuses_first))]
+pub fn assemble(alloc: Global, text: &[u8]) -> Result<Vec<u8>, AsmRefusal>
+    ensures code { IfOk result (λ v. assembled text.now ≡ Ok v.items) }
+    ensures refused { IfErr result (λ e. Refuses (assembled text.now) e) }
+{
+    let labels = labels_of(alloc, text)?;
+    code_of(alloc, text, &labels)
+}
