@@ -1,12 +1,9 @@
 -- Texts of characters that nothing cuts, and lines that are put together of them.
-use Rattle.std.proofs.Common.{◌≡◌, ℕ, zero, suc, ◌+◌, ◌<◌, ◌≤◌, Bool, true, false, cond, List, [], ◌∷◌, ◌++◌, length, append-nil, map, Option, Some, None, Result, Ok, Err, arith, refl, sym, ap, subst, ◌∙◌}
-use Rattle.std.specs.Prelude.{◌==◌, ◌&&◌, not, nat_lt, nat_le, ok_or}
-use Rattle.std.specs.List.{AllByRecursion}
+use Rattle.std.proofs.Common.{◌≡◌, ℕ, Bool, true, false, List, [], ◌∷◌, ◌++◌, append-nil, map, Option, Some, None, Ok, arith, refl, ap, ◌∙◌}
+use Rattle.std.specs.Prelude.{◌==◌, ◌&&◌, not, nat_lt, nat_le}
 use Rattle.mc_model.specs.Bytes.{lookup}
-use Rattle.mc_model.specs.Text.{◌>>=◌, ok_as, first_cut, cut_or_kept, pieces, cut_or_joined, is_blank, is_empty, trim, trim_front, trim_end, before_trimmed, every, is_digit, lines, without_returns, begins}
-use Rattle.mc_model.specs.declared.assembler.AsmCause.{AsmCause}
-use Rattle.mc_model.specs.declared.assembler.AsmCause.TheVariants.{UnknownWord}
-use Rattle.mc_model.specs.Assembly.{Form, Line, Item, words, worded, operands, word_and_operands, label_and_rest, line_read}
+use Rattle.mc_model.specs.Text.{first_cut, pieces, is_blank, is_empty, trim, trim_front, trim_end, before_trimmed, every}
+use Rattle.mc_model.specs.Assembly.{Form, Item, words, worded, operands, word_and_operands, line_read}
 
 -- a character of an operand: no blank or less, no comma, no colon, no semicolon
 abbrev pub solid : ℕ → Bool

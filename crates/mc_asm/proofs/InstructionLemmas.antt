@@ -1,18 +1,17 @@
 -- The listing line of each instruction is read as that instruction.
-use Rattle.std.proofs.Common.{◌≡◌, ℕ, zero, suc, ◌+◌, ◌*◌, ◌-◌, ◌<◌, ◌≤◌, Bool, true, false, cond, List, [], ◌∷◌, ◌++◌, length, map, take, drop, Option, Some, None, Result, Ok, Err, arith, refl, sym, ap, subst, append-nil, append_assoc, ◌∙◌}
-use Rattle.std.specs.Prelude.{ℤ, pos, FitsSigned, ◌==◌, nat_le, codes, decimal}
+use Rattle.std.proofs.Common.{◌≡◌, ℕ, zero, suc, ◌<◌, ◌≤◌, Bool, true, false, List, [], ◌∷◌, ◌++◌, length, map, take, Some, None, Ok, arith, refl, sym, ap, subst, append-nil, append_assoc, ◌∙◌}
+use Rattle.std.specs.Prelude.{ℤ, FitsSigned, ◌==◌, nat_le, codes, decimal}
 use Rattle.std.specs.List.{AllByRecursion}
-use Rattle.std.specs.Int.{w8, w16}
+use Rattle.std.specs.Int.{w8}
 use Rattle.std.specs.Fmt.{signed_decimal}
 use Rattle.mc_model.specs.Bytes.{lookup, zeros}
-use Rattle.mc_model.specs.Text.{◌>>=◌, ok_as, every}
-use Rattle.mc_model.specs.declared.assembler.AsmCause.{AsmCause}
+use Rattle.mc_model.specs.Text.{every}
 use Rattle.mc_model.specs.declared.instruction.Ins.{Ins}
 use Rattle.mc_model.specs.declared.instruction.Ins.TheVariants.{Nop, Setsw, Setla, Setswla, Exit, Exitsw, Exitla, Exitswla, Branch, Jump, Call, Pushz, Pushb, Pushw, Popn, Popb, Popw, Prim, Ret, Reti, Reto, Retio, Load, Store, Loadi, Storei, Loada, Index, Setb, Cmpb, Addb, Subb, Setw, Cmpw, Addw, Subw, Clearn, Testn, Incn, Decn, Notn, Cmpn, Addn, Subn, Andn, Orn, Xorn}
 use Rattle.mc_model.specs.Code.{Shaped, IsTarget, IsAddress, IsPrimitive}
 use Rattle.mc_model.specs.Listing.{hex_word, condition_name, address_text, arguments_text, byte_line, word_line, words_line, target_line, address_line, operand_line, text_of}
-use Rattle.mc_model.specs.Assembly.{Form, Bare, OfByte, OfBytes, OfWord, OfWords, RawByte, ByDistance, ByPlace, Primitive, Addressed, AddressedByte, AddressedWord, Plain, words, worded, line_read, byte, word, all_bytes, both, primitive}
-use Rattle.mc_asm.proofs.CleanLemmas.{Solid, AllSolid, solid, written, joined, behind_word, line_is_read, word_written}
+use Rattle.mc_model.specs.Assembly.{Form, Bare, OfByte, OfBytes, OfWord, OfWords, ByDistance, ByPlace, Primitive, Addressed, AddressedByte, AddressedWord, Plain, words, worded, line_read, all_bytes}
+use Rattle.mc_asm.proofs.CleanLemmas.{Solid, AllSolid, written, joined, behind_word, line_is_read, word_written}
 use Rattle.mc_asm.proofs.NumeralLemmas.{byte_read, byte_solid, word_read, word_solid, signed_read, signed_solid, signed_no_label, half_8, condition_read, condition_solid, address_read, address_solid}
 
 -- a line is read as an instruction, and has no character that ends a line or a part of one
@@ -74,7 +73,7 @@ with_bytes name f v w n h k = two_operands name (decimal v) (decimal w) (OfBytes
 with_distance : (name : List ℕ) (f : ℕ → ℤ → Ins) (c : ℕ) (d : ℤ) → Named name (ByDistance f) → 0 < c → c < 8 → FitsSigned w8 d → ReadsAs (name ++ codes " " ++ condition_name c ++ codes "," ++ signed_decimal d) (f c d)
 with_distance name f c d n l h k =
     two_operands name (condition_name c) (signed_decimal d) (ByDistance f) (f c d) n (condition_solid c l h) (signed_solid 128 d (half_8 d k))
-        (rw (condition_read c l h, signed_no_label 128 d (half_8 d k), signed_read 128 d (half_8 d k)) refl)
+    (rw (condition_read c l h, signed_no_label 128 d (half_8 d k), signed_read 128 d (half_8 d k)) refl)
 
 zero_is : (n : ℕ) → (n == 0) ≡ true → n ≡ 0
 zero_is n h = grind (arith, h)
@@ -111,7 +110,7 @@ address_byte_by true name f tag off v e n a h =
 address_byte_by false name f tag off v e n a h =
     let l = zero_not tag e in
     rw e (of_operands name (name ++ codes " " ++ (address_text tag off ++ codes ",") ++ decimal v) (address_text tag off ∷ decimal v ∷ []) (AddressedByte f) (f tag off v) n
-        (address_solid tag off l a.register a.offset, (byte_solid v h, tt)) (rw (address_read tag off l a.register a.offset, byte_read v h) refl) (with_address_line name (address_text tag off) (decimal v)))
+    (address_solid tag off l a.register a.offset, (byte_solid v h, tt)) (rw (address_read tag off l a.register a.offset, byte_read v h) refl) (with_address_line name (address_text tag off) (decimal v)))
 
 address_byte : (name : List ℕ) (f : ℕ → ℤ → ℕ → Ins) (tag : ℕ) (off : ℤ) (v : ℕ) → Named name (AddressedByte f) → IsAddress tag off × (v < 256) → ReadsAs (operand_line name tag off (decimal v)) (f tag off v)
 address_byte name f tag off v n s = address_byte_by (tag == 0) name f tag off v refl n s.0 s.1
@@ -123,7 +122,7 @@ address_word_by true name f tag off v e n a h =
 address_word_by false name f tag off v e n a h =
     let l = zero_not tag e in
     rw e (of_operands name (name ++ codes " " ++ (address_text tag off ++ codes ",") ++ hex_word v) (address_text tag off ∷ hex_word v ∷ []) (AddressedWord f) (f tag off v) n
-        (address_solid tag off l a.register a.offset, (word_solid v, tt)) (rw (address_read tag off l a.register a.offset, word_read v h) refl) (with_address_line name (address_text tag off) (hex_word v)))
+    (address_solid tag off l a.register a.offset, (word_solid v, tt)) (rw (address_read tag off l a.register a.offset, word_read v h) refl) (with_address_line name (address_text tag off) (hex_word v)))
 
 address_word : (name : List ℕ) (f : ℕ → ℤ → ℕ → Ins) (tag : ℕ) (off : ℤ) (v : ℕ) → Named name (AddressedWord f) → IsAddress tag off × (v < 65536) → ReadsAs (operand_line name tag off (hex_word v)) (f tag off v)
 address_word name f tag off v n s = address_word_by (tag == 0) name f tag off v refl n s.0 s.1
@@ -159,7 +158,7 @@ primitive_line : (name : List ℕ) (number : ℕ) (bs : List ℕ) → Named name
 primitive_line name number bs n h a l =
     let few : nat_le (length (map decimal bs)) 3 ≡ true = rw (length_decimals bs) (up_to_three (length bs) l) in
     of_operands name (byte_line name number ++ arguments_text bs) (decimal number ∷ map decimal bs) Primitive (Prim (length bs) number (take 3 (bs ++ zeros 3))) n
-        (byte_solid number h, arguments_solid bs a) (rw (few, byte_read number h, arguments_read bs a) refl) (arguments_line name (decimal number) bs)
+    (byte_solid number h, arguments_solid bs a) (rw (few, byte_read number h, arguments_read bs a) refl) (arguments_line name (decimal number) bs)
 
 prim_named : Named (codes "PRIM") Primitive
 prim_named = record { solid = record { some = refl; all = refl }; found = refl }

@@ -1,7 +1,7 @@
 -- The operands of a line.
-use Rattle.std.proofs.Common.{◌≡◌, ◌≢◌, ℕ, zero, suc, ◌+◌, ◌<◌, ◌≤◌, Bool, true, false, List, [], ◌∷◌, ◌++◌, length, append-nil, subst, Bor, take, drop, Option, Some, None, Result, Ok, Err, arith, refl, sym, ap, ◌∙◌}
+use Rattle.std.proofs.Common.{◌≡◌, ◌≢◌, ℕ, zero, suc, ◌≤◌, false, List, [], ◌∷◌, ◌++◌, length, append-nil, subst, Bor, take, Option, Some, None, Result, arith, refl, sym, ap, ◌∙◌}
 use Rattle.std.specs.Prelude.{map, nat_le, ◌==◌}
-use Rattle.mc_model.specs.Text.{first_cut, pieces, trim, is_empty}
+use Rattle.mc_model.specs.Text.{first_cut, trim, is_empty}
 use Rattle.mc_model.specs.Assembly.{Form, Bare, OfByte, OfBytes, OfWord, OfWords, RawByte, ByDistance, ByPlace, Primitive, Addressed, AddressedByte, AddressedWord, words, operands, worded, word_and_operands, label_and_rest, line_read, Item, Line}
 use Rattle.mc_model.specs.Bytes.{lookup}
 use Rattle.mc_model.specs.declared.assembler.AsmCause.{AsmCause}

@@ -1,9 +1,9 @@
 -- The listing of code, place by place.
-use Rattle.std.proofs.Common.{◌≡◌, ℕ, zero, suc, ◌+◌, ◌-◌, ◌<◌, ◌≤◌, Bool, true, false, List, [], ◌∷◌, ◌++◌, length, take, drop, Option, Some, None, Result, Ok, Err, arith, refl, sym, ap, subst, length-drop, append_assoc, ◌∙◌}
+use Rattle.std.proofs.Common.{◌≡◌, ℕ, zero, suc, ◌+◌, ◌<◌, ◌≤◌, List, [], ◌∷◌, ◌++◌, length, drop, Option, Some, None, Result, Ok, Err, arith, refl, sym, ap, length-drop, append_assoc, ◌∙◌}
 use Rattle.std.specs.Prelude.{codes}
 use Rattle.mc_model.specs.Text.{ok_as}
 use Rattle.mc_model.specs.Code.{Form, form, made_of, front, from_place, decoded}
-use Rattle.mc_model.specs.Listing.{text_of, line_before, listed_one, length_of, listed_from, listed}
+use Rattle.mc_model.specs.Listing.{text_of, line_before, listed_from, listed}
 use Rattle.mc_model.specs.declared.instruction.DecodeFault.{DecodeFault}
 use Rattle.mc_model.specs.declared.instruction.Ins.{Ins}
 

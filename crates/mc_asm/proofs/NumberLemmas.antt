@@ -1,7 +1,7 @@
 -- Numbers that are read digit by digit.
-use Rattle.std.proofs.Common.{◌≡◌, ℕ, zero, suc, ◌+◌, ◌*◌, ◌-◌, ◌<◌, ◌≤◌, ◌^◌, Bool, true, false, cond, List, [], ◌∷◌, ◌++◌, length, take, drop, get_or, drop-cons, Option, Some, None, arith, refl, sym, ap, subst, ◌∙◌}
+use Rattle.std.proofs.Common.{◌≡◌, ℕ, zero, suc, ◌+◌, ◌*◌, ◌-◌, ◌<◌, ◌≤◌, ◌^◌, Bool, true, false, List, [], ◌∷◌, Option, Some, None, arith, refl, sym, ap, subst, ◌∙◌}
 use Rattle.std.specs.Prelude.{option_map, nat_le, map}
-use Rattle.mc_model.specs.Text.{digits_onto, every, is_digit, decimal_number, hex_value, hex_values, before_values}
+use Rattle.mc_model.specs.Text.{digits_onto, every, is_digit, hex_value, hex_values, before_values}
 use Rattle.mc_asm.specs.Numbers.{capped, decimal_behind, hex_behind}
 
 capped_low : (n : ℕ) → n ≤ 65536 → capped n ≡ n

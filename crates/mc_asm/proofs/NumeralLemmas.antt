@@ -1,14 +1,13 @@
 -- Operands as a listing writes them, read back.
-use Rattle.std.proofs.Common.{◌≡◌, ℕ, zero, suc, ◌+◌, ◌*◌, ◌-◌, ◌/◌, ◌%◌, ◌^◌, ◌<◌, ◌≤◌, Bool, true, false, cond, List, [], ◌∷◌, ◌++◌, length, map, Option, Some, None, Result, Ok, Err, arith, rules, refl, sym, ap, subst, append_assoc, ◌∙◌}
+use Rattle.std.proofs.Common.{◌≡◌, ℕ, zero, suc, ◌+◌, ◌*◌, ◌-◌, ◌/◌, ◌%◌, ◌^◌, ◌<◌, ◌≤◌, Bool, true, false, List, [], ◌∷◌, ◌++◌, length, map, Some, Ok, arith, refl, ap, append_assoc, ◌∙◌}
 use Rattle.std.specs.Prelude.{ℤ, pos, negsuc, FitsSigned, ◌==◌, ◌&&◌, not, nat_le, nat_lt, bytes_eq, codes, decimal, take}
 use Rattle.std.specs.Int.{w8, w16}
 use Rattle.std.specs.Fmt.{signed_decimal}
 use Rattle.std.proofs.lemmas.Fmt.{decimal_by_steps}
 use Rattle.std.proofs.lemmas.Int.{ints}
-use Rattle.mc_model.specs.Text.{every, is_digit, is_empty, digits_onto, decimal_number, hex_value, hex_values, pieces, begins, is_within}
-use Rattle.mc_model.specs.declared.assembler.AsmCause.{AsmCause}
+use Rattle.mc_model.specs.Text.{every, is_digit, is_empty, digits_onto, decimal_number, hex_value, begins, is_within}
 use Rattle.mc_model.specs.Listing.{hex_digit, hex_word, condition_name, register_name, register_names, address_text}
-use Rattle.mc_model.specs.Assembly.{natural, signed, fits_signed, byte, word, signed_operand, condition, address, is_label, place_among}
+use Rattle.mc_model.specs.Assembly.{natural, fits_signed, byte, word, signed_operand, condition, address, is_label, place_among}
 use Rattle.mc_asm.proofs.CleanLemmas.{Solid, solid, every_as, every_append, pieces_none, pieces_there, and_first, and_second}
 
 -- ---- decimal digits

@@ -1,5 +1,5 @@
 -- The two passes over a text.
-use Rattle.std.proofs.Common.{◌≡◌, ℕ, zero, suc, ◌+◌, ◌<◌, ◌≤◌, Bool, true, false, cond, List, [], ◌∷◌, ◌++◌, length, Option, Some, None, Result, Ok, Err, arith, refl, sym, ap, subst, append_assoc, add-one, ◌∙◌}
+use Rattle.std.proofs.Common.{◌≡◌, ℕ, zero, suc, ◌+◌, ◌<◌, ◌≤◌, Bool, true, false, cond, List, [], ◌∷◌, ◌++◌, length, Option, Some, None, Result, Ok, Err, arith, refl, sym, ap, subst, append_assoc, drop, get_or, add-one, ◌∙◌}
 use Rattle.std.specs.Prelude.{bytes_eq, nat_le, MatchResult, IfOk, IfErr}
 use Rattle.std.specs.Ordering.{is_eq, nat_cmp}
 use Rattle.std.specs.Cmp.Lexicographic.{slice_cmp}
@@ -8,13 +8,14 @@ use Rattle.mc_model.specs.Bytes.{lookup}
 use Rattle.mc_model.specs.Text.{◌>>=◌, ok_as, err_as, only_if, lines, numbered}
 use Rattle.mc_model.specs.declared.assembler.AsmCause.{AsmCause}
 use Rattle.mc_model.specs.declared.assembler.AsmCause.TheVariants.{TooLong, LabelTwice}
-use Rattle.mc_model.specs.Assembly.{Item, Line, Laid, Placed, is_new, with_label, line_read, line_laid, laid_lines, size, emitted, joined_code, assembled_lines, assembled}
+use Rattle.mc_model.specs.Assembly.{Line, Laid, Placed, is_new, with_label, line_read, line_laid, laid_lines, size, emitted, joined_code, assembled_lines}
 use Rattle.mc_asm.specs.Texts.{next_line}
-use Rattle.mc_asm.specs.Refusals.{IsAt, Refuses}
+use Rattle.mc_asm.specs.Refusals.{Refuses}
+use Rattle.mc_asm.specs.declared.line.NumberedLine.{NumberedLine}
 use Rattle.mc_asm.specs.declared.refusal.AsmRefusal.{AsmRefusal}
 use Rattle.mc_asm.specs.declared.refusal.AsmRefusal.TheVariants.{At, NoMemory}
-use Rattle.mc_asm.specs.Passes.{label_and_end, end_of, places, code_and_end, coded}
-use Rattle.mc_asm.proofs.TextLemmas.{lines_at, lines_from}
+use Rattle.mc_asm.specs.Passes.{label_and_end, places, code_and_end, coded, numbered_lines}
+use Rattle.mc_asm.proofs.TextLemmas.{lines_at, lines_from, rest_of}
 
 -- a label that was put, and the others
 pub label_found : (k q : List ℕ) (p : ℕ) (o : Option ℕ) (l : List (List ℕ × ℕ)) → o ≡ lookup l q → cond (is_eq (slice_cmp nat_cmp k q)) (Some p) o ≡ cond (bytes_eq k q) (Some p) (lookup l q)
@@ -22,50 +23,35 @@ label_found k q p o l e = rw (is_eq-slice_cmp k q, e) refl
 
 -- ---- a line, and the lines behind it
 
-lines_some : (t l b : List ℕ) → Some (l, b) ≡ next_line t → lines t ≡ l ∷ lines b
-lines_some t l b e = lines_at t ∙ ap lines_from (sym e)
-
-lines_none : (t : List ℕ) → None ≡ next_line t → lines t ≡ []
-lines_none t e = lines_at t ∙ ap lines_from (sym e)
-
-numbered_some : (n : ℕ) (t l b : List ℕ) → Some (l, b) ≡ next_line t → numbered n (lines t) ≡ (n, l) ∷ numbered (n + 1) (lines b)
-numbered_some n t l b e = ap (numbered n) (lines_some t l b e) ∙ ap (λ k. (n, l) ∷ numbered k (lines b)) (sym (add-one n))
-
-pub places_more : (labels : List (List ℕ × ℕ)) (place n end : ℕ) (t l b : List ℕ) (label : Option (List ℕ)) → Some (l, b) ≡ next_line t → Ok (label, end) ≡ label_and_end labels place l
-    → places labels place (numbered n (lines t)) ≡ places (with_label labels label place) end (numbered (n + 1) (lines b))
+pub places_more : (labels : List (List ℕ × ℕ)) (place n end : ℕ) (l : List ℕ) (ts : List (ℕ × List ℕ)) (label : Option (List ℕ)) → Ok (label, end) ≡ label_and_end labels place l
+    → places labels place ((n, l) ∷ ts) ≡ places (with_label labels label place) end ts
 unfolding places
-places_more labels place n end t l b label e h = ap (places labels place) (numbered_some n t l b e) ∙ rw (sym h) refl
+places_more labels place n end l ts label h = rw (sym h) refl
 
-pub places_refused : (labels : List (List ℕ × ℕ)) (place n : ℕ) (t l b : List ℕ) (c : AsmCause) → Some (l, b) ≡ next_line t → Err c ≡ label_and_end labels place l
-    → places labels place (numbered n (lines t)) ≡ Err (n, c)
+pub places_refused : (labels : List (List ℕ × ℕ)) (place n : ℕ) (l : List ℕ) (ts : List (ℕ × List ℕ)) (c : AsmCause) → Err c ≡ label_and_end labels place l → places labels place ((n, l) ∷ ts) ≡ Err (n, c)
 unfolding places
-places_refused labels place n t l b c e h = ap (places labels place) (numbered_some n t l b e) ∙ rw (sym h) refl
+places_refused labels place n l ts c h = rw (sym h) refl
 
-pub places_end : (labels : List (List ℕ × ℕ)) (place n : ℕ) (t : List ℕ) → None ≡ next_line t → places labels place (numbered n (lines t)) ≡ Ok labels
+pub places_end : (labels : List (List ℕ × ℕ)) (place : ℕ) → places labels place [] ≡ Ok labels
 unfolding places
-places_end labels place n t e = ap (λ l. places labels place (numbered n l)) (lines_none t e)
+places_end labels place = refl
 
-pub coded_more : (labels : List (List ℕ × ℕ)) (place n end : ℕ) (t l b bytes : List ℕ) → Some (l, b) ≡ next_line t → Ok (bytes, end) ≡ code_and_end labels place l
-    → coded labels place (numbered n (lines t)) ≡ ok_as (λ rest. bytes ++ rest) (coded labels end (numbered (n + 1) (lines b)))
+pub coded_more : (labels : List (List ℕ × ℕ)) (place n end : ℕ) (l bytes : List ℕ) (ts : List (ℕ × List ℕ)) → Ok (bytes, end) ≡ code_and_end labels place l
+    → coded labels place ((n, l) ∷ ts) ≡ ok_as (λ rest. bytes ++ rest) (coded labels end ts)
 unfolding coded
-coded_more labels place n end t l b bytes e h = ap (coded labels place) (numbered_some n t l b e) ∙ rw (sym h) refl
+coded_more labels place n end l bytes ts h = rw (sym h) refl
 
-pub coded_refused : (labels : List (List ℕ × ℕ)) (place n : ℕ) (t l b : List ℕ) (c : AsmCause) → Some (l, b) ≡ next_line t → Err c ≡ code_and_end labels place l
-    → coded labels place (numbered n (lines t)) ≡ Err (n, c)
+pub coded_refused : (labels : List (List ℕ × ℕ)) (place n : ℕ) (l : List ℕ) (ts : List (ℕ × List ℕ)) (c : AsmCause) → Err c ≡ code_and_end labels place l → coded labels place ((n, l) ∷ ts) ≡ Err (n, c)
 unfolding coded
-coded_refused labels place n t l b c e h = ap (coded labels place) (numbered_some n t l b e) ∙ rw (sym h) refl
+coded_refused labels place n l ts c h = rw (sym h) refl
 
-pub coded_end : (labels : List (List ℕ × ℕ)) (place n : ℕ) (t : List ℕ) → None ≡ next_line t → coded labels place (numbered n (lines t)) ≡ Ok []
+pub coded_end : (labels : List (List ℕ × ℕ)) (place : ℕ) → coded labels place [] ≡ Ok []
 unfolding coded
-coded_end labels place n t e = ap (λ l. coded labels place (numbered n l)) (lines_none t e)
+coded_end labels place = refl
 
 -- ---- the two passes are the definition
 
-
--- a refusal at a line is the definition's
-pub refuses_at : {A : Type 0} (r : Result A (ℕ × AsmCause)) (n : ℕ) (c : AsmCause) (e : AsmRefusal) → r ≡ Err (n, c) → IsAt n c e → Refuses r e
-refuses_at r n c (At m d) h at = h ∙ ap (λ k. Err (k, c)) (sym at.0) ∙ ap (λ f. Err (m, f)) (sym at.1)
-refuses_at r n c NoMemory h at = tt
+-- ---- the two passes are the definition
 
 -- ---- the two passes are the definition
 
@@ -170,36 +156,66 @@ passes_by ts (Err f) e = refl
 passes_by ts (Ok laid) e = sym (coded_laid laid.labels ts [] 0 laid e)
 
 -- the definition is the first pass and then the second
-pub two_passes : (t : List ℕ) → assembled t ≡ (places [] 0 (numbered 1 (lines t)) >>= λ L. coded L 0 (numbered 1 (lines t)))
-unfolding assembled assembled_lines
-two_passes t =
-    let ts = numbered 1 (lines t) in
-    passes_by ts (laid_lines [] 0 ts) refl ∙ ap (λ r. r >>= λ L. coded L 0 ts) (sym (places_laid ts [] 0))
+pub two_passes : (ts : List (ℕ × List ℕ)) → assembled_lines ts ≡ (places [] 0 ts >>= λ L. coded L 0 ts)
+unfolding assembled_lines
+two_passes ts = passes_by ts (laid_lines [] 0 ts) refl ∙ ap (λ r. r >>= λ L. coded L 0 ts) (sym (places_laid ts [] 0))
 
 -- a refusal of the first pass is one of the text
-pub refuses_first : (t : List ℕ) (e : AsmRefusal) → Refuses (places [] 0 (numbered 1 (lines t))) e → Refuses (assembled t) e
-refuses_first t (At n c) h = two_passes t ∙ ap (λ r. r >>= λ L. coded L 0 (numbered 1 (lines t))) h
-refuses_first t NoMemory h = tt
+pub refuses_first : (ts : List (ℕ × List ℕ)) (e : AsmRefusal) → Refuses (places [] 0 ts) e → Refuses (assembled_lines ts) e
+refuses_first ts (At n c) h = two_passes ts ∙ ap (λ r. r >>= λ L. coded L 0 ts) h
+refuses_first ts NoMemory h = tt
 
 -- what the second pass has under the labels of the first is that of the text
-pub coded_is : (t : List ℕ) (L : List (List ℕ × ℕ)) → places [] 0 (numbered 1 (lines t)) ≡ Ok L → assembled t ≡ coded L 0 (numbered 1 (lines t))
-coded_is t L h = two_passes t ∙ ap (λ r. r >>= λ L. coded L 0 (numbered 1 (lines t))) h
+coded_is : (ts : List (ℕ × List ℕ)) (L : List (List ℕ × ℕ)) → places [] 0 ts ≡ Ok L → assembled_lines ts ≡ coded L 0 ts
+coded_is ts L h = two_passes ts ∙ ap (λ r. r >>= λ L. coded L 0 ts) h
 
-pub refuses_second : (t : List ℕ) (L : List (List ℕ × ℕ)) (e : AsmRefusal) → places [] 0 (numbered 1 (lines t)) ≡ Ok L → Refuses (coded L 0 (numbered 1 (lines t))) e → Refuses (assembled t) e
-refuses_second t L (At n c) h k = coded_is t L h ∙ k
-refuses_second t L NoMemory h k = tt
+refuses_second : (ts : List (ℕ × List ℕ)) (L : List (List ℕ × ℕ)) (e : AsmRefusal) → places [] 0 ts ≡ Ok L → Refuses (coded L 0 ts) e → Refuses (assembled_lines ts) e
+refuses_second ts L (At n c) h k = coded_is ts L h ∙ k
+refuses_second ts L NoMemory h k = tt
 
 -- code, and more of it
 pub coded_behind : (code more : List ℕ) (r : Result (List ℕ) (ℕ × AsmCause)) → ok_as (λ rest. (code ++ more) ++ rest) r ≡ ok_as (λ rest. code ++ rest) (ok_as (λ rest. more ++ rest) r)
 coded_behind code more (Ok rest) = ap Ok (append_assoc code more rest)
 coded_behind code more (Err e) = refl
 
-pub code_found : {V : Type 0} (items : V → List ℕ) (t : List ℕ) (L : List (List ℕ × ℕ)) (r : Result V AsmRefusal) → places [] 0 (numbered 1 (lines t)) ≡ Ok L
-    → MatchResult r (λ v. coded L 0 (numbered 1 (lines t)) ≡ Ok (items v)) (λ e. Refuses (coded L 0 (numbered 1 (lines t))) e) → IfOk r (λ v. assembled t ≡ Ok (items v))
-code_found items t L (Ok v) h m = coded_is t L h ∙ m
-code_found items t L (Err e) h m = tt
+pub code_found : {V : Type 0} (items : V → List ℕ) (ts : List (ℕ × List ℕ)) (L : List (List ℕ × ℕ)) (r : Result V AsmRefusal) → places [] 0 ts ≡ Ok L
+    → MatchResult r (λ v. coded L 0 ts ≡ Ok (items v)) (λ e. Refuses (coded L 0 ts) e) → IfOk r (λ v. assembled_lines ts ≡ Ok (items v))
+code_found items ts L (Ok v) h m = coded_is ts L h ∙ m
+code_found items ts L (Err e) h m = tt
 
-pub code_refused : {V : Type 0} (items : V → List ℕ) (t : List ℕ) (L : List (List ℕ × ℕ)) (r : Result V AsmRefusal) → places [] 0 (numbered 1 (lines t)) ≡ Ok L
-    → MatchResult r (λ v. coded L 0 (numbered 1 (lines t)) ≡ Ok (items v)) (λ e. Refuses (coded L 0 (numbered 1 (lines t))) e) → IfErr r (λ e. Refuses (assembled t) e)
-code_refused items t L (Ok v) h m = tt
-code_refused items t L (Err e) h m = refuses_second t L e h m
+pub code_refused : {V : Type 0} (items : V → List ℕ) (ts : List (ℕ × List ℕ)) (L : List (List ℕ × ℕ)) (r : Result V AsmRefusal) → places [] 0 ts ≡ Ok L
+    → MatchResult r (λ v. coded L 0 ts ≡ Ok (items v)) (λ e. Refuses (coded L 0 ts) e) → IfErr r (λ e. Refuses (assembled_lines ts) e)
+code_refused items ts L (Ok v) h m = tt
+code_refused items ts L (Err e) h m = refuses_second ts L e h m
+
+-- ---- the lines of a text
+
+-- the first line of a text with its number, and those behind it
+pub numbered_some : (n : ℕ) (t l b : List ℕ) → Some (l, b) ≡ next_line t → numbered n (lines t) ≡ (n, l) ∷ numbered (n + 1) (lines b)
+numbered_some n t l b e = ap (numbered n) (lines_at t ∙ ap lines_from (sym e)) ∙ ap (λ k. (n, l) ∷ numbered k (lines b)) (sym (add-one n))
+
+pub numbered_none : (n : ℕ) (t : List ℕ) → None ≡ next_line t → numbered n (lines t) ≡ []
+numbered_none n t e = ap (numbered n) (lines_at t ∙ ap lines_from (sym e))
+
+-- one more line
+pub line_more : (ls : List NumberedLine) (l : NumberedLine) → numbered_lines (ls ++ l ∷ []) ≡ numbered_lines ls ++ (l.number, l.text.now) ∷ []
+line_more [] l = refl
+line_more (k ∷ ls) l = ap (λ x. (k.number, k.text.now) ∷ x) (line_more ls l)
+
+pub lines_more : (ls ks : List (ℕ × List ℕ)) (n m : ℕ) (t l b : List ℕ) → Some (l, b) ≡ next_line t → ks ≡ ls ++ (n, l) ∷ [] → m ≡ n → ks ++ numbered (m + 1) (lines b) ≡ ls ++ numbered n (lines t)
+lines_more ls ks n m t l b e h k = rw (h, k) (append_assoc ls ((n, l) ∷ []) (numbered (n + 1) (lines b)) ∙ ap (λ ts. ls ++ ts) (sym (numbered_some n t l b e)))
+
+-- what a place beyond the lines is read as
+abbrev pub no_line : NumberedLine
+no_line = record { number = 0; text = record { ref_ptr = (0, 0); now = [] } }
+
+-- a line, and those behind it
+pub line_at : (ls : List NumberedLine) (i : ℕ) → i < length ls → numbered_lines (drop i ls) ≡ ((get_or ls i no_line).number, (get_or ls i no_line).text.now) ∷ numbered_lines (drop (i + 1) ls)
+line_at ls i h = ap numbered_lines (rest_of ls i no_line h)
+
+-- no line is left
+pub no_line_left : (ls : List NumberedLine) (i : ℕ) → length ls ≤ i → numbered_lines (drop i ls) ≡ []
+no_line_left [] zero h = refl
+no_line_left [] (suc i) h = refl
+no_line_left (l ∷ ls) zero h = absurd (omega (arith, h))
+no_line_left (l ∷ ls) (suc i) h = no_line_left ls i (omega (arith, h))

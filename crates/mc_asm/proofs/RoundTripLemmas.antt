@@ -1,19 +1,18 @@
 -- Listings are assembled.
-use Rattle.std.proofs.Common.{◌≡◌, ℕ, zero, suc, ◌+◌, ◌-◌, ◌<◌, ◌≤◌, Bool, true, false, List, [], ◌∷◌, ◌++◌, length, take, drop, Option, Some, None, Result, Ok, Err, arith, refl, sym, ap, subst, length-append, length-drop, append_assoc, ◌∙◌}
-use Rattle.std.specs.Prelude.{◌==◌, not, nat_le, codes, slice_index}
+use Rattle.std.proofs.Common.{◌≡◌, ℕ, zero, suc, ◌+◌, ◌-◌, ◌<◌, ◌≤◌, true, false, List, [], ◌∷◌, ◌++◌, length, drop, Some, None, Result, Ok, Err, arith, refl, sym, ap, subst, length-drop, append_assoc, ◌∙◌}
+use Rattle.std.specs.Prelude.{◌==◌, not, nat_le, codes, slice_index, IfOk}
 use Rattle.std.specs.List.{AllByRecursion}
 use Rattle.std.proofs.lemmas.List.{take-append-drop}
-use Rattle.mc_model.specs.Text.{◌>>=◌, ok_as, first_cut, every, lines, numbered}
+use Rattle.mc_model.specs.Text.{◌>>=◌, ok_as, every, lines, numbered}
 use Rattle.mc_model.specs.declared.instruction.DecodeFault.{DecodeFault}
 use Rattle.mc_model.specs.declared.instruction.Ins.{Ins}
 use Rattle.mc_model.specs.Code.{Shaped, Stands, spell, front, from_place}
 use Rattle.mc_model.specs.Listing.{text_of, line_before, listed_one, length_of, listed_from, listed}
-use Rattle.mc_model.specs.Assembly.{assembled, line_read, line_laid, is_new, size, emitted, Plain}
+use Rattle.mc_model.specs.Assembly.{assembled, line_laid}
 use Rattle.mc_isa.proofs.PlaceLemmas.{decoded_stands}
 use Rattle.mc_asm.specs.Texts.{next_line, without_return}
-use Rattle.mc_asm.specs.Passes.{places, coded, label_and_end, code_and_end, end_of}
-use Rattle.mc_asm.proofs.TextLemmas.{lines_at, lines_from}
-use Rattle.mc_asm.proofs.PassLemmas.{two_passes, places_more, places_end, coded_more, coded_end}
+use Rattle.mc_asm.specs.Passes.{places, coded, label_and_end, code_and_end}
+use Rattle.mc_asm.proofs.PassLemmas.{two_passes, numbered_some, places_more, places_end, coded_more, coded_end}
 use Rattle.mc_asm.proofs.ListingLemmas.{whole_listed, no_bytes, front_some}
 use Rattle.mc_asm.proofs.CleanLemmas.{written, every_as, cut_there, and_first, and_second}
 use Rattle.mc_asm.proofs.InstructionLemmas.{ReadsAs, instruction_read}
@@ -67,16 +66,16 @@ record Assembles (place n : ℕ) (t bytes : List ℕ) : Type 0 where
   code : coded [] place (numbered n (lines t)) ≡ Ok bytes
 
 assembles_none : (place n : ℕ) → Assembles place n [] []
-assembles_none place n = record { labels = places_end [] place n [] refl; code = coded_end [] place n [] refl }
+assembles_none place n = record { labels = places_end [] place; code = coded_end [] place }
 
 assembles_more : (place n : ℕ) (i : Ins) (rest code : List ℕ) → ReadsAs (text_of i) i → place + length (spell i) ≤ 8192 → Assembles (place + length (spell i)) (n + 1) rest code
     → Assembles place n (text_of i ++ codes "\n" ++ rest) (spell i ++ code)
 assembles_more place n i rest code r h a =
-    let line = first_line (text_of i) rest r.all in
+    let ls = numbered_some n (text_of i ++ codes "\n" ++ rest) (text_of i) rest (first_line (text_of i) rest r.all) in
     let d = adds place (text_of i) i r h in
     record {
-      labels = places_more [] place n (place + length (spell i)) (text_of i ++ codes "\n" ++ rest) (text_of i) rest None line (sym d.label) ∙ a.labels;
-      code = coded_more [] place n (place + length (spell i)) (text_of i ++ codes "\n" ++ rest) (text_of i) rest (spell i) line (sym d.code) ∙ ap (ok_as (λ rest. spell i ++ rest)) a.code;
+      labels = ap (places [] place) ls ∙ places_more [] place n (place + length (spell i)) (text_of i) (numbered (n + 1) (lines rest)) None (sym d.label) ∙ a.labels;
+      code = ap (coded [] place) ls ∙ coded_more [] place n (place + length (spell i)) (text_of i) (spell i) (numbered (n + 1) (lines rest)) (sym d.code) ∙ ap (ok_as (λ rest. spell i ++ rest)) a.code;
     }
 
 -- ---- a whole listing
@@ -131,7 +130,7 @@ one_assembled fuel at n b bs text (Ok p) q all h m k go =
     let some = front_some b bs p q in
     let d = length-drop p.1 (b ∷ bs) in
     rest_assembled fuel at n (b ∷ bs) p.0 p.1 text (listed_from fuel (drop p.1 (b ∷ bs)) (at + p.1)) all h fr f
-        (λ rest e. go (drop p.1 (b ∷ bs)) (at + p.1) (n + 1) rest (bytes_behind p.1 (b ∷ bs) all) (omega (arith, d, some, m)) (omega (arith, d, h, fr.inside)) e)
+    (λ rest e. go (drop p.1 (b ∷ bs)) (at + p.1) (n + 1) rest (bytes_behind p.1 (b ∷ bs) all) (omega (arith, d, some, m)) (omega (arith, d, h, fr.inside)) e)
 
 bytes_assembled : (fuel : ℕ) (l : List ℕ) (at n : ℕ) (text : List ℕ) → AllBytes l → length l ≤ fuel → at + length l ≤ 8192 → listed_from fuel l at ≡ Ok text → Assembles at n text l
 bytes_assembled fuel [] at n text all m h e =
@@ -141,6 +140,11 @@ bytes_assembled zero (b ∷ bs) at n text all m h e = absurd (omega (arith, m))
 bytes_assembled (suc fuel) (b ∷ bs) at n text all m h e = one_assembled fuel at n b bs text (front (b ∷ bs)) refl all h m e (λ l at n text. bytes_assembled fuel l at n text)
 
 pub listing_assembled : (code text : List ℕ) → AllByRecursion (λ b. b < 256) code → length code ≤ 8192 → listed code ≡ Ok text → assembled text ≡ Ok code
+unfolding assembled
 listing_assembled code text all small e =
     let a = bytes_assembled (length code) code 0 1 text all (omega arith) (omega (arith, small)) (sym (whole_listed code) ∙ e) in
-    two_passes text ∙ ap (λ r. r >>= λ L. coded L 0 (numbered 1 (lines text))) a.labels ∙ a.code
+    two_passes (numbered 1 (lines text)) ∙ ap (λ r. r >>= λ L. coded L 0 (numbered 1 (lines text))) a.labels ∙ a.code
+
+pub listing_again : {V E : Type 0} (items : V → List ℕ) (code : List ℕ) (r : Result V E) → AllByRecursion (λ b. b < 256) code → length code ≤ 8192 → IfOk r (λ v. listed code ≡ Ok (items v)) → IfOk r (λ v. assembled (items v) ≡ Ok code)
+listing_again items code (Ok v) all small h = listing_assembled code (items v) all small h
+listing_again items code (Err e) all small h = tt

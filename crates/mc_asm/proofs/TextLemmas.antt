@@ -1,8 +1,8 @@
 -- Texts that are cut, and their lines.
-use Rattle.std.proofs.Common.{◌≡◌, ℕ, zero, suc, ◌+◌, ◌-◌, ◌<◌, ◌≤◌, Bool, true, false, cond, List, [], ◌∷◌, ◌++◌, length, take, drop, get_or, drop-cons, add-one, Option, Some, None, arith, refl, sym, ap, subst, ◌∙◌}
-use Rattle.std.specs.Prelude.{position, option_map, slice_index, nat_lt, ◌==◌}
+use Rattle.std.proofs.Common.{◌≡◌, ℕ, suc, ◌+◌, ◌-◌, ◌<◌, Bool, true, false, cond, List, [], ◌∷◌, ◌++◌, length, take, drop, get_or, drop-cons, add-one, Option, Some, None, arith, refl, sym, ap, subst, ◌∙◌}
+use Rattle.std.specs.Prelude.{position, slice_index, nat_lt, ◌==◌}
 use Rattle.std.specs.List.{position_or_len}
-use Rattle.mc_model.specs.Text.{first_cut, cut_or_kept, pieces, cut_or_joined, lines, no_last_empty, without_returns, begins, is_empty, is_blank, trim, trim_front, trim_end, before_trimmed}
+use Rattle.mc_model.specs.Text.{first_cut, cut_or_kept, pieces, cut_or_joined, lines, no_last_empty, without_returns, is_blank, trim_end, before_trimmed}
 use Rattle.mc_asm.specs.Texts.{cut_at, without_return, line_cut, next_line}
 use Rattle.mc_asm.specs.Parts.{pair_of, two_parts}
 
@@ -55,7 +55,6 @@ kept_before c (d ∷ f) l = refl
 pub end_stays : (f : List ℕ) (l : ℕ) → is_blank l ≡ false → trim_end (f ++ l ∷ []) ≡ f ++ l ∷ []
 end_stays [] l e = rw e refl
 end_stays (c ∷ f) l e = ap (before_trimmed c) (end_stays f l e) ∙ kept_before c f l
-
 
 last_of : (l : List ℕ) → 0 < length l → take (length l - 1) l ++ slice_index l (length l - 1) ∷ [] ≡ l
 last_of [] h = absurd (omega (arith, h))

@@ -1,6 +1,6 @@
 -- The two passes over a text: the places of its labels, and its code under these places.
 -- This project's profile.
-use Rattle.std.specs.Prelude.{◌≡◌, ℕ, ℤ, ◌+◌, cond, nat_le, List, [], ◌∷◌, ◌++◌, Option, Some, None, Result, Ok, Err}
+use Rattle.std.specs.Prelude.{◌≡◌, ℕ, ℤ, ◌+◌, cond, nat_le, List, [], ◌∷◌, ◌++◌, map, Option, Some, None, Result, Ok}
 use Rattle.std.specs.Ordering.{nat_cmp}
 use Rattle.std.specs.Cmp.Lexicographic.{slice_cmp}
 use Rattle.std.specs.BTreeMap
@@ -9,8 +9,9 @@ use denote.Ref.{Bor}
 use Rattle.mc_model.specs.Bytes.{lookup}
 use Rattle.mc_model.specs.Text.{◌>>=◌, ok_as, err_as, only_if}
 use Rattle.mc_model.specs.declared.assembler.AsmCause.{AsmCause}
-use Rattle.mc_model.specs.declared.assembler.AsmCause.TheVariants.{TooLong, LabelTwice}
-use Rattle.mc_model.specs.Assembly.{Item, Line, is_new, with_label, line_read, line_laid, laid_lines, size, emitted, fits_signed}
+use Rattle.mc_model.specs.declared.assembler.AsmCause.TheVariants.{TooLong}
+use Rattle.mc_model.specs.Assembly.{Item, with_label, line_read, line_laid, size, emitted, fits_signed}
+use Rattle.mc_asm.specs.declared.line.NumberedLine.{NumberedLine}
 pub use Rattle.mc_asm.specs.Refusals.{Refuses}
 
 -- the map has each label's place
@@ -49,3 +50,7 @@ coded labels place (t ∷ ts) = do
 -- a distance that fits in a branch
 abbrev pub near : ℤ → Option ℤ
 near d = cond (fits_signed 128 d) (Some d) None
+
+-- lines with their numbers, without where their bytes lie
+abbrev pub numbered_lines : List NumberedLine → List (ℕ × List ℕ)
+numbered_lines ls = map (λ l. (l.number, l.text.now)) ls

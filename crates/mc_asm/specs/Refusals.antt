@@ -8,11 +8,6 @@ use Rattle.mc_asm.specs.declared.refusal.AsmRefusal.TheVariants.{At, NoMemory}
 use Rattle.mc_asm.specs.declared.refusal.ListRefusal.{ListRefusal}
 use Rattle.mc_asm.specs.declared.refusal.ListRefusal
 
--- the refusal is of this line for this cause, or for want of memory
-abbrev pub IsAt : ℕ → AsmCause → AsmRefusal → Type 0
-IsAt n c (At m d) = (m ≡ n) × (d ≡ c)
-IsAt n c NoMemory = ⊤
-
 -- the refusal is the one of the definition, or for want of memory
 abbrev pub Refuses : {A : Type 0} → Result A (ℕ × AsmCause) → AsmRefusal → Type 0
 Refuses r (At n c) = r ≡ Err (n, c)

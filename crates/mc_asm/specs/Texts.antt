@@ -1,7 +1,7 @@
 -- Texts, cut at the first character that cuts.
 -- This project's profile.
-use Rattle.std.specs.Prelude.{ℕ, suc, ◌-◌, Bool, cond, ◌==◌, List, [], ◌∷◌, length, take, drop, slice_index, map, Option, Some, None, option_map}
-use Rattle.mc_model.specs.Text.{first_cut, lines, pieces, is_empty}
+use Rattle.std.specs.Prelude.{ℕ, suc, ◌-◌, cond, ◌==◌, List, [], length, take, drop, slice_index, Option, Some, None}
+use Rattle.mc_model.specs.Text.{first_cut, is_empty}
 
 -- what stands before a place, and what behind it, where there is one
 abbrev pub cut_at : List ℕ → Option ℕ → List ℕ × Option (List ℕ)

@@ -11,7 +11,9 @@ ghost use Rattle.mc_asm.specs.Items.{item_of, texts, Ready};
 
 use crate::number::{byte, displacement, word};
 use crate::operand::{address, both, condition, is_label};
-use crate::words::{AddressedByteWord, AddressedWordWord, ByteWord, Form, PlaceWord, WordWord, WordsWord};
+use crate::words::{
+    AddressedByteWord, AddressedWordWord, ByteWord, Form, PlaceWord, WordWord, WordsWord,
+};
 use mc_model::{AsmCause, Ins};
 
 /// What a line puts into the code.
@@ -135,11 +137,7 @@ fn branch<'a>(operands: &[&'a [u8]]) -> Result<Item<'a>, AsmCause>
 }
 
 // A jump or call on a condition, to a label or an address.
-fn transfer_to<'a>(
-    name: PlaceWord,
-    cond: &[u8],
-    target: &'a [u8],
-) -> Result<Item<'a>, AsmCause>
+fn transfer_to<'a>(name: PlaceWord, cond: &[u8], target: &'a [u8]) -> Result<Item<'a>, AsmCause>
     ensures value { ok_as item_of result ≡ worded (ByPlace (by_place name)) (cond.now ∷ target.now ∷ []) }
     ensures ready { IfOk result Ready }
 {

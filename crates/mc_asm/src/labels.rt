@@ -1,17 +1,16 @@
 // Labels and their places.
 ghost use Rattle.std.specs.Prelude.{◌≡◌, ◌+◌, ◌≤◌, ℕ, List, [], length, option_map, Some, None, Ok, Err, IfOk, IfErr, OnOk, MatchResult};
 ghost use Rattle.mc_model.specs.Bytes.{lookup};
-ghost use Rattle.mc_model.specs.Text.{ok_as, only_if, lines, numbered};
+ghost use Rattle.mc_model.specs.Text.{ok_as, only_if};
 ghost use Rattle.mc_model.specs.Assembly.{is_new, line_laid, size, with_label};
 ghost use Rattle.mc_model.specs.declared.assembler.AsmCause.TheVariants.{TooLong};
 ghost use Rattle.mc_asm.specs.Items.{item_of, Ready};
 ghost use Rattle.mc_asm.specs.declared.refusal.AsmRefusal.TheVariants.{NoMemory};
-ghost use Rattle.mc_asm.specs.Passes.{AreLabels, Refuses, label_and_end, end_of, places};
+ghost use Rattle.mc_asm.specs.Passes.{AreLabels, Refuses, label_and_end, end_of, numbered_lines, places};
 
 use crate::item::Item;
-use crate::line::read_line;
-use crate::refusal::{AsmRefusal, refused};
-use crate::text::next_line;
+use crate::line::{NumberedLine, read_line};
+use crate::refusal::AsmRefusal;
 use mc_isa::encode;
 use mc_model::AsmCause;
 use std::alloc::Global;
@@ -102,26 +101,22 @@ fn label_and_end<'a>(
     Ok((line.label, end_of(&line.item, place)?))
 }
 
-/// The labels of a text. The refusal is that of the first line that has a cause of its own: every cause but an unknown
+/// The labels of lines. The refusal is that of the first line that has a cause of its own: every cause but an unknown
 /// label and a far branch.
-pub fn labels_of(alloc: Global, text: &[u8]) -> Result<Labels<'_>, AsmRefusal>
-    ensures found { IfOk result (λ m. (l : List (List ℕ × ℕ)) × (places [] 0 (numbered 1 (lines text.now)) ≡ Ok l) × AreLabels m l) }
-    ensures refused { IfErr result (λ e. Refuses (places [] 0 (numbered 1 (lines text.now))) e) }
+pub fn labels_of<'a>(alloc: Global, lines: &[NumberedLine<'a>]) -> Result<Labels<'a>, AsmRefusal>
+    ensures found { IfOk result (λ m. (l : List (List ℕ × ℕ)) × (places [] 0 (numbered_lines lines.now) ≡ Ok l) × AreLabels m l) }
+    ensures refused { IfErr result (λ e. Refuses (places [] 0 (numbered_lines lines.now)) e) }
 {
     let mut labels = BTreeMap::new(alloc);
     let mut place = 0;
-    let mut number = 1;
-    let mut rest = text;
-    while let Some((line, behind)) = next_line(rest) {
-        match label_and_end(line, place, &labels) {
-            Err(cause) => return Err(refused(number, cause)),
+    for line in lines {
+        match label_and_end(line.text, place, &labels) {
+            Err(cause) => return Err(AsmRefusal::At(line.number, cause)),
             Ok((label, end)) => {
                 put_label(&mut labels, label, place)?;
                 place = end;
             }
         }
-        number += 1;
-        rest = behind;
     }
     Ok(labels)
 }

@@ -13,8 +13,9 @@ mod refusal;
 mod text;
 mod words;
 
-pub use coding::assemble;
+pub use coding::{assemble, assemble_lines};
 pub use laws::a_listing_is_assembled;
+pub use line::NumberedLine;
 pub use listing::list;
 pub use mc_model::{AsmCause, DecodeFault};
 pub use refusal::{AsmRefusal, ListRefusal, asm_word, decode_word};

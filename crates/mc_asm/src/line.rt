@@ -12,6 +12,13 @@ use crate::words::form_named;
 use arrayvec::ArrayVec;
 use mc_model::AsmCause;
 
+/// A line of a text without its end, and its number.
+#[derive(Clone, Copy, Debug, PartialEq, Eq)]
+pub struct NumberedLine<'a> {
+    pub number: u32,
+    pub text: &'a [u8],
+}
+
 /// A line's label, and what it puts into the code.
 #[derive(Clone, Copy)]
 pub struct Line<'a> {

@@ -2,6 +2,7 @@
 ghost use Rattle.std.specs.Prelude.{◌≡◌, ◌≤◌, ◌++◌, length, codes, Ok, IfOk, IfErr, OnOk};
 ghost use Rattle.mc_model.specs.Listing.{listed, text_of};
 ghost use Rattle.mc_model.specs.Code.{Shaped};
+ghost use Rattle.mc_model.specs.Assembly.{assembled};
 ghost use Rattle.mc_asm.specs.Refusals.{RefusesListing};
 
 use crate::refusal::ListRefusal;
@@ -18,11 +19,8 @@ fn put_line(text: &mut Vec<u8>, ins: &Ins) -> Result<(), AllocError>
     text.extend_from_slice(b"\n")
 }
 
-/// The listing of code of at most 8,192 bytes: a line for each instruction, from place 0 on, with a line feed behind it.
-/// Assembled, it is the code again.
-///
-/// `At` names the first place where no instruction stands, and why.
-pub fn list(alloc: Global, code: &[u8]) -> Result<Vec<u8>, ListRefusal>
+// The listing of code.
+fn listing_of(alloc: Global, code: &[u8]) -> Result<Vec<u8>, ListRefusal>
     requires { length code.now ≤ 8192 }
     ensures text { IfOk result (λ v. listed code.now ≡ Ok v.items) }
     ensures refused { IfErr result (λ e. RefusesListing (listed code.now) e) }
@@ -39,4 +37,19 @@ pub fn list(alloc: Global, code: &[u8]) -> Result<Vec<u8>, ListRefusal>
         }
     }
     Ok(text)
+}
+
+/// The listing of code of at most 8,192 bytes: a line for each instruction, from place 0 on, with a line feed behind it.
+/// The line is the word, and behind a blank its operands with commas between them: bytes, lengths, offsets and
+/// displacements in decimal, words and addresses of code as `0x` and four hexadecimal digits.
+///
+/// `At` names the first place where no instruction stands, and why.
+pub fn list(alloc: Global, code: &[u8]) -> Result<Vec<u8>, ListRefusal>
+    requires { length code.now ≤ 8192 }
+    ensures text { IfOk result (λ v. listed code.now ≡ Ok v.items) }
+    ensures refused { IfErr result (λ e. RefusesListing (listed code.now) e) }
+    // Assembled, the listing is the code again.
+    ensures again { IfOk result (λ v. assembled v.items ≡ Ok code.now) }
+{
+    listing_of(alloc, code)
 }

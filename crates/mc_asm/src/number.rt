@@ -103,7 +103,6 @@ pub fn word(text: &[u8]) -> Result<u16, AsmCause>
     Ok(number_operand(text, 0xFFFF)? as u16)
 }
 
-
 // A signed number of which `half` is one more than the greatest.
 fn signed_operand(text: &[u8], half: u32) -> Result<i32, AsmCause>
     requires low { 0 < half }

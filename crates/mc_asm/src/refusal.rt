@@ -1,6 +1,5 @@
 ghost use Rattle.std.specs.Prelude.{◌≡◌};
 ghost use Rattle.mc_asm.specs.CauseWords.{asm_word, decode_word};
-ghost use Rattle.mc_asm.specs.Refusals.{IsAt};
 
 use mc_model::{AsmCause, DecodeFault};
 use std::alloc::AllocError;
@@ -74,15 +73,4 @@ pub fn decode_word(fault: DecodeFault) -> &'static [u8]
         DecodeFault::Undefined => b"Undefined",
         DecodeFault::Past => b"Past",
     }
-}
-
-/// The refusal of a line. A line's number that does not fit in four bytes, which takes a text of more than four
-/// thousand million bytes, is answered as want of memory.
-pub fn refused(line: usize, cause: AsmCause) -> AsmRefusal
-    ensures { IsAt line cause result }
-{
-    if line > u32::MAX as usize {
-        return AsmRefusal::NoMemory;
-    }
-    AsmRefusal::At(line as u32, cause)
 }

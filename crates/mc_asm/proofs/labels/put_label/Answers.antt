@@ -1,4 +1,4 @@
-use Rattle.std.proofs.Common.{◌≡◌, ◌∙◌, ℕ, List, Option, Some, Bor, subst, sym}
+use Rattle.std.proofs.Common.{◌∙◌}
 use Rattle.mc_asm.proofs.PassLemmas.{label_found}
 use Rattle.mc_asm.proofs.labels.put_label.Goals as goal
 

@@ -1,4 +1,4 @@
-use Rattle.std.proofs.Common.{◌≡◌, ◌++◌, ℕ, List, Option, Some, None, Bor, subst, arith}
+use Rattle.std.proofs.Common.{◌≡◌, ◌++◌, ℕ, List, Option, Bor, subst, arith}
 use Rattle.std.specs.Prelude.{option_map}
 use Rattle.mc_model.specs.Assembly.{operands}
 use Rattle.mc_asm.specs.Items.{texts}

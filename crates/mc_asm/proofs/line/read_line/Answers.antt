@@ -1,4 +1,3 @@
-use Rattle.std.proofs.Common.{◌≡◌, arith}
 use Rattle.std.specs.Prelude.{option_map}
 use Rattle.mc_model.specs.Text.{ok_as}
 use Rattle.mc_asm.specs.Items.{line_of}

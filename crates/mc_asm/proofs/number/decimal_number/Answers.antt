@@ -1,4 +1,4 @@
-use Rattle.std.proofs.Common.{◌≡◌, ◌≤◌, ◌+◌, ◌*◌, ◌-◌, ℕ, List, get_or, ap, subst, drop, sym, ◌∙◌}
+use Rattle.std.proofs.Common.{◌+◌, ◌*◌, ◌-◌, get_or, ap, drop, sym, ◌∙◌}
 use Rattle.std.specs.Prelude.{option_map}
 use Rattle.mc_asm.specs.Numbers.{capped, decimal_behind}
 use Rattle.mc_asm.proofs.TextLemmas.{rest_of}

@@ -1,4 +1,4 @@
-use Rattle.std.proofs.Common.{◌≡◌, ◌≤◌, ◌+◌, ℕ, List, arith, sym, subst, drop, ◌∙◌, add-one, drop-cons}
+use Rattle.std.proofs.Common.{◌+◌, arith, sym, drop, ◌∙◌}
 use Rattle.std.proofs.Common.{get_or, ap}
 use Rattle.mc_asm.specs.Numbers.{hex_behind}
 use Rattle.mc_asm.proofs.TextLemmas.{rest_of}
