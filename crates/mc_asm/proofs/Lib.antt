@@ -1,0 +1,12 @@
+pub mod TextLemmas
+pub mod NumberLemmas
+pub mod OperandLemmas
+pub mod FormLemmas
+pub mod ItemLemmas
+pub mod LineLemmas
+pub mod PassLemmas
+pub mod ListingLemmas
+pub mod CleanLemmas
+pub mod RoundTripLemmas
+pub mod NumeralLemmas
+pub mod InstructionLemmas

@@ -1,0 +1,102 @@
+-- The operands of a line.
+use Rattle.std.proofs.Common.{◌≡◌, ◌≢◌, ℕ, zero, suc, ◌≤◌, false, List, [], ◌∷◌, ◌++◌, length, append-nil, subst, Bor, take, Option, Some, None, Result, arith, refl, sym, ap, ◌∙◌}
+use Rattle.std.specs.Prelude.{map, nat_le, ◌==◌}
+use Rattle.mc_model.specs.Text.{first_cut, trim, is_empty}
+use Rattle.mc_model.specs.Assembly.{Form, Bare, OfByte, OfBytes, OfWord, OfWords, RawByte, ByDistance, ByPlace, Primitive, Addressed, AddressedByte, AddressedWord, words, operands, worded, word_and_operands, label_and_rest, line_read, Item, Line}
+use Rattle.mc_model.specs.Bytes.{lookup}
+use Rattle.mc_model.specs.declared.assembler.AsmCause.{AsmCause}
+use Rattle.mc_asm.specs.Items.{texts}
+use Rattle.mc_asm.proofs.TextLemmas.{pieces_at, pieces_cut}
+
+-- a bound on the turns that are left
+abbrev pub left_of : Option (List ℕ) → ℕ
+left_of None = 0
+left_of (Some t) = suc (length t)
+
+operands_cut : (p : List ℕ × Option (List ℕ)) → map trim (pieces_cut (λ c. c == 44) p) ≡ trim p.0 ∷ operands p.1
+operands_cut (a, None) = refl
+operands_cut (a, Some rest) = refl
+
+-- the first operand, and those behind the comma
+pub operands_at : (t : List ℕ) → operands (Some t) ≡ trim (first_cut (λ c. c == 44) t).0 ∷ operands (first_cut (λ c. c == 44) t).1
+operands_at t = ap (map trim) (pieces_at (λ c. c == 44) t) ∙ operands_cut (first_cut (λ c. c == 44) t)
+
+-- a word with five operands or more has too many, and the first five tell it
+first_five_long : (f : Form) (a b c d e : List ℕ) (ts : List (List ℕ)) → worded f (a ∷ b ∷ c ∷ d ∷ e ∷ ts) ≡ worded f (a ∷ b ∷ c ∷ d ∷ e ∷ [])
+first_five_long (Bare i) a b c d e ts = refl
+first_five_long (OfByte f) a b c d e ts = refl
+first_five_long (OfBytes f) a b c d e ts = refl
+first_five_long (OfWord f) a b c d e ts = refl
+first_five_long (OfWords f) a b c d e ts = refl
+first_five_long RawByte a b c d e ts = refl
+first_five_long (ByDistance f) a b c d e ts = refl
+first_five_long (ByPlace f) a b c d e ts = refl
+first_five_long Primitive a b c d e ts = let l : nat_le (length (b ∷ c ∷ d ∷ e ∷ ts)) 3 ≡ false = grind arith in rw l refl
+first_five_long (Addressed f) a b c d e ts = refl
+first_five_long (AddressedByte f) a b c d e ts = refl
+first_five_long (AddressedWord f) a b c d e ts = refl
+
+pub first_five : (f : Form) (ts : List (List ℕ)) → worded f (take 5 ts) ≡ worded f ts
+first_five f [] = refl
+first_five f (a ∷ []) = refl
+first_five f (a ∷ b ∷ []) = refl
+first_five f (a ∷ b ∷ c ∷ []) = refl
+first_five f (a ∷ b ∷ c ∷ d ∷ []) = refl
+first_five f (a ∷ b ∷ c ∷ d ∷ e ∷ ts) = sym (first_five_long f a b c d e ts)
+
+-- ---- operands one by one
+
+texts_one : (ps : List (Bor (List ℕ))) (p : Bor (List ℕ)) (qs : List (List ℕ)) → texts (ps ++ p ∷ []) ++ qs ≡ texts ps ++ p.now ∷ qs
+texts_one [] p qs = refl
+texts_one (x ∷ ps) p qs = ap (λ l. x.now ∷ l) (texts_one ps p qs)
+
+length_texts : (ps : List (Bor (List ℕ))) → length (texts ps) ≡ length ps
+length_texts [] = refl
+length_texts (p ∷ ps) = ap suc (length_texts ps)
+
+front_of : (xs ys : List (List ℕ)) → take (length xs) (xs ++ ys) ≡ xs
+front_of [] ys = refl
+front_of (x ∷ xs) ys = ap (λ l. x ∷ l) (front_of xs ys)
+
+take_whole : (n : ℕ) (xs : List (List ℕ)) → length xs ≤ n → take n xs ≡ xs
+take_whole zero [] h = refl
+take_whole (suc n) [] h = refl
+take_whole zero (x ∷ xs) h = absurd (omega (arith, h))
+take_whole (suc n) (x ∷ xs) h = ap (λ l. x ∷ l) (take_whole n xs (omega (arith, h)))
+
+-- one more operand
+pub operand_more : (ps : List (Bor (List ℕ))) (p : Bor (List ℕ)) (t f : List ℕ) (b : Option (List ℕ)) (w : List (List ℕ)) → p.now ≡ trim f → f ≡ (first_cut (λ c. c == 44) t).0 → b ≡ (first_cut (λ c. c == 44) t).1
+    → texts ps ++ operands (Some t) ≡ w → texts (ps ++ p ∷ []) ++ operands b ≡ w
+operand_more ps p t f b w e g h i =
+    let j : p.now ∷ operands b ≡ operands (Some t) = rw (e, g, h) (sym (operands_at t)) in
+    texts_one ps p (operands b) ∙ ap (λ l. texts ps ++ l) j ∙ i
+
+-- five operands are enough
+pub operands_full : (ps : List (Bor (List ℕ))) (qs w : List (List ℕ)) → length ps ≡ 5 → texts ps ++ qs ≡ w → texts ps ≡ take 5 w
+operands_full ps qs w l h =
+    let k : length (texts ps) ≡ 5 = length_texts ps ∙ l in
+    sym (front_of (texts ps) qs) ∙ ap (λ n. take n (texts ps ++ qs)) k ∙ ap (take 5) h
+
+-- all operands
+pub operands_all : (ps : List (Bor (List ℕ))) (w : List (List ℕ)) → length ps ≤ 5 → texts ps ++ [] ≡ w → texts ps ≡ take 5 w
+operands_all ps w l h =
+    let k : length (texts ps) ≤ 5 = rw (length_texts ps) l in
+    sym (take_whole 5 (texts ps) k) ∙ ap (take 5) (sym (append-nil (texts ps)) ∙ h)
+
+-- ---- a line's word
+
+pub word_then : (s : List ℕ × Option (List ℕ)) (w : List ℕ) (rest : Option (List ℕ)) (f : Form) (ops : List (List ℕ)) (r : Result Item AsmCause)
+    → w ≡ s.0 → rest ≡ s.1 → is_empty w ≡ false → lookup words w ≡ Some f → ops ≡ take 5 (operands rest) → r ≡ worded f ops → r ≡ word_and_operands s
+word_then s w rest f ops r e g h i j k =
+    let n : is_empty s.0 ≡ false = subst (λ (x : List ℕ). is_empty x ≡ false) e h in
+    let l : lookup words s.0 ≡ Some f = subst (λ (x : List ℕ). lookup words x ≡ Some f) e i in
+    rw (n, l) (k ∙ ap (worded f) j ∙ first_five f (operands rest) ∙ ap (λ o. worded f (operands o)) g)
+
+pub line_by_parts : (l t f : List ℕ) (b : Option (List ℕ)) (r : Result Line AsmCause)
+    → t ≡ (first_cut (λ c. c == 59) l).0 → f ≡ (first_cut (λ c. c == 58) t).0 → b ≡ (first_cut (λ c. c == 58) t).1 → r ≡ label_and_rest f b → r ≡ line_read l
+unfolding line_read
+line_by_parts l t f b r e g h i = i ∙ rw (g, h, e) refl
+
+pub nonempty : (w : List ℕ) → length w ≢ 0 → is_empty w ≡ false
+nonempty [] h = absurd (h refl)
+nonempty (c ∷ w) h = refl

@@ -1,0 +1,6 @@
+use Rattle.mc_isa.proofs.PlaceLemmas.{all_bytes}
+use Rattle.mc_asm.proofs.RoundTripLemmas.{listing_again}
+use Rattle.mc_asm.proofs.listing.list.Goals as goal
+
+pub returns-clause-again : goal.returns-clause-again
+returns-clause-again c = listing_again (λ v. v.items) c.args.code.now c.listing_of.result (all_bytes c.args.code.now c.type_inv.code) c.requires c.listing_of.ensures.text

@@ -1,0 +1,34 @@
+-- What the code has of a line, and what it stands for.
+-- This project's profile.
+use Rattle.std.specs.Prelude.{ℕ, ◌<◌, List, map, option_map}
+use denote.Ref.{Bor}
+use Rattle.mc_model.specs.Code.{Shaped}
+use Rattle.mc_model.specs.declared.instruction.Ins.TheVariants.{Branch}
+use Rattle.mc_model.specs.Assembly
+use Rattle.mc_asm.specs.declared.item.Item.{Item}
+use Rattle.mc_asm.specs.declared.line.Line.{Line}
+use Rattle.mc_asm.specs.Forms.{by_place}
+
+-- texts, without where their bytes lie
+abbrev pub texts : List (Bor (List ℕ)) → List (List ℕ)
+texts ts = map (λ t. t.now) ts
+
+-- an item as the definition of assembly has it
+abbrev pub item_of : Item → Assembly.Item
+item_of Item.Nothing = Assembly.Nothing
+item_of (Item.Raw b) = Assembly.Raw b
+item_of (Item.Plain i) = Assembly.Plain i
+item_of (Item.ToPlace w c l) = Assembly.ToPlace (by_place w c) l.now
+item_of (Item.ToDistance c l) = Assembly.ToDistance (Branch c) l.now
+
+-- the fields of an item are in their ranges
+abbrev pub Ready : Item → Type 0
+Ready Item.Nothing = Unit {0}
+Ready (Item.Raw b) = Unit {0}
+Ready (Item.Plain i) = Shaped i
+Ready (Item.ToPlace w c l) = (0 < c) × (c < 8)
+Ready (Item.ToDistance c l) = (0 < c) × (c < 8)
+
+-- a line as the definition of assembly has it
+abbrev pub line_of : Line → Assembly.Line
+line_of l = record { label = option_map (λ t. t.now) l.label; item = item_of l.item }

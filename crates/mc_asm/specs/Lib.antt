@@ -1,0 +1,11 @@
+pub use Rattle.mc_model.specs.Assembly
+pub use Rattle.mc_model.specs.Listing
+pub mod CauseWords
+pub mod Texts
+pub mod Numbers
+pub mod Parts
+pub mod Forms
+pub mod Items
+pub mod Refusals
+pub mod Passes
+pub mod RoundTrip

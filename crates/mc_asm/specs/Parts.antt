@@ -1,0 +1,22 @@
+-- Two parts of a text, and operands.
+-- This project's profile.
+use Rattle.std.specs.Prelude.{ℕ, ℤ, ◌==◌, List, [], ◌∷◌, Option, Some, None, Result, Err}
+use Rattle.mc_model.specs.declared.assembler.AsmCause.{AsmCause}
+use Rattle.mc_model.specs.declared.assembler.AsmCause.TheVariants.{BadOperands}
+use Rattle.mc_model.specs.Text.{ok_as, pieces}
+use Rattle.mc_model.specs.Assembly.{signed_operand}
+
+-- the two elements of a list that has two
+abbrev pub pair_of : {A : Type 0} → List A → Option (A × A)
+pair_of (a ∷ b ∷ []) = Some (a, b)
+pair_of l = None
+
+-- the two parts of a text that a character separates once
+abbrev pub two_parts : ℕ → List ℕ → Option (List ℕ × List ℕ)
+two_parts c t = pair_of (pieces (λ d. d == c) t)
+
+-- the offset that stands before a bracket which ends the text
+abbrev pub offset_in : ℕ → Option (List ℕ × List ℕ) → Result (ℕ × ℤ) AsmCause
+offset_in tag None = Err BadOperands
+offset_in tag (Some (off, [])) = ok_as (λ z. (tag, z)) (signed_operand 32768 off)
+offset_in tag (Some (off, c ∷ t)) = Err BadOperands

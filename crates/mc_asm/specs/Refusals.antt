@@ -1,0 +1,19 @@
+-- What a refusal says of a text, and of code.
+-- This project's profile.
+use Rattle.std.specs.Prelude.{◌≡◌, ℕ, List, Result, Err, ⊤}
+use Rattle.mc_model.specs.declared.assembler.AsmCause.{AsmCause}
+use Rattle.mc_model.specs.declared.instruction.DecodeFault.{DecodeFault}
+use Rattle.mc_asm.specs.declared.refusal.AsmRefusal.{AsmRefusal}
+use Rattle.mc_asm.specs.declared.refusal.AsmRefusal.TheVariants.{At, NoMemory}
+use Rattle.mc_asm.specs.declared.refusal.ListRefusal.{ListRefusal}
+use Rattle.mc_asm.specs.declared.refusal.ListRefusal
+
+-- the refusal is the one of the definition, or for want of memory
+abbrev pub Refuses : {A : Type 0} → Result A (ℕ × AsmCause) → AsmRefusal → Type 0
+Refuses r (At n c) = r ≡ Err (n, c)
+Refuses r NoMemory = ⊤
+
+-- the same of a listing
+abbrev pub RefusesListing : Result (List ℕ) (ℕ × DecodeFault) → ListRefusal → Type 0
+RefusesListing r (ListRefusal.TheVariants.At p f) = r ≡ Err (p, f)
+RefusesListing r ListRefusal.TheVariants.NoMemory = ⊤

@@ -1,0 +1,22 @@
+-- Texts, cut at the first character that cuts.
+-- This project's profile.
+use Rattle.std.specs.Prelude.{ℕ, suc, ◌-◌, cond, ◌==◌, List, [], length, take, drop, slice_index, Option, Some, None}
+use Rattle.mc_model.specs.Text.{first_cut, is_empty}
+
+-- what stands before a place, and what behind it, where there is one
+abbrev pub cut_at : List ℕ → Option ℕ → List ℕ × Option (List ℕ)
+cut_at t None = (t, None)
+cut_at t (Some i) = (take i t, Some (drop (suc i) t))
+
+-- a line without a carriage return at its end
+abbrev pub without_return : List ℕ → List ℕ
+without_return l = cond (slice_index l (length l - 1) == 13) (take (length l - 1) l) l
+
+-- the first line of a text that was cut at its first line feed, and the text behind it
+abbrev pub line_cut : List ℕ × Option (List ℕ) → Option (List ℕ × List ℕ)
+line_cut (l, None) = cond (is_empty l) None (Some (l, []))
+line_cut (l, Some rest) = Some (without_return l, rest)
+
+-- the first line of a text, and the text behind it
+abbrev pub next_line : List ℕ → Option (List ℕ × List ℕ)
+next_line t = line_cut (first_cut (λ c. c == 10) t)

@@ -1,0 +1,164 @@
+// The code of a text.
+ghost use Rattle.std.specs.Prelude.{◌≡◌, ◌+◌, ◌≤◌, ℕ, pos, ◌-ℤ◌, List, [], ◌∷◌, ◌++◌, length, Some, None, Ok, Err, IfOk, IfErr, MatchResult, OnOk, vec_len};
+ghost use Rattle.mc_model.specs.Text.{lines, numbered};
+ghost use Rattle.mc_model.specs.Assembly.{emitted, size, assembled, assembled_lines};
+ghost use Rattle.mc_asm.specs.Items.{item_of, Ready};
+ghost use Rattle.mc_asm.specs.Passes.{AreLabels, Refuses, code_and_end, coded, near, numbered_lines};
+ghost use Rattle.mc_asm.specs.declared.refusal.AsmRefusal.TheVariants.{NoMemory};
+ghost use Rattle.arrayvec.specs.ArrayVec.{array_vec_len};
+
+use crate::item::Item;
+use crate::labels::{Labels, end_of, labels_of, place_of};
+use crate::line::{NumberedLine, read_line};
+use crate::refusal::AsmRefusal;
+use crate::text::next_line;
+use arrayvec::ArrayVec;
+use mc_isa::encode;
+use mc_model::{AsmCause, Ins};
+use std::alloc::Global;
+
+// The displacement of a branch at a place: the distance from the place behind the branch.
+fn distance(to: u16, place: u16) -> Option<i8>
+    requires { place ≤ 8192 }
+    ensures { result ≡ near (pos to -ℤ pos (place + 2)) }
+{
+    let d = to as i32 - (place as i32 + 2);
+    if d < -128 || d > 127 {
+        return None;
+    }
+    Some(d as i8)
+}
+
+// What an item at a place puts into the code.
+fn emitted<'a>(
+    item: &Item<'a>,
+    place: u16,
+    labels: &Labels<'a>,
+) -> Result<ArrayVec<u8, 6>, AsmCause>
+    requires ready { Ready item.now }
+    requires place { place ≤ 8192 }
+    ensures size { IfOk result (λ v. array_vec_len v ≡ size (item_of item.now)) }
+    ensures code { (l : List (List ℕ × ℕ)) → AreLabels labels.now l → MatchResult result (λ v. emitted l place (item_of item.now) ≡ Ok v.items) (λ e. emitted l place (item_of item.now) ≡ Err e) }
+{
+    match *item {
+        Item::Nothing => Ok(ArrayVec::new()),
+        Item::Raw(byte) => {
+            let mut bytes = ArrayVec::new();
+            bytes.push(byte);
+            Ok(bytes)
+        }
+        Item::Plain(ins) => Ok(encode(&ins)),
+        Item::ToPlace(name, cond, label) => {
+            let Some(to) = place_of(labels, label) else {
+                return Err(AsmCause::UnknownLabel);
+            };
+            Ok(encode(&name.with(cond, to)))
+        }
+        Item::ToDistance(cond, label) => {
+            let Some(to) = place_of(labels, label) else {
+                return Err(AsmCause::UnknownLabel);
+            };
+            let Some(d) = distance(to, place) else {
+                return Err(AsmCause::FarBranch);
+            };
+            Ok(encode(&Ins::Branch { cond, d }))
+        }
+    }
+}
+
+// The code of a line at a place, and the place behind the line.
+fn code_and_end<'a>(
+    line: &'a [u8],
+    place: u16,
+    labels: &Labels<'a>,
+) -> Result<(ArrayVec<u8, 6>, u16), AsmCause>
+    requires { place ≤ 8192 }
+    ensures value { (l : List (List ℕ × ℕ)) → AreLabels labels.now l → MatchResult result (λ p. code_and_end l place line.now ≡ Ok (p.0.items, p.1)) (λ e. code_and_end l place line.now ≡ Err e) }
+    ensures size { IfOk result (λ p. p.1 ≡ place + array_vec_len p.0) }
+    ensures bound { IfOk result (λ p. p.1 ≤ 8192) }
+{
+    let line = read_line(line)?;
+    let end = end_of(&line.item, place)?;
+    Ok((emitted(&line.item, place, labels)?, end))
+}
+
+// The code of lines whose labels are known.
+fn code_of<'a>(
+    alloc: Global,
+    lines: &[NumberedLine<'a>],
+    labels: &Labels<'a>,
+) -> Result<Vec<u8>, AsmRefusal>
+    ensures code { (l : List (List ℕ × ℕ)) → AreLabels labels.now l → MatchResult result (λ v. coded l 0 (numbered_lines lines.now) ≡ Ok v.items) (λ e. Refuses (coded l 0 (numbered_lines lines.now)) e) }
+    ensures short { IfOk result (λ v. vec_len v ≤ 8192) }
+{
+    let mut code = Vec::new(alloc);
+    let mut place = 0;
+    for line in lines {
+        match code_and_end(line.text, place, labels) {
+            Err(cause) => return Err(AsmRefusal::At(line.number, cause)),
+            Ok((bytes, end)) => {
+                code.extend_from_slice(bytes.as_slice())?;
+                place = end;
+            }
+        }
+    }
+    Ok(code)
+}
+
+/// The code of lines, which keep their numbers: as `assemble` has it of the lines of a text.
+#[tactic(auto, using(crate::proofs::PassLemmas::refuses_first))]
+pub fn assemble_lines(alloc: Global, lines: &[NumberedLine<'_>]) -> Result<Vec<u8>, AsmRefusal>
+    ensures code { IfOk result (λ v. assembled_lines (numbered_lines lines.now) ≡ Ok v.items) }
+    ensures refused { IfErr result (λ e. Refuses (assembled_lines (numbered_lines lines.now)) e) }
+    ensures short { IfOk result (λ v. vec_len v ≤ 8192) }
+{
+    let labels = labels_of(alloc, lines)?;
+    code_of(alloc, lines, &labels)
+}
+
+// A line behind others, with its number. A number that does not fit in four bytes, which takes a text of more than four
+// thousand million bytes, is answered as want of memory.
+#[tactic(auto, using(crate::proofs::PassLemmas::line_more))]
+fn push_line<'a>(lines: &mut Vec<NumberedLine<'a>>, text: &'a [u8]) -> Result<(), AsmRefusal>
+    ensures pushed { OnOk result (numbered_lines lines.new.items ≡ numbered_lines lines.old.items ++ (vec_len lines.old + 1, text.now) ∷ []) }
+    ensures len { OnOk result (vec_len lines.new ≡ vec_len lines.old + 1) }
+    ensures memory { IfErr result (λ e. e ≡ NoMemory) }
+{
+    if lines.len() >= u32::MAX as usize {
+        return Err(AsmRefusal::NoMemory);
+    }
+    let number = lines.len() as u32 + 1;
+    match lines.push(NumberedLine { number, text }) {
+        Ok(()) => Ok(()),
+        Err(_) => Err(AsmRefusal::NoMemory),
+    }
+}
+
+// The lines of a text with their numbers.
+fn lines_of(alloc: Global, text: &[u8]) -> Result<Vec<NumberedLine<'_>>, AsmRefusal>
+    ensures lines { IfOk result (λ v. numbered_lines v.items ≡ numbered 1 (lines text.now)) }
+    ensures memory { IfErr result (λ e. e ≡ NoMemory) }
+{
+    let mut lines = Vec::new(alloc);
+    let mut rest = text;
+    while let Some((line, behind)) = next_line(rest) {
+        push_line(&mut lines, line)?;
+        rest = behind;
+    }
+    Ok(lines)
+}
+
+/// The code of an assembly text. A line is `[LABEL:] [WORD [OPERANDS]] [; comment]`, and ends with a line feed, which the
+/// last line may lack; the code has at most 8,192 bytes. The words and the forms of their operands are this project's own.
+///
+/// `At` names the first refused line, counted from 1, and its cause: the first line that is refused by itself, and where
+/// there is none, the first whose label is unknown or too far for a branch.
+#[tactic(auto, unfolding(mc_model::specs::Assembly::assembled))]
+pub fn assemble(alloc: Global, text: &[u8]) -> Result<Vec<u8>, AsmRefusal>
+    ensures code { IfOk result (λ v. assembled text.now ≡ Ok v.items) }
+    ensures refused { IfErr result (λ e. Refuses (assembled text.now) e) }
+    ensures short { IfOk result (λ v. vec_len v ≤ 8192) }
+{
+    let lines = lines_of(alloc, text)?;
+    assemble_lines(alloc, lines.as_slice())
+}

@@ -1,0 +1,122 @@
+// Labels and their places.
+ghost use Rattle.std.specs.Prelude.{◌≡◌, ◌+◌, ◌≤◌, ℕ, List, [], length, option_map, Some, None, Ok, Err, IfOk, IfErr, OnOk, MatchResult};
+ghost use Rattle.mc_model.specs.Bytes.{lookup};
+ghost use Rattle.mc_model.specs.Text.{ok_as, only_if};
+ghost use Rattle.mc_model.specs.Assembly.{is_new, line_laid, size, with_label};
+ghost use Rattle.mc_model.specs.declared.assembler.AsmCause.TheVariants.{TooLong};
+ghost use Rattle.mc_asm.specs.Items.{item_of, Ready};
+ghost use Rattle.mc_asm.specs.declared.refusal.AsmRefusal.TheVariants.{NoMemory};
+ghost use Rattle.mc_asm.specs.Passes.{AreLabels, Refuses, label_and_end, end_of, numbered_lines, places};
+
+use crate::item::Item;
+use crate::line::{NumberedLine, read_line};
+use crate::refusal::AsmRefusal;
+use mc_isa::encode;
+use mc_model::AsmCause;
+use std::alloc::Global;
+use std::collections::BTreeMap;
+
+/// The labels of a text with their places.
+pub type Labels<'a> = BTreeMap<&'a [u8], u16>;
+
+/// The place of a label, `None` where no line has it.
+pub fn place_of<'a>(labels: &Labels<'a>, label: &'a [u8]) -> Option<u16>
+    ensures { (l : List (List ℕ × ℕ)) → AreLabels labels.now l → result ≡ lookup l label.now }
+{
+    labels.get(&label).copied()
+}
+
+// Whether a label was not given before.
+fn is_new<'a>(labels: &Labels<'a>, label: Option<&'a [u8]>) -> bool
+    ensures { (l : List (List ℕ × ℕ)) → AreLabels labels.now l → result ≡ is_new l (option_map (λ t. t.now) label.entry) }
+{
+    match label {
+        None => true,
+        Some(label) => place_of(labels, label).is_none(),
+    }
+}
+
+// The labels with the one of a line, where it has one.
+fn put_label<'a>(
+    labels: &mut Labels<'a>,
+    label: Option<&'a [u8]>,
+    place: u16,
+) -> Result<(), AsmRefusal>
+    ensures put { OnOk result ((l : List (List ℕ × ℕ)) → AreLabels labels.old l → AreLabels labels.new (with_label l (option_map (λ t. t.now) label.entry) place)) }
+    ensures memory { IfErr result (λ e. e ≡ NoMemory) }
+{
+    let Some(label) = label else {
+        return Ok(());
+    };
+    match labels.insert(label, place) {
+        Ok(_) => Ok(()),
+        Err(_) => Err(AsmRefusal::NoMemory),
+    }
+}
+
+// How many bytes an item takes.
+fn size(item: &Item<'_>) -> u16
+    requires { Ready item.now }
+    ensures value { result ≡ size (item_of item.now) }
+    ensures bound { result ≤ 6 }
+{
+    match item {
+        Item::Nothing => 0,
+        Item::Raw(_) => 1,
+        Item::Plain(ins) => encode(ins).len() as u16,
+        Item::ToPlace(..) => 3,
+        Item::ToDistance(..) => 2,
+    }
+}
+
+/// The place behind an item at a place; the code has at most 8,192 bytes.
+pub fn end_of(item: &Item<'_>, place: u16) -> Result<u16, AsmCause>
+    requires ready { Ready item.now }
+    requires place { place ≤ 8192 }
+    ensures value { result ≡ end_of (item_of item.now) place }
+    ensures bound { IfOk result (λ end. end ≤ 8192) }
+{
+    let end = place + size(item);
+    if end > 8192 {
+        return Err(AsmCause::TooLong);
+    }
+    Ok(end)
+}
+
+// A line's label, and the place behind the line.
+#[tactic(auto, unfolding(mc_model::specs::Assembly::line_laid))]
+fn label_and_end<'a>(
+    line: &'a [u8],
+    place: u16,
+    labels: &Labels<'a>,
+) -> Result<(Option<&'a [u8]>, u16), AsmCause>
+    requires { place ≤ 8192 }
+    ensures value { (l : List (List ℕ × ℕ)) → AreLabels labels.now l → ok_as (λ p. (option_map (λ t. t.now) p.0, p.1)) result ≡ label_and_end l place line.now }
+    ensures bound { IfOk result (λ p. p.1 ≤ 8192) }
+{
+    let line = read_line(line)?;
+    if !is_new(labels, line.label) {
+        return Err(AsmCause::LabelTwice);
+    }
+    Ok((line.label, end_of(&line.item, place)?))
+}
+
+/// The labels of lines. The refusal is that of the first line that has a cause of its own: every cause but an unknown
+/// label and a far branch.
+pub fn labels_of<'a>(alloc: Global, lines: &[NumberedLine<'a>]) -> Result<Labels<'a>, AsmRefusal>
+    ensures found { IfOk result (λ m. (l : List (List ℕ × ℕ)) × (places [] 0 (numbered_lines lines.now) ≡ Ok l) × AreLabels m l) }
+    ensures refused { IfErr result (λ e. Refuses (places [] 0 (numbered_lines lines.now)) e) }
+{
+    let mut labels = BTreeMap::new(alloc);
+    let mut place = 0;
+    for line in lines {
+        match label_and_end(line.text, place, &labels) {
+            Err(cause) => return Err(AsmRefusal::At(line.number, cause)),
+            Ok((label, end)) => {
+                put_label(&mut labels, label, place)?;
+                place = end;
+            }
+        }
+    }
+    Ok(labels)
+}

@@ -1,0 +1,7 @@
+// What the listing and the assembler have to do with each other.
+ghost use Rattle.mc_asm.specs.RoundTrip.{ListedIsAssembled};
+
+/// The listing of code assembles to that code.
+pub fn a_listing_is_assembled()
+    ensures { ListedIsAssembled }
+{}

@@ -1,0 +1,21 @@
+#![tactic(auto)]
+
+// The assembler and the listing.
+mod coding;
+mod item;
+mod labels;
+mod laws;
+mod line;
+mod listing;
+mod number;
+mod operand;
+mod refusal;
+mod text;
+mod words;
+
+pub use coding::{assemble, assemble_lines};
+pub use laws::a_listing_is_assembled;
+pub use line::NumberedLine;
+pub use listing::list;
+pub use mc_model::{AsmCause, DecodeFault};
+pub use refusal::{AsmRefusal, ListRefusal, asm_word, decode_word};

@@ -1,0 +1,55 @@
+// The listing of code.
+ghost use Rattle.std.specs.Prelude.{◌≡◌, ◌≤◌, ◌++◌, length, codes, Ok, IfOk, IfErr, OnOk};
+ghost use Rattle.mc_model.specs.Listing.{listed, text_of};
+ghost use Rattle.mc_model.specs.Code.{Shaped};
+ghost use Rattle.mc_model.specs.Assembly.{assembled};
+ghost use Rattle.mc_asm.specs.Refusals.{RefusesListing};
+
+use crate::refusal::ListRefusal;
+use mc_isa::{decode, text_of};
+use mc_model::Ins;
+use std::alloc::{AllocError, Global};
+
+// The line of an instruction behind a text.
+fn put_line(text: &mut Vec<u8>, ins: &Ins) -> Result<(), AllocError>
+    requires { Shaped ins.now }
+    ensures { OnOk result (text.new.items ≡ text.old.items ++ text_of ins.now ++ codes "\n") }
+{
+    text.extend_from_slice(text_of(ins).as_slice())?;
+    text.extend_from_slice(b"\n")
+}
+
+// The listing of code.
+fn listing_of(alloc: Global, code: &[u8]) -> Result<Vec<u8>, ListRefusal>
+    requires { length code.now ≤ 8192 }
+    ensures text { IfOk result (λ v. listed code.now ≡ Ok v.items) }
+    ensures refused { IfErr result (λ e. RefusesListing (listed code.now) e) }
+{
+    let mut text = Vec::new(alloc);
+    let mut place = 0;
+    while (place as usize) < code.len() {
+        match decode(code, place) {
+            Err(fault) => return Err(ListRefusal::At(place, fault)),
+            Ok((ins, next)) => {
+                put_line(&mut text, &ins)?;
+                place = next;
+            }
+        }
+    }
+    Ok(text)
+}
+
+/// The listing of code of at most 8,192 bytes: a line for each instruction, from place 0 on, with a line feed behind it.
+/// The line is the word, and behind a blank its operands with commas between them: bytes, lengths, offsets and
+/// displacements in decimal, words and addresses of code as `0x` and four hexadecimal digits.
+///
+/// `At` names the first place where no instruction stands, and why.
+pub fn list(alloc: Global, code: &[u8]) -> Result<Vec<u8>, ListRefusal>
+    requires { length code.now ≤ 8192 }
+    ensures text { IfOk result (λ v. listed code.now ≡ Ok v.items) }
+    ensures refused { IfErr result (λ e. RefusesListing (listed code.now) e) }
+    // Assembled, the listing is the code again.
+    ensures again { IfOk result (λ v. assembled v.items ≡ Ok code.now) }
+{
+    listing_of(alloc, code)
+}

@@ -1,0 +1,143 @@
+// Numbers of operands.
+ghost use Rattle.std.specs.Prelude.{◌≡◌, ◌+◌, ◌*◌, ◌<◌, ◌≤◌, ◌^◌, ℕ, Ok, Err, OnOk, IfOk, IfSome, MatchResult, option_map};
+ghost use Rattle.mc_model.specs.Text.{decimal_number, hex_value};
+ghost use Rattle.mc_model.specs.Assembly.{byte, word, hex_number, natural, number_operand, signed_operand};
+ghost use Rattle.mc_asm.specs.Numbers.{capped, FitsHalf};
+
+use crate::text::is_digit;
+use mc_model::AsmCause;
+
+// A number that is greater than every operand may be.
+const LIMIT: u32 = 65536;
+
+// The number that decimal digits spell behind others.
+fn with_digit(number: u32, digit: u8) -> u32
+    requires number { number ≤ 65536 }
+    requires digit { digit < 10 }
+    ensures { result ≡ capped (number * 10 + digit) }
+{
+    LIMIT.min(number * 10 + digit as u32)
+}
+
+// The number that decimal digits spell.
+fn decimal_number(digits: &[u8]) -> Option<u32>
+    ensures { result ≡ option_map capped (decimal_number digits.now) }
+{
+    if digits.is_empty() {
+        return None;
+    }
+    let mut number = 0;
+    for digit in digits {
+        if !is_digit(*digit) {
+            return None;
+        }
+        number = with_digit(number, *digit - b'0');
+    }
+    Some(number)
+}
+
+// The value of a hexadecimal digit in either case.
+fn hex_value(digit: u8) -> Option<u32>
+    ensures value { result ≡ hex_value digit }
+    ensures bound { IfSome result (λ v. v < 16) }
+{
+    match digit {
+        b'0'..=b'9' => Some((digit - b'0') as u32),
+        b'A'..=b'F' => Some((digit - b'A') as u32 + 10),
+        b'a'..=b'f' => Some((digit - b'a') as u32 + 10),
+        _ => None,
+    }
+}
+
+// The number that 1 to 4 hexadecimal digits spell.
+fn hex_number(digits: &[u8]) -> Option<u32>
+    ensures value { result ≡ hex_number digits.now }
+    ensures bound { IfSome result (λ n. n < 65536) }
+{
+    if digits.is_empty() || digits.len() > 4 {
+        return None;
+    }
+    let mut number = 0;
+    for digit in digits {
+        number = number * 16 + hex_value(*digit)?;
+    }
+    Some(number)
+}
+
+// A number without a sign.
+fn natural(text: &[u8]) -> Option<u32>
+    ensures { result ≡ option_map capped (natural text.now) }
+{
+    match text {
+        [b'0', b'x', digits @ ..] => hex_number(digits),
+        _ => decimal_number(text),
+    }
+}
+
+// A number without a sign that is not above `high`.
+fn number_operand(text: &[u8], high: u32) -> Result<u32, AsmCause>
+    requires { high < 65536 }
+    ensures value { result ≡ number_operand high text.now }
+    ensures bound { IfOk result (λ n. n ≤ high) }
+{
+    let Some(number) = natural(text) else {
+        return Err(AsmCause::BadNumber);
+    };
+    if number > high {
+        return Err(AsmCause::OutOfRange);
+    }
+    Ok(number)
+}
+
+/// An operand of one byte.
+pub fn byte(text: &[u8]) -> Result<u8, AsmCause>
+    ensures { result ≡ byte text.now }
+{
+    Ok(number_operand(text, 0xFF)? as u8)
+}
+
+/// An operand of two bytes.
+pub fn word(text: &[u8]) -> Result<u16, AsmCause>
+    ensures { result ≡ word text.now }
+{
+    Ok(number_operand(text, 0xFFFF)? as u16)
+}
+
+// A signed number of which `half` is one more than the greatest.
+fn signed_operand(text: &[u8], half: u32) -> Result<i32, AsmCause>
+    requires low { 0 < half }
+    requires high { half ≤ 32768 }
+    ensures value { result ≡ signed_operand half text.now }
+    ensures bound { IfOk result (λ z. FitsHalf half z) }
+{
+    if let [b'-', digits @ ..] = text {
+        let Some(number) = decimal_number(digits) else {
+            return Err(AsmCause::BadNumber);
+        };
+        if number > half {
+            return Err(AsmCause::OutOfRange);
+        }
+        return Ok(-(number as i32));
+    }
+    let Some(number) = natural(text) else {
+        return Err(AsmCause::BadNumber);
+    };
+    if number >= half {
+        return Err(AsmCause::OutOfRange);
+    }
+    Ok(number as i32)
+}
+
+/// An offset: a signed number of two bytes.
+pub fn offset(text: &[u8]) -> Result<i16, AsmCause>
+    ensures { result ≡ signed_operand 32768 text.now }
+{
+    Ok(signed_operand(text, 0x8000)? as i16)
+}
+
+/// A displacement: a signed number of one byte.
+pub fn displacement(text: &[u8]) -> Result<i8, AsmCause>
+    ensures { result ≡ signed_operand 128 text.now }
+{
+    Ok(signed_operand(text, 0x80)? as i8)
+}

@@ -1,0 +1,123 @@
+// Lines and parts of a text.
+ghost use Rattle.std.specs.Prelude.{◌≡◌, ◌+◌, ◌<◌, ◌==◌, ◌||◌, not, length, position, option_map, IfSome, MatchOption, None, Some};
+ghost use Rattle.mc_model.specs.Text.{first_cut, is_blank, is_digit, trim, trim_front, trim_end};
+ghost use Rattle.mc_asm.specs.Texts.{cut_at, next_line, without_return};
+
+// Whether a character is a space or a tab.
+fn is_blank(character: u8) -> bool
+    ensures { result ≡ is_blank character }
+{
+    character == b' ' || character == b'\t'
+}
+
+/// Whether a character is a decimal digit.
+pub fn is_digit(character: u8) -> bool
+    ensures { result ≡ is_digit character }
+{
+    character.is_ascii_digit()
+}
+
+// A text before and behind a place, the whole where there is none.
+fn cut_at(text: &[u8], place: Option<usize>) -> (&[u8], Option<&[u8]>)
+    requires { IfSome place (λ i. i < length text.now) }
+    ensures parts { (result.0.now, option_map (λ rest. rest.now) result.1) ≡ cut_at text.now place }
+    ensures shorter { IfSome result.1 (λ rest. length rest.now < length text.now) }
+{
+    match place {
+        Some(i) => (&text[..i], Some(&text[i + 1..])),
+        None => (text, None),
+    }
+}
+
+// The place of the first of these characters.
+fn place(text: &[u8], character: u8) -> Option<usize>
+    ensures value { result ≡ position (λ c. c == character) text.now }
+    ensures inside { IfSome result (λ i. i < length text.now) }
+{
+    text.iter().position(|c| *c == character)
+}
+
+// The place of the first blank.
+fn blank_place(text: &[u8]) -> Option<usize>
+    ensures value { result ≡ position is_blank text.now }
+    ensures inside { IfSome result (λ i. i < length text.now) }
+{
+    text.iter().position(|c| is_blank(*c))
+}
+
+/// What stands before the first of these characters, and what behind it, where there is one.
+#[tactic(auto, using(crate::proofs::TextLemmas::first_cut_at))]
+pub fn cut(text: &[u8], character: u8) -> (&[u8], Option<&[u8]>)
+    ensures front { result.0.now ≡ (first_cut (λ c. c == character) text.now).0 }
+    ensures behind { option_map (λ rest. rest.now) result.1 ≡ (first_cut (λ c. c == character) text.now).1 }
+    ensures shorter { IfSome result.1 (λ rest. length rest.now < length text.now) }
+{
+    cut_at(text, place(text, character))
+}
+
+/// What stands before the first blank, and what behind it, where there is one.
+#[tactic(auto, using(crate::proofs::TextLemmas::first_cut_at))]
+pub fn cut_blank(text: &[u8]) -> (&[u8], Option<&[u8]>)
+    ensures front { result.0.now ≡ (first_cut is_blank text.now).0 }
+    ensures behind { option_map (λ rest. rest.now) result.1 ≡ (first_cut is_blank text.now).1 }
+{
+    cut_at(text, blank_place(text))
+}
+
+// A line without a carriage return at its end.
+fn without_return(line: &[u8]) -> &[u8]
+    ensures { result.now ≡ without_return line.now }
+{
+    match line {
+        [front @ .., b'\r'] => front,
+        _ => line,
+    }
+}
+
+/// The first line of a text, and the text behind it. A line ends with a line feed, which the last line may lack;
+/// a carriage return right before the line feed is not part of it. A text without a character has no line.
+pub fn next_line(text: &[u8]) -> Option<(&[u8], &[u8])>
+    ensures line { option_map (λ l. (l.0.now, l.1.now)) result ≡ next_line text.now }
+    ensures shorter { IfSome result (λ l. length l.1.now < length text.now) }
+{
+    match cut(text, b'\n') {
+        ([], None) => None,
+        (line, None) => Some((line, &[])),
+        (line, Some(rest)) => Some((without_return(line), rest)),
+    }
+}
+
+// A text without the blanks before it.
+fn trim_front(text: &[u8]) -> &[u8]
+    ensures { result.now ≡ trim_front text.now }
+{
+    let mut rest = text;
+    while let [first, behind @ ..] = rest {
+        if !is_blank(*first) {
+            return rest;
+        }
+        rest = behind;
+    }
+    rest
+}
+
+// A text without the blanks behind it.
+fn trim_end(text: &[u8]) -> &[u8]
+    ensures { result.now ≡ trim_end text.now }
+{
+    let mut rest = text;
+    while let [before @ .., last] = rest {
+        if !is_blank(*last) {
+            return rest;
+        }
+        rest = before;
+    }
+    rest
+}
+
+/// A text without the blanks around it.
+pub fn trim(text: &[u8]) -> &[u8]
+    ensures { result.now ≡ trim text.now }
+{
+    trim_end(trim_front(text))
+}

@@ -1,0 +1,5 @@
+#![tactic(auto)]
+
+// The assembler and the listing tried with ample memory.
+#[cfg(test)]
+mod tests;
