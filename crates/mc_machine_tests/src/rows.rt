@@ -137,7 +137,7 @@ fn name_of(alloc: Global, text: &str) -> Result<Aid, Fault> {
     }
 }
 
-/// How a command to a single application without data ends, under a budget.
+/// How a command to a single application without data ends, under a budget, and the static bytes that it leaves.
 pub fn lone<L: Ledger>(
     alloc: Global,
     blank: Blank,
@@ -145,7 +145,7 @@ pub fn lone<L: Ledger>(
     fixed: u16,
     bytes: &[u8],
     budget: u32,
-) -> Result<Outcome, Fault>
+) -> Result<(Outcome, Vec<u8>), Fault>
     requires name { blank.name ≡ L.name }
     requires parts { blank.parts ≡ L.parts }
     requires some { 0 < blank.parts }
@@ -164,5 +164,6 @@ pub fn lone<L: Ledger>(
         deny: 0,
     };
     load(&mut bank, &name, &unit, &mut steps)?;
-    command(&mut bank, &name, bytes, budget, &mut steps)
+    let outcome = command(&mut bank, &name, bytes, budget, &mut steps)?;
+    Ok((outcome, static_bytes(alloc, &bank, &name)?))
 }

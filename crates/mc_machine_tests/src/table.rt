@@ -41,14 +41,14 @@ fn single(
     )
 }
 
-// How a command to a single application ends.
+// How a command to a single application ends, and the static bytes that it leaves.
 fn ended(
     alloc: Global,
     code: &[u8],
     fixed: u16,
     bytes: &[u8],
     budget: u32,
-) -> Result<Outcome, Fault> {
+) -> Result<(Outcome, Vec<u8>), Fault> {
     lone::<Brand>(alloc, Blank::new(1), code, fixed, bytes, budget)
 }
 
@@ -460,19 +460,31 @@ fn writes(alloc: Global, words: u16) -> Result<Vec<u8>, Fail> {
     Ok(code)
 }
 
-// At most 64 words are pending.
+// At most 64 words are pending: with one more nothing is written.
 #[test]
 fn pending_limit(rt: HostRuntime) -> Result<(), Fail> {
-    for words in [64, 65] {
-        let code = writes(rt.alloc(), words)?;
-        let end = ended(rt.alloc(), code.as_slice(), 520, &[0x80, 1, 0, 0], 65536);
-        if words == 64 {
-            assert!(rt; matches!(end, Ok(Outcome::Reply(reply)) if reply.sw == 0x9000));
-        } else {
-            assert!(rt; matches!(end, Ok(Outcome::Abend(Abend::A08))));
+    let code = writes(rt.alloc(), 64)?;
+    let end = ended(rt.alloc(), code.as_slice(), 520, &[0x80, 1, 0, 0], 65536);
+    assert!(rt;
+        matches!(end, Ok((Outcome::Reply(reply), left)) if reply.sw == 0x9000 && is_marked(left.as_slice()))
+    );
+    let code = writes(rt.alloc(), 65)?;
+    let end = ended(rt.alloc(), code.as_slice(), 520, &[0x80, 1, 0, 0], 65536);
+    assert!(rt;
+        matches!(end, Ok((Outcome::Abend(Abend::A08), left)) if left.as_slice() == [0; 520].as_slice())
+    );
+    Ok(())
+}
+
+// Whether the first byte of each of the first 64 words is 1, and all others are 0.
+fn is_marked(bytes: &[u8]) -> bool {
+    for (at, byte) in bytes.iter().enumerate() {
+        let due = if at % 8 == 0 && at < 512 { 1 } else { 0 };
+        if *byte != due {
+            return false;
         }
     }
-    Ok(())
+    bytes.len() == 520
 }
 
 // Each code of one byte ends.
@@ -495,6 +507,6 @@ fn long_reply(rt: HostRuntime) {
         65536,
     );
     assert!(rt;
-        matches!(end, Ok(Outcome::Reply(reply)) if reply.sw == 0x9000 && reply.body.as_slice() == [0; 1024].as_slice())
+        matches!(end, Ok((Outcome::Reply(reply), _left)) if reply.sw == 0x9000 && reply.body.as_slice() == [0; 1024].as_slice())
     );
 }
