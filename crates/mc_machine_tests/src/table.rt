@@ -460,31 +460,40 @@ fn writes(alloc: Global, words: u16) -> Result<Vec<u8>, Fail> {
     Ok(code)
 }
 
+// Whether a command answered this reply, and left these static bytes.
+fn is_reply(end: &Result<(Outcome, Vec<u8>), Fault>, sw: u16, body: &[u8], left: &[u8]) -> bool {
+    match end {
+        Ok((Outcome::Reply(reply), bytes)) => {
+            reply.sw == sw && reply.body.as_slice() == body && bytes.as_slice() == left
+        }
+        Ok((Outcome::Abend(_abend), _bytes)) => false,
+        Err(_fault) => false,
+    }
+}
+
+// Whether a command ended by this abend, and left these static bytes.
+fn is_abend(end: &Result<(Outcome, Vec<u8>), Fault>, abend: Abend, left: &[u8]) -> bool {
+    match end {
+        Ok((Outcome::Reply(_reply), _bytes)) => false,
+        Ok((Outcome::Abend(cause), bytes)) => *cause == abend && bytes.as_slice() == left,
+        Err(_fault) => false,
+    }
+}
+
 // At most 64 words are pending: with one more nothing is written.
 #[test]
 fn pending_limit(rt: HostRuntime) -> Result<(), Fail> {
+    let mut marked = [0; 520];
+    for word in 0..64 {
+        marked[8 * word] = 1;
+    }
     let code = writes(rt.alloc(), 64)?;
     let end = ended(rt.alloc(), code.as_slice(), 520, &[0x80, 1, 0, 0], 65536);
-    assert!(rt;
-        matches!(end, Ok((Outcome::Reply(reply), left)) if reply.sw == 0x9000 && is_marked(left.as_slice()))
-    );
+    assert!(rt; is_reply(&end, 0x9000, &[], &marked));
     let code = writes(rt.alloc(), 65)?;
     let end = ended(rt.alloc(), code.as_slice(), 520, &[0x80, 1, 0, 0], 65536);
-    assert!(rt;
-        matches!(end, Ok((Outcome::Abend(Abend::A08), left)) if left.as_slice() == [0; 520].as_slice())
-    );
+    assert!(rt; is_abend(&end, Abend::A08, &[0; 520]));
     Ok(())
-}
-
-// Whether the first byte of each of the first 64 words is 1, and all others are 0.
-fn is_marked(bytes: &[u8]) -> bool {
-    for (at, byte) in bytes.iter().enumerate() {
-        let due = if at % 8 == 0 && at < 512 { 1 } else { 0 };
-        if *byte != due {
-            return false;
-        }
-    }
-    bytes.len() == 520
 }
 
 // Each code of one byte ends.
@@ -506,7 +515,5 @@ fn long_reply(rt: HostRuntime) {
         &[0x80, 1, 0, 0, 0, 0, 0],
         65536,
     );
-    assert!(rt;
-        matches!(end, Ok((Outcome::Reply(reply), _left)) if reply.sw == 0x9000 && reply.body.as_slice() == [0; 1024].as_slice())
-    );
+    assert!(rt; is_reply(&end, 0x9000, &[0; 1024], &[]));
 }
