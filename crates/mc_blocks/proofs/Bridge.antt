@@ -1,0 +1,207 @@
+-- On a well laid image the holes of the walk are the gaps of the card, and its used blocks are the card's spans.
+use Rattle.std.proofs.Common.{◌≡◌, ℕ, zero, suc, ◌+◌, ◌*◌, ◌<◌, ◌≤◌, Bool, true, false, ◌&&◌, List, [], ◌∷◌, ◌++◌, length, take, Option, Some, None, refl, sym, ◌∙◌, ap, subst, arith, cond, not, length-append, length-take, min}
+use Rattle.std.specs.Prelude.{nat_lt, ◌==◌, slice_index, MatchBool}
+use Rattle.std.specs.List.{concat}
+use Rattle.std.proofs.lemmas.Bool.{and_parts, eqb-true, not-true}
+use Rattle.std.proofs.lemmas.List.{drop_more}
+use Rattle.mc_model.specs.Bytes.{up, be2, has_name, or_else, insert}
+use Rattle.mc_model.specs.Image.{Look, Closed, look, replayed}
+use Rattle.mc_model.specs.Device.{IsImage}
+use Rattle.mc_model.specs.Card.{App, Block, word, blocks, cells, section, record_at, name_in, name_at, app_at, apps_of, card_of, words_after, means, needed, needed_of, heap_start}
+use Rattle.mc_model.specs.Layout.{spans, spans_of, gaps, gaps_from, put_at, no_root, is_record, bad_block, bad_record, bad_chain, by_cause, words_fault, fault_of, fault, IsWellLaid}
+use Rattle.mc_model.specs.declared.card.Cause.{Cause}
+use Rattle.mc_blocks.specs.Chains.{Above}
+use Rattle.mc_blocks.specs.Blocks.{used_spans, hole_spans, admitted}
+use Rattle.mc_blocks.proofs.Steps.{blocks_all}
+use Rattle.mc_blocks.proofs.Headers.{bad_all}
+use Rattle.mc_blocks.proofs.Tiles.{Tiled, AreRead, Walked, all-walked, gaps_are_holes}
+use Rattle.mc_blocks.proofs.Maps.{put-front, above-weaker, Free, spans-insert, free-insert, length-spans, names-apart, has-self, has-more}
+
+-- ---- the parts of a fault
+
+else-none : {A : Type 0} (o q : Option A) → or_else o q ≡ None → (o ≡ None) × (q ≡ None)
+else-none None q h = (refl, h)
+else-none (Some x) q h = absurd (cc h)
+
+cause-none : (c : Cause) (o : Option ℕ) → by_cause c o ≡ None → o ≡ None
+cause-none c None h = refl
+cause-none c (Some p) h = absurd (cc h)
+
+-- words without a fault
+pub record Faultless (m : List (List ℕ)) : Type 0 where
+  pub root : no_root m ≡ None
+  pub headers : bad_block (length m) m heap_start false ≡ None
+  pub records : bad_record m (blocks m) [] 0 ≡ None
+  pub chain : bad_chain m (blocks m) ≡ None
+
+pub faultless : (m : List (List ℕ)) → words_fault m ≡ None → Faultless m
+faultless m h =
+    let first = else-none _ _ h in
+    let second = else-none _ _ first.1 in
+    let third = else-none _ _ second.1 in
+    record { root = cause-none _ _ first.0; headers = cause-none _ _ second.0; records = cause-none _ _ third.0; chain = cause-none _ _ third.1 }
+
+-- with a closed journal an image is its own words
+pub fault-closed : (m : List (List ℕ)) → look m ≡ Closed → fault m ≡ words_fault m
+fault-closed m h = ap (λ (l : Look). fault_of l m) h
+
+pub means-closed : (m : List (List ℕ)) → look m ≡ Closed → means m ≡ card_of m
+means-closed m h = ap (λ (l : Look). card_of (words_after (replayed m l) m)) h
+
+-- ---- the length of a section
+
+cells-more : (m : List (List ℕ)) (p k : ℕ) → p < length m → cells m p (suc k) ≡ word m p ++ cells m (p + 1) k
+cells-more m p k h = ap (λ (l : List (List ℕ)). concat (take (suc k) l)) (drop_more m p [] h)
+
+length-cells : (m : List (List ℕ)) (k p : ℕ) → IsImage m → p + k ≤ length m → length (cells m p k) ≡ 8 * k
+length-cells m zero p image h = refl
+length-cells m (suc k) p image h =
+    let eight : length (word m p) ≡ 8 = image.words p (omega arith) in
+    let rest : length (cells m (p + 1) k) ≡ 8 * k = length-cells m k (p + 1) image (omega arith) in
+    let all : length (cells m p (suc k)) ≡ length (word m p) + length (cells m (p + 1) k) = ap length (cells-more m p k (omega arith)) ∙ length-append (word m p) (cells m (p + 1) k) in
+    omega (arith, eight, rest, all)
+
+length-section : (m : List (List ℕ)) (p n : ℕ) → IsImage m → p + up n 8 ≤ length m → length (section m p n) ≡ n
+length-section m p n image h =
+    let whole : length (cells m p (up n 8)) ≡ 8 * up n 8 = length-cells m (up n 8) p image h in
+    let enough : n ≤ 8 * up n 8 = omega arith in
+    let part : length (section m p n) ≡ min n (length (cells m p (up n 8))) = length-take n (cells m p (up n 8)) in
+    omega (arith, whole, enough, part)
+
+-- a block whose record is good takes the words that its application needs
+needed-is : (m : List (List ℕ)) (p words : ℕ) → IsImage m → is_record (record_at m p) words ≡ true → p + words ≤ length m → needed (app_at m p) ≡ words
+needed-is m p words image good h =
+    let r = record_at m p in
+    let code = be2 r 20 in
+    let fixed = be2 r 22 in
+    let dir = slice_index r 17 in
+    let fci = slice_index r 18 in
+    let is : words ≡ needed_of code fixed dir fci = eqb-true words (needed_of code fixed dir fci) (and_parts _ (words == needed_of code fixed dir fci) good).1 in
+    let a : length (section m (p + 5) code) ≡ code = length-section m (p + 5) code image (omega arith) in
+    let b : length (section m (p + 5 + up code 8) fixed) ≡ fixed = length-section m (p + 5 + up code 8) fixed image (omega arith) in
+    let c : length (section m (p + 5 + up code 8 + up fixed 8) dir) ≡ dir = length-section m (p + 5 + up code 8 + up fixed 8) dir image (omega arith) in
+    let d : length (section m (p + 5 + up code 8 + up fixed 8 + up dir 8) fci) ≡ fci = length-section m (p + 5 + up code 8 + up fixed 8 + up dir 8) fci image (omega arith) in
+    ap (λ (n : ℕ). needed_of n (length (app_at m p).fixed) (length (app_at m p).dir) (length (app_at m p).fci)) a
+    ∙ ap (λ (n : ℕ). needed_of code n (length (app_at m p).dir) (length (app_at m p).fci)) b
+    ∙ ap (λ (n : ℕ). needed_of code fixed n (length (app_at m p).fci)) c
+    ∙ ap (λ (n : ℕ). needed_of code fixed dir n) d
+    ∙ sym is
+
+-- ---- the records of a walk
+
+-- each record is good, and its name is none of these and none before
+abbrev pub AreNamed : List (List ℕ) → List (List ℕ) → List Block → Type 0
+AreNamed m names [] = Unit {0}
+AreNamed m names (b ∷ bs) = MatchBool b.used
+    ((is_record (record_at m b.place) b.words ≡ true) × (has_name (name_at m b.place) names ≡ false) × AreNamed m (name_at m b.place ∷ names) bs)
+    (AreNamed m names bs)
+
+named-step : (m : List (List ℕ)) (names : List (List ℕ)) (b : Block) (x y : Option ℕ) (used : ℕ) (P Q : Type 0) (t s : Bool) → b.used ≡ t → admitted m b names used ≡ s
+    → (x ≡ None → P) → (y ≡ None → Q) → cond t (cond s x (Some b.place)) y ≡ None
+    → MatchBool t ((is_record (record_at m b.place) b.words ≡ true) × (has_name (name_at m b.place) names ≡ false) × P) Q
+named-step m names b x y used P Q false s ht hs f g none = g none
+named-step m names b x y used P Q true false ht hs f g none = absurd (cc none)
+named-step m names b x y used P Q true true ht hs f g none =
+    let outer = and_parts (is_record (record_at m b.place) b.words && not (has_name (name_in (record_at m b.place)) names)) (nat_lt used 32) hs in
+    let inner = and_parts (is_record (record_at m b.place) b.words) (not (has_name (name_in (record_at m b.place)) names)) outer.0 in
+    (inner.0, not-true (has_name (name_in (record_at m b.place)) names) inner.1, f none)
+
+pub named : (m : List (List ℕ)) (bs : List Block) (names : List (List ℕ)) (used : ℕ) → bad_record m bs names used ≡ None → AreNamed m names bs
+unfolding bad_record
+named m [] names used h = tt
+named m (b ∷ bs) names used h =
+    named-step m names b (bad_record m bs (name_in (record_at m b.place) ∷ names) (used + 1)) (bad_record m bs names used) used _ _ b.used (admitted m b names used) refl refl
+    (λ none. named m bs (name_in (record_at m b.place) ∷ names) (used + 1) none) (λ none. named m bs names used none) h
+
+-- ---- the map of a walk
+
+abbrev pub with-block : List (List ℕ) → Block → List Block → List (List ℕ × App)
+with-block m b bs = insert (apps_of m bs) (name_at m b.place) (app_at m b.place)
+
+pub some-apps : (m : List (List ℕ)) (b : Block) (bs : List Block) → apps_of m (b ∷ bs) ≡ cond b.used (with-block m b bs) (apps_of m bs)
+unfolding apps_of
+some-apps m b bs = refl
+
+pub no-apps : (m : List (List ℕ)) → apps_of m [] ≡ []
+unfolding apps_of
+no-apps m = refl
+
+-- a name of the list is free in the map, and so is a place below
+free-step : (m : List (List ℕ)) (names : List (List ℕ)) (k : List ℕ) (q : ℕ) (b : Block) (bs : List Block) (t : Bool) → has_name k names ≡ true → q < b.place
+    → MatchBool t ((is_record (record_at m b.place) b.words ≡ true) × (has_name (name_at m b.place) names ≡ false) × AreNamed m (name_at m b.place ∷ names) bs) (AreNamed m names bs)
+    → ((ns : List (List ℕ)) → has_name k ns ≡ true → AreNamed m ns bs → Free k q (apps_of m bs)) → Free k q (cond t (with-block m b bs) (apps_of m bs))
+free-step m names k q b bs true there low n rest =
+    free-insert (apps_of m bs) (name_at m b.place) k q (app_at m b.place) (names-apart names k (name_at m b.place) there n.1) (λ e. absurd (omega (arith, e)))
+    (rest (name_at m b.place ∷ names) (has-more k (name_at m b.place) names there) n.2)
+free-step m names k q b bs false there low n rest = rest names there n
+
+pub free-all : (m : List (List ℕ)) (bs : List Block) (p : ℕ) (a : Bool) (end : ℕ) (names : List (List ℕ)) (k : List ℕ) (q : ℕ) → Tiled p a bs end → q < p → has_name k names ≡ true → AreNamed m names bs → Free k q (apps_of m bs)
+free-all m [] p a end names k q t low there n = subst (λ (l : List (List ℕ × App)). Free k q l) (sym (no-apps m)) tt
+free-all m (b ∷ bs) p a end names k q t low there n =
+    let place : b.place ≡ p = t.0 in
+    let long : 1 ≤ b.words = t.1 in
+    subst (λ (l : List (List ℕ × App)). Free k q l) (sym (some-apps m b bs))
+    (free-step m names k q b bs b.used there (omega arith) n (λ ns is ok. free-all m bs (p + b.words) (not b.used) end ns k q t.3 (omega arith) is ok))
+
+above-step : (p : ℕ) (b : Block) (bs : List Block) (t : Bool) → b.place ≡ p → Above p (used_spans bs) → Above p (cond t ((b.place, b.words) ∷ used_spans bs) (used_spans bs))
+above-step p b bs true place rest = (omega (arith, place), rest)
+above-step p b bs false place rest = rest
+
+pub used-above : (p : ℕ) (a : Bool) (bs : List Block) (end : ℕ) → Tiled p a bs end → Above p (used_spans bs)
+used-above p a [] end t = tt
+used-above p a (b ∷ bs) end t = above-step p b bs b.used t.0 (above-weaker (p + b.words) p (used_spans bs) (omega arith) (used-above (p + b.words) (not b.used) bs end t.3))
+
+spans-step : (m : List (List ℕ)) (names : List (List ℕ)) (b : Block) (bs : List Block) (t : Bool) → IsImage m → b.place + b.words ≤ length m → Above (b.place + 1) (used_spans bs)
+    → MatchBool t ((is_record (record_at m b.place) b.words ≡ true) × (has_name (name_at m b.place) names ≡ false) × AreNamed m (name_at m b.place ∷ names) bs) (AreNamed m names bs)
+    → ((ns : List (List ℕ)) → AreNamed m ns bs → spans_of (apps_of m bs) ≡ used_spans bs) → ((ns : List (List ℕ)) (k : List ℕ) → has_name k ns ≡ true → AreNamed m ns bs → Free k b.place (apps_of m bs))
+    → spans_of (cond t (with-block m b bs) (apps_of m bs)) ≡ cond t ((b.place, b.words) ∷ used_spans bs) (used_spans bs)
+spans-step m names b bs false image h above n rest free = rest names n
+spans-step m names b bs true image h above n rest free =
+    let ns = name_at m b.place ∷ names in
+    spans-insert (apps_of m bs) (name_at m b.place) (app_at m b.place) (free ns (name_at m b.place) (has-self (name_at m b.place) names) n.2)
+    ∙ ap (λ (l : List (ℕ × ℕ)). put_at b.place (needed (app_at m b.place)) l) (rest ns n.2)
+    ∙ ap (λ (w : ℕ). put_at b.place w (used_spans bs)) (needed-is m b.place b.words image n.0 h)
+    ∙ put-front b.place b.words (used_spans bs) above
+
+spans-all : (m : List (List ℕ)) (bs : List Block) (p : ℕ) (a : Bool) (names : List (List ℕ)) → IsImage m → Tiled p a bs (length m) → AreRead m bs → AreNamed m names bs → spans_of (apps_of m bs) ≡ used_spans bs
+spans-all m [] p a names image t r n = ap spans_of (no-apps m)
+spans-all m (b ∷ bs) p a names image t r n =
+    let place : b.place ≡ p = t.0 in
+    let long : 1 ≤ b.words = t.1 in
+    ap spans_of (some-apps m b bs)
+    ∙ spans-step m names b bs b.used image r.1 (above-weaker (p + b.words) (b.place + 1) (used_spans bs) (omega arith) (used-above (p + b.words) (not b.used) bs (length m) t.3)) n
+    (λ ns ok. spans-all m bs (p + b.words) (not b.used) ns image t.3 r.2 ok)
+    (λ ns k is ok. free-all m bs (p + b.words) (not b.used) (length m) ns k b.place t.3 (omega arith) is ok)
+
+-- ---- the bridge
+
+-- what well laid words hold
+pub record Laid (m : List (List ℕ)) : Type 0 where
+  pub root : no_root m ≡ None
+  pub tiled : Tiled 131 false (blocks m) (length m)
+  pub read : AreRead m (blocks m)
+  pub chain : bad_chain m (blocks m) ≡ None
+  pub spans : spans (card_of m) ≡ used_spans (blocks m)
+  pub gaps : gaps (card_of m) ≡ hole_spans (blocks m)
+  pub apps : length (apps_of m (blocks m)) ≡ length (used_spans (blocks m))
+
+pub laid : (m : List (List ℕ)) → IsImage m → words_fault m ≡ None → Laid m
+laid m image h =
+    let f : Faultless m = faultless m h in
+    let low : 256 ≤ length m = image.low in
+    let bs = blocks m in
+    let w : Walked m 131 false bs = subst (λ (l : List Block). Walked m 131 false l) (sym (blocks_all m)) (all-walked m (omega arith) (sym (bad_all m (omega arith)) ∙ f.headers)) in
+    let same : spans_of (apps_of m bs) ≡ used_spans bs = spans-all m bs 131 false [] image w.tiled w.read (named m bs [] 0 f.records) in
+    record {
+      root = f.root;
+      tiled = w.tiled;
+      read = w.read;
+      chain = f.chain;
+      spans = same;
+      gaps = ap (λ (l : List (ℕ × ℕ)). gaps_from heap_start l (length m)) same ∙ gaps_are_holes 131 bs (length m) w.tiled;
+      apps = sym (length-spans (apps_of m bs)) ∙ ap (λ (l : List (ℕ × ℕ)). length l) same;
+    }
+
+-- the same of an image with a closed journal
+pub well-laid : (m : List (List ℕ)) → IsImage m → look m ≡ Closed → IsWellLaid m → Laid m
+well-laid m image closed h = laid m image (sym (fault-closed m closed) ∙ h)

@@ -1,0 +1,233 @@
+-- Words that hold the headers and records of blocks side by side are well laid, and words that agree in what is read mean the same card.
+use Rattle.std.proofs.Common.{◌≡◌, ℕ, zero, suc, ◌+◌, ◌<◌, ◌≤◌, Bool, true, false, ◌&&◌, ◌||◌, List, [], ◌∷◌, ◌++◌, length, take, Option, Some, None, refl, sym, ◌∙◌, ap, subst, arith, cond, not}
+use Rattle.std.specs.Prelude.{nat_lt, ◌==◌, slice_index, MatchBool}
+use Rattle.std.specs.List.{concat}
+use Rattle.std.proofs.lemmas.Bool.{le-ltb, lt-ltb, le-leb, eq-eqb, and_from, and_parts, eqb-true}
+use Rattle.std.proofs.lemmas.List.{drop_more, get_or_past}
+use Rattle.mc_model.specs.Bytes.{be2, or_else, has_name, insert, up}
+use Rattle.mc_model.specs.Device.{IsImage}
+use Rattle.mc_model.specs.Card.{App, Block, word, header, blocks, heap_start, cells, section, record_at, name_in, name_at, app_at, app_of, apps_of, card_of, needed_of}
+use Rattle.mc_model.specs.Layout.{no_root, is_record, bad_header, bad_block, bad_record, bad_link, bad_chain, first_hole, by_cause, words_fault}
+use Rattle.mc_model.specs.declared.card.Cause.TheVariants.{NoRoot, BadBlock, BadRecord, BadChain}
+use Rattle.mc_blocks.specs.Blocks.{fitting, blocks_at, bad_from, admitted, used_spans, is_root_word, Follows, Agree}
+use Rattle.mc_blocks.proofs.Steps.{blocks_step, blocks_stop, blocks_all}
+use Rattle.mc_blocks.proofs.Headers.{bad_all, bad_behind, bad_end}
+use Rattle.mc_blocks.proofs.Tiles.{Tiled, AreRead}
+use Rattle.mc_blocks.proofs.Taking.{tiled-end}
+use Rattle.mc_blocks.proofs.Applications.{few-blocks}
+use Rattle.mc_blocks.proofs.Bridge.{AreNamed, Faultless, faultless, Laid, laid, named, some-apps, no-apps}
+
+-- ---- the walk finds the blocks
+
+-- what a walk over blocks side by side finds
+record Walks (m : List (List ℕ)) (p : ℕ) (a : Bool) (bs : List Block) : Type 0 where
+  good : bad_from m p a ≡ None
+  blocks : blocks_at m p ≡ bs
+
+follows : (size : ℕ) (a : Bool) (o : Option Block) (b : Block) → o ≡ Some b → b.place + b.words ≤ size → (a && not b.used) ≡ false → Follows size a o b
+follows size a o b is ends flag = (is, ap (λ (q : Option Block). bad_header size a q) is ∙ ap (λ (t : Bool). t || (a && not b.used)) (le-ltb size (b.place + b.words) ends) ∙ flag)
+
+fitting-some : (size : ℕ) (o : Option Block) (b : Block) → o ≡ Some b → b.place + b.words ≤ size → Some b ≡ fitting size o
+fitting-some size o b is ends = sym (ap (λ (q : Option Block). fitting size q) is ∙ ap (λ (t : Bool). cond t (Some b) None) (le-leb (b.place + b.words) size ends))
+
+walks : (m : List (List ℕ)) (p : ℕ) (a : Bool) (bs : List Block) → Tiled p a bs (length m) → AreRead m bs → Walks m p a bs
+walks m p a [] t r =
+    record { good = bad_end m p a (omega (arith, t)); blocks = blocks_stop m p (sym (ap (λ (x : List ℕ). fitting (length m) (header p x)) (get_or_past m p [] (omega (arith, t))))) }
+walks m p a (b ∷ bs) t r =
+    let place : b.place ≡ p = t.0 in
+    let long : 1 ≤ b.words = t.1 in
+    let is : header p (word m p) ≡ Some b = subst (λ (q : ℕ). header q (word m q) ≡ Some b) place r.0 in
+    let w : Walks m (p + b.words) (not b.used) bs = walks m (p + b.words) (not b.used) bs t.3 r.2 in
+    let on : Follows (length m) a (header p (word m p)) b = follows (length m) a (header p (word m p)) b is r.1 t.2 in
+    let within : p < length m = omega (arith, r.1) in
+    record {
+      good = bad_behind m p a b within on ∙ ap (λ (q : ℕ). bad_from m (q + b.words) (not b.used)) place ∙ w.good;
+      blocks = blocks_step m p b (fitting-some (length m) (header p (word m p)) b is r.1) ∙ ap (λ (q : ℕ). b ∷ blocks_at m (q + b.words)) place ∙ ap (λ (l : List Block). b ∷ l) w.blocks;
+    }
+
+-- ---- the records are good
+
+admitted-from : (m : List (List ℕ)) (b : Block) (names : List (List ℕ)) (used : ℕ) → is_record (record_at m b.place) b.words ≡ true → has_name (name_at m b.place) names ≡ false → used < 32 → admitted m b names used ≡ true
+admitted-from m b names used good new few =
+    and_from (is_record (record_at m b.place) b.words && not (has_name (name_in (record_at m b.place)) names)) (nat_lt used 32)
+    (and_from (is_record (record_at m b.place) b.words) (not (has_name (name_in (record_at m b.place)) names)) good (ap not new)) (lt-ltb used 32 few)
+
+record-kind : (m : List (List ℕ)) (b : Block) (names : List (List ℕ)) (used : ℕ) (us : List (ℕ × ℕ)) (P Q : Type 0) (x y : Option ℕ) (u : Bool)
+    → MatchBool u ((is_record (record_at m b.place) b.words ≡ true) × (has_name (name_at m b.place) names ≡ false) × P) Q → used + length (cond u ((b.place, b.words) ∷ us) us) ≤ 32
+    → (P → used + 1 + length us ≤ 32 → x ≡ None) → (Q → used + length us ≤ 32 → y ≡ None) → cond u (cond (admitted m b names used) x (Some b.place)) y ≡ None
+record-kind m b names used us P Q x y true n few f g =
+    ap (λ (t : Bool). cond t x (Some b.place)) (admitted-from m b names used n.0 n.1 (omega arith)) ∙ f n.2 (omega arith)
+record-kind m b names used us P Q x y false n few f g = g n few
+
+records-good : (m : List (List ℕ)) (bs : List Block) (names : List (List ℕ)) (used : ℕ) → AreNamed m names bs → used + length (used_spans bs) ≤ 32 → bad_record m bs names used ≡ None
+unfolding bad_record
+records-good m [] names used n few = refl
+records-good m (b ∷ bs) names used n few =
+    record-kind m b names used (used_spans bs) _ _ (bad_record m bs (name_in (record_at m b.place) ∷ names) (used + 1)) (bad_record m bs names used) b.used n few
+    (λ ok less. records-good m bs (name_in (record_at m b.place) ∷ names) (used + 1) ok less) (λ ok less. records-good m bs names used ok less)
+
+-- ---- words that are built
+
+-- the root, the headers, the records and the links of blocks side by side
+pub record Built (m : List (List ℕ)) (bs : List Block) : Type 0 where
+  pub root : is_root_word (word m 0) (length m) ≡ true
+  pub first : be2 (word m 0) 6 ≡ first_hole bs
+  pub tiled : Tiled 131 false bs (length m)
+  pub read : AreRead m bs
+  pub links : bad_link bs ≡ None
+  pub named : AreNamed m [] bs
+  pub few : length (used_spans bs) ≤ 32
+
+-- they are well laid, and the walk finds the blocks
+pub record Stands (m : List (List ℕ)) (bs : List Block) : Type 0 where
+  pub good : words_fault m ≡ None
+  pub blocks : blocks m ≡ bs
+
+pub built : (m : List (List ℕ)) (bs : List Block) → Built m bs → Stands m bs
+built m bs b =
+    let w : Walks m 131 false bs = walks m 131 false bs b.tiled b.read in
+    let found : blocks m ≡ bs = blocks_all m ∙ w.blocks in
+    let low : 131 ≤ length m = tiled-end 131 false bs (length m) b.tiled in
+    let root : no_root m ≡ None = ap (λ (t : Bool). cond t None (Some 0)) b.root in
+    let headers : bad_block (length m) m heap_start false ≡ None = bad_all m low ∙ w.good in
+    let records : bad_record m (blocks m) [] 0 ≡ None = ap (λ (l : List Block). bad_record m l [] 0) found ∙ records-good m bs [] 0 b.named (omega (arith, b.few)) in
+    let chain : bad_chain m (blocks m) ≡ None =
+    ap (λ (l : List Block). bad_chain m l) found
+    ∙ ap (λ (t : Bool). or_else (cond t None (Some 0)) (bad_link bs)) (eq-eqb (be2 (word m 0) 6) (first_hole bs) b.first)
+    ∙ b.links in
+    record {
+      good =
+          ap (λ (o : Option ℕ). or_else (by_cause NoRoot o) (or_else (by_cause BadBlock (bad_block (length m) m heap_start false)) (or_else (by_cause BadRecord (bad_record m (blocks m) [] 0)) (by_cause BadChain (bad_chain m (blocks m)))))) root
+          ∙ ap (λ (o : Option ℕ). or_else (by_cause BadBlock o) (or_else (by_cause BadRecord (bad_record m (blocks m) [] 0)) (by_cause BadChain (bad_chain m (blocks m))))) headers
+          ∙ ap (λ (o : Option ℕ). or_else (by_cause BadRecord o) (by_cause BadChain (bad_chain m (blocks m)))) records
+          ∙ ap (λ (o : Option ℕ). by_cause BadChain o) chain;
+      blocks = found;
+    }
+
+-- ---- words that agree in what is read
+
+same-cells : (m n : List (List ℕ)) (k p : ℕ) → length n ≡ length m → p + k ≤ length m → ((i : ℕ) → p ≤ i → i < p + k → word n i ≡ word m i) → cells n p k ≡ cells m p k
+same-cells m n zero p size h same = refl
+same-cells m n (suc k) p size h same =
+    let lt : p < length m = omega arith in
+    let also : p < length n = omega (arith, size) in
+    ap (λ (l : List (List ℕ)). concat (take (suc k) l)) (drop_more n p [] also)
+    ∙ ap (λ (w : List ℕ). w ++ cells n (p + 1) k) (same p (omega arith) (omega arith))
+    ∙ ap (λ (l : List ℕ). word m p ++ l) (same-cells m n k (p + 1) size (omega arith) (λ i low high. same i (omega arith) (omega arith)))
+    ∙ sym (ap (λ (l : List (List ℕ)). concat (take (suc k) l)) (drop_more m p [] lt))
+
+same-section : (m n : List (List ℕ)) (p words q x : ℕ) → length n ≡ length m → p + words ≤ length m → ((i : ℕ) → p ≤ i → i < p + words → word n i ≡ word m i) → p ≤ q → q + up x 8 ≤ p + words → section n q x ≡ section m q x
+same-section m n p words q x size h same low high =
+    ap (λ (l : List ℕ). take x l) (same-cells m n (up x 8) q size (omega arith) (λ i above below. same i (omega arith) (omega arith)))
+
+-- an application by its sections
+abbrev App-of : ℕ → List ℕ → List ℕ → List ℕ → List ℕ → List ℕ → App
+App-of p r code fixed dir fci = record { code = code; fixed = fixed; session = be2 r 24; deny = be2 r 26; dir = dir; fci = fci; place = p }
+
+-- what a used block holds
+record SameBlock (m n : List (List ℕ)) (p : ℕ) : Type 0 where
+  entry : record_at n p ≡ record_at m p
+  app : app_at n p ≡ app_at m p
+
+same-block : (m n : List (List ℕ)) (p words : ℕ) → length n ≡ length m → p + words ≤ length m → is_record (record_at m p) words ≡ true → ((i : ℕ) → p ≤ i → i < p + words → word n i ≡ word m i) → SameBlock m n p
+same-block m n p words size h good same =
+    let r = record_at m p in
+    let code = be2 r 20 in
+    let fixed = be2 r 22 in
+    let dir = slice_index r 17 in
+    let fci = slice_index r 18 in
+    let is : words ≡ needed_of code fixed dir fci = eqb-true words (needed_of code fixed dir fci) (and_parts _ (words == needed_of code fixed dir fci) good).1 in
+    let entry : record_at n p ≡ record_at m p = same-cells m n 4 (p + 1) size (omega (arith, is)) (λ i above below. same i (omega arith) (omega (arith, is))) in
+    let a : section n (p + 5) code ≡ section m (p + 5) code = same-section m n p words (p + 5) code size h same (omega arith) (omega (arith, is)) in
+    let b : section n (p + 5 + up code 8) fixed ≡ section m (p + 5 + up code 8) fixed = same-section m n p words (p + 5 + up code 8) fixed size h same (omega arith) (omega (arith, is)) in
+    let c : section n (p + 5 + up code 8 + up fixed 8) dir ≡ section m (p + 5 + up code 8 + up fixed 8) dir = same-section m n p words (p + 5 + up code 8 + up fixed 8) dir size h same (omega arith) (omega (arith, is)) in
+    let d : section n (p + 5 + up code 8 + up fixed 8 + up dir 8) fci ≡ section m (p + 5 + up code 8 + up fixed 8 + up dir 8) fci = same-section m n p words (p + 5 + up code 8 + up fixed 8 + up dir 8) fci size h same (omega arith) (omega (arith, is)) in
+    record {
+      entry = entry;
+      app = ap (λ (t : List ℕ). app_of n p t) entry
+          ∙ ap (λ (w : List ℕ). App-of p r w (section n (p + 5 + up code 8) fixed) (section n (p + 5 + up code 8 + up fixed 8) dir) (section n (p + 5 + up code 8 + up fixed 8 + up dir 8) fci)) a
+          ∙ ap (λ (w : List ℕ). App-of p r (section m (p + 5) code) w (section n (p + 5 + up code 8 + up fixed 8) dir) (section n (p + 5 + up code 8 + up fixed 8 + up dir 8) fci)) b
+          ∙ ap (λ (w : List ℕ). App-of p r (section m (p + 5) code) (section m (p + 5 + up code 8) fixed) w (section n (p + 5 + up code 8 + up fixed 8 + up dir 8) fci)) c
+          ∙ ap (λ (w : List ℕ). App-of p r (section m (p + 5) code) (section m (p + 5 + up code 8) fixed) (section m (p + 5 + up code 8 + up fixed 8) dir) w) d;
+    }
+
+-- all that is read of the blocks
+record SameAll (m n : List (List ℕ)) (names : List (List ℕ)) (bs : List Block) : Type 0 where
+  read : AreRead n bs
+  named : AreNamed n names bs
+  apps : apps_of n bs ≡ apps_of m bs
+
+all-kind : (m n : List (List ℕ)) (names : List (List ℕ)) (b : Block) (bs : List Block) (u : Bool) → length n ≡ length m → b.place + b.words ≤ length m
+    → (u ≡ true → (i : ℕ) → b.place ≤ i → i < b.place + b.words → word n i ≡ word m i)
+    → MatchBool u ((is_record (record_at m b.place) b.words ≡ true) × (has_name (name_at m b.place) names ≡ false) × AreNamed m (name_at m b.place ∷ names) bs) (AreNamed m names bs)
+    → ((ns : List (List ℕ)) → AreNamed m ns bs → SameAll m n ns bs)
+    → MatchBool u ((is_record (record_at n b.place) b.words ≡ true) × (has_name (name_at n b.place) names ≡ false) × AreNamed n (name_at n b.place ∷ names) bs) (AreNamed n names bs)
+    × (AreRead n bs) × (cond u (insert (apps_of n bs) (name_at n b.place) (app_at n b.place)) (apps_of n bs) ≡ cond u (insert (apps_of m bs) (name_at m b.place) (app_at m b.place)) (apps_of m bs))
+all-kind m n names b bs false size h same nm rest = let s = rest names nm in (s.named, s.read, s.apps)
+all-kind m n names b bs true size h same nm rest =
+    let k = name_at m b.place in
+    let s = rest (k ∷ names) nm.2 in
+    let block : SameBlock m n b.place = same-block m n b.place b.words size h nm.0 (same refl) in
+    let name : name_at n b.place ≡ name_at m b.place = ap name_in block.entry in (
+      (
+        subst (λ (r : List ℕ). is_record r b.words ≡ true) (sym block.entry) nm.0,
+        subst (λ (x : List ℕ). has_name x names ≡ false) (sym name) nm.1,
+        subst (λ (x : List ℕ). AreNamed n (x ∷ names) bs) (sym name) s.named,
+      ),
+      s.read,
+      ap (λ (x : List ℕ). insert (apps_of n bs) x (app_at n b.place)) name ∙ ap (λ (x : App). insert (apps_of n bs) k x) block.app ∙ ap (λ (es : List (List ℕ × App)). insert es k (app_at m b.place)) s.apps,
+    )
+
+same-all : (m n : List (List ℕ)) (names : List (List ℕ)) (bs : List Block) → length n ≡ length m → AreRead m bs → AreNamed m names bs → Agree m n bs → SameAll m n names bs
+same-all m n names [] size r nm a = record { read = tt; named = tt; apps = no-apps n ∙ sym (no-apps m) }
+same-all m n names (b ∷ bs) size r nm a =
+    let all = all-kind m n names b bs b.used size r.1 a.1 nm (λ ns ok. same-all m n ns bs size r.2 ok a.2) in
+    record {
+      read = (ap (λ (x : List ℕ). header b.place x) a.0 ∙ r.0, subst (λ (l : ℕ). b.place + b.words ≤ l) (sym size) r.1, all.1);
+      named = all.0;
+      apps = some-apps n b bs ∙ all.2 ∙ sym (some-apps m b bs);
+    }
+
+chain-parts : (x first : ℕ) (rest : Option ℕ) (t : Bool) → (x == first) ≡ t → or_else (cond t None (Some 0)) rest ≡ None → (x ≡ first) × (rest ≡ None)
+chain-parts x first rest true e h = (eqb-true x first e, h)
+chain-parts x first rest false e h = absurd (cc h)
+
+card-parts : (n m : List (List ℕ)) → length n ≡ length m → slice_index (word n 0) 3 ≡ slice_index (word m 0) 3 → apps_of n (blocks n) ≡ apps_of m (blocks m) → card_of n ≡ card_of m
+card-parts n m size version apps =
+    ap (λ (s : ℕ). record { size = s; layout = slice_index (word n 0) 3; apps = apps_of n (blocks n) }) size
+    ∙ ap (λ (v : ℕ). record { size = length m; layout = v; apps = apps_of n (blocks n) }) version
+    ∙ ap (λ (a : List (List ℕ × App)). record { size = length m; layout = slice_index (word m 0) 3; apps = a }) apps
+
+-- words that agree with a card in what is read are that card
+pub record SameCard (m n : List (List ℕ)) : Type 0 where
+  pub good : words_fault n ≡ None
+  pub blocks : blocks n ≡ blocks m
+  pub card : card_of n ≡ card_of m
+
+root-good : (m : List (List ℕ)) (t : Bool) → cond {A = Option ℕ} t None (Some 0) ≡ None → t ≡ true
+root-good m true h = refl
+root-good m false h = absurd (cc h)
+
+pub same-card : (m n : List (List ℕ)) → IsImage m → words_fault m ≡ None → length n ≡ length m → word n 0 ≡ word m 0 → Agree m n (blocks m) → SameCard m n
+same-card m n image h size same agree =
+    let f : Faultless m = faultless m h in
+    let l : Laid m = laid m image h in
+    let bs = blocks m in
+    let names = named m bs [] 0 f.records in
+    let s : SameAll m n [] bs = same-all m n [] bs size l.read names agree in
+    let root : is_root_word (word m 0) (length m) ≡ true = root-good m (is_root_word (word m 0) (length m)) f.root in
+    let links = chain-parts (be2 (word m 0) 6) (first_hole bs) (bad_link bs) (be2 (word m 0) 6 == first_hole bs) refl f.chain in
+    let stands : Stands n bs = built n bs (record {
+      root = ap (λ (x : List ℕ). is_root_word x (length n)) same ∙ ap (λ (x : ℕ). is_root_word (word m 0) x) size ∙ root;
+      first = ap (λ (x : List ℕ). be2 x 6) same ∙ links.0;
+      tiled = subst (λ (e : ℕ). Tiled 131 false bs e) (sym size) l.tiled;
+      read = s.read;
+      links = links.1;
+      named = s.named;
+      few = few-blocks m f;
+    }) in
+    record {
+      good = stands.good;
+      blocks = stands.blocks;
+      card = card-parts n m size (ap (λ (x : List ℕ). slice_index x 3) same) (ap (λ (l : List Block). apps_of n l) stands.blocks ∙ s.apps);
+    }

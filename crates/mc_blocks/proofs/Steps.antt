@@ -1,0 +1,144 @@
+-- One step of a walk by lengths: the block at a place, and the blocks behind it.
+use Rattle.std.proofs.Common.{◌≡◌, ℕ, zero, suc, ◌+◌, ◌-◌, ◌<◌, ◌≤◌, Bool, true, false, ◌&&◌, ◌||◌, List, [], ◌∷◌, length, Option, Some, None, refl, sym, ◌∙◌, ap, subst, arith, cond}
+use Rattle.std.specs.Prelude.{nat_le, ◌==◌, slice_index}
+use Rattle.std.proofs.lemmas.Bool.{and_parts, leb-true}
+use Rattle.std.proofs.lemmas.List.{get_or_past}
+use Rattle.mc_model.specs.Bytes.{be2}
+use Rattle.mc_model.specs.Card.{Block, used_tag, hole_tag, word, is_header, header, block_and, blocks_from}
+use Rattle.mc_blocks.specs.Blocks.{fitting, blocks_at}
+
+-- what is known of a block whose header was read
+pub record HeaderIs (p : ℕ) (x : List ℕ) (b : Block) : Type 0 where
+  pub place : b.place ≡ p
+  pub used : b.used ≡ (slice_index x 0 == used_tag)
+  pub words : b.words ≡ be2 x 2
+  pub link : b.link ≡ be2 x 4
+  pub low : 1 ≤ b.words
+
+abbrev the_block : ℕ → List ℕ → Block
+the_block p x = record { place = p; used = slice_index x 0 == used_tag; words = be2 x 2; link = be2 x 4 }
+
+header-read : (p : ℕ) (x : List ℕ) (b : Block) (t : Bool) → is_header x ≡ t → cond t (Some (the_block p x)) None ≡ Some b → HeaderIs p x b
+header-read p x b false h e = absurd (cc e)
+header-read p x b true h e =
+    let is : the_block p x ≡ b = cc in
+    let tag = slice_index x 0 == used_tag || slice_index x 0 == hole_tag in
+    let a = tag && slice_index x 1 == 0 in
+    let long = a && nat_le 1 (be2 x 2) in
+    let first = and_parts (long && slice_index x 6 == 0) (slice_index x 7 == 0) h in
+    let second = and_parts long (slice_index x 6 == 0) first.0 in
+    let third = and_parts a (nat_le 1 (be2 x 2)) second.0 in
+    subst (λ (c : Block). HeaderIs p x c) is (record { place = refl; used = refl; words = refl; link = refl; low = leb-true 1 (be2 x 2) third.1 })
+
+pub header-is : (p : ℕ) (x : List ℕ) (b : Block) → header p x ≡ Some b → HeaderIs p x b
+header-is p x b h = header-read p x b (is_header x) refl h
+
+-- a block that fits was read, and ends in time
+pub record Fits (size p : ℕ) (x : List ℕ) (b : Block) : Type 0 where
+  pub read : header p x ≡ Some b
+  pub place : b.place ≡ p
+  pub low : 1 ≤ b.words
+  pub high : p + b.words ≤ size
+
+fits-read : (size p : ℕ) (x : List ℕ) (b c : Block) (t : Bool) → header p x ≡ Some b → nat_le (b.place + b.words) size ≡ t → cond t (Some b) None ≡ Some c → Fits size p x c
+fits-read size p x b c false e h f = absurd (cc f)
+fits-read size p x b c true e h f =
+    let is : b ≡ c = cc in
+    let known : HeaderIs p x b = header-is p x b e in
+    let le : b.place + b.words ≤ size = leb-true (b.place + b.words) size h in
+    let place : b.place ≡ p = known.place in
+    subst (λ (d : Block). Fits size p x d) is (record { read = e; place = place; low = known.low; high = omega (arith, le, place) })
+
+fits-from : (size p : ℕ) (x : List ℕ) (o : Option Block) (c : Block) → header p x ≡ o → fitting size o ≡ Some c → Fits size p x c
+fits-from size p x None c e h = absurd (cc h)
+fits-from size p x (Some b) c e h = fits-read size p x b c (nat_le (b.place + b.words) size) e refl h
+
+pub fits : (size p : ℕ) (x : List ℕ) (b : Block) → fitting size (header p x) ≡ Some b → Fits size p x b
+fits size p x b h = fits-from size p x (header p x) b refl h
+
+-- ---- blocks
+
+and-fits : (size : ℕ) (o : Option Block) (b : Block) (rest : ℕ → List Block) (t : Bool) (c : Block) → nat_le (c.place + c.words) size ≡ t → o ≡ Some c → cond t (Some c) None ≡ Some b → block_and size o rest ≡ b ∷ rest (b.place + b.words)
+and-fits size o b rest false c h e f = absurd (cc f)
+and-fits size o b rest true c h e f =
+    let is : c ≡ b = cc in
+    ap (λ (q : Option Block). block_and size q rest) e
+    ∙ ap (λ (t : Bool). cond t (c ∷ rest (c.place + c.words)) []) h
+    ∙ ap (λ (d : Block). d ∷ rest (d.place + d.words)) is
+
+and-some : (size : ℕ) (o q : Option Block) (b : Block) (rest : ℕ → List Block) → o ≡ q → fitting size q ≡ Some b → block_and size o rest ≡ b ∷ rest (b.place + b.words)
+and-some size o None b rest e h = absurd (cc h)
+and-some size o (Some c) b rest e h = and-fits size o b rest (nat_le (c.place + c.words) size) c refl e h
+
+and-past : (size : ℕ) (c : Block) (rest : ℕ → List Block) (t : Bool) → cond t (Some c) None ≡ None → cond t (c ∷ rest (c.place + c.words)) [] ≡ []
+and-past size c rest false h = refl
+and-past size c rest true h = absurd (cc h)
+
+and-none : (size : ℕ) (o : Option Block) (rest : ℕ → List Block) → fitting size o ≡ None → block_and size o rest ≡ []
+and-none size None rest h = refl
+and-none size (Some c) rest h = and-past size c rest (nat_le (c.place + c.words) size) h
+
+-- past the end nothing is a header
+past : (m : List (List ℕ)) (p : ℕ) → length m ≤ p → header p (word m p) ≡ None
+past m p h = ap (λ (x : List ℕ). header p x) (get_or_past m p [] h)
+
+-- the same blocks with any number that is enough
+and-either : (m : List (List ℕ)) (p : ℕ) (o : Option Block) (f g : ℕ → List Block) → fitting (length m) (header p (word m p)) ≡ o
+    → ((b : Block) → Fits (length m) p (word m p) b → f (b.place + b.words) ≡ g (b.place + b.words)) → block_and (length m) (header p (word m p)) f ≡ block_and (length m) (header p (word m p)) g
+and-either m p None f g e same = and-none (length m) (header p (word m p)) f e ∙ sym (and-none (length m) (header p (word m p)) g e)
+and-either m p (Some b) f g e same =
+    and-some (length m) (header p (word m p)) (header p (word m p)) b f refl e
+    ∙ ap (λ (l : List Block). b ∷ l) (same b (fits (length m) p (word m p) b e))
+    ∙ sym (and-some (length m) (header p (word m p)) (header p (word m p)) b g refl e)
+
+behind : (size p n : ℕ) (x : List ℕ) (b : Block) → Fits size p x b → size - p ≤ suc n → size - (b.place + b.words) ≤ n
+behind size p n x b f h = let place : b.place ≡ p = f.place in let low : 1 ≤ b.words = f.low in let high : p + b.words ≤ size = f.high in omega arith
+
+same-fuel : (n k : ℕ) (m : List (List ℕ)) (p : ℕ) → length m - p ≤ n → length m - p ≤ k → blocks_from n m p ≡ blocks_from k m p
+unfolding blocks_from
+same-fuel zero zero m p a b = refl
+same-fuel zero (suc k) m p a b = sym (ap (λ (o : Option Block). block_and (length m) o (λ q. blocks_from k m q)) (past m p (omega arith)))
+same-fuel (suc n) zero m p a b = ap (λ (o : Option Block). block_and (length m) o (λ q. blocks_from n m q)) (past m p (omega arith))
+same-fuel (suc n) (suc k) m p a b =
+    and-either m p (fitting (length m) (header p (word m p))) (λ q. blocks_from n m q) (λ q. blocks_from k m q) refl
+    (λ c f. same-fuel n k m (c.place + c.words) (behind (length m) p n (word m p) c f a) (behind (length m) p k (word m p) c f b))
+
+pub blocks_all : (m : List (List ℕ)) → blocks_from (length m) m 131 ≡ blocks_at m 131
+blocks_all m = same-fuel (length m) (length m - 131) m 131 (omega arith) (omega arith)
+
+blocks-suc : (n : ℕ) (m : List (List ℕ)) (p : ℕ) (b : Block) → fitting (length m) (header p (word m p)) ≡ Some b → blocks_from (suc n) m p ≡ b ∷ blocks_from n m (b.place + b.words)
+unfolding blocks_from
+blocks-suc n m p b h = and-some (length m) (header p (word m p)) (header p (word m p)) b (λ q. blocks_from n m q) refl h
+
+blocks-fuel : (n k : ℕ) (m : List (List ℕ)) (p : ℕ) → n ≡ suc k → blocks_from n m p ≡ blocks_from (suc k) m p
+blocks-fuel n k m p e = ap (λ (t : ℕ). blocks_from t m p) e
+
+-- the block at a place, and those behind it
+pub blocks_step : (m : List (List ℕ)) (p : ℕ) (b : Block) → Some b ≡ fitting (length m) (header p (word m p)) → blocks_at m p ≡ b ∷ blocks_at m (b.place + b.words)
+blocks_step m p b e =
+    let h : fitting (length m) (header p (word m p)) ≡ Some b = sym e in
+    let f : Fits (length m) p (word m p) b = fits (length m) p (word m p) b h in
+    let place : b.place ≡ p = f.place in
+    let low : 1 ≤ b.words = f.low in
+    let high : p + b.words ≤ length m = f.high in
+    blocks-fuel (length m - p) (length m - p - 1) m p (omega arith)
+    ∙ blocks-suc (length m - p - 1) m p b h
+    ∙ ap (λ (l : List Block). b ∷ l) (same-fuel (length m - p - 1) (length m - (b.place + b.words)) m (b.place + b.words) (omega arith) (omega arith))
+
+-- its end is nearer to the end of the words
+pub block_ends : (size p : ℕ) (x : List ℕ) (b : Block) → Some b ≡ fitting size (header p x) → (b.place + b.words ≤ size) × (size - (b.place + b.words) < size - p) × (b.place ≡ p) × (p < b.place + b.words)
+block_ends size p x b e =
+    let f : Fits size p x b = fits size p x b (sym e) in
+    let place : b.place ≡ p = f.place in
+    let low : 1 ≤ b.words = f.low in
+    let high : p + b.words ≤ size = f.high in
+    (omega arith, omega arith, place, omega arith)
+
+blocks-none : (n : ℕ) (m : List (List ℕ)) (p : ℕ) → fitting (length m) (header p (word m p)) ≡ None → blocks_from n m p ≡ []
+unfolding blocks_from
+blocks-none zero m p h = refl
+blocks-none (suc n) m p h = and-none (length m) (header p (word m p)) (λ q. blocks_from n m q) h
+
+-- no block at a place, and none behind it
+pub blocks_stop : (m : List (List ℕ)) (p : ℕ) → None ≡ fitting (length m) (header p (word m p)) → blocks_at m p ≡ []
+blocks_stop m p h = blocks-none (length m - p) m p (sym h)

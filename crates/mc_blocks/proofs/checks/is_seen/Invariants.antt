@@ -1,0 +1,8 @@
+use Rattle.std.proofs.Common.{◌≡◌, drop, map}
+use Rattle.mc_model.specs.Bytes.{has_name}
+use Rattle.mc_model.specs.Card.{name_in}
+use Rattle.mc_blocks.proofs.checks.is_seen.Given as goal
+
+-- the records that are left decide
+abbrev pub invariant-loop-known : goal.invariant-loop-known
+invariant-loop-known l = has_name (name_in l.entry) (map name_in l.seen) ≡ has_name (name_in l.entry) (map name_in (drop l.known-index l.seen))

@@ -1,0 +1,8 @@
+use Rattle.std.proofs.Common.{◌≡◌, drop, length, ◌-◌}
+use Rattle.std.specs.Prelude.{bytes_eq}
+use Rattle.mc_model.specs.Bytes.{zeros}
+use Rattle.mc_blocks.proofs.record.are_zero.Given as goal
+
+-- the bytes that are left decide
+abbrev pub invariant-loop-byte : goal.invariant-loop-byte
+invariant-loop-byte l = bytes_eq l.bytes (zeros (length l.bytes)) ≡ bytes_eq (drop l.byte-index l.bytes) (zeros (length l.bytes - l.byte-index))

@@ -1,0 +1,17 @@
+use Rattle.std.proofs.Common.{sym, ◌∙◌}
+use Rattle.mc_model.specs.Card.{means}
+use Rattle.mc_model.specs.Layout.{gaps}
+use Rattle.mc_nvm.specs.Probe.{probed}
+use Rattle.mc_blocks.proofs.Search.{search-begins, search-on}
+use Rattle.mc_blocks.proofs.room.first_fit.Goals as goal
+
+pub loop-place-init : goal.loop-place-init
+loop-place-init g c =
+    search-begins (g.N.Nvm.state (probed c.args.device.now)).words c.args.need c.number_of-place.result c.args.steps.now c.read-root.new.steps c.read-root.result
+    c.requires.image c.requires.closed c.requires.laid c.read-root.ensures.word c.number_of-place.ensures c.read-root.ensures.ticks
+
+pub loop-place-preserved : goal.loop-place-preserved
+loop-place-preserved g c =
+    let m = (g.N.Nvm.state (probed c.args.device.now)).words in
+    search-on m c.args.need (gaps (means m)) c.loop-place.place c.args.steps.now c.loop-place.steps c.read-header.result c.link_of-hole.result.words c.link_of-hole.result.next c.read-header.new.steps
+    c.loop-place.invariant c.loop-place-test.true c.read-header.ensures.word c.link_of-hole.ensures.words (sym c.is_long_enough.ensures ∙ c.if-is_long_enough.false) c.link_of-hole.ensures.next c.read-header.ensures.ticks

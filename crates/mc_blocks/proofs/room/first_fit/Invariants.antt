@@ -1,0 +1,15 @@
+use Rattle.std.proofs.Common.{length}
+use Rattle.mc_model.specs.Card.{means}
+use Rattle.mc_model.specs.Layout.{gaps}
+use Rattle.mc_nvm.specs.Probe.{probed}
+use Rattle.mc_blocks.proofs.Search.{Search, left_of}
+use Rattle.mc_blocks.proofs.room.first_fit.Given as goal
+
+-- the holes that are left decide
+abbrev pub invariant-loop-place : goal.invariant-loop-place
+invariant-loop-place g l =
+    let m = (g.N.Nvm.state (probed l.device)).words in
+    Search m l.need (gaps (means m)) l.place l.fn.steps l.steps
+
+abbrev pub decreases-loop-place : goal.decreases-loop-place
+decreases-loop-place g l = left_of (length (g.N.Nvm.state (probed l.device)).words) l.place

@@ -1,0 +1,17 @@
+-- The chain of holes in the words of a device: each hole's header names the next.
+-- This project's profile.
+use Rattle.std.specs.Prelude.{◌≡◌, ℕ, ◌+◌, ◌≤◌, List, [], ◌∷◌, length}
+use Rattle.mc_model.specs.Bytes.{be2}
+use Rattle.mc_model.specs.Card.{word}
+use Rattle.mc_model.specs.Layout.{first_place}
+
+-- spans that all begin at p or behind it
+abbrev pub Above : ℕ → List (ℕ × ℕ) → Type 0
+Above p [] = Unit {0}
+Above p (e ∷ es) = (p ≤ e.0) × Above p es
+
+-- gaps by place and words, ascending, each with a header in its place that has its words and names the next, or 0
+abbrev pub IsChain : List (List ℕ) → List (ℕ × ℕ) → Type 0
+IsChain m [] = Unit {0}
+IsChain m (g ∷ gs) =
+    (1 ≤ g.0) × (g.0 + g.1 ≤ length m) × (1 ≤ g.1) × (be2 (word m g.0) 2 ≡ g.1) × (be2 (word m g.0) 4 ≡ first_place gs) × Above (g.0 + 1) gs × IsChain m gs

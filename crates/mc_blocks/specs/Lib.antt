@@ -1,0 +1,5 @@
+pub mod Blocks
+pub mod Records
+pub mod Faults
+pub mod Plans
+pub mod Chains

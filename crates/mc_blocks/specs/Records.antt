@@ -1,0 +1,20 @@
+-- The tests of a record in three parts: its name, the lengths of its sections, its session size and access list.
+-- This project's profile.
+use Rattle.std.specs.Prelude.{ℕ, ◌-◌, Bool, ◌&&◌, nat_le, ◌==◌, List, take, drop, slice_index, bytes_eq}
+use Rattle.mc_model.specs.Bytes.{be2, zeros}
+
+-- a name of 5 to 16 bytes with zeros behind it
+abbrev pub named : List ℕ → Bool
+named r =
+    let n = slice_index r 16 in
+    nat_le 5 n && nat_le n 16 && bytes_eq (take (16 - n) (drop n r)) (zeros (16 - n))
+
+-- lengths of sections within the limits
+abbrev pub sized : List ℕ → Bool
+sized r =
+    nat_le (slice_index r 17) 128 && nat_le (slice_index r 18) 128 && slice_index r 19 == 0
+    && nat_le 1 (be2 r 20) && nat_le (be2 r 20) 8192 && nat_le (be2 r 22) 4096
+
+-- a session size and an access list within the limits, and zeros behind them
+abbrev pub allowed : List ℕ → Bool
+allowed r = nat_le (be2 r 24) 256 && nat_le (be2 r 26) 15 && bytes_eq (drop 28 r) (zeros 4)

@@ -1,0 +1,67 @@
+ghost use Rattle.std.specs.Prelude.{◌≡◌, ◌+◌, ◌≤◌, length, MatchOption, true, false};
+ghost use Rattle.mc_model.specs.Card.{header, word};
+ghost use Rattle.mc_model.specs.Layout.{bad_header};
+ghost use Rattle.mc_blocks.specs.Blocks.{block_of, read_block, fitting};
+
+use crate::header::{HOLE, USED, number_of};
+use mc_base::Word;
+use mc_nvm::Nvm;
+
+/// A block: where its header stands, whether it is used or a hole, its words with the header, and its link.
+#[derive(Clone, Copy, Debug, PartialEq, Eq)]
+pub struct Block {
+    pub place: u16,
+    pub used: bool,
+    pub words: u16,
+    pub link: u16,
+}
+
+impl Block {
+    /// The place behind it.
+    pub fn end(&self) -> u32
+        ensures { result ≡ self.now.place + self.now.words }
+    {
+        self.place as u32 + self.words as u32
+    }
+}
+
+/// What a header word says, if it is one. Its link is not judged.
+pub fn decode(place: u16, word: Word) -> Option<Block>
+    ensures { read_block result ≡ header place word }
+{
+    let [
+        tag,
+        second,
+        words_high,
+        words_low,
+        link_high,
+        link_low,
+        seventh,
+        eighth,
+    ] = word;
+    let words = number_of(words_high, words_low);
+    if (tag != USED && tag != HOLE) || second != 0 || words == 0 || seventh != 0 || eighth != 0 {
+        return None;
+    }
+    Some(Block {
+        place,
+        used: tag == USED,
+        words,
+        link: number_of(link_high, link_low),
+    })
+}
+
+/// The block whose header stands at a place, if one does and it ends in time.
+pub fn block_at<N: Nvm>(device: &N, place: u32) -> Option<Block>
+    ensures { read_block result ≡ fitting (length (N.state device.now).words) (header place (word (N.state device.now).words place)) }
+{
+    let size = device.len();
+    if place >= size {
+        return None;
+    }
+    let block = decode(place as u16, device.read(place))?;
+    if block.end() > size {
+        return None;
+    }
+    Some(block)
+}

@@ -1,0 +1,56 @@
+ghost use Rattle.std.specs.Prelude.{◌≡◌, ◌+◌, ◌*◌};
+ghost use Rattle.mc_model.specs.Bytes.{bytes2};
+ghost use Rattle.mc_model.specs.Layout.{hole_header, used_header, root};
+
+use mc_base::Word;
+
+/// The first byte of the header of a used block.
+pub const USED: u8 = 0x55;
+
+/// The first byte of the header of a hole.
+pub const HOLE: u8 = 0x48;
+
+/// The first word of the heap.
+pub const HEAP: u32 = 131;
+
+/// The number in two bytes.
+pub fn number_of(high: u8, low: u8) -> u16
+    ensures { result ≡ 256 * high + low }
+{
+    256 * high as u16 + low as u16
+}
+
+// The two bytes of a number.
+fn bytes_of(number: u16) -> [u8; 2]
+    ensures { result ≡ bytes2 number }
+{
+    [(number / 256) as u8, (number % 256) as u8]
+}
+
+/// The header of a hole of so many words, with the place of the next hole or 0.
+pub fn hole_word(words: u16, link: u16) -> Word
+    ensures { result ≡ hole_header words link }
+{
+    let [words_high, words_low] = bytes_of(words);
+    let [link_high, link_low] = bytes_of(link);
+    [HOLE, 0, words_high, words_low, link_high, link_low, 0, 0]
+}
+
+/// The header of a used block of so many words.
+pub fn used_word(words: u16) -> Word
+    ensures { result ≡ used_header words }
+{
+    let [high, low] = bytes_of(words);
+    [USED, 0, high, low, 0, 0, 0, 0]
+}
+
+/// The root: the version of the layout, the size of the device in words, the place of the first hole or 0.
+pub fn root_word(version: u8, size: u16, first: u16) -> Word
+    ensures { result ≡ root version size first }
+{
+    let [size_high, size_low] = bytes_of(size);
+    let [first_high, first_low] = bytes_of(first);
+    [
+        b'M', b'E', b'L', version, size_high, size_low, first_high, first_low,
+    ]
+}

@@ -1,0 +1,88 @@
+ghost use Rattle.std.specs.Prelude.{◌≡◌, length, slice_index, IfOk};
+ghost use Rattle.mc_model.specs.Image.{Closed, look};
+ghost use Rattle.mc_model.specs.Card.{means, blocks, word};
+ghost use Rattle.mc_model.specs.Layout.{fault, gaps, words_fault};
+ghost use Rattle.mc_blocks.specs.Blocks.{used_spans, hole_spans};
+ghost use Rattle.mc_blocks.specs.Faults.{fault_found, fault_named};
+
+use crate::chain::{count_blocks, first_bad_place};
+use crate::checks::{first_bad_header, first_bad_record, missing_root};
+use mc_model::Cause;
+use mc_nvm::Nvm;
+
+/// What the words of a card hold: the numbers of used blocks and of holes, and the version of the layout, 1 or 2.
+#[derive(Clone, Copy, Debug, PartialEq, Eq)]
+pub struct Shape {
+    pub used: u16,
+    pub holes: u16,
+    pub layout: u8,
+}
+
+/// Why the words of a device are no card, and the number of the word that says so.
+#[derive(Clone, Copy, Debug, PartialEq, Eq)]
+pub struct Unusable {
+    pub cause: Cause,
+    pub place: u16,
+}
+
+/// Checks all words of a device with no open journal: the root, the headers, the records, the links, each over the
+/// whole image before the next. It goes by lengths, so it ends on loops of links. A root of either layout is good.
+pub fn walk<N: Nvm>(device: &N) -> Result<Shape, Unusable>
+    requires closed { look (N.state device.now).words ≡ Closed }
+    ensures fault { fault_found result ≡ fault (N.state device.now).words }
+    ensures used { IfOk result (λ shape. shape.used ≡ length (means (N.state device.now).words).apps) }
+    ensures holes { IfOk result (λ shape. shape.holes ≡ length (gaps (means (N.state device.now).words))) }
+    ensures layout { IfOk result (λ shape. shape.layout ≡ (means (N.state device.now).words).layout) }
+{
+    let _size = device.len();
+    match first_fault(device) {
+        Some(unusable) => Err(unusable),
+        None => Ok(read_shape(device)),
+    }
+}
+
+// The first fault.
+fn first_fault<N: Nvm>(device: &N) -> Option<Unusable>
+    ensures { fault_named result ≡ words_fault (N.state device.now).words }
+{
+    if let Some(place) = missing_root(device) {
+        return Some(Unusable {
+            cause: Cause::NoRoot,
+            place,
+        });
+    }
+    if let Some(place) = first_bad_header(device) {
+        return Some(Unusable {
+            cause: Cause::BadBlock,
+            place,
+        });
+    }
+    if let Some(place) = first_bad_record(device) {
+        return Some(Unusable {
+            cause: Cause::BadRecord,
+            place,
+        });
+    }
+    if let Some(place) = first_bad_place(device) {
+        return Some(Unusable {
+            cause: Cause::BadChain,
+            place,
+        });
+    }
+    None
+}
+
+// What the words hold, read by lengths.
+fn read_shape<N: Nvm>(device: &N) -> Shape
+    ensures used { result.used ≡ length (used_spans (blocks (N.state device.now).words)) }
+    ensures holes { result.holes ≡ length (hole_spans (blocks (N.state device.now).words)) }
+    ensures layout { result.layout ≡ slice_index (word (N.state device.now).words 0) 3 }
+{
+    let _size = device.len();
+    let (used, holes) = count_blocks(device);
+    Shape {
+        used,
+        holes,
+        layout: device.read(0)[3],
+    }
+}

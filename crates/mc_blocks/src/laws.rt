@@ -1,0 +1,76 @@
+ghost use Rattle.std.specs.Prelude.{◌≡◌, ℕ, ◌-◌, ◌≤◌, List, [], ◌∷◌, length, true, false, Some, None};
+ghost use Rattle.mc_model.specs.Bytes.{be2, lookup, insert, remove};
+ghost use Rattle.mc_model.specs.Image.{Closed, look, shut};
+ghost use Rattle.mc_model.specs.Device.{IsImage};
+ghost use Rattle.mc_model.specs.Card.{App, Card, needed, blocks, card_of, heap_start, means, word};
+ghost use Rattle.mc_model.specs.Layout.{spans, spans_of, put_at, gaps, hole_header, root, first_place, first_fitting, step_of, words_fault, IsWellLaid};
+ghost use Rattle.mc_blocks.specs.Blocks.{used_spans, hole_spans, Agree};
+ghost use Rattle.mc_blocks.specs.Chains.{IsChain};
+ghost use Rattle.mc_blocks.specs.Plans.{changes, layout_of, plan, has_room, has_span, without};
+
+/// On a well laid image with no open journal the holes of the walk by lengths are the gaps of the card, and its used
+/// blocks are the spans of the card's applications.
+pub fn walks_card()
+    ensures gaps { (m : List (List ℕ)) → IsImage m → look m ≡ Closed → IsWellLaid m → gaps (means m) ≡ hole_spans (blocks m) }
+    ensures spans { (m : List (List ℕ)) → IsImage m → look m ≡ Closed → IsWellLaid m → spans (means m) ≡ used_spans (blocks m) }
+    ensures count { (m : List (List ℕ)) → IsImage m → look m ≡ Closed → IsWellLaid m → length (means m).apps ≡ length (used_spans (blocks m)) }
+{}
+
+/// Its root names the first gap, and the header of each gap the next: the chain of holes is the ascending list of gaps.
+pub fn chains_gaps()
+    ensures root { (m : List (List ℕ)) → IsImage m → look m ≡ Closed → IsWellLaid m → be2 (word m 0) 6 ≡ first_place (gaps (means m)) }
+    ensures holes { (m : List (List ℕ)) → IsImage m → look m ≡ Closed → IsWellLaid m → IsChain m (gaps (means m)) }
+{}
+
+/// It has at most 32 applications.
+pub fn counts_applications()
+    ensures { (m : List (List ℕ)) → IsImage m → look m ≡ Closed → IsWellLaid m → length (means m).apps ≤ 32 }
+{}
+
+/// Words with the same root, and in each block the same header and where it is used the same words, hold the same card.
+pub fn keeps_card()
+    ensures laid { (m n : List (List ℕ)) → IsImage m → words_fault m ≡ None → length n ≡ length m → word n 0 ≡ word m 0 → Agree m n (blocks m) → words_fault n ≡ None }
+    ensures card { (m n : List (List ℕ)) → IsImage m → words_fault m ≡ None → length n ≡ length m → word n 0 ≡ word m 0 → Agree m n (blocks m) → card_of n ≡ card_of m }
+{}
+
+/// Where the first gap of so many words is, there is room for them.
+pub fn fits_room()
+    ensures { (need p : ℕ) (gs : List (ℕ × ℕ)) → first_fitting need gs ≡ Some p → has_room p need gs ≡ true }
+{}
+
+/// A new application at a place where none begins adds its span.
+pub fn inserts_span()
+    ensures { (apps : List (List ℕ × App)) (name : List ℕ) (app : App) → lookup apps name ≡ None → has_span app.place (spans_of apps) ≡ false → spans_of (insert apps name app) ≡ put_at app.place (needed app) (spans_of apps) }
+{}
+
+/// An application of a well laid image that is found by its name has a span at its place, which goes with it.
+pub fn removes_span()
+    ensures there { (m : List (List ℕ)) (name : List ℕ) (app : App) → IsImage m → look m ≡ Closed → IsWellLaid m → lookup (means m).apps name ≡ Some app → has_span app.place (spans (means m)) ≡ true }
+    ensures gone { (m : List (List ℕ)) (name : List ℕ) (app : App) → IsImage m → look m ≡ Closed → IsWellLaid m → lookup (means m).apps name ≡ Some app → spans_of (remove (means m).apps name) ≡ without app.place (spans (means m)) }
+{}
+
+/// The words of an empty card of 8,192 words that `format_words` sets.
+pub fn format_rows()
+    ensures root { root 2 8192 heap_start ≡ 0x4D ∷ 0x45 ∷ 0x4C ∷ 2 ∷ 0x20 ∷ 0 ∷ 0 ∷ 0x83 ∷ [] }
+    ensures gate { shut ≡ 0x53 ∷ 0x48 ∷ 0x55 ∷ 0x54 ∷ 0x2D ∷ 0x2D ∷ 0x2D ∷ 0x2D ∷ [] }
+    ensures hole { hole_header (8192 - heap_start) 0 ≡ 0x48 ∷ 0 ∷ 0x1F ∷ 0x7D ∷ 0 ∷ 0 ∷ 0 ∷ 0 ∷ [] }
+{}
+
+/// Words taken from the front of a hole and of a whole hole, a block freed between two holes, and one that touches none.
+#[tactic(auto, unfolding(crate::specs::Plans::layout_of))]
+pub fn plan_rows()
+    ensures taken { changes (layout_of 2 8192 []) (layout_of 2 8192 ((131, 12) ∷ []))
+        ≡ (0, 0x4D ∷ 0x45 ∷ 0x4C ∷ 2 ∷ 0x20 ∷ 0 ∷ 0 ∷ 0x8F ∷ []) ∷ (131, 0x55 ∷ 0 ∷ 0 ∷ 0x0C ∷ 0 ∷ 0 ∷ 0 ∷ 0 ∷ [])
+        ∷ (143, 0x48 ∷ 0 ∷ 0x1F ∷ 0x71 ∷ 0 ∷ 0 ∷ 0 ∷ 0 ∷ []) ∷ [] }
+    ensures whole { changes (layout_of 2 8192 ((155, 12) ∷ [])) (layout_of 2 8192 ((131, 24) ∷ (155, 12) ∷ []))
+        ≡ (0, 0x4D ∷ 0x45 ∷ 0x4C ∷ 2 ∷ 0x20 ∷ 0 ∷ 0 ∷ 0xA7 ∷ []) ∷ (131, 0x55 ∷ 0 ∷ 0 ∷ 0x18 ∷ 0 ∷ 0 ∷ 0 ∷ 0 ∷ []) ∷ [] }
+    ensures freed { changes (layout_of 2 8192 ((131, 12) ∷ (155, 12) ∷ (179, 192) ∷ [])) (layout_of 2 8192 ((131, 12) ∷ (179, 192) ∷ []))
+        ≡ (143, 0x48 ∷ 0 ∷ 0 ∷ 0x24 ∷ 1 ∷ 0x73 ∷ 0 ∷ 0 ∷ []) ∷ [] }
+    ensures alone { changes (layout_of 2 8192 ((131, 12) ∷ (143, 12) ∷ (155, 12) ∷ [])) (layout_of 2 8192 ((131, 12) ∷ (155, 12) ∷ []))
+        ≡ (0, 0x4D ∷ 0x45 ∷ 0x4C ∷ 2 ∷ 0x20 ∷ 0 ∷ 0 ∷ 0x8F ∷ []) ∷ (143, 0x48 ∷ 0 ∷ 0 ∷ 0x0C ∷ 0 ∷ 0xA7 ∷ 0 ∷ 0 ∷ []) ∷ [] }
+{}
+
+/// The plan for spans is the atomic write to every card of the same version and size whose applications have them.
+pub fn plans_steps()
+    ensures { (a b : Card) (ss : List (ℕ × ℕ)) → b.layout ≡ a.layout → b.size ≡ a.size → spans b ≡ ss → step_of a b ≡ plan a ss }
+{}

@@ -1,0 +1,25 @@
+#![tactic(auto)]
+
+// The heap of a card in words: its blocks and records, the first fault of an image, room for a block, and the header
+// words that change where a block is taken or freed.
+mod block;
+mod chain;
+mod checks;
+mod format;
+mod header;
+mod image;
+mod laws;
+mod link;
+mod plan;
+mod record;
+mod room;
+
+pub use format::format_words;
+pub use image::{Shape, Unusable, walk};
+pub use laws::{
+    chains_gaps, counts_applications, fits_room, format_rows, inserts_span, keeps_card, plan_rows,
+    plans_steps, removes_span, walks_card,
+};
+pub use mc_model::Cause;
+pub use plan::{free_plan, take_plan};
+pub use room::first_fit;
