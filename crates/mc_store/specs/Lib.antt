@@ -1,3 +1,4 @@
 pub mod Store
 pub mod Power
+pub mod Slots
 pub mod Going
