@@ -1,3 +1,5 @@
 pub mod RecordLemmas
 pub mod WalkLemmas
 pub mod FlatLemmas
+pub mod HeapLemmas
+pub mod JournalLemmas
