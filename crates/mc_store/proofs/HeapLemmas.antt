@@ -11,7 +11,7 @@ use Rattle.mc_model.specs.declared.card.Cause.TheVariants.{NoRoot, BadBlock, Bad
 use Rattle.mc_blocks.proofs.Steps.{HeaderIs, header-is}
 
 -- the test of a root
-abbrev root_test : List ℕ → ℕ → Option ℕ
+abbrev pub root_test : List ℕ → ℕ → Option ℕ
 root_test x n =
     let v = slice_index x 3 in
     cond ((v == 1 || v == 2) && bytes_eq (take 6 x) (take 6 (root v n 0))) None (Some 0)

@@ -3,3 +3,4 @@ pub mod WalkLemmas
 pub mod FlatLemmas
 pub mod HeapLemmas
 pub mod JournalLemmas
+pub mod MigrationLemmas
