@@ -4,3 +4,4 @@ pub mod FlatLemmas
 pub mod HeapLemmas
 pub mod JournalLemmas
 pub mod MigrationLemmas
+pub mod PowerLemmas
