@@ -1,0 +1,8 @@
+#![tactic(auto)]
+
+// A card in the words of a device: its power-up, and the bank of its applications.
+mod power;
+mod store;
+
+pub use power::Up;
+pub use store::Store;
