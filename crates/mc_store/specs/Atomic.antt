@@ -14,7 +14,7 @@ use Rattle.mc_model.proofs.GeometryLemmas.{InEntries, Geometry, geometry, target
 use Rattle.mc_model.proofs.StoppedLemmas.{torn-other, shut-closed, targets-outside}
 use Rattle.mc_model.proofs.RecoveryLemmas.{look-two}
 use Rattle.mc_model.proofs.CallLemmas.{write-ends}
-use Rattle.mc_store.proofs.Alike.{Alike, alike-outside, Gates, gates, shut-look, Settles}
+use Rattle.mc_store.specs.Alike.{Alike, alike-outside, Gates, gates, shut-look, Settles}
 
 -- ---- the gate of journal 1
 

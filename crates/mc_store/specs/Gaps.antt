@@ -16,7 +16,7 @@ use Rattle.mc_blocks.proofs.Bridge.{Laid, laid, well-laid}
 use Rattle.mc_blocks.proofs.Taking.{RoomAt, room-at, room-from}
 use Rattle.mc_blocks.proofs.Search.{holes-above}
 use Rattle.mc_blocks.proofs.Built.{SameCard, same-card}
-use Rattle.mc_store.proofs.Alike.{Gates, gates, shut-look}
+use Rattle.mc_store.specs.Alike.{Gates, gates, shut-look}
 
 -- the same words but for one
 pub record Besides (at : ℕ) (n m : List (List ℕ)) : Type 0 where
