@@ -5,3 +5,6 @@ pub mod Alike
 pub mod Atomic
 pub mod Gaps
 pub mod RecordBytes
+pub mod Sections
+pub mod Planning
+pub mod Creation
