@@ -8,3 +8,5 @@ pub mod RecordBytes
 pub mod Sections
 pub mod Planning
 pub mod Creation
+pub mod Deletion
+pub mod Splices

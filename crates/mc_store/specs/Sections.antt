@@ -37,7 +37,7 @@ cells-append m (suc a) b p h =
     ∙ ap (λ (q : ℕ). (word m p ++ cells m (p + 1) a) ++ cells m q b) (let e : p + 1 + a ≡ p + suc a = omega arith in e)
     ∙ ap (λ (l : List ℕ). l ++ cells m (p + suc a) b) (sym (cells-more m p a lt))
 
-take-twice : {A : Type 0} (i j : ℕ) (l : List A) → i ≤ j → take i (take j l) ≡ take i l
+pub take-twice : {A : Type 0} (i j : ℕ) (l : List A) → i ≤ j → take i (take j l) ≡ take i l
 take-twice zero j l h = refl
 take-twice (suc i) zero l h = absurd (omega arith)
 take-twice (suc i) (suc j) [] h = refl
