@@ -10,3 +10,4 @@ pub mod Planning
 pub mod Creation
 pub mod Deletion
 pub mod Splices
+pub mod Statics
