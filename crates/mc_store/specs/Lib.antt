@@ -11,3 +11,5 @@ pub mod Creation
 pub mod Deletion
 pub mod Splices
 pub mod Statics
+pub mod Commits
+pub mod Places

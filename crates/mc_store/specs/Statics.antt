@@ -2,13 +2,17 @@
 -- This project's profile.
 use Rattle.std.proofs.Common.{◌≡◌, ◌≢◌, ◌⊎◌, ℕ, zero, suc, ◌+◌, ◌-◌, ◌*◌, ◌<◌, ◌≤◌, Bool, true, false, ◌&&◌, ◌||◌, List, [], ◌∷◌, ◌++◌, length, take, drop, map, Option, Some, None, cond, not, refl, sym, ◌∙◌, ap, subst, inl, inr, arith}
 use Rattle.std.specs.Prelude.{◌==◌, nat_le, nat_lt, slice_index, bytes_eq, MatchBool}
-use Rattle.std.proofs.lemmas.Bool.{eqb-true, and_parts}
+use Rattle.std.proofs.lemmas.Bool.{eqb-true, leb-true, and_parts, or_cases}
 use Rattle.mc_model.specs.Bytes.{up, be2, lookup, insert, has_name}
 use Rattle.mc_model.specs.Device.{IsImage}
 use Rattle.mc_model.specs.Card.{App, Card, Block, word, header, blocks, section, record_at, name_in, name_at, app_of, app_at, apps_of, card_of, needed_of}
 use Rattle.mc_model.specs.Layout.{is_record, words_fault, first_hole, bad_link}
 use Rattle.mc_bank.specs.Names.{same_name, name_is_itself, insert-swap, insert-twice, other_way}
-use Rattle.mc_blocks.specs.Blocks.{used_spans, is_root_word}
+use Rattle.mc_blocks.specs.Chains.{Above}
+use Rattle.mc_blocks.specs.Blocks.{used_spans, hole_spans, is_root_word}
+use Rattle.mc_blocks.specs.Plans.{has_room}
+use Rattle.mc_blocks.proofs.Search.{holes-above}
+use Rattle.mc_blocks.proofs.Taking.{room-from}
 use Rattle.mc_blocks.proofs.Tiles.{Tiled, AreRead}
 use Rattle.mc_blocks.proofs.Bridge.{Laid, laid, AreNamed, named, Faultless, faultless, with-block, some-apps, no-apps}
 use Rattle.mc_blocks.proofs.Applications.{few-blocks, lookup-insert}
@@ -117,6 +121,7 @@ record Again (m n : List (List ℕ)) (names : List (List ℕ)) (k : List ℕ) (a
   read : AreRead n bs
   named : AreNamed n names bs
   apps : apps_of n bs ≡ insert (apps_of m bs) k (record a { fixed = fixed })
+  apart : (p need : ℕ) → has_room p need (hole_spans bs) ≡ true → (p + need ≤ a.place) ⊎ (static_from a + up (length a.fixed) 8 ≤ p)
 
 -- one block of it
 record Step (m n : List (List ℕ)) (names : List (List ℕ)) (k : List ℕ) (a : App) (fixed : List ℕ) (b : Block) (bs : List Block) (u : Bool) : Type 0 where
@@ -126,18 +131,30 @@ record Step (m n : List (List ℕ)) (names : List (List ℕ)) (k : List ℕ) (a 
   read : AreRead n bs
   named : MatchBool u ((is_record (record_at n b.place) b.words ≡ true) × (has_name (name_at n b.place) names ≡ false) × AreNamed n (name_at n b.place ∷ names) bs) (AreNamed n names bs)
   apps : cond u (with-block n b bs) (apps_of n bs) ≡ insert (cond u (with-block m b bs) (apps_of m bs)) k (record a { fixed = fixed })
+  apart : (p need : ℕ) → has_room p need (cond u (hole_spans bs) ((b.place, b.words) ∷ hole_spans bs)) ≡ true → (p + need ≤ a.place) ⊎ (static_from a + up (length a.fixed) 8 ≤ p)
+
+hole-apart : (p need q words at end : ℕ) (hs : List (ℕ × ℕ)) → q + words ≤ at → ((q == p && nat_le need words) || has_room p need hs) ≡ true → (has_room p need hs ≡ true → (p + need ≤ at) ⊎ (end ≤ p)) → (p + need ≤ at) ⊎ (end ≤ p)
+hole-apart p need q words at end hs low room rest =
+    elim (or_cases (q == p && nat_le need words) (has_room p need hs) room) [
+      | inl here ↦
+          let parts = and_parts (q == p) (nat_le need words) here in
+          let is : q ≡ p = eqb-true q p parts.0 in
+          let fits : need ≤ words = leb-true need words parts.1 in
+          inl (omega (arith, is))
+      | inr later ↦ rest later
+    ]
 
 again-kind : (m n : List (List ℕ)) (names : List (List ℕ)) (k : List ℕ) (a : App) (fixed : List ℕ) (b : Block) (bs : List Block) (u t : Bool) → IsImage m → 131 ≤ b.place → 1 ≤ b.words → b.place + b.words ≤ length m
-    → Restated m n a fixed → bytes_eq (name_at m b.place) k ≡ t
+    → Above (b.place + b.words) (hole_spans bs) → Restated m n a fixed → bytes_eq (name_at m b.place) k ≡ t
     → MatchBool u ((is_record (record_at m b.place) b.words ≡ true) × (has_name (name_at m b.place) names ≡ false) × AreNamed m (name_at m b.place ∷ names) bs) (AreNamed m names bs)
     → ((ns : List (List ℕ)) → AreNamed m ns bs → lookup (apps_of m bs) k ≡ Some a → Again m n ns k a fixed (b.place + b.words) bs)
     → ((ns : List (List ℕ)) → AreNamed m ns bs → ((i : ℕ) → b.place + b.words ≤ i → word n i ≡ word m i) → Stay m n ns bs)
     → lookup (cond u (with-block m b bs) (apps_of m bs)) k ≡ Some a → Step m n names k a fixed b bs u
-again-kind m n names k a fixed b bs false t image heap long h s e nm rest stay l =
+again-kind m n names k a fixed b bs false t image heap long h above s e nm rest stay l =
     let g = rest names nm l in
     let low : b.place + b.words ≤ a.place = g.low in
-    record { low = omega arith; ends = g.ends; same = s.words b.place heap (inl (omega arith)); read = g.read; named = g.named; apps = g.apps }
-again-kind m n names k a fixed b bs true true image heap long h s e nm rest stay l =
+    record { low = omega arith; ends = g.ends; same = s.words b.place heap (inl (omega arith)); read = g.read; named = g.named; apps = g.apps; apart = λ p need room. hole-apart p need b.place b.words a.place (static_from a + up (length a.fixed) 8) (hole_spans bs) low room (g.apart p need) }
+again-kind m n names k a fixed b bs true true image heap long h above s e nm rest stay l =
     let x = name_at m b.place in
     let is : Some (app_at m b.place) ≡ Some a = sym (lookup-insert (apps_of m bs) x k (app_at m b.place) ∙ ap (λ (y : Bool). cond y (Some (app_at m b.place)) (lookup (apps_of m bs) k)) e) ∙ l in
     let same : app_at m b.place ≡ a = cc in
@@ -159,8 +176,9 @@ again-kind m n names k a fixed b bs true true image heap long h s e nm rest stay
           ∙ ap (λ (y : App). insert (apps_of n bs) k y) app
           ∙ ap (λ (es : List (List ℕ × App)). insert es k (record a { fixed = fixed })) behind.apps
           ∙ sym (ap (λ (y : List ℕ). insert (insert (apps_of m bs) y (app_at m b.place)) k (record a { fixed = fixed })) (same_name x k e) ∙ insert-twice (apps_of m bs) k (app_at m b.place) (record a { fixed = fixed }));
+      apart = λ p need room. let far : b.place + b.words ≤ p = room-from (b.place + b.words) p need (hole_spans bs) above room in inr (omega (arith, ends));
     }
-again-kind m n names k a fixed b bs true false image heap long h s e nm rest stay l =
+again-kind m n names k a fixed b bs true false image heap long h above s e nm rest stay l =
     let x = name_at m b.place in
     let behind : lookup (apps_of m bs) k ≡ Some a = sym (lookup-insert (apps_of m bs) x k (app_at m b.place) ∙ ap (λ (y : Bool). cond y (Some (app_at m b.place)) (lookup (apps_of m bs) k)) e) ∙ l in
     let g : Again m n (x ∷ names) k a fixed (b.place + b.words) bs = rest (x ∷ names) nm.2 behind in
@@ -177,6 +195,7 @@ again-kind m n names k a fixed b bs true false image heap long h s e nm rest sta
           ∙ ap (λ (y : App). insert (apps_of n bs) x y) block.app
           ∙ ap (λ (es : List (List ℕ × App)). insert es x (app_at m b.place)) g.apps
           ∙ insert-swap (apps_of m bs) k (record a { fixed = fixed }) x (app_at m b.place) (other_way x k e);
+      apart = g.apart;
     }
 
 again-all : (m n : List (List ℕ)) (names : List (List ℕ)) (k : List ℕ) (a : App) (fixed : List ℕ) (q : ℕ) (f : Bool) (bs : List Block) (end : ℕ) → IsImage m → 131 ≤ q → Tiled q f bs end → AreRead m bs → AreNamed m names bs
@@ -186,7 +205,7 @@ again-all m n names k a fixed q f (b ∷ bs) end image heap t r nm s l =
     let place : b.place ≡ q = t.0 in
     let long : 1 ≤ b.words = t.1 in
     let tail : Tiled (b.place + b.words) (not b.used) bs end = subst (λ (x : ℕ). Tiled (x + b.words) (not b.used) bs end) (sym place) t.3 in
-    let g = again-kind m n names k a fixed b bs b.used (bytes_eq (name_at m b.place) k) image (omega (arith, place)) long r.1 s refl nm
+    let g = again-kind m n names k a fixed b bs b.used (bytes_eq (name_at m b.place) k) image (omega (arith, place)) long r.1 (holes-above (b.place + b.words) (not b.used) bs end tail) s refl nm
     (λ ns ok there. again-all m n ns k a fixed (b.place + b.words) (not b.used) bs end image (omega (arith, place)) tail r.2 ok s there)
     (λ ns ok same. stay-all m n ns (b.place + b.words) (not b.used) bs end s.size tail r.2 ok same)
     (sym (ap (λ (es : List (List ℕ × App)). lookup es k) (some-apps m b bs)) ∙ l) in
@@ -197,6 +216,7 @@ again-all m n names k a fixed q f (b ∷ bs) end image heap t r nm s l =
       read = (head.0, head.1, g.read);
       named = g.named;
       apps = some-apps n b bs ∙ g.apps ∙ ap (λ (es : List (List ℕ × App)). insert es k (record a { fixed = fixed })) (sym (some-apps m b bs));
+      apart = g.apart;
     }
 
 -- ---- the card
@@ -232,16 +252,23 @@ restates m n k a fixed image h there root s =
           ∙ ap (λ (x : List (List ℕ × App)). record { size = length m; layout = slice_index (word m 0) 3; apps = x }) (ap (λ (y : List Block). apps_of n y) stands.blocks ∙ g.apps);
     }
 
--- the static bytes of an application lie in the heap
-pub static-in : (m : List (List ℕ)) (k : List ℕ) (a : App) → IsImage m → words_fault m ≡ None → lookup (card_of m).apps k ≡ Some a → (131 ≤ a.place) × (static_from a + up (length a.fixed) 8 ≤ length m) × (section m (static_from a) (length a.fixed) ≡ a.fixed)
+-- where the static bytes of an application lie: in the heap, and in no hole
+pub record StaticIn (m : List (List ℕ)) (a : App) : Type 0 where
+  pub low : 131 ≤ a.place
+  pub ends : static_from a + up (length a.fixed) 8 ≤ length m
+  pub bytes : section m (static_from a) (length a.fixed) ≡ a.fixed
+  pub apart : (p need : ℕ) → has_room p need (hole_spans (blocks m)) ≡ true → (p + need ≤ a.place) ⊎ (static_from a + up (length a.fixed) 8 ≤ p)
+
+pub static-in : (m : List (List ℕ)) (k : List ℕ) (a : App) → IsImage m → words_fault m ≡ None → lookup (card_of m).apps k ≡ Some a → StaticIn m a
 static-in m k a image h there =
     let f : Faultless m = faultless m h in
     let l : Laid m = laid m image h in
     let bs = blocks m in
-    let s : Restated m m a (section m (static_from a) (length a.fixed)) = record { size = refl; words = λ i low out. refl; bytes = refl } in
-    let g : Again m m [] k a (section m (static_from a) (length a.fixed)) 131 bs = again-all m m [] k a (section m (static_from a) (length a.fixed)) 131 false bs (length m) image (omega arith) l.tiled l.read (named m bs [] 0 f.records) s there in
-    let again : Some a ≡ Some (record a { fixed = section m (static_from a) (length a.fixed) }) =
-    sym there ∙ ap (λ (es : List (List ℕ × App)). lookup es k) g.apps ∙ lookup-insert (apps_of m bs) k k (record a { fixed = section m (static_from a) (length a.fixed) })
-    ∙ ap (λ (t : Bool). cond t (Some (record a { fixed = section m (static_from a) (length a.fixed) })) (lookup (apps_of m bs) k)) (name_is_itself k) in
-    let same : a ≡ record a { fixed = section m (static_from a) (length a.fixed) } = cc in
-    (g.low, g.ends, sym (ap (λ (y : App). y.fixed) same))
+    let now = section m (static_from a) (length a.fixed) in
+    let s : Restated m m a now = record { size = refl; words = λ i low out. refl; bytes = refl } in
+    let g : Again m m [] k a now 131 bs = again-all m m [] k a now 131 false bs (length m) image (omega arith) l.tiled l.read (named m bs [] 0 f.records) s there in
+    let again : Some a ≡ Some (record a { fixed = now }) =
+    sym there ∙ ap (λ (es : List (List ℕ × App)). lookup es k) g.apps ∙ lookup-insert (apps_of m bs) k k (record a { fixed = now })
+    ∙ ap (λ (t : Bool). cond t (Some (record a { fixed = now })) (lookup (apps_of m bs) k)) (name_is_itself k) in
+    let same : a ≡ record a { fixed = now } = cc in
+    record { low = g.low; ends = g.ends; bytes = sym (ap (λ (y : App). y.fixed) same); apart = g.apart }
