@@ -1,6 +1,6 @@
 -- What the atomic write of a deletion makes of a card: the application is gone.
 -- This project's profile.
-use Rattle.std.proofs.Common.{◌≡◌, ℕ, ◌≤◌, Bool, true, false, List, [], ◌∷◌, length, Some, None, cond, refl, sym, ◌∙◌, ap, subst}
+use Rattle.std.proofs.Common.{◌≡◌, ℕ, suc, ◌≤◌, Bool, true, false, List, [], ◌∷◌, length, Some, None, cond, refl, sym, ◌∙◌, ap, subst}
 use Rattle.std.specs.Prelude.{◌==◌, bytes_eq}
 use Rattle.std.proofs.lemmas.Bool.{eq-eqb}
 use Rattle.mc_model.specs.Bytes.{lookup, insert, remove, name_before}
@@ -9,14 +9,14 @@ use Rattle.mc_model.specs.Image.{look, Closed, laid}
 use Rattle.mc_model.specs.Stopped.{IsAtomic}
 use Rattle.mc_model.specs.Card.{App, name_at, app_at, means}
 use Rattle.mc_model.specs.Layout.{spans, step_of, IsWellLaid}
-use Rattle.mc_bank.specs.Names.{same_name, remove-inserted}
+use Rattle.mc_bank.specs.Names.{same_name, remove-inserted, length-inserted}
 use Rattle.mc_blocks.specs.Plans.{plan, without, has_span}
 use Rattle.mc_blocks.proofs.Maps.{OneAt, spans-remove}
 use Rattle.mc_blocks.proofs.Applications.{found-application}
 use Rattle.mc_blocks.proofs.Plans.{FreeIs, free-is}
 use Rattle.mc_blocks.proofs.Outcome.{Leaves, Removes, deletes}
 use Rattle.mc_store.specs.Store.{card_without}
-use Rattle.mc_store.specs.Alike.{Alike}
+use Rattle.mc_store.specs.Alike.{Alike, alike-self}
 use Rattle.mc_store.specs.Planning.{planned, step-plan}
 use Rattle.mc_store.specs.Creation.{swaps}
 
@@ -53,9 +53,13 @@ deletes-plan m n a image closed h there =
       few = subst (λ (l : List (ℕ × List ℕ)). length l ≤ 3) (f.plan ∙ sym is) f.few.few;
     }
 
--- done, it leaves the card without the application
-pub deletes-card : (m w : List (List ℕ)) (n : List ℕ) (a : App) → IsImage m → look m ≡ Closed → IsWellLaid m → lookup (means m).apps n ≡ Some a → Alike w (laid m (step_of (means m) (card_without m n))) → Leaves m w (remove (means m).apps n)
-deletes-card m w n a image closed h there alike =
+-- what is left of the applications, and their number
+record Without (m w : List (List ℕ)) (n : List ℕ) : Type 0 where
+  card : Leaves m w (remove (means m).apps n)
+  count : length (means m).apps ≡ suc (length (remove (means m).apps n))
+
+without-is : (m w : List (List ℕ)) (n : List ℕ) (a : App) → IsImage m → look m ≡ Closed → IsWellLaid m → lookup (means m).apps n ≡ Some a → Alike w (laid m (step_of (means m) (card_without m n))) → Without m w n
+without-is m w n a image closed h there alike =
     let p = a.place in
     let d : Deletes m n a = deletes-plan m n a image closed h there in
     let list = plan (means m) (without p (spans (means m))) in
@@ -67,4 +71,14 @@ deletes-card m w n a image closed h there alike =
     let gone : lookup r.apps n ≡ None = subst (λ (x : List ℕ). lookup r.apps x ≡ None) name r.gone in
     let before : (means m).apps ≡ insert r.apps n (app_at m p) = subst (λ (x : List ℕ). (means m).apps ≡ insert r.apps x (app_at m p)) name r.before in
     let left : r.apps ≡ remove (means m).apps n = sym (ap (λ (es : List (List ℕ × App)). remove es n) before ∙ remove-inserted r.apps n (app_at m p) gone) in
-    subst (λ (es : List (List ℕ × App)). Leaves m w es) left r.leaves
+    record {
+      card = subst (λ (es : List (List ℕ × App)). Leaves m w es) left r.leaves;
+      count = ap length before ∙ length-inserted r.apps n (app_at m p) gone ∙ ap (λ (es : List (List ℕ × App)). suc (length es)) left;
+    }
+
+-- done, it leaves the card without the application
+pub deletes-card : (m w : List (List ℕ)) (n : List ℕ) (a : App) → IsImage m → look m ≡ Closed → IsWellLaid m → lookup (means m).apps n ≡ Some a → Alike w (laid m (step_of (means m) (card_without m n))) → Leaves m w (remove (means m).apps n)
+deletes-card m w n a image closed h there alike = (without-is m w n a image closed h there alike).card
+
+pub deletes-count : (m : List (List ℕ)) (n : List ℕ) (a : App) → IsImage m → look m ≡ Closed → IsWellLaid m → lookup (means m).apps n ≡ Some a → length (means m).apps ≡ suc (length (remove (means m).apps n))
+deletes-count m n a image closed h there = (without-is m (laid m (step_of (means m) (card_without m n))) n a image closed h there (alike-self (laid m (step_of (means m) (card_without m n))))).count

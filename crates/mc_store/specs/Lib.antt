@@ -13,3 +13,4 @@ pub mod Splices
 pub mod Statics
 pub mod Commits
 pub mod Places
+pub mod Turns
