@@ -14,3 +14,4 @@ pub mod Statics
 pub mod Commits
 pub mod Places
 pub mod Turns
+pub mod Laws
