@@ -1,5 +1,6 @@
 pub mod Store
 pub mod Power
+pub mod Slots
 pub mod Going
 pub mod Alike
 pub mod Atomic

@@ -101,6 +101,12 @@ power_answer (Runs number count) = Ok tt
 power_answer (Halts s) = Err s
 power_answer (Fails cause place) = Ok tt
 
+-- the ends that words allow, whatever stops
+abbrev pub PowerFollows : List (List ℕ) → Powered → Type 0
+PowerFollows m (Runs number count) = (fault m ≡ None) × (number ≡ power_count m) × (count ≡ length (means m).apps)
+PowerFollows m (Halts s) = Unit {0}
+PowerFollows m (Fails cause place) = fault m ≡ Some (cause, place)
+
 -- ---- the answer of the call
 
 -- the device of a store, and the number of applications that it counts

@@ -1,7 +1,9 @@
 #![tactic(auto)]
 
 // A card in the words of a device: its power-up, and the bank of its applications.
+mod block;
 mod power;
+mod section;
 mod store;
 
 pub use power::Up;
