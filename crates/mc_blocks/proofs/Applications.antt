@@ -44,7 +44,7 @@ few-applications m image closed h =
 
 -- ---- found by its name
 
-same-name : (a b : List ℕ) → bytes_eq a b ≡ true → a ≡ b
+pub same-name : (a b : List ℕ) → bytes_eq a b ≡ true → a ≡ b
 same-name a b h = (bytes_eq-Decides a b).0 h
 
 found-same : (k n : List ℕ) (a : App) (e : List ℕ × App) (es : List (List ℕ × App)) (t : Bool) → bytes_eq e.0 n ≡ t → cond t (Some a) (lookup es n) ≡ cond t (Some a) (cond (bytes_eq e.0 n) (Some e.1) (lookup es n))
@@ -64,7 +64,7 @@ found-test k n a e es false true h rest = refl
 found-test k n a e es false false h rest =
     ap (λ (o : Option App). cond (bytes_eq e.0 n) (Some e.1) o) rest ∙ found-other k n a e (lookup es n) (bytes_eq e.0 n) (bytes_eq k n) refl refl h
 
-lookup-insert : (es : List (List ℕ × App)) (k n : List ℕ) (a : App) → lookup (insert es k a) n ≡ cond (bytes_eq k n) (Some a) (lookup es n)
+pub lookup-insert : (es : List (List ℕ × App)) (k n : List ℕ) (a : App) → lookup (insert es k a) n ≡ cond (bytes_eq k n) (Some a) (lookup es n)
 lookup-insert [] k n a = refl
 lookup-insert (e ∷ es) k n a = found-test k n a e es (bytes_eq e.0 k) (name_before k e.0) refl (lookup-insert es k n a)
 

@@ -125,11 +125,11 @@ abbrev App-of : ℕ → List ℕ → List ℕ → List ℕ → List ℕ → List
 App-of p r code fixed dir fci = record { code = code; fixed = fixed; session = be2 r 24; deny = be2 r 26; dir = dir; fci = fci; place = p }
 
 -- what a used block holds
-record SameBlock (m n : List (List ℕ)) (p : ℕ) : Type 0 where
-  entry : record_at n p ≡ record_at m p
-  app : app_at n p ≡ app_at m p
+pub record SameBlock (m n : List (List ℕ)) (p : ℕ) : Type 0 where
+  pub entry : record_at n p ≡ record_at m p
+  pub app : app_at n p ≡ app_at m p
 
-same-block : (m n : List (List ℕ)) (p words : ℕ) → length n ≡ length m → p + words ≤ length m → is_record (record_at m p) words ≡ true → ((i : ℕ) → p ≤ i → i < p + words → word n i ≡ word m i) → SameBlock m n p
+pub same-block : (m n : List (List ℕ)) (p words : ℕ) → length n ≡ length m → p + words ≤ length m → is_record (record_at m p) words ≡ true → ((i : ℕ) → p ≤ i → i < p + words → word n i ≡ word m i) → SameBlock m n p
 same-block m n p words size h good same =
     let r = record_at m p in
     let code = be2 r 20 in
@@ -188,7 +188,7 @@ same-all m n names (b ∷ bs) size r nm a =
       apps = some-apps n b bs ∙ all.2 ∙ sym (some-apps m b bs);
     }
 
-chain-parts : (x first : ℕ) (rest : Option ℕ) (t : Bool) → (x == first) ≡ t → or_else (cond t None (Some 0)) rest ≡ None → (x ≡ first) × (rest ≡ None)
+pub chain-parts : (x first : ℕ) (rest : Option ℕ) (t : Bool) → (x == first) ≡ t → or_else (cond t None (Some 0)) rest ≡ None → (x ≡ first) × (rest ≡ None)
 chain-parts x first rest true e h = (eqb-true x first e, h)
 chain-parts x first rest false e h = absurd (cc h)
 
@@ -204,7 +204,7 @@ pub record SameCard (m n : List (List ℕ)) : Type 0 where
   pub blocks : blocks n ≡ blocks m
   pub card : card_of n ≡ card_of m
 
-root-good : (m : List (List ℕ)) (t : Bool) → cond {A = Option ℕ} t None (Some 0) ≡ None → t ≡ true
+pub root-good : (m : List (List ℕ)) (t : Bool) → cond {A = Option ℕ} t None (Some 0) ≡ None → t ≡ true
 root-good m true h = refl
 root-good m false h = absurd (cc h)
 

@@ -72,7 +72,7 @@ split p a b c d ba fb bc fd =
 self-pair : (e : ℕ × List ℕ) → same_pair e e ≡ true
 self-pair e = and_from (e.0 == e.0) (bytes_eq e.1 e.1) (eq-eqb e.0 e.0 refl) ((bytes_eq-Decides e.1 e.1).1 refl)
 
-one-same : (e : ℕ × List ℕ) → changes (e ∷ []) (e ∷ []) ≡ []
+pub one-same : (e : ℕ × List ℕ) → changes (e ∷ []) (e ∷ []) ≡ []
 one-same e = ap (λ (t : Bool). cond (not (t || false)) (e ∷ []) []) (self-pair e)
 
 -- a word that differs at its place

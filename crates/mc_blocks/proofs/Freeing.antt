@@ -159,23 +159,23 @@ span-from q p (s ∷ ss) a h =
     ]
 
 -- a hole that ends at p, where the next block stands, which is used
-record Touches (p : ℕ) (b : Block) (bs : List Block) : Type 0 where
-  hole : b.used ≡ false
-  other : (b.place == p) ≡ false
-  next : Block
-  rest : List Block
-  is : bs ≡ next ∷ rest
-  used : next.used ≡ true
-  place : next.place ≡ p
+pub record Touches (p : ℕ) (b : Block) (bs : List Block) : Type 0 where
+  pub hole : b.used ≡ false
+  pub other : (b.place == p) ≡ false
+  pub next : Block
+  pub rest : List Block
+  pub is : bs ≡ next ∷ rest
+  pub used : next.used ≡ true
+  pub place : next.place ≡ p
 
-record Later (p : ℕ) (b : Block) (bs : List Block) : Type 0 where
-  other : (b.place == p) ≡ false
-  apart : touched p b bs ≡ false
-  span : has_span p (used_spans bs) ≡ true
-  before : b.place < p
-  ends : b.used ≡ false → b.place + b.words ≢ p
+pub record Later (p : ℕ) (b : Block) (bs : List Block) : Type 0 where
+  pub other : (b.place == p) ≡ false
+  pub apart : touched p b bs ≡ false
+  pub span : has_span p (used_spans bs) ≡ true
+  pub before : b.place < p
+  pub ends : b.used ≡ false → b.place + b.words ≢ p
 
-SpanAt : ℕ → Block → List Block → Type 0
+unfoldable pub SpanAt : ℕ → Block → List Block → Type 0
 SpanAt p b bs = ((b.used ≡ true) × (b.place ≡ p)) ⊎ (Touches p b bs ⊎ Later p b bs)
 
 after-hole : (p r : ℕ) (b c : Block) (cs : List Block) (end : ℕ) (t : Bool) → (c.place == p) ≡ t → b.used ≡ false → b.place < p → (b.place == p) ≡ false → b.place + b.words ≡ r → Tiled r (not b.used) (c ∷ cs) end → has_span p (used_spans (c ∷ cs)) ≡ true → SpanAt p b (c ∷ cs)
@@ -209,18 +209,18 @@ span-kind p q b (c ∷ cs) end false used place low t span =
     let ne : b.place ≢ p = λ e. absurd (omega (arith, e)) in
     after-hole p (q + b.words) b c cs end (c.place == p) refl used (omega arith) (ne_eqb b.place p ne) (omega arith) t span
 
-span-at : (p q : ℕ) (a : Bool) (b : Block) (bs : List Block) (end : ℕ) → Tiled q a (b ∷ bs) end → has_span p (used_spans (b ∷ bs)) ≡ true → SpanAt p b bs
+pub span-at : (p q : ℕ) (a : Bool) (b : Block) (bs : List Block) (end : ℕ) → Tiled q a (b ∷ bs) end → has_span p (used_spans (b ∷ bs)) ≡ true → SpanAt p b bs
 span-at p q a b bs end t span = span-kind p q b bs end b.used refl t.0 t.1 t.3 span
 
-freed-here : (p : ℕ) (b : Block) (bs : List Block) → b.place ≡ p → free_in p (b ∷ bs) ≡ with_hole p b.words bs
+pub freed-here : (p : ℕ) (b : Block) (bs : List Block) → b.place ≡ p → free_in p (b ∷ bs) ≡ with_hole p b.words bs
 freed-here p b bs here = ap (λ (t : Bool). cond t (with_hole p b.words bs) (cond (touched p b bs) (with_hole b.place (b.words + head_words bs) (tail_blocks bs)) (b ∷ free_in p bs))) (eq-eqb b.place p here)
 
-freed-touching : (p : ℕ) (b c : Block) (cs : List Block) → b.used ≡ false → (b.place == p) ≡ false → c.place ≡ p → free_in p (b ∷ c ∷ cs) ≡ with_hole b.place (b.words + c.words) cs
+pub freed-touching : (p : ℕ) (b c : Block) (cs : List Block) → b.used ≡ false → (b.place == p) ≡ false → c.place ≡ p → free_in p (b ∷ c ∷ cs) ≡ with_hole b.place (b.words + c.words) cs
 freed-touching p b c cs free other here =
     ap (λ (t : Bool). cond t (with_hole p b.words (c ∷ cs)) (cond (touched p b (c ∷ cs)) (with_hole b.place (b.words + c.words) cs) (b ∷ free_in p (c ∷ cs)))) other
     ∙ ap (λ (t : Bool). cond t (with_hole b.place (b.words + c.words) cs) (b ∷ free_in p (c ∷ cs))) (and_from (not b.used) (c.place == p) (ap not free) (eq-eqb c.place p here))
 
-freed-later : (p : ℕ) (b : Block) (bs : List Block) → (b.place == p) ≡ false → touched p b bs ≡ false → free_in p (b ∷ bs) ≡ b ∷ free_in p bs
+pub freed-later : (p : ℕ) (b : Block) (bs : List Block) → (b.place == p) ≡ false → touched p b bs ≡ false → free_in p (b ∷ bs) ≡ b ∷ free_in p bs
 freed-later p b bs other apart =
     ap (λ (t : Bool). cond t (with_hole p b.words bs) (cond (touched p b bs) (with_hole b.place (b.words + head_words bs) (tail_blocks bs)) (b ∷ free_in p bs))) other
     ∙ ap (λ (t : Bool). cond t (with_hole b.place (b.words + head_words bs) (tail_blocks bs)) (b ∷ free_in p bs)) apart
@@ -284,10 +284,10 @@ later-without p b us vs true other e = ap (λ (l : List (ℕ × ℕ)). (b.place,
 later-without p b us vs false other e = e
 
 -- the spans of a used block and of a hole before others
-used-first : (b : Block) (us : List (ℕ × ℕ)) → b.used ≡ true → cond b.used ((b.place, b.words) ∷ us) us ≡ (b.place, b.words) ∷ us
+pub used-first : (b : Block) (us : List (ℕ × ℕ)) → b.used ≡ true → cond b.used ((b.place, b.words) ∷ us) us ≡ (b.place, b.words) ∷ us
 used-first b us e = ap (λ (u : Bool). cond u ((b.place, b.words) ∷ us) us) e
 
-used-not : (b : Block) (us : List (ℕ × ℕ)) → b.used ≡ false → cond b.used ((b.place, b.words) ∷ us) us ≡ us
+pub used-not : (b : Block) (us : List (ℕ × ℕ)) → b.used ≡ false → cond b.used ((b.place, b.words) ∷ us) us ≡ us
 used-not b us e = ap (λ (u : Bool). cond u ((b.place, b.words) ∷ us) us) e
 
 free-touching-spans : (p q : ℕ) (a : Bool) (b c : Block) (cs bs : List Block) (end : ℕ) → bs ≡ c ∷ cs → Tiled q a (b ∷ bs) end → b.used ≡ false → (b.place == p) ≡ false → c.used ≡ true → c.place ≡ p

@@ -16,3 +16,6 @@ pub mod Links
 pub mod Plans
 pub mod Applications
 pub mod Built
+pub mod Written
+pub mod Cards
+pub mod Outcome

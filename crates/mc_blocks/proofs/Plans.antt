@@ -21,7 +21,7 @@ use Rattle.mc_blocks.proofs.Freeing as freeing
 use Rattle.mc_blocks.proofs.Links.{chain-behind, gaps-chain, joined-within, HoleAt, hole-at, BeforeAt, before-at, before-cases}
 
 -- a plan for spans that are made of the card's
-plan-is : (m : List (List ℕ)) (f : List (ℕ × ℕ) → List (ℕ × ℕ)) → IsImage m → look m ≡ Closed → IsWellLaid m
+pub plan-is : (m : List (List ℕ)) (f : List (ℕ × ℕ) → List (ℕ × ℕ)) → IsImage m → look m ≡ Closed → IsWellLaid m
     → plan (means m) (f (spans (means m))) ≡ changes (layout_of (slice_index (word m 0) 3) (length m) (used_spans (blocks m))) (layout_of (slice_index (word m 0) 3) (length m) (f (used_spans (blocks m))))
 plan-is m f image closed h =
     let l : Laid m = well-laid m image closed h in
@@ -30,10 +30,10 @@ plan-is m f image closed h =
     ∙ ap (λ (x : List (ℕ × List ℕ)). changes x (layout_of v (length m) (f (spans (card_of m))))) (layout-spans (card_of m))
     ∙ ap (λ (ss : List (ℕ × ℕ)). changes (layout_of v (length m) ss) (layout_of v (length m) (f ss))) l.spans
 
-gaps-are : (m : List (List ℕ)) → IsImage m → look m ≡ Closed → IsWellLaid m → gaps (means m) ≡ hole_spans (blocks m)
+pub gaps-are : (m : List (List ℕ)) → IsImage m → look m ≡ Closed → IsWellLaid m → gaps (means m) ≡ hole_spans (blocks m)
 gaps-are m image closed h = ap (λ (k : Card). gaps k) (means-closed m closed) ∙ (well-laid m image closed h).gaps
 
-spans-are : (m : List (List ℕ)) → IsImage m → look m ≡ Closed → IsWellLaid m → spans (means m) ≡ used_spans (blocks m)
+pub spans-are : (m : List (List ℕ)) → IsImage m → look m ≡ Closed → IsWellLaid m → spans (means m) ≡ used_spans (blocks m)
 spans-are m image closed h = ap (λ (k : Card). spans k) (means-closed m closed) ∙ (well-laid m image closed h).spans
 
 gaps-above : (m : List (List ℕ)) → IsImage m → look m ≡ Closed → IsWellLaid m → Above 131 (gaps (means m))

@@ -23,7 +23,7 @@ abbrev pub free_block : ℕ → ℕ → Block
 free_block p n = record { place = p; used = false; words = n; link = 0 }
 
 -- what is left of a hole, before the blocks behind it
-abbrev rest_of : ℕ → ℕ → Block → List Block → List Block
+abbrev pub rest_of : ℕ → ℕ → Block → List Block → List Block
 rest_of p need b bs = cond (nat_lt need b.words) (free_block (p + need) (b.words - need) ∷ bs) bs
 
 -- the blocks with the front of the hole at p taken
@@ -44,7 +44,7 @@ room-from q p need (g ∷ gs) a h =
     ]
 
 -- a block is the hole with the room, or the room is behind it
-RoomAt : ℕ → ℕ → Block → List Block → Type 0
+unfoldable pub RoomAt : ℕ → ℕ → Block → List Block → Type 0
 RoomAt p need b bs = ((b.used ≡ false) × (b.place ≡ p) × (need ≤ b.words)) ⊎ (((b.place == p) ≡ false) × (has_room p need (hole_spans bs) ≡ true) × (b.place < p))
 
 room-kind : (p need q : ℕ) (b : Block) (bs : List Block) (u : Bool) → b.used ≡ u → b.place ≡ q → 1 ≤ b.words → Above (q + b.words) (hole_spans bs) → has_room p need (cond u (hole_spans bs) ((b.place, b.words) ∷ hole_spans bs)) ≡ true → RoomAt p need b bs
@@ -62,7 +62,7 @@ room-kind p need q b bs false used place low above room =
           inr (ne_eqb b.place p ne, later, omega arith)
     ]
 
-room-at : (p need q : ℕ) (a : Bool) (b : Block) (bs : List Block) (end : ℕ) → Tiled q a (b ∷ bs) end → has_room p need (hole_spans (b ∷ bs)) ≡ true → RoomAt p need b bs
+pub room-at : (p need q : ℕ) (a : Bool) (b : Block) (bs : List Block) (end : ℕ) → Tiled q a (b ∷ bs) end → has_room p need (hole_spans (b ∷ bs)) ≡ true → RoomAt p need b bs
 room-at p need q a b bs end t room = room-kind p need q b bs b.used refl t.0 t.1 (holes-above (q + b.words) (not b.used) bs end t.3) room
 
 -- ---- the blocks afterwards
@@ -87,10 +87,10 @@ and-false : (a : Bool) → (a && false) ≡ false
 and-false true = refl
 and-false false = refl
 
-taken-here : (p need : ℕ) (b : Block) (bs : List Block) → b.place ≡ p → take_in p need (b ∷ bs) ≡ used_block p need ∷ rest_of p need b bs
+pub taken-here : (p need : ℕ) (b : Block) (bs : List Block) → b.place ≡ p → take_in p need (b ∷ bs) ≡ used_block p need ∷ rest_of p need b bs
 taken-here p need b bs here = ap (λ (t : Bool). cond t (used_block p need ∷ rest_of p need b bs) (b ∷ take_in p need bs)) (eq-eqb b.place p here)
 
-taken-later : (p need : ℕ) (b : Block) (bs : List Block) → (b.place == p) ≡ false → take_in p need (b ∷ bs) ≡ b ∷ take_in p need bs
+pub taken-later : (p need : ℕ) (b : Block) (bs : List Block) → (b.place == p) ≡ false → take_in p need (b ∷ bs) ≡ b ∷ take_in p need bs
 taken-later p need b bs other = ap (λ (t : Bool). cond t (used_block p need ∷ rest_of p need b bs) (b ∷ take_in p need bs)) other
 
 pub take-tiled : (p need q : ℕ) (a : Bool) (bs : List Block) (end : ℕ) → 1 ≤ need → Tiled q a bs end → has_room p need (hole_spans bs) ≡ true → Tiled q a (take_in p need bs) end

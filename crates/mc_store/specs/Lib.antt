@@ -2,3 +2,17 @@ pub mod Store
 pub mod Power
 pub mod Slots
 pub mod Going
+pub mod Alike
+pub mod Atomic
+pub mod Gaps
+pub mod RecordBytes
+pub mod Sections
+pub mod Planning
+pub mod Creation
+pub mod Deletion
+pub mod Splices
+pub mod Statics
+pub mod Commits
+pub mod Places
+pub mod Turns
+pub mod Laws

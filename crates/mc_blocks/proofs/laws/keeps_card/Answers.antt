@@ -1,4 +1,6 @@
 use Rattle.mc_blocks.proofs.Built.{same-card}
+use Rattle.mc_blocks.proofs.Written.{written}
+use Rattle.mc_blocks.proofs.Outcome.{creates, deletes}
 use Rattle.mc_blocks.proofs.laws.keeps_card.Goals as goal
 
 pub returns-clause-laid : goal.returns-clause-laid

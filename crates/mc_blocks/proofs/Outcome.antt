@@ -1,0 +1,187 @@
+-- What a plan makes of a card: written to the words of a well laid image, it leaves the card with the application or without it.
+use Rattle.std.proofs.Common.{◌≡◌, ◌≢◌, ◌⊎◌, ℕ, ◌+◌, ◌-◌, ◌<◌, ◌≤◌, Bool, true, false, ◌&&◌, ◌||◌, List, [], ◌∷◌, ◌++◌, length, Option, Some, None, refl, sym, ◌∙◌, ap, subst, inl, inr, arith, cond, not}
+use Rattle.std.specs.Prelude.{nat_lt, ◌==◌, slice_index, MatchBool}
+use Rattle.std.specs.List.{AllByRecursion, list_any}
+use Rattle.std.proofs.lemmas.Bool.{eqb-true}
+use Rattle.mc_model.specs.Bytes.{be2, insert, lookup, has_name}
+use Rattle.mc_model.specs.Image.{Closed, look}
+use Rattle.mc_model.specs.Device.{IsImage}
+use Rattle.mc_model.specs.Card.{App, Card, Block, word, blocks, heap_start, means, card_of, record_at, name_at, app_at, apps_of}
+use Rattle.mc_model.specs.Layout.{first_hole, gaps, spans, put_at, root, same_pair, is_record, words_fault, IsWellLaid}
+use Rattle.mc_model.proofs.ImageLemmas.{Holds, all-append}
+use Rattle.mc_blocks.specs.Blocks.{used_spans, hole_spans}
+use Rattle.mc_blocks.specs.Plans.{changes, layout_of, plan, link_word, without, has_room, has_span}
+use Rattle.mc_blocks.proofs.Tiles.{Tiled, AreRead}
+use Rattle.mc_blocks.proofs.Maps.{length-put}
+use Rattle.mc_blocks.proofs.Bridge.{Laid, well-laid, means-closed, used-above, AreNamed, named, Faultless, faultless, fault-closed}
+use Rattle.mc_blocks.proofs.Applications.{few-blocks}
+use Rattle.mc_blocks.proofs.Changes.{From, from-weaker, split}
+use Rattle.mc_blocks.proofs.Heads.{heads, heads-from, layout-is}
+use Rattle.mc_blocks.proofs.Plans.{plan-is, gaps-are, spans-are}
+use Rattle.mc_blocks.proofs.Taking.{take_in, take-tiled, take-spans}
+use Rattle.mc_blocks.proofs.Freeing.{free_in, free-tiled, free-spans}
+use Rattle.mc_blocks.proofs.Built.{Built, Stands, built, SameBlock, same-block, chain-parts, root-good}
+use Rattle.mc_blocks.proofs.Written.{relink, relink-used, Kept, Relaid, written, root-apart}
+use Rattle.mc_blocks.proofs.Cards.{In, in-above, in-old, changes-apart, SameUsed, NotNamed, not-named, relink-named, relink-apps, Swaps, Created, created, Deleted, deleted}
+
+-- words n after the plan for these spans, from words m
+pub record Planned (m n : List (List ℕ)) (ss : List (ℕ × ℕ)) : Type 0 where
+  pub size : length n ≡ length m
+  pub holds : Holds n (plan (means m) ss)
+  pub root : AllByRecursion (λ e. e.0 ≢ 0) (plan (means m) ss) → word n 0 ≡ word m 0
+  pub kept : Kept m n 131 (plan (means m) ss)
+
+-- what stands after a plan for the spans of these blocks
+record After (m n : List (List ℕ)) (new : List Block) : Type 0 where
+  relaid : Relaid m n new
+  same : (s : ℕ × ℕ) → In s (used_spans (blocks m)) → In s (used_spans new) → (i : ℕ) → s.0 ≤ i → i < s.0 + s.1 → word n i ≡ word m i
+
+after-plan : (m n : List (List ℕ)) (f : List (ℕ × ℕ) → List (ℕ × ℕ)) (new : List Block) → IsImage m → look m ≡ Closed → IsWellLaid m → Planned m n (f (spans (means m))) → Tiled 131 false new (length m) → f (used_spans (blocks m)) ≡ used_spans new → After m n new
+after-plan m n f new image closed h planned tiled spans-new =
+    let l : Laid m = well-laid m image closed h in
+    let v = slice_index (word m 0) 3 in
+    let bs = blocks m in
+    let high : length m ≤ 16384 = image.high in
+    let old-list : List (ℕ × List ℕ) = link_word v (length m) (0, 0) (first_hole bs) ∷ heads bs in
+    let new-list : List (ℕ × List ℕ) = link_word v (length m) (0, 0) (first_hole new) ∷ heads new in
+    let listed : plan (means m) (f (spans (means m))) ≡ changes old-list new-list =
+    plan-is m f image closed h
+    ∙ ap (λ (x : List (ℕ × List ℕ)). changes x (layout_of v (length m) (f (used_spans bs)))) (layout-is v (length m) bs (used_spans bs) l.tiled refl)
+    ∙ ap (λ (x : List (ℕ × List ℕ)). changes old-list x) (layout-is v (length m) new (f (used_spans bs)) tiled spans-new) in
+    let kept : Kept m n 131 (changes old-list new-list) = subst (λ (x : List (ℕ × List ℕ)). Kept m n 131 x) listed planned.kept in
+    let links = chain-parts (be2 (word m 0) 6) (first_hole bs) _ (be2 (word m 0) 6 == first_hole bs) refl l.chain in
+    let one : 0 < 1 = omega arith in
+    let parts : changes old-list new-list ≡ changes ((0, root v (length m) (first_hole bs)) ∷ []) ((0, root v (length m) (first_hole new)) ∷ []) ++ changes (heads bs) (heads new) =
+    split 1 ((0, root v (length m) (first_hole bs)) ∷ []) (heads bs) ((0, root v (length m) (first_hole new)) ∷ []) (heads new) (one, tt) (from-weaker 131 1 (heads bs) (omega arith) (heads-from 131 false bs (length m) l.tiled)) (one, tt) (from-weaker 131 1 (heads new) (omega arith) (heads-from 131 false new (length m) tiled)) in
+    record {
+      relaid = written m n bs new (omega arith) planned.size (root-good m _ l.root) links.0 l.tiled l.read links.1 tiled
+          (subst (λ (x : List (ℕ × List ℕ)). Holds n x) listed planned.holds)
+          (subst (λ (x : List (ℕ × List ℕ)). AllByRecursion (λ (e : ℕ × List ℕ). e.0 ≢ 0) x → word n 0 ≡ word m 0) listed planned.root)
+          kept;
+      same = λ s here there i low below.
+          let above : 131 ≤ s.0 = in-above 131 s (used_spans bs) (used-above 131 false bs (length m) l.tiled) here in
+          kept i (omega arith) (subst (λ (x : List (ℕ × List ℕ)). AllByRecursion (λ (e : ℕ × List ℕ). e.0 ≢ i) x) (sym parts)
+          (all-append (λ (e : ℕ × List ℕ). e.0 ≢ i) (changes ((0, root v (length m) (first_hole bs)) ∷ []) ((0, root v (length m) (first_hole new)) ∷ [])) (changes (heads bs) (heads new))
+          (root-apart v (length m) (first_hole bs) (first_hole new) i (omega arith) (list_any (same_pair (0, root v (length m) (first_hole new))) ((0, root v (length m) (first_hole bs)) ∷ [])))
+          (changes-apart s i 131 false (heads bs) new (length m) tiled there low below (in-old s bs here))));
+    }
+
+-- ---- used blocks have their words
+
+good-of : (m : List (List ℕ)) (names : List (List ℕ)) (b : Block) (bs : List Block) (u : Bool) → u ≡ true → MatchBool u ((is_record (record_at m b.place) b.words ≡ true) × (has_name (name_at m b.place) names ≡ false) × AreNamed m (name_at m b.place ∷ names) bs) (AreNamed m names bs)
+    → is_record (record_at m b.place) b.words ≡ true
+good-of m names b bs true e nm = nm.0
+good-of m names b bs false e nm = absurd (cc e)
+
+tail-of : (m : List (List ℕ)) (names : List (List ℕ)) (b : Block) (bs : List Block) (u : Bool) → MatchBool u ((is_record (record_at m b.place) b.words ≡ true) × (has_name (name_at m b.place) names ≡ false) × AreNamed m (name_at m b.place ∷ names) bs) (AreNamed m names bs)
+    → AreNamed m (cond u (name_at m b.place ∷ names) names) bs
+tail-of m names b bs true nm = nm.2
+tail-of m names b bs false nm = nm
+
+in-first : (b : Block) (us : List (ℕ × ℕ)) (u : Bool) → u ≡ true → In (b.place, b.words) (cond u ((b.place, b.words) ∷ us) us)
+in-first b us true e = inl refl
+in-first b us false e = absurd (cc e)
+
+in-later : (s : ℕ × ℕ) (b : Block) (us : List (ℕ × ℕ)) (u : Bool) → In s us → In s (cond u ((b.place, b.words) ∷ us) us)
+in-later s b us true i = inr i
+in-later s b us false i = i
+
+same-used : (m n : List (List ℕ)) (p : ℕ) (names : List (List ℕ)) (bs : List Block) → length n ≡ length m → AreRead m bs → AreNamed m names bs
+    → ((s : ℕ × ℕ) → In s (used_spans bs) → s.0 ≢ p → (i : ℕ) → s.0 ≤ i → i < s.0 + s.1 → word n i ≡ word m i) → SameUsed m n p bs
+same-used m n p names [] size r nm same = tt
+same-used m n p names (b ∷ bs) size r nm same = (
+  (λ u ne. same-block m n b.place b.words size r.1 (good-of m names b bs b.used u nm) (same (b.place, b.words) (in-first b (used_spans bs) b.used u) ne)),
+  same-used m n p (cond b.used (name_at m b.place ∷ names) names) bs size r.2 (tail-of m names b bs b.used nm) (λ s i ne. same s (in-later s b (used_spans bs) b.used i) ne),
+)
+
+in-put-kind : (s : ℕ × ℕ) (p n : ℕ) (e : ℕ × ℕ) (es more : List (ℕ × ℕ)) (t : Bool) → In s (e ∷ es) → (In s es → In s more) → In s (cond t ((p, n) ∷ e ∷ es) (e ∷ more))
+in-put-kind s p n e es more true i rest = inr i
+in-put-kind s p n e es more false i rest = elim i [ inl here ↦ inl here | inr later ↦ inr (rest later) ]
+
+in-put : (s : ℕ × ℕ) (p n : ℕ) (l : List (ℕ × ℕ)) → In s l → In s (put_at p n l)
+in-put s p n [] i = absurd i
+in-put s p n (e ∷ es) i = in-put-kind s p n e es (put_at p n es) (nat_lt p e.0) i (in-put s p n es)
+
+in-without-kind : (s : ℕ × ℕ) (p : ℕ) (e : ℕ × ℕ) (es more : List (ℕ × ℕ)) (t : Bool) → (e.0 == p) ≡ t → s.0 ≢ p → In s (e ∷ es) → (In s es → In s more) → In s (cond t more (e ∷ more))
+in-without-kind s p e es more true h ne i rest = elim i [ inl here ↦ absurd (ne (sym (ap (λ (x : ℕ × ℕ). x.0) here) ∙ eqb-true e.0 p h)) | inr later ↦ rest later ]
+in-without-kind s p e es more false h ne i rest = elim i [ inl here ↦ inl here | inr later ↦ inr (rest later) ]
+
+in-without : (s : ℕ × ℕ) (p : ℕ) (l : List (ℕ × ℕ)) → s.0 ≢ p → In s l → In s (without p l)
+in-without s p [] ne i = absurd i
+in-without s p (e ∷ es) ne i = in-without-kind s p e es (without p es) (e.0 == p) refl ne i (in-without s p es ne)
+
+less-kind : (p : ℕ) (e : ℕ × ℕ) (es more : List (ℕ × ℕ)) (t : Bool) → length more ≤ length es → length (cond t more (e ∷ more)) ≤ length es + 1
+less-kind p e es more true h = omega (arith, h)
+less-kind p e es more false h = omega (arith, h)
+
+length-without : (p : ℕ) (l : List (ℕ × ℕ)) → length (without p l) ≤ length l
+length-without p [] = omega arith
+length-without p (e ∷ es) = let h = less-kind p e es (without p es) (e.0 == p) (length-without p es) in omega (arith, h)
+
+-- ---- the cards
+
+-- words with no fault that hold a card with these applications
+pub record Leaves (m n : List (List ℕ)) (apps : List (List ℕ × App)) : Type 0 where
+  pub good : words_fault n ≡ None
+  pub card : card_of n ≡ record (means m) { apps = apps }
+
+leaves : (m n : List (List ℕ)) (new : List Block) (apps : List (List ℕ × App)) → look m ≡ Closed → length n ≡ length m → Relaid m n new → AreNamed n [] new → length (used_spans new) ≤ 32 → apps_of n new ≡ apps → Leaves m n apps
+leaves m n new apps closed size r nm few is =
+    let s : Stands n (relink new) = built n (relink new) (record { root = r.root; first = r.first; tiled = r.tiled; read = r.read; links = r.links; named = relink-named n [] new nm; few = subst (λ (l : List (ℕ × ℕ)). length l ≤ 32) (sym (relink-used new)) few }) in
+    record {
+      good = s.good;
+      card = ap (λ (x : ℕ). record { size = x; layout = slice_index (word n 0) 3; apps = apps_of n (blocks n) }) size
+          ∙ ap (λ (x : ℕ). record { size = length m; layout = x; apps = apps_of n (blocks n) }) r.version
+          ∙ ap (λ (x : List (List ℕ × App)). record { size = length m; layout = slice_index (word m 0) 3; apps = x }) (ap (λ (l : List Block). apps_of n l) s.blocks ∙ relink-apps n new ∙ is)
+          ∙ sym (ap (λ (k : Card). record k { apps = apps }) (means-closed m closed));
+    }
+
+-- words taken for an application whose record stands there
+pub creates : (m n : List (List ℕ)) (p need : ℕ) → Swaps → IsImage m → look m ≡ Closed → IsWellLaid m → 1 ≤ need → has_room p need (gaps (means m)) ≡ true → Planned m n (put_at p need (spans (means m)))
+    → is_record (record_at n p) need ≡ true → lookup (means m).apps (name_at n p) ≡ None → length (means m).apps < 32 → Leaves m n (insert (means m).apps (name_at n p) (app_at n p))
+creates m n p need swaps image closed h some room planned good fresh few =
+    let l : Laid m = well-laid m image closed h in
+    let f : Faultless m = faultless m (sym (fault-closed m closed) ∙ h) in
+    let bs = blocks m in
+    let free : has_room p need (hole_spans bs) ≡ true = subst (λ (x : List (ℕ × ℕ)). has_room p need x ≡ true) (gaps-are m image closed h) room in
+    let new = take_in p need bs in
+    let tiled : Tiled 131 false new (length m) = take-tiled p need 131 false bs (length m) some l.tiled free in
+    let same-spans : used_spans new ≡ put_at p need (used_spans bs) = take-spans p need 131 false bs (length m) l.tiled free in
+    let after : After m n new = after-plan m n (put_at p need) new image closed h planned tiled (sym same-spans) in
+    let names : AreNamed m [] bs = named m bs [] 0 f.records in
+    let means-apps : (means m).apps ≡ apps_of m bs = ap (λ (k : Card). k.apps) (means-closed m closed) in
+    let used : SameUsed m n p bs = same-used m n p [] bs planned.size l.read names (λ s i ne. after.same s i (subst (λ (x : List (ℕ × ℕ)). In s x) (sym same-spans) (in-put s p need (used_spans bs) i))) in
+    let unnamed : NotNamed m (name_at n p) bs = not-named m (name_at n p) bs (sym (ap (λ (es : List (List ℕ × App)). lookup es (name_at n p)) means-apps) ∙ fresh) in
+    let c : Created m n [] (name_at n p) (app_at n p) bs new = created m n p need 131 false [] bs (length m) swaps l.tiled names used unnamed free refl good in
+    let count : length (used_spans bs) < 32 = subst (λ (k : ℕ). k < 32) (ap (λ (es : List (List ℕ × App)). length es) means-apps ∙ l.apps) few in
+    let more : length (used_spans new) ≤ 32 = omega (arith, ap length same-spans, length-put p need (used_spans bs), count) in
+    leaves m n new (insert (means m).apps (name_at n p) (app_at n p)) closed planned.size after.relaid c.named more (c.apps ∙ ap (λ (es : List (List ℕ × App)). insert es (name_at n p) (app_at n p)) (sym means-apps))
+
+-- a block freed: the card before is the card left with that application
+pub record Removes (m n : List (List ℕ)) (p : ℕ) : Type 0 where
+  pub apps : List (List ℕ × App)
+  pub leaves : Leaves m n apps
+  pub before : (means m).apps ≡ insert apps (name_at m p) (app_at m p)
+  pub gone : lookup apps (name_at m p) ≡ None
+
+pub deletes : (m n : List (List ℕ)) (p : ℕ) → Swaps → IsImage m → look m ≡ Closed → IsWellLaid m → has_span p (spans (means m)) ≡ true → Planned m n (without p (spans (means m))) → Removes m n p
+deletes m n p swaps image closed h span planned =
+    let l : Laid m = well-laid m image closed h in
+    let f : Faultless m = faultless m (sym (fault-closed m closed) ∙ h) in
+    let bs = blocks m in
+    let there : has_span p (used_spans bs) ≡ true = subst (λ (x : List (ℕ × ℕ)). has_span p x ≡ true) (spans-are m image closed h) span in
+    let new = free_in p bs in
+    let tiled : Tiled 131 false new (length m) = free-tiled p 131 false bs (length m) (λ e. absurd (cc e)) l.tiled there in
+    let same-spans : used_spans new ≡ without p (used_spans bs) = free-spans p 131 false bs (length m) l.tiled there in
+    let after : After m n new = after-plan m n (without p) new image closed h planned tiled (sym same-spans) in
+    let names : AreNamed m [] bs = named m bs [] 0 f.records in
+    let means-apps : (means m).apps ≡ apps_of m bs = ap (λ (k : Card). k.apps) (means-closed m closed) in
+    let used : SameUsed m n p bs = same-used m n p [] bs planned.size l.read names (λ s i ne. after.same s i (subst (λ (x : List (ℕ × ℕ)). In s x) (sym same-spans) (in-without s p (used_spans bs) ne i))) in
+    let d : Deleted m n [] (name_at m p) (app_at m p) bs new = deleted m n p 131 false [] bs (length m) swaps l.tiled names used there in
+    let few : length (used_spans new) ≤ 32 = omega (arith, ap length same-spans, length-without p (used_spans bs), few-blocks m f) in
+    record {
+      apps = apps_of n new;
+      leaves = leaves m n new (apps_of n new) closed planned.size after.relaid d.named few refl;
+      before = means-apps ∙ d.apps;
+      gone = d.gone;
+    }
