@@ -6,3 +6,4 @@ pub mod JournalLemmas
 pub mod MigrationLemmas
 pub mod PowerLemmas
 pub mod RecoverLemmas
+pub mod SlotLemmas
