@@ -7,3 +7,4 @@ pub mod MigrationLemmas
 pub mod PowerLemmas
 pub mod RecoverLemmas
 pub mod SlotLemmas
+pub mod ReadLemmas

@@ -4,6 +4,8 @@
 mod block;
 mod place;
 mod power;
+mod reads;
+mod room;
 mod section;
 mod store;
 
