@@ -5,3 +5,4 @@ pub mod HeapLemmas
 pub mod JournalLemmas
 pub mod MigrationLemmas
 pub mod PowerLemmas
+pub mod ChangeLemmas

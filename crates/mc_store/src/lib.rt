@@ -2,6 +2,7 @@
 
 // A card in the words of a device: its power-up, and the bank of its applications.
 mod block;
+mod changes;
 mod power;
 mod section;
 mod store;
