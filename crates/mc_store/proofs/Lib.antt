@@ -6,3 +6,5 @@ pub mod JournalLemmas
 pub mod MigrationLemmas
 pub mod PowerLemmas
 pub mod ChangeLemmas
+pub mod RecoverLemmas
+pub mod SlotLemmas

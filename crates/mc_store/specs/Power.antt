@@ -2,9 +2,10 @@
 -- This project's profile.
 use Rattle.std.specs.Prelude.{◌≡◌, ◌≢◌, ℕ, ◌+◌, ◌-◌, ◌<◌, ◌≤◌, Bool, true, cond, ◌==◌, List, [], ◌∷◌, ◌++◌, length, slice_set, Option, Some, None, Result, Ok, Err}
 use Rattle.mc_model.specs.declared.card.Cause.{Cause}
+use Rattle.mc_model.specs.declared.card.Cause.TheVariants.{BadJournal}
 use Rattle.mc_model.specs.declared.device.Stop.{Stop}
 use Rattle.mc_model.specs.Orders.{Answer}
-use Rattle.mc_model.specs.Image.{Journal, One, look, which, owed, Only}
+use Rattle.mc_model.specs.Image.{Journal, One, look, which, owed, Only, Closed, Refused}
 use Rattle.mc_model.specs.Device.{DeviceState, Ended, GrowsBy, done_entries, torn_entries}
 use Rattle.mc_model.specs.Stopped.{writes, owed_writes, torn, stands, owes, remains}
 use Rattle.mc_model.specs.Card.{Card, word, means}
@@ -12,6 +13,7 @@ use Rattle.mc_model.specs.Layout.{fault}
 use Rattle.mc_model.specs.Play.{Base, OnCard, AtFault, base_of, migration, migrated, owing}
 use Rattle.mc_store.specs.Store.{settled, is_going}
 use Rattle.mc_store.specs.declared.store.Store.{Store}
+use Rattle.mc_store.specs.declared.power.Ready.{Ready}
 use Rattle.mc_store.specs.declared.power.Up.{Up}
 use Rattle.mc_store.specs.declared.power.Up.TheVariants as up
 use Rattle.mc_blocks.specs.declared.image.Unusable.{Unusable}
@@ -107,6 +109,18 @@ PowerFollows m (Runs number count) = (fault m ≡ None) × (number ≡ power_cou
 PowerFollows m (Halts s) = Unit {0}
 PowerFollows m (Fails cause place) = fault m ≡ Some (cause, place)
 
+-- the ends of a recovery alone: the writes that were owed, or a bad journal
+abbrev pub RecoverFollows : List (List ℕ) → Powered → Type 0
+RecoverFollows m (Runs number count) = (number ≡ owed m) × (look (settled m) ≡ Closed)
+RecoverFollows m (Halts s) = Unit {0}
+RecoverFollows m (Fails cause place) = (cause ≡ BadJournal) × (look m ≡ Refused place)
+
+-- the ends of what comes behind so many owed writes, on words with no open journal
+abbrev pub FinishFollows : List (List ℕ) → ℕ → Powered → Type 0
+FinishFollows m n (Runs number count) = (fault m ≡ None) × (number ≡ n + migration (found m)) × (count ≡ length (means m).apps)
+FinishFollows m n (Halts s) = Unit {0}
+FinishFollows m n (Fails cause place) = fault m ≡ Some (cause, place)
+
 -- ---- the answer of the call
 
 -- the device of a store, and the number of applications that it counts
@@ -121,6 +135,16 @@ count_of s = s.count
 abbrev pub failed : Up → Powered
 failed (up.Stop s) = Halts s
 failed (up.Unusable u) = Fails u.cause u.place
+
+-- the end of the work on a device, before there is a store
+abbrev pub prepared : Result Ready Up → Powered
+prepared (Ok r) = Runs r.writes r.count
+prepared (Err u) = failed u
+
+-- the end of a recovery alone
+abbrev pub recovered : Result ℕ Up → Powered
+recovered (Ok n) = Runs n 0
+recovered (Err u) = failed u
 
 -- the end of a power-up
 abbrev pub powered : {N : Type 0} → Result (Store N × ℕ) (N × Up) → Powered
