@@ -5,6 +5,7 @@ pub mod HeapLemmas
 pub mod JournalLemmas
 pub mod MigrationLemmas
 pub mod PowerLemmas
+pub mod ChangeLemmas
 pub mod RecoverLemmas
 pub mod SlotLemmas
 pub mod ReadLemmas

@@ -16,3 +16,4 @@ pub mod Commits
 pub mod Places
 pub mod Turns
 pub mod Laws
+pub mod Did

@@ -18,6 +18,7 @@ use Rattle.mc_blocks.proofs.Bridge.{Laid, laid, AreNamed, named, Faultless, faul
 use Rattle.mc_blocks.proofs.Applications.{few-blocks, lookup-insert}
 use Rattle.mc_blocks.proofs.Maps.{has-self, has-more, names-apart}
 use Rattle.mc_blocks.proofs.Built.{Built, Stands, built, SameBlock, same-block, root-good, chain-parts}
+use Rattle.mc_store.specs.Slots.{IsBlock}
 use Rattle.mc_store.specs.Sections.{length-section, same-cells, same-section}
 
 -- ---- blocks that stay
@@ -117,6 +118,9 @@ here-is m n p words fixed image low h good s =
 -- the application of this name among the blocks from q on, with these static bytes
 record Again (m n : List (List ℕ)) (names : List (List ℕ)) (k : List ℕ) (a : App) (fixed : List ℕ) (q : ℕ) (bs : List Block) : Type 0 where
   low : q ≤ a.place
+  self : app_at m a.place ≡ a
+  name : name_at m a.place ≡ k
+  block : IsBlock m a.place
   ends : static_from a + up (length a.fixed) 8 ≤ length m
   read : AreRead n bs
   named : AreNamed n names bs
@@ -126,6 +130,9 @@ record Again (m n : List (List ℕ)) (names : List (List ℕ)) (k : List ℕ) (a
 -- one block of it
 record Step (m n : List (List ℕ)) (names : List (List ℕ)) (k : List ℕ) (a : App) (fixed : List ℕ) (b : Block) (bs : List Block) (u : Bool) : Type 0 where
   low : b.place ≤ a.place
+  self : app_at m a.place ≡ a
+  name : name_at m a.place ≡ k
+  block : IsBlock m a.place
   ends : static_from a + up (length a.fixed) 8 ≤ length m
   same : word n b.place ≡ word m b.place
   read : AreRead n bs
@@ -153,7 +160,7 @@ again-kind : (m n : List (List ℕ)) (names : List (List ℕ)) (k : List ℕ) (a
 again-kind m n names k a fixed b bs false t image heap long h above s e nm rest stay l =
     let g = rest names nm l in
     let low : b.place + b.words ≤ a.place = g.low in
-    record { low = omega arith; ends = g.ends; same = s.words b.place heap (inl (omega arith)); read = g.read; named = g.named; apps = g.apps; apart = λ p need room. hole-apart p need b.place b.words a.place (static_from a + up (length a.fixed) 8) (hole_spans bs) low room (g.apart p need) }
+    record { low = omega arith; self = g.self; name = g.name; block = g.block; ends = g.ends; same = s.words b.place heap (inl (omega arith)); read = g.read; named = g.named; apps = g.apps; apart = λ p need room. hole-apart p need b.place b.words a.place (static_from a + up (length a.fixed) 8) (hole_spans bs) low room (g.apart p need) }
 again-kind m n names k a fixed b bs true true image heap long h above s e nm rest stay l =
     let x = name_at m b.place in
     let is : Some (app_at m b.place) ≡ Some a = sym (lookup-insert (apps_of m bs) x k (app_at m b.place) ∙ ap (λ (y : Bool). cond y (Some (app_at m b.place)) (lookup (apps_of m bs) k)) e) ∙ l in
@@ -168,6 +175,9 @@ again-kind m n names k a fixed b bs true true image heap long h above s e nm res
     let app : app_at n b.place ≡ record a { fixed = fixed } = here.app ∙ ap (λ (y : App). record y { fixed = fixed }) same in
     record {
       low = omega (arith, place);
+      self = ap (λ (y : ℕ). app_at m y) (sym place) ∙ same;
+      name = ap (λ (y : ℕ). name_at m y) (sym place) ∙ same_name x k e;
+      block = subst (λ (y : ℕ). IsBlock m y) place (record { words = b.words; good = nm.0; end = h });
       ends = omega (arith, ends);
       same = s.words b.place heap (inl (omega (arith, place)));
       read = behind.read;
@@ -187,6 +197,9 @@ again-kind m n names k a fixed b bs true false image heap long h above s e nm re
     let name : name_at n b.place ≡ x = ap name_in block.entry in
     record {
       low = omega arith;
+      self = g.self;
+      name = g.name;
+      block = g.block;
       ends = g.ends;
       same = s.words b.place heap (inl (omega arith));
       read = g.read;
@@ -212,6 +225,9 @@ again-all m n names k a fixed q f (b ∷ bs) end image heap t r nm s l =
     let head = header-same m n b s.size g.same r.0 r.1 in
     record {
       low = omega (arith, place, g.low);
+      self = g.self;
+      name = g.name;
+      block = g.block;
       ends = g.ends;
       read = (head.0, head.1, g.read);
       named = g.named;
@@ -252,14 +268,17 @@ restates m n k a fixed image h there root s =
           ∙ ap (λ (x : List (List ℕ × App)). record { size = length m; layout = slice_index (word m 0) 3; apps = x }) (ap (λ (y : List Block). apps_of n y) stands.blocks ∙ g.apps);
     }
 
--- where the static bytes of an application lie: in the heap, and in no hole
-pub record StaticIn (m : List (List ℕ)) (a : App) : Type 0 where
+-- an application is what its block says, and its static bytes lie in the heap, and in no hole
+pub record StaticIn (m : List (List ℕ)) (k : List ℕ) (a : App) : Type 0 where
   pub low : 131 ≤ a.place
+  pub self : app_at m a.place ≡ a
+  pub name : name_at m a.place ≡ k
+  pub block : IsBlock m a.place
   pub ends : static_from a + up (length a.fixed) 8 ≤ length m
   pub bytes : section m (static_from a) (length a.fixed) ≡ a.fixed
   pub apart : (p need : ℕ) → has_room p need (hole_spans (blocks m)) ≡ true → (p + need ≤ a.place) ⊎ (static_from a + up (length a.fixed) 8 ≤ p)
 
-pub static-in : (m : List (List ℕ)) (k : List ℕ) (a : App) → IsImage m → words_fault m ≡ None → lookup (card_of m).apps k ≡ Some a → StaticIn m a
+pub static-in : (m : List (List ℕ)) (k : List ℕ) (a : App) → IsImage m → words_fault m ≡ None → lookup (card_of m).apps k ≡ Some a → StaticIn m k a
 static-in m k a image h there =
     let f : Faultless m = faultless m h in
     let l : Laid m = laid m image h in
@@ -271,4 +290,4 @@ static-in m k a image h there =
     sym there ∙ ap (λ (es : List (List ℕ × App)). lookup es k) g.apps ∙ lookup-insert (apps_of m bs) k k (record a { fixed = now })
     ∙ ap (λ (t : Bool). cond t (Some (record a { fixed = now })) (lookup (apps_of m bs) k)) (name_is_itself k) in
     let same : a ≡ record a { fixed = now } = cc in
-    record { low = g.low; ends = g.ends; bytes = sym (ap (λ (y : App). y.fixed) same); apart = g.apart }
+    record { low = g.low; self = g.self; name = g.name; block = g.block; ends = g.ends; bytes = sym (ap (λ (y : App). y.fixed) same); apart = g.apart }

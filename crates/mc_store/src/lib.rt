@@ -2,6 +2,8 @@
 
 // A card in the words of a device: its power-up, and the bank of its applications.
 mod block;
+mod changes;
+mod filling;
 mod place;
 mod power;
 mod reads;
