@@ -9,3 +9,5 @@ pub mod ChangeLemmas
 pub mod RecoverLemmas
 pub mod SlotLemmas
 pub mod ReadLemmas
+pub mod BankLemmas
+pub mod SiteLemmas

@@ -4,6 +4,7 @@ ghost use Rattle.mc_store.specs.Power.{power_writes, power_answer, powered, devi
 
 use crate::block::{facts_at, find_block};
 use crate::changes;
+use crate::filling;
 use crate::power::{Ready, Up, prepare};
 use crate::room::find_room;
 use crate::reads::read_section;
@@ -97,7 +98,7 @@ impl<N: Nvm> Bank for Store<N> {
     }
 
     fn commit(&mut self, slot: Slot, list: &[(u16, Word)]) -> Result<(), Stop> {
-        changes::commit(self, slot, list)
+        changes::commit(self, slot.index(), list)
     }
 
     fn open<L: Ledger>(&self, sizes: &Sizes, steps: &mut Steps<L>) -> Result<Site, OpenRefusal> {
@@ -105,14 +106,14 @@ impl<N: Nvm> Bank for Store<N> {
     }
 
     fn fill(&mut self, site: &Site, part: Part, at: u16, piece: &[u8]) -> Result<(), Stop> {
-        changes::fill(self, site, part, at, piece)
+        filling::fill(self, site, part, at, piece)
     }
 
     fn create(&mut self, site: &Site, aid: &Aid) -> Result<(), Stop> {
-        changes::create(self, site, aid)
+        filling::create(self, site, aid)
     }
 
     fn delete(&mut self, slot: Slot) -> Result<(), Stop> {
-        changes::delete(self, slot)
+        changes::delete(self, slot.index())
     }
 }
