@@ -11,3 +11,4 @@ pub mod SlotLemmas
 pub mod ReadLemmas
 pub mod BankLemmas
 pub mod SiteLemmas
+pub mod FoldLemmas
