@@ -8,3 +8,5 @@ pub mod PowerLemmas
 pub mod ChangeLemmas
 pub mod RecoverLemmas
 pub mod SlotLemmas
+pub mod FillLemmas
+pub mod FilledLemmas
