@@ -126,7 +126,7 @@ splice-parts l at k b le =
           ∙ ap (λ (x : List ℕ). splice l at x) (take-append-drop k b)
     ]
 
-left-then : (m n w : List (List ℕ)) (s : Site) (p : Part) (at k : ℕ) (b : List ℕ) → at ≤ length (part_in m s p) → PieceLeft m n s p at (take k b) → PieceLeft n w s p (at + k) (drop k b) → PieceLeft m w s p at b
+pub left-then : (m n w : List (List ℕ)) (s : Site) (p : Part) (at k : ℕ) (b : List ℕ) → at ≤ length (part_in m s p) → PieceLeft m n s p at (take k b) → PieceLeft n w s p (at + k) (drop k b) → PieceLeft m w s p at b
 left-then m n w s p at k b le x y =
     record {
       part = y.part ∙ ap (λ (l : List ℕ). splice l (at + k) (drop k b)) x.part ∙ splice-parts (part_in m s p) at k b le;

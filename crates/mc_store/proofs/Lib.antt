@@ -10,3 +10,4 @@ pub mod RecoverLemmas
 pub mod SlotLemmas
 pub mod FillLemmas
 pub mod FilledLemmas
+pub mod ItemLemmas
