@@ -374,3 +374,16 @@ module _ {N : Type 0} (state : N → DeviceState) (wrote : N → ℕ → List �
       → OnOk a ((o : Part) → o ≢ p → store_standing (state e.device) t o ≡ store_standing (state s.device) t o)
   fill_others s e t p at b (Ok tt) range h = (filled s e t p at b range h).others
   fill_others s e t p at b (Err x) range h = tt
+
+-- ---- good sites
+
+-- a site that is good by the bank is good in the words
+pub good_in : (d : DeviceState) (c : ℕ) (t : Site) → is_going d c ≡ true → IsGood (apps_in d.words) (store_room d) t → IsGoodIn d.words t
+good_in d c t going good =
+    let s : Standing d.words = standing-of d c (going_is d c going) in
+    record { limits = good.limits; few = subst (λ (n : ℕ). n < 32) (ap length (s.map ∙ sym s.apps)) good.few; place = good.place }
+
+pub fresh_in : (d : DeviceState) (c : ℕ) (n : List ℕ) → is_going d c ≡ true → lookup (apps_in d.words) n ≡ None → lookup (means d.words).apps n ≡ None
+fresh_in d c n going h =
+    let s : Standing d.words = standing-of d c (going_is d c going) in
+    ap (λ (es : List (List ℕ × App)). lookup es n) (s.apps ∙ sym s.map) ∙ h

@@ -12,3 +12,6 @@ pub mod ReadLemmas
 pub mod BankLemmas
 pub mod SiteLemmas
 pub mod FoldLemmas
+pub mod FillLemmas
+pub mod FilledLemmas
+pub mod ItemLemmas

@@ -57,13 +57,13 @@ pub record New (m w : List (List ℕ)) (apps : List (List ℕ × App)) : Type 0 
 
 -- ---- where a piece lies
 
-parted : (p : Part) (z : Sizes) (q at n : ℕ) → FitsLimits z → IsInWord (part_len p z) at n → (q < part_from p z q + down at 8) × (part_from p z q + down at 8 < q + needed_by z)
+pub parted : (p : Part) (z : Sizes) (q at n : ℕ) → FitsLimits z → IsInWord (part_len p z) at n → (q < part_from p z q + down at 8) × (part_from p z q + down at 8 < q + needed_by z)
 parted Code z q at n limits i = let some = i.some in let ends = i.section in (omega arith, omega arith)
 parted Data z q at n limits i = let some = i.some in let ends = i.section in let few = limits.init in (omega arith, omega arith)
 parted Dir z q at n limits i = let some = i.some in let ends = i.section in (omega arith, omega arith)
 parted Fci z q at n limits i = let some = i.some in let ends = i.section in (omega arith, omega arith)
 
-blanked : (z : Sizes) (q at n : ℕ) → IsInWord z.fixed at n → (q < part_from Data z q + down at 8) × (part_from Data z q + down at 8 < q + needed_by z)
+pub blanked : (z : Sizes) (q at n : ℕ) → IsInWord z.fixed at n → (q < part_from Data z q + down at 8) × (part_from Data z q + down at 8 < q + needed_by z)
 blanked z q at n i = let some = i.some in let ends = i.section in (omega arith, omega arith)
 
 pub some-is : {A : Type 0} → (o : Option A) → IsSome o → (x : A) × (o ≡ Some x)

@@ -4,6 +4,7 @@ ghost use Rattle.mc_store.specs.Power.{power_writes, power_answer, powered, devi
 
 use crate::block::{facts_at, find_block};
 use crate::changes;
+use crate::creation;
 use crate::filling;
 use crate::power::{Ready, Up, prepare};
 use crate::room::find_room;
@@ -110,7 +111,7 @@ impl<N: Nvm> Bank for Store<N> {
     }
 
     fn create(&mut self, site: &Site, aid: &Aid) -> Result<(), Stop> {
-        filling::create(self, site, aid)
+        creation::create(self, site, aid)
     }
 
     fn delete(&mut self, slot: Slot) -> Result<(), Stop> {
