@@ -250,7 +250,7 @@ module _ (m : List (List ℕ)) (low : 256 ≤ length m) (high : length m ≤ 163
         by = λ ne. absurd (ne refl);
       }
 
-  fault_writes : (f : Cause × ℕ) → fault m ≡ Some f → laid m (power_writes m) ≡ settled m
+  pub fault_writes : (f : Cause × ℕ) → fault m ≡ Some f → laid m (power_writes m) ≡ settled m
   fault_writes f h = laid_all ∙ ap (λ (o : Option (Cause × ℕ)). laid (settled m) (migrating (base_of o m) (settled m))) h
 
   pub fault_base : IsBase (found m) 0 One (settled m)

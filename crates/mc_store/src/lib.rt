@@ -5,6 +5,7 @@ mod block;
 mod changes;
 mod creation;
 mod filling;
+mod laws;
 mod place;
 mod power;
 mod reads;
@@ -12,5 +13,6 @@ mod room;
 mod section;
 mod store;
 
+pub use laws::{power_ends, power_stops};
 pub use power::Up;
 pub use store::Store;

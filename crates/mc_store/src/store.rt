@@ -1,6 +1,6 @@
 ghost use Rattle.std.specs.Prelude.{◌≡◌, true};
 ghost use Rattle.mc_model.specs.Device.{Makes};
-ghost use Rattle.mc_store.specs.Power.{power_writes, power_answer, powered, device_after, PowersUp};
+ghost use Rattle.mc_store.specs.Power.{power_writes, power_answer, powered, device_of, device_after, PowersUp};
 
 use crate::block::{facts_at, find_block};
 use crate::changes;
@@ -40,7 +40,7 @@ impl<N: Nvm> Store<N> {
 
     /// The device, whose words are the card.
     pub fn into_dev(self) -> N
-        ensures { result ≡ self.device }
+        ensures { result ≡ device_of self }
     {
         let Store { device, count: _ } = self;
         device
