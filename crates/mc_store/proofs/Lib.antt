@@ -15,3 +15,4 @@ pub mod FoldLemmas
 pub mod FillLemmas
 pub mod FilledLemmas
 pub mod ItemLemmas
+pub mod StopLemmas

@@ -39,7 +39,7 @@ pub record Settles (m : List (List ℕ)) : Type 0 where
   pub found : found (settled m) ≡ found m
   pub card : fault m ≡ None → IsCard m
 
-closed_words : (m : List (List ℕ)) → look m ≡ Closed → after m ≡ Words m
+pub closed_words : (m : List (List ℕ)) → look m ≡ Closed → after m ≡ Words m
 closed_words m h = ap (λ (l : Look). replayed m l) h
 
 module _ (m : List (List ℕ)) (low : 256 ≤ length m) where
@@ -128,7 +128,7 @@ card_is m c h = card_by (fault m) m c refl h
 none_is_card : (m : List (List ℕ)) → fault m ≡ None → found m ≡ OnCard (means m)
 none_is_card m h = ap (λ (o : Option (Cause × ℕ)). base_of o m) h
 
-raw_card : (w : List (List ℕ)) (c : Card) → words_fault w ≡ None → card_of w ≡ c → raw w ≡ OnCard c
+pub raw_card : (w : List (List ℕ)) (c : Card) → words_fault w ≡ None → card_of w ≡ c → raw w ≡ OnCard c
 raw_card w c f e = ap (λ (o : Option (Cause × ℕ)). base_in o (card_of w)) f ∙ ap OnCard e
 
 module _ (m : List (List ℕ)) (low : 256 ≤ length m) (high : length m ≤ 16384) where

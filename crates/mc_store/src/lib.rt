@@ -13,6 +13,6 @@ mod room;
 mod section;
 mod store;
 
-pub use laws::{power_ends, power_stops};
+pub use laws::{item_stops, power_ends, power_stops};
 pub use power::Up;
 pub use store::Store;
