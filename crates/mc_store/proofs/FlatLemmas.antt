@@ -83,6 +83,7 @@ module _ (m : List (List ℕ)) (image : IsImage m) where
           let both : length (take (8 * q + 8) (flat m)) ≡ length (take (8 * q) (flat m)) + length (take 8 (drop (8 * q) (flat m))) = ap length (take_sum (8 * q) 8 (flat m)) ∙ length-append (take (8 * q) (flat m)) (take 8 (drop (8 * q) (flat m))) in
           let before : length (take (8 * q) (flat m)) ≡ 8 * q = upto q (omega arith) in
           ap (λ (n : ℕ). length (take n (flat m))) more ∙ omega (arith, both, before, long)
+
       flat_length : (n : ℕ) → length m ≡ n → length (flat m) ≡ 8 * length m
       flat_length n e =
           let whole : length (take (8 * length m) (flat m)) ≡ 8 * length m = upto (length m) (omega arith) in
@@ -116,14 +117,14 @@ module _ (m : List (List ℕ)) (image : IsImage m) where
       let is : put_mid a (length into - a) into new ≡ take a into ++ new = put_end a into new low long in (
         ap length is ∙ length-append (take a into) new ∙ omega (arith, front, long),
         ap (λ (l : List ℕ). take (a + r) l) is
-        ∙ take_sum a r (take a into ++ new)
-        ∙ ap (λ (l : List ℕ). l ++ take r (drop a (take a into ++ new))) (take_at (take a into) new a front)
-        ∙ ap (λ (l : List ℕ). take a into ++ take r l) (drop_at (take a into) new a front)
-        ∙ ap (λ (l : List ℕ). take a into ++ take r l) copied
-        ∙ ap (λ (l : List ℕ). take a into ++ l) (take_at piece (drop (0 + length piece) sub) r size)
-        ∙ ap (λ (l : List ℕ). l ++ piece) before
-        ∙ ap (λ (l : List ℕ). take a (drop from (flat m)) ++ take r l) (sym (drop-drop a from (flat m)))
-        ∙ sym (take_sum a r (drop from (flat m))),
+            ∙ take_sum a r (take a into ++ new)
+            ∙ ap (λ (l : List ℕ). l ++ take r (drop a (take a into ++ new))) (take_at (take a into) new a front)
+            ∙ ap (λ (l : List ℕ). take a into ++ take r l) (drop_at (take a into) new a front)
+            ∙ ap (λ (l : List ℕ). take a into ++ take r l) copied
+            ∙ ap (λ (l : List ℕ). take a into ++ l) (take_at piece (drop (0 + length piece) sub) r size)
+            ∙ ap (λ (l : List ℕ). l ++ piece) before
+            ∙ ap (λ (l : List ℕ). take a (drop from (flat m)) ++ take r l) (sym (drop-drop a from (flat m)))
+            ∙ sym (take_sum a r (drop from (flat m))),
       )
 
   -- a section as a part of all bytes

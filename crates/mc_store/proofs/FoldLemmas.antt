@@ -270,16 +270,17 @@ module _ {N : Type 0} (state : N → DeviceState) (wrote : N → ℕ → List �
         | inl done ↦ enter_done done.0 a done.1 done.2
         | inr stop ↦ subst (λ (x : Answer). Created s e t n x) (sym stop.2) (entered_by e (Err stop.0) stop.1)
       ]
-      where
-        entered_by : (m : Store N) (b : Answer) → store_did state wrote s (Enter t n) b m → Created s m t n b
-        entered_by m b did =
-            record {
-              apps = store_obeys state wrote obeys s.device m.device s.count m.count (Enter t n) b did;
-              slots = λ k l is. store_keeps state wrote obeys s.device m.device s.count m.count (Enter t n) b did k l is tt;
-            }
-        enter_done : (m : Store N) (b : Answer) → store_did state wrote s (Enter t n) (Ok tt) m → InOrder (store_did state wrote) m [] b e → Created s e t n b
-        enter_done m (Ok tt) did same = subst (λ (x : Store N). Created s x t n (Ok tt)) (sym same) (entered_by m (Ok tt) did)
-        enter_done m (Err x) did same = absurd same
+    where
+      entered_by : (m : Store N) (b : Answer) → store_did state wrote s (Enter t n) b m → Created s m t n b
+      entered_by m b did =
+          record {
+            apps = store_obeys state wrote obeys s.device m.device s.count m.count (Enter t n) b did;
+            slots = λ k l is. store_keeps state wrote obeys s.device m.device s.count m.count (Enter t n) b did k l is tt;
+          }
+
+      enter_done : (m : Store N) (b : Answer) → store_did state wrote s (Enter t n) (Ok tt) m → InOrder (store_did state wrote) m [] b e → Created s e t n b
+      enter_done m (Ok tt) did same = subst (λ (x : Store N). Created s x t n (Ok tt)) (sym same) (entered_by m (Ok tt) did)
+      enter_done m (Err x) did same = absurd same
 
   pub all_created : (is : List BankItem) (s e : Store N) (t : Site) (n : List ℕ) (a : Answer) → AllByRecursion (IsQuiet t) is → InOrder (store_did state wrote) s (is ++ Enter t n ∷ []) a e → Created s e t n a
   all_created [] s e t n a quiet h = enter_created s e t n a h
@@ -354,11 +355,11 @@ module _ {N : Type 0} (state : N → DeviceState) (wrote : N → ℕ → List �
             laid_parts (store_standing (state s.device) t p) at (x ∷ xs) (omega (arith, size, range))
         | inr stop ↦ absurd (cc stop.2)
       ]
-      where
-        site_size : (u m : Store N) (q : Site) (o : Part) (i : ℕ) (c : List ℕ) (a : Answer) → store_did state wrote u (Piece q o i c) a m → length (store_standing (state u.device) q o) ≡ part_len o q.sizes
-        site_size u m q o i c a did =
-            ap length (stands_now state wrote obeys u q o did.going)
-            ∙ part_length (state u.device).words did.image q did.allowed.0.limits (site_ends state wrote obeys u m (Piece q o i c) a q did did.allowed.0) o
+    where
+      site_size : (u m : Store N) (q : Site) (o : Part) (i : ℕ) (c : List ℕ) (a : Answer) → store_did state wrote u (Piece q o i c) a m → length (store_standing (state u.device) q o) ≡ part_len o q.sizes
+      site_size u m q o i c a did =
+          ap length (stands_now state wrote obeys u q o did.going)
+          ∙ part_length (state u.device).words did.image q did.allowed.0.limits (site_ends state wrote obeys u m (Piece q o i c) a q did did.allowed.0) o
 
   pub filled : (s e : Store N) (t : Site) (p : Part) (at : ℕ) (b : List ℕ) → at + length b ≤ part_len p t.sizes → InOrder (store_did state wrote) s (map (λ c. Piece t p c.0 c.1) (word_parts at b)) (Ok tt) e
       → Filled state wrote obeys s e t p (splice (store_standing (state s.device) t p) at b)

@@ -82,9 +82,9 @@ module _ (m : List (List ℕ)) (low : 256 ≤ length m) where
         found = ap found same ∙ found_after w w (closed_words w closed) ∙ sym (found_after m w all);
         card = λ f. record { closed = ap look same ∙ closed; fault = fault_pending h f; card = refl };
       }
-      where
-        fault_pending : look m ≡ Pending j ps → fault m ≡ None → words_fault (settled m) ≡ None
-        fault_pending e f = sym (ap (λ (l : Look). fault_of l m) e) ∙ f
+    where
+      fault_pending : look m ≡ Pending j ps → fault m ≡ None → words_fault (settled m) ≡ None
+      fault_pending e f = sym (ap (λ (l : Look). fault_of l m) e) ∙ f
 
   settles_by : (l : Look) → look m ≡ l → Settles m
   settles_by (Refused p) h = settles_refused p h
@@ -187,13 +187,13 @@ module _ (m : List (List ℕ)) (low : 256 ≤ length m) (high : length m ≤ 163
       let b = migrating (found m) (settled m) in
       let many : length a ≡ owed m = s.count in (
         λ early.
-        subst (λ (n : List (List ℕ)). IsBase (found m) (remains (owing (which m)) (owed m - 1) k x) (owing (which m)) n) (sym (torn-within m a b k x first (omega (arith, many, early))))
-        (recovery_part m low k x first early),
+            subst (λ (n : List (List ℕ)). IsBase (found m) (remains (owing (which m)) (owed m - 1) k x) (owing (which m)) n) (sym (torn-within m a b k x first (omega (arith, many, early))))
+            (recovery_part m low k x first early),
         λ late.
-        let j = k - owed m in
-        let e : torn m (a ++ b) k x ≡ torn (settled m) b j x = torn-past m a b k j x (omega (arith, late)) (omega (arith, many, late)) ∙ ap (λ (n : List (List ℕ)). torn n b j x) s.laid in
-        subst (λ (n : List (List ℕ)). IsBase (cond (stands One 1 j x) (migrated (found m)) (found m)) (owes One 1 j x) One n) (sym e)
-        (migration_part (found m) j x refl (omega (arith, late)) (omega (arith, late, last))),
+            let j = k - owed m in
+            let e : torn m (a ++ b) k x ≡ torn (settled m) b j x = torn-past m a b k j x (omega (arith, late)) (omega (arith, many, late)) ∙ ap (λ (n : List (List ℕ)). torn n b j x) s.laid in
+            subst (λ (n : List (List ℕ)). IsBase (cond (stands One 1 j x) (migrated (found m)) (found m)) (owes One 1 j x) One n) (sym e)
+            (migration_part (found m) j x refl (omega (arith, late)) (omega (arith, late, last))),
       )
 
   -- done, the words of a card are those of a card of layout 2 that runs

@@ -31,13 +31,13 @@ part_ends m k p b =
     let fits : b.words ≡ needed_of (be2 (record_at m k) 20) (be2 (record_at m k) 22) (slice_index (record_at m k) 17) (slice_index (record_at m k) 18) = r.words in
     let end : k + b.words ≤ length m = b.end in
     by_part p fits end
-    where
-      by_part : (q : Part) → b.words ≡ needed_of (be2 (record_at m k) 20) (be2 (record_at m k) 22) (slice_index (record_at m k) 17) (slice_index (record_at m k) 18) → k + b.words ≤ length m
-          → part_from q (record_sizes (record_at m k)) k + up (part_len q (record_sizes (record_at m k))) 8 ≤ length m
-      by_part Code f e = omega (arith, f, e)
-      by_part Data f e = omega (arith, f, e)
-      by_part Dir f e = omega (arith, f, e)
-      by_part Fci f e = omega (arith, f, e)
+  where
+    by_part : (q : Part) → b.words ≡ needed_of (be2 (record_at m k) 20) (be2 (record_at m k) 22) (slice_index (record_at m k) 17) (slice_index (record_at m k) 18) → k + b.words ≤ length m
+        → part_from q (record_sizes (record_at m k)) k + up (part_len q (record_sizes (record_at m k))) 8 ≤ length m
+    by_part Code f e = omega (arith, f, e)
+    by_part Data f e = omega (arith, f, e)
+    by_part Dir f e = omega (arith, f, e)
+    by_part Fci f e = omega (arith, f, e)
 
 part_is : (m : List (List ℕ)) (k : ℕ) (p : Part) → part_of_app p (app_at m k) ≡ section m (part_from p (record_sizes (record_at m k)) k) (part_len p (record_sizes (record_at m k)))
 part_is m k Code = refl
@@ -134,12 +134,12 @@ site_parts d c s image h good p =
     let at : AtSite m s = at-site m s image g.closed (well_laid d c h) (record { limits = good.limits; few = fewer; place = good.place }) in
     ap (λ (w : List (List ℕ)). length (section w (part_from p s.sizes s.place) (part_len p s.sizes))) (closed_settled m g.closed)
     ∙ length-section m (part_from p s.sizes s.place) (part_len p s.sizes) image (by_part p good.limits at.ends)
-    where
-      by_part : (q : Part) → FitsLimits s.sizes → s.place + needed_by s.sizes ≤ length d.words → part_from q s.sizes s.place + up (part_len q s.sizes) 8 ≤ length d.words
-      by_part Code l e = omega (arith, e)
-      by_part Data l e = let init = l.init in omega (arith, e, init)
-      by_part Dir l e = omega (arith, e)
-      by_part Fci l e = omega (arith, e)
+  where
+    by_part : (q : Part) → FitsLimits s.sizes → s.place + needed_by s.sizes ≤ length d.words → part_from q s.sizes s.place + up (part_len q s.sizes) 8 ≤ length d.words
+    by_part Code l e = omega (arith, e)
+    by_part Data l e = let init = l.init in omega (arith, e, init)
+    by_part Dir l e = omega (arith, e)
+    by_part Fci l e = omega (arith, e)
 
 pub open_parts : (d : DeviceState) (c : ℕ) (r : Result Site OpenRefusal) → IsImage d.words → not (is_going d c) ≡ false → IfOk r (λ site. IsGood (apps_in d.words) (store_room d) site) → IfOk r (λ site. HasParts site (store_standing d site))
 open_parts d c (Ok s) image h good = site_parts d c s image h good

@@ -26,8 +26,7 @@ pub writes-apart : (size : ℕ) (list : List (ℕ × List ℕ)) → size ≤ 163
 writes-apart size list high atomic =
     let geo : Geometry Two size list = geometry Two size list high atomic in
     all-append (λ p. p.0 ≢ 1) (entries Two list) ((2, numbered (length list)) ∷ (gate Two, opening Two) ∷ replay Two list)
-    (all-map (λ p. InEntries Two p.0) (λ p. p.0 ≢ 1) (λ p inside e. let low : 3 ≤ p.0 = inside.low in absurd (omega (arith, e))) (entries Two list) geo.places)
-    (
+    (all-map (λ p. InEntries Two p.0) (λ p. p.0 ≢ 1) (λ p inside e. let low : 3 ≤ p.0 = inside.low in absurd (omega (arith, e))) (entries Two list) geo.places) (
       (λ e. absurd (omega (arith, e))),
       ((λ e. absurd (omega (arith, e))), all-append (λ p. p.0 ≢ 1) list ((gate Two, shut) ∷ []) (targets-apart size list atomic) ((λ e. absurd (omega (arith, e))), tt)),
     )

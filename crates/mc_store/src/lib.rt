@@ -14,5 +14,6 @@ mod section;
 mod store;
 
 pub use laws::{item_stops, power_ends, power_stops};
+pub use mc_blocks::Unusable;
 pub use power::Up;
 pub use store::Store;

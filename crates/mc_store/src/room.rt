@@ -40,7 +40,11 @@ pub fn find_room<N: Nvm, L: Ledger>(
 }
 
 // The same where fewer than 32 applications are there.
-fn first_room<N: Nvm, L: Ledger>(device: &N, sizes: &Sizes, steps: &mut Steps<L>) -> Result<Site, OpenRefusal>
+fn first_room<N: Nvm, L: Ledger>(
+    device: &N,
+    sizes: &Sizes,
+    steps: &mut Steps<L>,
+) -> Result<Site, OpenRefusal>
     requires image { IsImage (N.state device.now).words }
     requires closed { look (N.state device.now).words ≡ Closed }
     requires laid { IsWellLaid (N.state device.now).words }

@@ -3,12 +3,10 @@ ghost use Rattle.mc_model.specs.Device.{Makes};
 ghost use Rattle.mc_store.specs.Power.{power_writes, power_answer, powered, device_of, device_after, PowersUp};
 
 use crate::block::{facts_at, find_block};
-use crate::changes;
-use crate::creation;
-use crate::filling;
 use crate::power::{Ready, Up, prepare};
-use crate::room::find_room;
 use crate::reads::read_section;
+use crate::room::find_room;
+use crate::{changes, creation, filling};
 use mc_bank::{Bank, Facts, OpenRefusal, Part, Site, Sizes, Slot};
 use mc_base::{Aid, Steps, Stop, Word};
 use mc_nvm::Nvm;
@@ -16,6 +14,7 @@ use std::sync::ledger::Ledger;
 
 /// The applications of a card, in the words of its device. It keeps the number of applications, so that a search for
 /// room reads no more than the chain of holes.
+#[derive(Drop)]
 pub struct Store<N: Nvm> {
     pub(crate) device: N,
     pub(crate) count: u16,
