@@ -11,3 +11,4 @@ pub mod SlotLemmas
 pub mod FillLemmas
 pub mod FilledLemmas
 pub mod ItemLemmas
+pub mod CreateLemmas

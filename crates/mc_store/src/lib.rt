@@ -3,6 +3,7 @@
 // A card in the words of a device: its power-up, and the bank of its applications.
 mod block;
 mod changes;
+mod creation;
 mod filling;
 mod place;
 mod power;
