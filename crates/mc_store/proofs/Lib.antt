@@ -12,3 +12,5 @@ pub mod FillLemmas
 pub mod FilledLemmas
 pub mod ItemLemmas
 pub mod CreateLemmas
+pub mod ReadyLemmas
+pub mod EnterLemmas

@@ -26,6 +26,7 @@ pub fn create<N: Nvm>(store: &mut Store<N>, site: &Site, aid: &Aid) -> Result<()
     requires fresh { lookup (means (N.state store.old.device).words).apps aid.now ≡ None }
     ensures items { InOrder (store_did N.state N.wrote) store.old (create_items site.now aid.now) result store.new }
 {
+    let _size = store.device.len();
     let _name = aid.bytes();
     clear(store, site)?;
     note(store, site, aid)?;
