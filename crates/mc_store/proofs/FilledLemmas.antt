@@ -52,7 +52,7 @@ cells-piece m q k j r b image h fits =
     cells-append n k (suc j) q (omega (arith, size))
     ∙ ap (λ (l : List ℕ). l ++ cells n (q + k) (suc j)) (same-cells m n k q size (omega arith) (λ i low high. other i (λ e. absurd (omega (arith, e)))))
     ∙ ap (λ (l : List ℕ). a ++ l) (cells-more n (q + k) j (omega (arith, size)) ∙ ap (λ (l : List ℕ). l ++ cells n (q + k + 1) j) (get_or-set_same m (q + k) x [] (omega arith))
-    ∙ ap (λ (l : List ℕ). x ++ l) (same-cells m n j (q + k + 1) size (omega arith) (λ i low high. other i (λ e. absurd (omega (arith, e))))))in
+    ∙ ap (λ (l : List ℕ). x ++ l) (same-cells m n j (q + k + 1) size (omega arith) (λ i low high. other i (λ e. absurd (omega (arith, e)))))) in
     let long : length a ≡ 8 * k = length-cells m k q image (omega arith) in
     let wide : length w ≡ 8 = image.words (q + k) (omega arith) in
     new ∙ sym (ap (λ (l : List ℕ). splice l (8 * k + r) b) old ∙ ap (λ (t : ℕ). splice (a ++ (w ++ c)) (t + r) b) (sym long) ∙ inside a w c b r (omega (arith, wide, fits)))

@@ -7,9 +7,11 @@ use Rattle.std.proofs.lemmas.Slice.{put_mid-paste}
 use Rattle.mc_model.specs.Bytes.{splice, up}
 use Rattle.mc_model.specs.Device.{IsImage}
 use Rattle.mc_model.specs.Card.{word, cells, section}
+use Rattle.std.proofs.lemmas.List.Folds.{concat-append}
+use Rattle.mc_store.specs.Sections.{length-cells}
 use Rattle.mc_store.specs.Slots.{flat}
 
-take_sum : (a b : ℕ) (l : List ℕ) → take (a + b) l ≡ take a l ++ take b (drop a l)
+pub take_sum : (a b : ℕ) (l : List ℕ) → take (a + b) l ≡ take a l ++ take b (drop a l)
 take_sum a b l =
     sym (take-append-drop a (take (a + b) l))
     ∙ ap (λ (x : List ℕ). x ++ drop a (take (a + b) l)) (take-take a (a + b) l (omega arith))
@@ -81,6 +83,7 @@ module _ (m : List (List ℕ)) (image : IsImage m) where
           let both : length (take (8 * q + 8) (flat m)) ≡ length (take (8 * q) (flat m)) + length (take 8 (drop (8 * q) (flat m))) = ap length (take_sum (8 * q) 8 (flat m)) ∙ length-append (take (8 * q) (flat m)) (take 8 (drop (8 * q) (flat m))) in
           let before : length (take (8 * q) (flat m)) ≡ 8 * q = upto q (omega arith) in
           ap (λ (n : ℕ). length (take n (flat m))) more ∙ omega (arith, both, before, long)
+
       flat_length : (n : ℕ) → length m ≡ n → length (flat m) ≡ 8 * length m
       flat_length n e =
           let whole : length (take (8 * length m) (flat m)) ≡ 8 * length m = upto (length m) (omega arith) in
@@ -114,12 +117,38 @@ module _ (m : List (List ℕ)) (image : IsImage m) where
       let is : put_mid a (length into - a) into new ≡ take a into ++ new = put_end a into new low long in (
         ap length is ∙ length-append (take a into) new ∙ omega (arith, front, long),
         ap (λ (l : List ℕ). take (a + r) l) is
-        ∙ take_sum a r (take a into ++ new)
-        ∙ ap (λ (l : List ℕ). l ++ take r (drop a (take a into ++ new))) (take_at (take a into) new a front)
-        ∙ ap (λ (l : List ℕ). take a into ++ take r l) (drop_at (take a into) new a front)
-        ∙ ap (λ (l : List ℕ). take a into ++ take r l) copied
-        ∙ ap (λ (l : List ℕ). take a into ++ l) (take_at piece (drop (0 + length piece) sub) r size)
-        ∙ ap (λ (l : List ℕ). l ++ piece) before
-        ∙ ap (λ (l : List ℕ). take a (drop from (flat m)) ++ take r l) (sym (drop-drop a from (flat m)))
-        ∙ sym (take_sum a r (drop from (flat m))),
+            ∙ take_sum a r (take a into ++ new)
+            ∙ ap (λ (l : List ℕ). l ++ take r (drop a (take a into ++ new))) (take_at (take a into) new a front)
+            ∙ ap (λ (l : List ℕ). take a into ++ take r l) (drop_at (take a into) new a front)
+            ∙ ap (λ (l : List ℕ). take a into ++ take r l) copied
+            ∙ ap (λ (l : List ℕ). take a into ++ l) (take_at piece (drop (0 + length piece) sub) r size)
+            ∙ ap (λ (l : List ℕ). l ++ piece) before
+            ∙ ap (λ (l : List ℕ). take a (drop from (flat m)) ++ take r l) (sym (drop-drop a from (flat m)))
+            ∙ sym (take_sum a r (drop from (flat m))),
+      )
+
+  -- a section as a part of all bytes
+  section_flat : (q n : ℕ) → q + up n 8 ≤ length m → section m q n ≡ take n (drop (8 * q) (flat m))
+  section_flat q n h =
+      let k = up n 8 in
+      let l = drop q m in
+      let whole : length (cells m q k) ≡ 8 * k = length-cells m k q image h in
+      let enough : n ≤ 8 * k = omega arith in
+      let parts : concat l ≡ concat (take k l) ++ concat (drop k l) = ap concat (sym (take-append-drop k l)) ∙ concat-append (take k l) (drop k l) in
+      sym (
+      ap (λ (x : List ℕ). take n x) (from_word q (omega arith) ∙ parts)
+      ∙ take-append-le n (cells m q k) (concat (drop k l)) (omega (arith, whole, enough))
+      )
+
+  -- and bytes of it
+  pub section_bytes : (q n at count : ℕ) → q + up n 8 ≤ length m → at + count ≤ n → take count (drop (8 * q + at) (flat m)) ≡ take count (drop at (section m q n))
+  section_bytes q n at count h few =
+      let x = drop (8 * q) (flat m) in
+      let split : n ≡ at + (n - at) = omega arith in
+      sym (
+      ap (λ (l : List ℕ). take count (drop at l)) (section_flat q n h)
+      ∙ ap (λ (k : ℕ). take count (drop at (take k x))) split
+      ∙ ap (λ (l : List ℕ). take count l) (drop-take at (n - at) x)
+      ∙ take-take count (n - at) (drop at x) (omega arith)
+      ∙ ap (λ (l : List ℕ). take count l) (drop-drop at (8 * q) (flat m))
       )

@@ -102,10 +102,10 @@ module _ (a b : List (List ℕ)) (same : SameHeap a b) where
       let is : HeaderIs p x k = header-is p x k e in
       let place : k.place ≡ p = is.place in
       by_test (nat_le (k.place + k.words) size) (omega arith) (h (k.place + k.words) (omega arith))
-      where
-        by_test : (s : Bool) → 131 ≤ k.place → AllByRecursion (λ (j : Block). 131 ≤ j.place) (f (k.place + k.words)) → AllByRecursion (λ (j : Block). 131 ≤ j.place) (cond s (k ∷ f (k.place + k.words)) [])
-        by_test true here rest = (here, rest)
-        by_test false here rest = tt
+    where
+      by_test : (s : Bool) → 131 ≤ k.place → AllByRecursion (λ (j : Block). 131 ≤ j.place) (f (k.place + k.words)) → AllByRecursion (λ (j : Block). 131 ≤ j.place) (cond s (k ∷ f (k.place + k.words)) [])
+      by_test true here rest = (here, rest)
+      by_test false here rest = tt
 
   high : (n p : ℕ) → 131 ≤ p → AllByRecursion (λ k. 131 ≤ k.place) (blocks_from n b p)
   unfolding blocks_from

@@ -77,6 +77,7 @@ closed_not j m true h = headed_not j m (count m) h
     aimed_not : (i : Journal) (n : List (List ℕ)) (r : Result (List ℕ) ℕ) → aimed i n r ≡ Closed → true ≡ false
     aimed_not i n (Ok ts) e = absurd (cc e)
     aimed_not i n (Err p) e = absurd (cc e)
+
     headed_not : (i : Journal) (n : List (List ℕ)) (o : Option ℕ) → headed i n o ≡ Closed → true ≡ false
     headed_not i n None e = absurd (cc e)
     headed_not i n (Some w) e = aimed_not i n (targets i n w) e
@@ -163,9 +164,9 @@ module _ (m : List (List ℕ)) (j : Journal) (ps : List (ℕ × List ℕ)) (low 
       (ap (λ (y : List ℕ). bytes_eq y (opening (other j))) (torn-other m (replay j ps) k x (gate (other j)) others_gate) ∙ p.shut)
       r.owed r.is
       (same_raw r.after (laid m (replay j ps)) size (omega (arith, size, long)) (λ i h. r.same.words i (not_gate j i h)))
-      where
-        not_gate : (g : Journal) (i : ℕ) → (i ≡ 0) ⊎ (131 ≤ i) → i ≢ gate g
-        not_gate One i (inl z) e = absurd (omega (arith, z, e))
-        not_gate One i (inr h) e = absurd (omega (arith, h, e))
-        not_gate Two i (inl z) e = absurd (omega (arith, z, e))
-        not_gate Two i (inr h) e = absurd (omega (arith, h, e))
+    where
+      not_gate : (g : Journal) (i : ℕ) → (i ≡ 0) ⊎ (131 ≤ i) → i ≢ gate g
+      not_gate One i (inl z) e = absurd (omega (arith, z, e))
+      not_gate One i (inr h) e = absurd (omega (arith, h, e))
+      not_gate Two i (inl z) e = absurd (omega (arith, z, e))
+      not_gate Two i (inr h) e = absurd (omega (arith, h, e))

@@ -8,9 +8,14 @@ pub mod PowerLemmas
 pub mod ChangeLemmas
 pub mod RecoverLemmas
 pub mod SlotLemmas
+pub mod ReadLemmas
+pub mod BankLemmas
+pub mod SiteLemmas
+pub mod FoldLemmas
 pub mod FillLemmas
 pub mod FilledLemmas
 pub mod ItemLemmas
 pub mod CreateLemmas
 pub mod ReadyLemmas
 pub mod EnterLemmas
+pub mod StopLemmas

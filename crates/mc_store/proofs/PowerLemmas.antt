@@ -39,7 +39,7 @@ pub record Settles (m : List (List ℕ)) : Type 0 where
   pub found : found (settled m) ≡ found m
   pub card : fault m ≡ None → IsCard m
 
-closed_words : (m : List (List ℕ)) → look m ≡ Closed → after m ≡ Words m
+pub closed_words : (m : List (List ℕ)) → look m ≡ Closed → after m ≡ Words m
 closed_words m h = ap (λ (l : Look). replayed m l) h
 
 module _ (m : List (List ℕ)) (low : 256 ≤ length m) where
@@ -82,9 +82,9 @@ module _ (m : List (List ℕ)) (low : 256 ≤ length m) where
         found = ap found same ∙ found_after w w (closed_words w closed) ∙ sym (found_after m w all);
         card = λ f. record { closed = ap look same ∙ closed; fault = fault_pending h f; card = refl };
       }
-      where
-        fault_pending : look m ≡ Pending j ps → fault m ≡ None → words_fault (settled m) ≡ None
-        fault_pending e f = sym (ap (λ (l : Look). fault_of l m) e) ∙ f
+    where
+      fault_pending : look m ≡ Pending j ps → fault m ≡ None → words_fault (settled m) ≡ None
+      fault_pending e f = sym (ap (λ (l : Look). fault_of l m) e) ∙ f
 
   settles_by : (l : Look) → look m ≡ l → Settles m
   settles_by (Refused p) h = settles_refused p h
@@ -128,7 +128,7 @@ card_is m c h = card_by (fault m) m c refl h
 none_is_card : (m : List (List ℕ)) → fault m ≡ None → found m ≡ OnCard (means m)
 none_is_card m h = ap (λ (o : Option (Cause × ℕ)). base_of o m) h
 
-raw_card : (w : List (List ℕ)) (c : Card) → words_fault w ≡ None → card_of w ≡ c → raw w ≡ OnCard c
+pub raw_card : (w : List (List ℕ)) (c : Card) → words_fault w ≡ None → card_of w ≡ c → raw w ≡ OnCard c
 raw_card w c f e = ap (λ (o : Option (Cause × ℕ)). base_in o (card_of w)) f ∙ ap OnCard e
 
 module _ (m : List (List ℕ)) (low : 256 ≤ length m) (high : length m ≤ 16384) where
@@ -187,13 +187,13 @@ module _ (m : List (List ℕ)) (low : 256 ≤ length m) (high : length m ≤ 163
       let b = migrating (found m) (settled m) in
       let many : length a ≡ owed m = s.count in (
         λ early.
-        subst (λ (n : List (List ℕ)). IsBase (found m) (remains (owing (which m)) (owed m - 1) k x) (owing (which m)) n) (sym (torn-within m a b k x first (omega (arith, many, early))))
-        (recovery_part m low k x first early),
+            subst (λ (n : List (List ℕ)). IsBase (found m) (remains (owing (which m)) (owed m - 1) k x) (owing (which m)) n) (sym (torn-within m a b k x first (omega (arith, many, early))))
+            (recovery_part m low k x first early),
         λ late.
-        let j = k - owed m in
-        let e : torn m (a ++ b) k x ≡ torn (settled m) b j x = torn-past m a b k j x (omega (arith, late)) (omega (arith, many, late)) ∙ ap (λ (n : List (List ℕ)). torn n b j x) s.laid in
-        subst (λ (n : List (List ℕ)). IsBase (cond (stands One 1 j x) (migrated (found m)) (found m)) (owes One 1 j x) One n) (sym e)
-        (migration_part (found m) j x refl (omega (arith, late)) (omega (arith, late, last))),
+            let j = k - owed m in
+            let e : torn m (a ++ b) k x ≡ torn (settled m) b j x = torn-past m a b k j x (omega (arith, late)) (omega (arith, many, late)) ∙ ap (λ (n : List (List ℕ)). torn n b j x) s.laid in
+            subst (λ (n : List (List ℕ)). IsBase (cond (stands One 1 j x) (migrated (found m)) (found m)) (owes One 1 j x) One n) (sym e)
+            (migration_part (found m) j x refl (omega (arith, late)) (omega (arith, late, last))),
       )
 
   -- done, the words of a card are those of a card of layout 2 that runs
@@ -250,7 +250,7 @@ module _ (m : List (List ℕ)) (low : 256 ≤ length m) (high : length m ≤ 163
         by = λ ne. absurd (ne refl);
       }
 
-  fault_writes : (f : Cause × ℕ) → fault m ≡ Some f → laid m (power_writes m) ≡ settled m
+  pub fault_writes : (f : Cause × ℕ) → fault m ≡ Some f → laid m (power_writes m) ≡ settled m
   fault_writes f h = laid_all ∙ ap (λ (o : Option (Cause × ℕ)). laid (settled m) (migrating (base_of o m) (settled m))) h
 
   pub fault_base : IsBase (found m) 0 One (settled m)

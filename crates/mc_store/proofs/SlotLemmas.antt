@@ -41,14 +41,14 @@ module _ (m : List (List ℕ)) where
       let rest = entries bs r.2 h.1 in
       let both = by_kind b.used refl rest.0 rest.1 in
       (subst (λ (es : List (List ℕ × App)). AllByRecursion (IsOf m) es) (sym (some-apps m b bs)) both.0, subst (λ (es : List (List ℕ × App)). AscendByName es) (sym (some-apps m b bs)) both.1)
-      where
-        by_kind : (t : Bool) → b.used ≡ t → AllByRecursion (IsOf m) (apps_of m bs) → AscendByName (apps_of m bs)
-            → AllByRecursion (IsOf m) (cond t (with-block m b bs) (apps_of m bs)) × AscendByName (cond t (with-block m b bs) (apps_of m bs))
-        by_kind true e each up = (
-          each-inserted (IsOf m) (apps_of m bs) (name_at m b.place) (app_at m b.place) (record { name = refl; app = refl; block = record { words = b.words; good = h.0 e; end = r.1 } }) each,
-          ascend-inserted (apps_of m bs) (name_at m b.place) (app_at m b.place) up,
-        )
-        by_kind false e each up = (each, up)
+    where
+      by_kind : (t : Bool) → b.used ≡ t → AllByRecursion (IsOf m) (apps_of m bs) → AscendByName (apps_of m bs)
+          → AllByRecursion (IsOf m) (cond t (with-block m b bs) (apps_of m bs)) × AscendByName (cond t (with-block m b bs) (apps_of m bs))
+      by_kind true e each up = (
+        each-inserted (IsOf m) (apps_of m bs) (name_at m b.place) (app_at m b.place) (record { name = refl; app = refl; block = record { words = b.words; good = h.0 e; end = r.1 } }) each,
+        ascend-inserted (apps_of m bs) (name_at m b.place) (app_at m b.place) up,
+      )
+      by_kind false e each up = (each, up)
 
   -- ---- found by a name
 
@@ -119,6 +119,7 @@ module _ (m : List (List ℕ)) where
           let same : e.0 ≡ n = same_name e.0 n b in
           let before : name_before n n ≡ true = subst (λ (x : List ℕ). name_before x n ≡ true) same h in
           absurd (cc (sym before ∙ not_after n n before))
+
       by_test : (t : Bool) → ((e.1).place == k) ≡ t → cond t (Some e.0) (name_of_place es k) ≡ Some n → (name_of_place es k ≡ Some n → IsHeld es k n) → IsHeld (e ∷ es) k n
       by_test true at j rest =
           let same : e.0 ≡ n = cc in

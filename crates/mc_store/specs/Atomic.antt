@@ -22,12 +22,11 @@ targets-apart : (size : ℕ) (list : List (ℕ × List ℕ)) → IsAtomic size l
 targets-apart size list atomic = targets-outside One size list 1 (targets-within size list atomic) (omega arith, omega arith)
 
 -- none of the writes names it
-writes-apart : (size : ℕ) (list : List (ℕ × List ℕ)) → size ≤ 16384 → IsAtomic size list → AllByRecursion (λ p. p.0 ≢ 1) (writes Two list)
+pub writes-apart : (size : ℕ) (list : List (ℕ × List ℕ)) → size ≤ 16384 → IsAtomic size list → AllByRecursion (λ p. p.0 ≢ 1) (writes Two list)
 writes-apart size list high atomic =
     let geo : Geometry Two size list = geometry Two size list high atomic in
     all-append (λ p. p.0 ≢ 1) (entries Two list) ((2, numbered (length list)) ∷ (gate Two, opening Two) ∷ replay Two list)
-    (all-map (λ p. InEntries Two p.0) (λ p. p.0 ≢ 1) (λ p inside e. let low : 3 ≤ p.0 = inside.low in absurd (omega (arith, e))) (entries Two list) geo.places)
-    (
+    (all-map (λ p. InEntries Two p.0) (λ p. p.0 ≢ 1) (λ p inside e. let low : 3 ≤ p.0 = inside.low in absurd (omega (arith, e))) (entries Two list) geo.places) (
       (λ e. absurd (omega (arith, e))),
       ((λ e. absurd (omega (arith, e))), all-append (λ p. p.0 ≢ 1) list ((gate Two, shut) ∷ []) (targets-apart size list atomic) ((λ e. absurd (omega (arith, e))), tt)),
     )

@@ -156,8 +156,7 @@ stands-app m w s n image ready ends size same =
     let c : section w (p + 5 + up z.code 8 + up z.fixed 8) z.dir ≡ section m (p + 5 + up z.code 8 + up z.fixed 8) z.dir = same-section m w (p + 5 + up z.code 8 + up z.fixed 8) z.dir size (omega arith) (λ i low high. same i (omega arith) (omega arith)) in
     let d : section w (p + 5 + up z.code 8 + up z.fixed 8 + up z.dir 8) z.fci ≡ section m (p + 5 + up z.code 8 + up z.fixed 8 + up z.dir 8) z.fci = same-section m w (p + 5 + up z.code 8 + up z.fixed 8 + up z.dir 8) z.fci size (omega arith) (λ i low high. same i (omega arith) (omega arith)) in
     let blank : section m (p + 5 + up z.code 8) z.fixed ≡ section m (p + 5 + up z.code 8) z.init ++ zeros (z.fixed - z.init) =
-    section-split m (p + 5 + up z.code 8) z.init z.fixed image init (omega arith) ∙ ap (λ (l : List ℕ). section m (p + 5 + up z.code 8) z.init ++ l) ready.blank in
-    (
+    section-split m (p + 5 + up z.code 8) z.init z.fixed image init (omega arith) ∙ ap (λ (l : List ℕ). section m (p + 5 + up z.code 8) z.init ++ l) ready.blank in (
       r,
       by-fields w p z n (record_at w p) (subst (λ (x : List ℕ). Fields z n x) (sym r) (fields z n limits ready.name))
           ∙ ap (λ (x : List ℕ). App-of p z.session z.deny x (section w (p + 5 + up z.code 8) z.fixed) (section w (p + 5 + up z.code 8 + up z.fixed 8) z.dir) (section w (p + 5 + up z.code 8 + up z.fixed 8 + up z.dir 8) z.fci)) a
@@ -207,5 +206,5 @@ creates-card m w s n image closed h ready alike =
     let name : name_at w p ≡ n = f.name in
     let left : Leaves m w (insert (means m).apps (name_at w p) (app_at w p)) =
     creates m w p need swaps image closed h (omega arith) site.room (planned m w (put_at p need (spans (means m))) image.low atomic new)
-        (is-record s.sizes n (record_at w p) ready.good.limits ready.name stands.0) (ap (λ (k : List ℕ). lookup (means m).apps k) name ∙ ready.fresh) ready.good.few in
+    (is-record s.sizes n (record_at w p) ready.good.limits ready.name stands.0) (ap (λ (k : List ℕ). lookup (means m).apps k) name ∙ ready.fresh) ready.good.few in
     subst (λ (k : List ℕ). Leaves m w (insert (means m).apps k (entered s (part_in m s)))) name (subst (λ (x : App). Leaves m w (insert (means m).apps (name_at w p) x)) stands.1 left)

@@ -31,8 +31,7 @@ agree-past : (m n : List (List ℕ)) (at q : ℕ) (a : Bool) (bs : List Block) (
 agree-past m n at q a [] end s lt t = tt
 agree-past m n at q a (b ∷ bs) end s lt t =
     let place : b.place ≡ q = t.0 in
-    let long : 1 ≤ b.words = t.1 in
-    (
+    let long : 1 ≤ b.words = t.1 in (
       s.words b.place (λ e. absurd (omega (arith, e, place))),
       (λ used i low below. s.words i (λ e. absurd (omega (arith, e, place)))),
       agree-past m n at (q + b.words) (not b.used) bs end s (omega arith) t.3,
@@ -47,8 +46,7 @@ agree-in m n p need at q a (b ∷ bs) end s t room low high =
     elim (room-at p need q a b bs end t room) [
       | inl here ↦
           let at-place : b.place ≡ p = here.1 in
-          let fits : need ≤ b.words = here.2 in
-          (
+          let fits : need ≤ b.words = here.2 in (
             s.words b.place (λ e. absurd (omega (arith, e, at-place))),
             (λ used i from below. absurd (cc (sym used ∙ here.0))),
             agree-past m n at (q + b.words) (not b.used) bs end s (omega (arith, place, at-place)) t.3,

@@ -161,8 +161,7 @@ module _ {D : Type 0} (state : D → DeviceState) (wrote : D → ℕ → List �
       ∙ ap (λ (y : App). insert (card_of m).apps n (with_words ws y)) (ap (λ (o : Option App). unwrap_or o no_app) there) in
       let turned = turns state wrote obeys (Commit n ws) d e c k a did in
       let same : gaps (record (card_of m) { apps = committed (apps_in m) n ws }) ≡ gaps (card_of m) = ap (λ (es : List (List ℕ × App)). gaps (record (card_of m) { apps = es })) apps ∙ sym (ap gaps t.3.card) ∙ t.3.left in
-      let own : gaps (card_of m) ≡ gaps (means m) = ap gaps (sym (closed_means m g.closed)) in
-      (
+      let own : gaps (card_of m) ≡ gaps (means m) = ap gaps (sym (closed_means m g.closed)) in (
         elim (means-of (state d) (state e) k (committed (apps_in m) n ws) a turned) [ inl old ↦ ap gaps old ∙ own | inr new ↦ ap gaps new ∙ same ∙ own ],
         elim (map-of (state d) (state e) c k (committed (apps_in m) n ws) a g turned) [
           | inl old ↦ ap length old

@@ -1,6 +1,7 @@
 pub mod Store
 pub mod Power
 pub mod Slots
+pub mod Stops
 pub mod Going
 pub mod Alike
 pub mod Atomic

@@ -2,9 +2,11 @@
 -- This project's profile.
 use Rattle.std.specs.Prelude.{◌≡◌, ℕ, ◌+◌, ◌≤◌, Bool, true, cond, ◌&&◌, List, [], ◌∷◌, length, take, drop, slice_index, bytes_eq, Option, Some, None}
 use Rattle.std.specs.List.{concat}
+use Rattle.mc_model.specs.declared.card.Part.{Part}
+use Rattle.mc_model.specs.declared.card.Part.TheVariants.{Code, Data, Dir, Fci}
 use Rattle.mc_model.specs.declared.card.Sizes.{Sizes}
 use Rattle.mc_model.specs.Bytes.{be2}
-use Rattle.mc_model.specs.Card.{Block, record_at, name_at}
+use Rattle.mc_model.specs.Card.{App, Block, record_at, name_at}
 use Rattle.mc_model.specs.Layout.{is_record}
 
 -- the place of the first used block with a name
@@ -34,3 +36,10 @@ pub record IsBlock (m : List (List ℕ)) (p : ℕ) : Type 0 where
 -- all bytes of the words, joined
 abbrev pub flat : List (List ℕ) → List ℕ
 flat m = concat m
+
+-- the bytes of a section of an application
+abbrev pub part_of_app : Part → App → List ℕ
+part_of_app Code a = a.code
+part_of_app Data a = a.fixed
+part_of_app Dir a = a.dir
+part_of_app Fci a = a.fci

@@ -41,7 +41,7 @@ cells-set m q k r x image h eight =
     cells-append n k (suc r) q (omega (arith, size))
     ∙ ap (λ (l : List ℕ). l ++ cells n (q + k) (suc r)) (same-cells m n k q size (omega arith) (λ i low high. other i (λ e. absurd (omega (arith, e)))))
     ∙ ap (λ (l : List ℕ). a ++ l) (cells-more n (q + k) r (omega (arith, size)) ∙ ap (λ (l : List ℕ). l ++ cells n (q + k + 1) r) (get_or-set_same m (q + k) x [] (omega arith))
-    ∙ ap (λ (l : List ℕ). x ++ l) (same-cells m n r (q + k + 1) size (omega arith) (λ i low high. other i (λ e. absurd (omega (arith, e))))))in
+    ∙ ap (λ (l : List ℕ). x ++ l) (same-cells m n r (q + k + 1) size (omega arith) (λ i low high. other i (λ e. absurd (omega (arith, e)))))) in
     let long : length a ≡ 8 * k = length-cells m k q image (omega arith) in
     let wide : length b ≡ 8 = image.words (q + k) (omega arith) in
     let both : length (a ++ b) ≡ 8 * k + length x = length-append a b ∙ (omega (arith, long, wide, eight)) in

@@ -1,6 +1,7 @@
 // The used blocks of a card and their records, read by their places.
 ghost use Rattle.std.specs.Prelude.{◌≡◌, ◌+◌, ◌*◌, ◌<◌, ◌≤◌, ◌&&◌, ◌==◌, None, length, slice_index, bytes_eq, true};
 ghost use Rattle.mc_model.specs.Bytes.{be2};
+ghost use Rattle.mc_model.specs.Device.{IsImage};
 ghost use Rattle.mc_model.specs.Card.{word, blocks, used_tag, record_at, name_at, name_in};
 ghost use Rattle.mc_model.specs.Layout.{words_fault};
 ghost use Rattle.mc_store.specs.Slots.{first_named, record_sizes, IsBlock};
@@ -28,7 +29,8 @@ pub struct Header {
 /// The place of the used block that has this name, on words without a fault.
 pub fn find_block<N: Nvm>(device: &N, aid: &Aid) -> Option<u16>
     requires laid { words_fault (N.state device.now).words ≡ None }
-    ensures { result ≡ first_named (N.state device.now).words (blocks (N.state device.now).words) aid.now }
+    ensures place { result ≡ first_named (N.state device.now).words (blocks (N.state device.now).words) aid.now }
+    ensures image { IsImage (N.state device.now).words }
 {
     let size = device.len();
     let mut place = HEAP;

@@ -19,11 +19,7 @@ use mc_nvm::Nvm;
 use mc_packed::write_words;
 
 /// Sets words of the static bytes of the application whose block begins at a place.
-pub fn commit<N: Nvm>(
-    store: &mut Store<N>,
-    place: u16,
-    list: &[(u16, Word)],
-) -> Result<(), Stop>
+pub fn commit<N: Nvm>(store: &mut Store<N>, place: u16, list: &[(u16, Word)]) -> Result<(), Stop>
     requires going { is_going (N.state store.old.device) store.old.count ≡ true }
     requires there { IsSome (store_named (N.state store.old.device) place) }
     requires list { CanCommit (app_of (apps_in (N.state store.old.device).words) (store_named (N.state store.old.device) place)).fixed list.now }

@@ -5,10 +5,15 @@ mod block;
 mod changes;
 mod creation;
 mod filling;
+mod laws;
 mod place;
 mod power;
+mod reads;
+mod room;
 mod section;
 mod store;
 
+pub use laws::{item_stops, power_ends, power_stops};
+pub use mc_blocks::Unusable;
 pub use power::Up;
 pub use store::Store;

@@ -18,10 +18,7 @@ pub fn needed_words(sizes: &Sizes) -> u16
     requires { FitsLimits sizes.now }
     ensures { result ≡ needed_by sizes.now }
 {
-    5 + words_of(sizes.code)
-        + words_of(sizes.fixed)
-        + words_of(sizes.dir)
-        + words_of(sizes.fci)
+    5 + words_of(sizes.code) + words_of(sizes.fixed) + words_of(sizes.dir) + words_of(sizes.fci)
 }
 
 /// The word in which a section begins, of a block at a place with sections of these sizes.

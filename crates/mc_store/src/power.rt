@@ -15,10 +15,12 @@ use mc_nvm::Nvm;
 
 /// The gate word of the journal of layout 1, and the word that opens it.
 const PLAIN_GATE: u32 = 1;
+
 const PLAIN_OPEN: Word = *b"OPEN-1--";
 
 /// The gate word of the journal of layout 2, and the word that opens it.
 const PACKED_GATE: u32 = 130;
+
 const PACKED_OPEN: Word = *b"OPEN-2--";
 
 /// The byte of the root that holds the version of the layout.

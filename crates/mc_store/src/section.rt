@@ -13,7 +13,11 @@ pub fn read_bytes<N: Nvm>(device: &N, from: u32, at: u16, into: &mut [u8])
     let _size = device.len();
     let mut done = 0;
     while done < into.len() {
-        done += read_part(device, 8 * from + at as u32 + done as u32, &mut into[done..]);
+        done += read_part(
+            device,
+            8 * from + at as u32 + done as u32,
+            &mut into[done..],
+        );
     }
 }
 

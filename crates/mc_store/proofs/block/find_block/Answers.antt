@@ -25,8 +25,8 @@ has_name-requires g c =
     header_stands m c.loop-place.place c.read_header-header.result.used c.read_header-header.result.words lt c.loop-place.invariant.walk c.read_header-header.ensures.used c.read_header-header.ensures.words in
     λ h. block_fits m c.loop-place.place (s.block h)
 
-pub returns-then-has_name : goal.returns-then-has_name
-returns-then-has_name g c =
+pub returns-then-has_name-clause-place : goal.returns-then-has_name-clause-place
+returns-then-has_name-clause-place g c =
     let m = (g.N.Nvm.state c.args.device.now).words in
     let p = c.loop-place.place in
     let lt : p < length m = subst (λ (n : ℕ). p < n) c.len-size.ensures.len c.loop-place-test.true in
@@ -63,8 +63,8 @@ loop-place-preserved g c =
           ∙ ap (λ (t : Bool). cond t (Some p) (first_named m (blocks_at m (p + c.read_header-header.result.words)) c.args.aid.now)) (sym c.has_name.ensures ∙ c.if-has_name.false);
     }
 
-pub returns : goal.returns
-returns g c =
+pub returns-clause-place : goal.returns-clause-place
+returns-clause-place g c =
     let m = (g.N.Nvm.state c.args.device.now).words in
     let p = c.loop-place.place in
     let size : c.len-size.result ≡ length m = c.len-size.ensures.len in
