@@ -16,6 +16,7 @@ use Rattle.mc_bank.specs.Bank.{FitsLimits, IsGood, part_len}
 use Rattle.mc_store.specs.Store.{apps_in, is_going, store_standing, needed_by, part_from, IsGoodIn, IsInWord, StoreDid}
 use Rattle.mc_store.specs.Going.{Going, going_is, is_going_of, closed_means}
 use Rattle.mc_store.specs.Creation.{AtSite, at-site}
+use Rattle.mc_store.specs.Did.{blank_items}
 use Rattle.mc_store.specs.Turns.{Turned, Turns, Standing, standing-of, turns, parted, blanked}
 
 -- ---- the parts of a piece
@@ -55,12 +56,9 @@ parts-step at j (y ∷ ys) some few fits least =
 pub no-parts : (at : ℕ) (b : List ℕ) → b ≡ [] → word_parts at b ≡ []
 no-parts at b e = ap (λ (l : List ℕ). word_parts at l) e
 
--- the items of a piece, and those of zeros
+-- the items of a piece
 abbrev pub piece_items : Site → Part → ℕ → List ℕ → List BankItem
 piece_items s p at b = map (λ c. Piece s p c.0 c.1) (word_parts at b)
-
-abbrev pub blank_items : Site → ℕ → List ℕ → List BankItem
-blank_items s at b = map (λ c. Blank s c.0 (length c.1)) (word_parts at b)
 
 pub piece-step : (s : Site) (p : Part) (at j : ℕ) (b : List ℕ) → 1 ≤ j → j ≤ length b → at % 8 + j ≤ 8 → (j ≡ length b) ⊎ (at % 8 + j ≡ 8) → piece_items s p at b ≡ Piece s p at (take j b) ∷ piece_items s p (at + j) (drop j b)
 piece-step s p at j b some few fits least = ap (λ (l : List (ℕ × List ℕ)). map (λ (c : ℕ × List ℕ). Piece s p c.0 c.1) l) (parts-step at j b some few fits least)

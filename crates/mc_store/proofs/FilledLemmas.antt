@@ -113,7 +113,7 @@ pub left-none : (m : List (List ℕ)) (s : Site) (p : Part) (at : ℕ) → Piece
 left-none m s p at = record { part = sym (splice-none (part_in m s p) at); others = λ q ne. refl }
 
 -- in two parts, of which the first has k bytes where there are so many
-splice-parts : (l : List ℕ) (at k : ℕ) (b : List ℕ) → at ≤ length l → splice (splice l at (take k b)) (at + k) (drop k b) ≡ splice l at b
+pub splice-parts : (l : List ℕ) (at k : ℕ) (b : List ℕ) → at ≤ length l → splice (splice l at (take k b)) (at + k) (drop k b) ≡ splice l at b
 splice-parts l at k b le =
     elim (cases_lt (length b) k) [
       | inl short ↦

@@ -15,4 +15,7 @@ pub mod FoldLemmas
 pub mod FillLemmas
 pub mod FilledLemmas
 pub mod ItemLemmas
+pub mod CreateLemmas
+pub mod ReadyLemmas
+pub mod EnterLemmas
 pub mod StopLemmas

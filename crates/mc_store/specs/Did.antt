@@ -1,6 +1,6 @@
 -- Items of a store as a value, and the application of a slot.
 -- This project's profile.
-use Rattle.std.proofs.Common.{◌≡◌, ℕ, ◌+◌, ◌≤◌, Bool, true, false, List, [], ◌∷◌, length, Option, Some, None, Ok, Err, cond, refl, sym, ◌∙◌, ap, subst, inl, inr, arith}
+use Rattle.std.proofs.Common.{◌≡◌, ℕ, ◌+◌, ◌≤◌, Bool, true, false, List, [], ◌∷◌, length, map, Option, Some, None, Ok, Err, cond, refl, sym, ◌∙◌, ap, subst, inl, inr, arith}
 use Rattle.std.specs.Prelude.{◌==◌, bytes_eq, IsSome}
 use Rattle.std.proofs.lemmas.Bool.{eqb-true}
 use Rattle.mc_model.specs.Orders.{Answer, InOrder}
@@ -9,7 +9,8 @@ use Rattle.mc_model.specs.Device.{DeviceState, IsImage}
 use Rattle.mc_model.specs.Image.{look, Closed}
 use Rattle.mc_model.specs.Card.{App, means, card_of, record_at, app_at}
 use Rattle.mc_model.specs.Layout.{words_fault}
-use Rattle.mc_model.specs.Items.{BankItem}
+use Rattle.mc_model.specs.Items.{Site, BankItem, Blank}
+use Rattle.mc_model.specs.Manager.{word_parts}
 use Rattle.mc_bank.specs.Names.{name_is_itself}
 use Rattle.mc_blocks.proofs.Maps.{OneAt}
 use Rattle.mc_blocks.proofs.Applications.{found-application}
@@ -26,6 +27,10 @@ store_did state wrote s i a e = StoreDid state wrote s.device s.count i a e.devi
 pub one_item : {D I : Type 0} → (one : D → I → Answer → D → Type 0) → (d e : D) (i : I) (a : Answer) → one d i a e → InOrder one d (i ∷ []) a e
 one_item one d e i (Ok u) h = inl (e, h, refl)
 one_item one d e i (Err s) h = inr (s, h, refl)
+
+-- the items of zeros behind data, from so many bytes of a section on
+abbrev pub blank_items : Site → ℕ → List ℕ → List BankItem
+blank_items s at b = map (λ c. Blank s c.0 (length c.1)) (word_parts at b)
 
 -- ---- slots
 

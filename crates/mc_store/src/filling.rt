@@ -38,8 +38,8 @@ pub fn fill<N: Nvm>(
     Ok(())
 }
 
-// How many of so many bytes lie in the word in which the first of them lies.
-fn room_in_word(at: u16, count: usize) -> usize
+/// How many of so many bytes lie in the word in which the first of them lies.
+pub fn room_in_word(at: u16, count: usize) -> usize
     requires { 1 ≤ count }
     ensures low { 1 ≤ result }
     ensures high { result ≤ count }
@@ -69,8 +69,8 @@ fn put_part<N: Nvm>(
     write_part(&mut store.device, place, at, bytes)
 }
 
-// Writes bytes into one word of those from a place on; its other bytes stay.
-fn write_part<N: Nvm>(device: &mut N, from: u32, at: u16, bytes: &[u8]) -> Result<(), Stop>
+/// Writes bytes into one word of those from a place on; its other bytes stay.
+pub fn write_part<N: Nvm>(device: &mut N, from: u32, at: u16, bytes: &[u8]) -> Result<(), Stop>
     requires power { (N.state device.old).on ≡ true }
     requires place { from + at / 8 < length (N.state device.old).words }
     requires word { at % 8 + length bytes.now ≤ 8 }
