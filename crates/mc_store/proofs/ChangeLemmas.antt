@@ -148,12 +148,3 @@ module _ {D : Type 0} (state : D → DeviceState) (wrote : D → ℕ → List �
         makes = subst (λ (l : List (ℕ × List ℕ)). Makes wrote d (writes Two l) a e) (is ∙ k.is) made;
         count = refl;
       }
-
--- ---- words with so much added to their numbers
-
-pub shift-step : (q i : ℕ) (l : List (ℕ × List ℕ)) (done : List (ℕ × List ℕ)) → i < length l → done ++ placed_words q (drop i l) ≡ placed_words q l
-    → (done ++ (q + (get_or l i (0, [])).0, (get_or l i (0, [])).1) ∷ []) ++ placed_words q (drop (i + 1) l) ≡ placed_words q l
-shift-step q i l done lt is =
-    append_assoc done ((q + (get_or l i (0, [])).0, (get_or l i (0, [])).1) ∷ []) (placed_words q (drop (i + 1) l))
-    ∙ ap (λ (x : List (ℕ × List ℕ)). done ++ placed_words q x) (sym (drop_more l i (0, []) lt))
-    ∙ is

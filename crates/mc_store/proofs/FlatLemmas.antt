@@ -11,7 +11,7 @@ use Rattle.std.proofs.lemmas.List.Folds.{concat-append}
 use Rattle.mc_store.specs.Sections.{length-cells}
 use Rattle.mc_store.specs.Slots.{flat}
 
-pub take_sum : (a b : ℕ) (l : List ℕ) → take (a + b) l ≡ take a l ++ take b (drop a l)
+take_sum : (a b : ℕ) (l : List ℕ) → take (a + b) l ≡ take a l ++ take b (drop a l)
 take_sum a b l =
     sym (take-append-drop a (take (a + b) l))
     ∙ ap (λ (x : List ℕ). x ++ drop a (take (a + b) l)) (take-take a (a + b) l (omega arith))

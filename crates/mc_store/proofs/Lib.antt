@@ -13,7 +13,7 @@ pub mod BankLemmas
 pub mod SiteLemmas
 pub mod FoldLemmas
 pub mod FillLemmas
-pub mod FilledLemmas
+pub mod PieceLemmas
 pub mod ItemLemmas
 pub mod CreateLemmas
 pub mod ReadyLemmas

@@ -21,7 +21,7 @@ use Rattle.mc_store.specs.Creation.{AtSite, at-site}
 use Rattle.mc_store.specs.Turns.{Standing, standing-of}
 use Rattle.mc_store.specs.Did.{blank_items}
 use Rattle.mc_store.proofs.FillLemmas.{PlainOn, blank-on, note-on, good-on}
-use Rattle.mc_store.proofs.FilledLemmas.{section-write, splice-parts}
+use Rattle.mc_store.proofs.PieceLemmas.{section-write, splice-parts}
 
 -- ---- zeros
 

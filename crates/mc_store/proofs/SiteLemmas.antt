@@ -16,40 +16,11 @@ use Rattle.mc_model.specs.Items.{Site}
 use Rattle.mc_bank.specs.Bank.{FitsLimits, part_len}
 use Rattle.mc_bank.proofs.LeftLemmas.{length-spliced, front_piece, splice-splice}
 use Rattle.mc_store.specs.Store.{needed_by, part_from, part_in, piece_write, IsInWord}
-use Rattle.mc_store.proofs.FlatLemmas.{take_sum}
+use Rattle.mc_store.proofs.PieceLemmas.{section-write, splice-parts}
 use Rattle.mc_store.specs.Sections.{section-front, length-cells, cells-append, cells-more, same-section, length-section}
 use Rattle.mc_store.specs.Splices.{cells-set, image-set}
 
 -- ---- bytes
-
--- bytes in a word of a list are bytes in the list
-in_word_list : (a w c : List ℕ) (at r k : ℕ) (b : List ℕ) → length a ≡ 8 * k → length w ≡ 8 → at ≡ 8 * k + r → r + length b ≤ 8 → splice (a ++ (w ++ c)) (8 * k) (splice w r b) ≡ splice (a ++ (w ++ c)) at b
-in_word_list a w c at r k b la lw is few =
-    let all = a ++ (w ++ c) in
-    let s = splice w r b in
-    let tr = take r w in
-    let dr = drop (r + length b) w in
-    let eight : length s ≡ 8 = length-spliced w r b (omega (arith, lw, few)) ∙ lw in
-    let front : take (8 * k) all ≡ a = take_at a (w ++ c) (8 * k) la in
-    let behind : drop (8 * k) all ≡ w ++ c = drop_at a (w ++ c) (8 * k) la in
-    let end : drop (8 * k + length s) all ≡ c =
-    sym (drop-drop (length s) (8 * k) all) ∙ ap (λ (l : List ℕ). drop (length s) l) behind ∙ drop_at w c (length s) (omega (arith, lw, eight)) in
-    let left : take at all ≡ a ++ tr =
-    ap (λ (n : ℕ). take n all) is ∙ take_sum (8 * k) r all ∙ ap (λ (l : List ℕ). l ++ take r (drop (8 * k) all)) front ∙ ap (λ (l : List ℕ). a ++ take r l) behind
-    ∙ ap (λ (l : List ℕ). a ++ l) (take-append-le r w c (omega (arith, lw, few))) in
-    let sum : at + length b ≡ 8 * k + (r + length b) = omega (arith, is) in
-    let right : drop (at + length b) all ≡ dr ++ c =
-    ap (λ (n : ℕ). drop n all) sum ∙ sym (drop-drop (r + length b) (8 * k) all) ∙ ap (λ (l : List ℕ). drop (r + length b) l) behind ∙ drop-append-le (r + length b) w c (omega (arith, lw, few)) in
-    ap (λ (l : List ℕ). (l ++ s) ++ drop (8 * k + length s) all) front
-    ∙ ap (λ (l : List ℕ). (a ++ s) ++ l) end
-    ∙ append_assoc a s c
-    ∙ ap (λ (l : List ℕ). a ++ l) (append_assoc (tr ++ b) dr c ∙ append_assoc tr b (dr ++ c))
-    ∙ sym (
-    ap (λ (l : List ℕ). (l ++ b) ++ drop (at + length b) all) left
-    ∙ ap (λ (l : List ℕ). ((a ++ tr) ++ b) ++ l) right
-    ∙ append_assoc (a ++ tr) b (dr ++ c)
-    ∙ append_assoc a tr (b ++ (dr ++ c))
-    )
 
 -- the front before a place is not touched from there on
 front_stays : (i at : ℕ) (l b : List ℕ) → i ≤ at → at ≤ length l → take i (splice l at b) ≡ take i l
@@ -66,32 +37,7 @@ module _ (m : List (List ℕ)) (image : IsImage m) where
   -- bytes of one word of a section
   section_piece : (q n at : ℕ) (b : List ℕ) → q + up n 8 ≤ length m → IsInWord n at (length b)
       → section (slice_set m (q + down at 8) (splice (word m (q + down at 8)) (at % 8) b)) q n ≡ splice (section m q n) at b
-  section_piece q n at b h inside =
-      let some : 1 ≤ length b = inside.some in
-      let ends : at + length b ≤ n = inside.section in
-      let few : at % 8 + length b ≤ 8 = inside.word in
-      let j = at / 8 in
-      let r = up n 8 - j - 1 in
-      let x = splice (word m (q + j)) (at % 8) b in
-      let split : up n 8 ≡ j + suc r = omega arith in
-      let lt : q + j < length m = omega arith in
-      let eight : length (word m (q + j)) ≡ 8 = image.words (q + j) lt in
-      let size : length x ≡ 8 = length-spliced (word m (q + j)) (at % 8) b (omega (arith, eight)) ∙ eight in
-      let room : q + j + suc r ≤ length m = omega (arith, split) in
-      let new : cells (slice_set m (q + j) x) q (j + suc r) ≡ splice (cells m q (j + suc r)) (8 * j) x = cells-set m q j r x image room size in
-      let old : cells m q (j + suc r) ≡ cells m q j ++ (word m (q + j) ++ cells m (q + j + 1) r) =
-      cells-append m j (suc r) q room ∙ ap (λ (l : List ℕ). cells m q j ++ l) (cells-more m (q + j) r lt) in
-      let front : length (cells m q j) ≡ 8 * j = length-cells m j q image (omega arith) in
-      let both : splice (cells m q (j + suc r)) (8 * j) x ≡ splice (cells m q (j + suc r)) at b =
-      ap (λ (l : List ℕ). splice l (8 * j) x) old
-      ∙ in_word_list (cells m q j) (word m (q + j)) (cells m (q + j + 1) r) at (at % 8) j b front eight (omega arith) few
-      ∙ ap (λ (l : List ℕ). splice l at b) (sym old) in
-      let all : length (cells m q (up n 8)) ≡ 8 * up n 8 = length-cells m (up n 8) q image h in
-      let enough : n ≤ 8 * up n 8 = omega arith in
-      ap (λ (k : ℕ). take n (cells (slice_set m (q + j) x) q k)) split
-      ∙ ap (λ (l : List ℕ). take n l) (new ∙ both)
-      ∙ ap (λ (k : ℕ). take n (splice (cells m q k) at b)) (sym split)
-      ∙ front_piece n (cells m q (up n 8)) at b ends (omega (arith, all, enough))
+  section_piece q n at b h inside = section-write m q n at b image h inside
 
   -- a word outside a section
   section_apart : (k q n : ℕ) (x : List ℕ) → q + up n 8 ≤ length m → (k < q) ⊎ (q + up n 8 ≤ k) → section (slice_set m k x) q n ≡ section m q n
@@ -196,19 +142,6 @@ module _ (m : List (List ℕ)) (image : IsImage m) (s : Site) (limits : FitsLimi
 pub none_laid : (l : List ℕ) (at : ℕ) → splice l at [] ≡ l
 none_laid l at = sym (paste_none l at [])
 
-two_parts : (l : List ℕ) (at k : ℕ) (b : List ℕ) → at ≤ length l → splice (splice l at (take k b)) (at + k) (drop k b) ≡ splice l at b
-two_parts l at k b low =
-    elim (cases_lt (length b) k) [
-      | inl short ↦
-          ap (λ (x : List ℕ). splice (splice l at (take k b)) (at + k) x) (drop_all k b (omega (arith, short)))
-          ∙ none_laid (splice l at (take k b)) (at + k)
-          ∙ ap (λ (x : List ℕ). splice l at x) (take_all k b (omega (arith, short)))
-      | inr long ↦
-          ap (λ (i : ℕ). splice (splice l at (take k b)) (at + i) (drop k b)) (sym (length-take-le k b (omega (arith, long))))
-          ∙ splice-splice l at (take k b) (drop k b) low
-          ∙ ap (λ (x : List ℕ). splice l at x) (take-append-drop k b)
-    ]
-
 no_words : (n at : ℕ) → in_words n at [] ≡ []
 no_words zero at = refl
 no_words (suc n) at = refl
@@ -230,7 +163,7 @@ laid_words (suc n) l at (x ∷ xs) few h =
       | inr long ↦
           let front : length (take k b) ≡ k = length-take-le k b (omega (arith, long)) in
           let same : length (splice l at (take k b)) ≡ length l = length-spliced l at (take k b) (omega (arith, front, long, h)) in
-          laid_words n (splice l at (take k b)) (at + k) (drop k b) (omega (arith, left, few, some)) (omega (arith, left, same, long, h)) ∙ two_parts l at k b (omega arith)
+          laid_words n (splice l at (take k b)) (at + k) (drop k b) (omega (arith, left, few, some)) (omega (arith, left, same, long, h)) ∙ splice-parts l at k b (omega arith)
     ]
 
 -- the parts of a piece in their words are the piece

@@ -1,4 +1,4 @@
--- What pieces of a section leave of the bytes that stand at a site.
+-- Bytes of a section set in one word.
 use Rattle.std.proofs.Common.{◌≡◌, ◌≢◌, ◌⊎◌, ℕ, zero, suc, ◌+◌, ◌-◌, ◌*◌, ◌%◌, ◌/◌, ◌<◌, ◌≤◌, Bool, true, false, not, List, [], ◌∷◌, ◌++◌, length, take, drop, map, Option, Some, None, Ok, Err, refl, sym, ◌∙◌, ap, subst, inl, inr, arith, append_assoc}
 use Rattle.std.specs.Prelude.{OnOk, slice_set}
 use Rattle.std.proofs.lemmas.List.{length-set, get_or-set_same, get_or-set_other, take-append-le, drop-append-le, length-take-le, length-drop, take-append-drop, take_all, drop_all}
@@ -73,44 +73,10 @@ section-write m q len at b image h i =
     ap (λ (x : ℕ). cells n q x) split ∙ cells-piece m q k j (at % 8) b image (omega arith) fits ∙ ap (λ (x : ℕ). splice (cells m q (k + suc j)) x b) cut ∙ ap (λ (x : ℕ). splice (cells m q x) at b) (sym split) in
     ap (λ (l : List ℕ). take len l) one ∙ front_piece len (cells m q (up len 8)) at b ends (omega (arith, whole))
 
--- ---- the sections of a site lie apart
-
-apart : (p q : Part) (z : Sizes) (s at n i : ℕ) → FitsLimits z → q ≢ p → IsInWord (part_len p z) at n → part_from q z s ≤ i → i < part_from q z s + up (part_len q z) 8 → i ≢ part_from p z s + at / 8
-apart Code Code z s at n i limits ne w low high = absurd (ne refl)
-apart Code Data z s at n i limits ne w low high = let a = w.some in let b = w.section in λ e. absurd (omega (arith, e))
-apart Code Dir z s at n i limits ne w low high = let a = w.some in let b = w.section in λ e. absurd (omega (arith, e))
-apart Code Fci z s at n i limits ne w low high = let a = w.some in let b = w.section in λ e. absurd (omega (arith, e))
-apart Data Code z s at n i limits ne w low high = let a = w.some in let b = w.section in λ e. absurd (omega (arith, e))
-apart Data Data z s at n i limits ne w low high = absurd (ne refl)
-apart Data Dir z s at n i limits ne w low high = let a = w.some in let b = w.section in let c = limits.init in λ e. absurd (omega (arith, e))
-apart Data Fci z s at n i limits ne w low high = let a = w.some in let b = w.section in let c = limits.init in λ e. absurd (omega (arith, e))
-apart Dir Code z s at n i limits ne w low high = let a = w.some in let b = w.section in λ e. absurd (omega (arith, e))
-apart Dir Data z s at n i limits ne w low high = let a = w.some in let b = w.section in let c = limits.init in λ e. absurd (omega (arith, e))
-apart Dir Dir z s at n i limits ne w low high = absurd (ne refl)
-apart Dir Fci z s at n i limits ne w low high = let a = w.some in let b = w.section in λ e. absurd (omega (arith, e))
-apart Fci Code z s at n i limits ne w low high = let a = w.some in let b = w.section in λ e. absurd (omega (arith, e))
-apart Fci Data z s at n i limits ne w low high = let a = w.some in let b = w.section in let c = limits.init in λ e. absurd (omega (arith, e))
-apart Fci Dir z s at n i limits ne w low high = let a = w.some in let b = w.section in λ e. absurd (omega (arith, e))
-apart Fci Fci z s at n i limits ne w low high = absurd (ne refl)
-
-part-ends : (p : Part) (z : Sizes) (s : ℕ) → FitsLimits z → part_from p z s + up (part_len p z) 8 ≤ s + needed_by z
-part-ends Code z s limits = omega arith
-part-ends Data z s limits = let c = limits.init in omega arith
-part-ends Dir z s limits = omega arith
-part-ends Fci z s limits = omega arith
-
--- ---- what a piece leaves
-
--- the bytes of the site: these are set in one section, and those of all others stay
-pub record PieceLeft (m n : List (List ℕ)) (s : Site) (p : Part) (at : ℕ) (b : List ℕ) : Type 0 where
-  pub part : part_in n s p ≡ splice (part_in m s p) at b
-  pub others : (q : Part) → q ≢ p → part_in n s q ≡ part_in m s q
+-- ---- a piece in two parts
 
 splice-none : (l : List ℕ) (at : ℕ) → splice l at [] ≡ l
 splice-none l at = sym (paste_none l at [])
-
-pub left-none : (m : List (List ℕ)) (s : Site) (p : Part) (at : ℕ) → PieceLeft m m s p at []
-left-none m s p at = record { part = sym (splice-none (part_in m s p) at); others = λ q ne. refl }
 
 -- in two parts, of which the first has k bytes where there are so many
 pub splice-parts : (l : List ℕ) (at k : ℕ) (b : List ℕ) → at ≤ length l → splice (splice l at (take k b)) (at + k) (drop k b) ≡ splice l at b
@@ -125,37 +91,3 @@ splice-parts l at k b le =
           ∙ splice-splice l at (take k b) (drop k b) le
           ∙ ap (λ (x : List ℕ). splice l at x) (take-append-drop k b)
     ]
-
-pub left-then : (m n w : List (List ℕ)) (s : Site) (p : Part) (at k : ℕ) (b : List ℕ) → at ≤ length (part_in m s p) → PieceLeft m n s p at (take k b) → PieceLeft n w s p (at + k) (drop k b) → PieceLeft m w s p at b
-left-then m n w s p at k b le x y =
-    record {
-      part = y.part ∙ ap (λ (l : List ℕ). splice l (at + k) (drop k b)) x.part ∙ splice-parts (part_in m s p) at k b le;
-      others = λ q ne. y.others q ne ∙ x.others q ne;
-    }
-
-part-set : (m : List (List ℕ)) (s : Site) (p : Part) (at : ℕ) (b : List ℕ) → IsImage m → FitsLimits s.sizes → s.place + needed_by s.sizes ≤ length m → IsInWord (part_len p s.sizes) at (length b)
-    → PieceLeft m (slice_set m (part_from p s.sizes s.place + at / 8) (splice (word m (part_from p s.sizes s.place + at / 8)) (at % 8) b)) s p at b
-unfolding part_in
-part-set m s p at b image limits ends i =
-    let k = part_from p s.sizes s.place + at / 8 in
-    let x = splice (word m k) (at % 8) b in
-    record {
-      part = section-write m (part_from p s.sizes s.place) (part_len p s.sizes) at b image (omega (arith, part-ends p s.sizes s.place limits, ends)) i;
-      others = λ q ne. same-section m (slice_set m k x) (part_from q s.sizes s.place) (part_len q s.sizes) (length-set m k x) (omega (arith, part-ends q s.sizes s.place limits, ends))
-          (λ j low high. get_or-set_other m k j x [] (apart p q s.sizes s.place at (length b) j limits ne i low high));
-    }
-
-pub length-part : (m : List (List ℕ)) (s : Site) (p : Part) → IsImage m → FitsLimits s.sizes → s.place + needed_by s.sizes ≤ length m → length (part_in m s p) ≡ part_len p s.sizes
-unfolding part_in
-length-part m s p image limits ends = length-section m (part_from p s.sizes s.place) (part_len p s.sizes) image (omega (arith, part-ends p s.sizes s.place limits, ends))
-
-module _ {D : Type 0} (state : D → DeviceState) (wrote : D → ℕ → List ℕ → Answer → D → Type 0)
-    (obeys : (d : D) (at : ℕ) (w : List ℕ) (a : Answer) (e : D) → (state d).on ≡ true → wrote d at w a e → Wrote (state d) at w a (state e)) where
-  -- one piece
-  pub piece-left : (d e : D) (c : ℕ) (s : Site) (p : Part) (at : ℕ) (b : List ℕ) → StoreDid state wrote d c (Piece s p at b) (Ok tt) e c → PieceLeft (state d).words (state e).words s p at b
-  piece-left d e c s p at b did =
-      let m = (state d).words in
-      let g : Going (state d) c = going_is (state d) c did.going in
-      let site : AtSite m s = at-site m s did.image g.closed (standing-of (state d) c g).well did.allowed.0 in
-      let done : WriteDone (state d) _ _ (state e) = obeys d _ _ (Ok tt) e g.on (just-one wrote d e _ _ (Ok tt) did.makes) in
-      subst (λ (w : List (List ℕ)). PieceLeft m w s p at b) (sym done.words) (part-set m s p at b did.image did.allowed.0.limits site.ends did.allowed.1)
