@@ -1,22 +1,21 @@
 -- What a commit and a deletion do to a store as a bank.
-use Rattle.std.proofs.Common.{◌≡◌, ◌≢◌, ℕ, Bool, true, false, not, List, [], ◌∷◌, length, Option, Some, None, Ok, Err, refl, sym, ◌∙◌, ap, subst, inl, inr}
+use Rattle.std.proofs.Common.{◌≡◌, ◌≢◌, ℕ, Bool, true, false, not, List, Option, Some, Ok, Err, refl, sym, ◌∙◌, ap, inl, inr}
 use Rattle.std.specs.Prelude.{◌⊎◌, IsSome, unwrap_or}
-use Rattle.mc_model.specs.declared.device.Stop.{Stop}
-use Rattle.mc_model.specs.Orders.{Answer, InOrder}
-use Rattle.mc_model.specs.Bytes.{lookup, insert, remove}
+use Rattle.mc_model.specs.Orders.{Answer}
+use Rattle.mc_model.specs.Bytes.{lookup, insert}
 use Rattle.mc_model.specs.Device.{DeviceState, IsImage, Wrote}
-use Rattle.mc_model.specs.Card.{App, Card, means, card_of}
-use Rattle.mc_model.specs.Items.{Site, BankItem, Commit, Remove}
-use Rattle.mc_bank.specs.Bank.{BankState, no_app, app_of, name_or, with_words, committed, Changes, item_done, StayGood, BytesStay}
+use Rattle.mc_model.specs.Card.{App, means}
+use Rattle.mc_model.specs.Items.{BankItem, Commit, Remove}
+use Rattle.mc_bank.specs.Bank.{no_app, app_of, with_words, committed, item_done}
 use Rattle.mc_blocks.proofs.Maps.{OneAt}
 use Rattle.mc_blocks.proofs.Applications.{found-application}
 use Rattle.mc_store.specs.declared.store.Store.{Store}
-use Rattle.mc_store.specs.Store.{settled, apps_in, is_going, store_state, store_named, store_room, store_standing, name_of_place, StoreDid}
+use Rattle.mc_store.specs.Store.{apps_in, is_going, store_named, store_standing, name_of_place}
 use Rattle.mc_store.specs.Going.{Going, going_is}
-use Rattle.mc_store.specs.Places.{place-changed, place-removed}
+use Rattle.mc_store.specs.Places.{place-changed}
 use Rattle.mc_store.specs.Turns.{Standing, standing-of, some-is}
 use Rattle.mc_store.specs.Laws.{store_obeys, store_keeps}
-use Rattle.mc_store.specs.Did.{store_did, one_item}
+use Rattle.mc_store.specs.Did.{store_did}
 
 -- a store that is not stopped runs
 pub running : (d : DeviceState) (c : ℕ) → not (is_going d c) ≡ false → is_going d c ≡ true

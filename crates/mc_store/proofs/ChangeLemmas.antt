@@ -1,22 +1,21 @@
 -- A commit and a deletion as items of a store: what their calls ask, and what they made.
-use Rattle.std.proofs.Common.{◌≡◌, ℕ, suc, ◌+◌, ◌-◌, ◌*◌, ◌<◌, ◌≤◌, Bool, true, false, List, [], ◌∷◌, ◌++◌, length, drop, append_assoc, Option, Some, None, Ok, Err, refl, sym, ◌∙◌, ap, subst, arith}
-use Rattle.std.specs.Prelude.{IsSome, is_some, unwrap_or, slice_index, get_or}
+use Rattle.std.proofs.Common.{◌≡◌, ℕ, suc, ◌+◌, ◌*◌, ◌<◌, ◌≤◌, true, false, List, [], ◌∷◌, length, Option, Some, refl, sym, ◌∙◌, ap, subst, arith}
+use Rattle.std.specs.Prelude.{IsSome, is_some, unwrap_or}
 use Rattle.std.specs.List.{AllByRecursion}
-use Rattle.std.proofs.lemmas.List.{drop_more}
 use Rattle.mc_model.specs.Orders.{Answer}
 use Rattle.mc_model.specs.Bytes.{up, be2, lookup, remove}
 use Rattle.mc_model.specs.Device.{DeviceState, IsImage, Makes}
 use Rattle.mc_model.specs.Image.{Two, is_open, look, Closed}
 use Rattle.mc_model.specs.Stopped.{writes, IsAtomic}
 use Rattle.mc_model.specs.Card.{App, means, card_of, record_at, app_at, section}
-use Rattle.mc_model.specs.Layout.{spans, step_of, is_record, IsWellLaid}
-use Rattle.mc_model.specs.Items.{BankItem, Commit, Remove}
+use Rattle.mc_model.specs.Layout.{spans, step_of, IsWellLaid}
+use Rattle.mc_model.specs.Items.{Commit, Remove}
 use Rattle.mc_bank.specs.Bank.{CanCommit, no_app, app_of, name_or}
 use Rattle.mc_blocks.specs.Plans.{plan, without, has_span}
-use Rattle.mc_store.specs.Store.{apps_in, is_going, store_named, name_of_place, static_writes, card_without, count_after, item_writes, StoreDid}
+use Rattle.mc_store.specs.Store.{apps_in, is_going, store_named, static_writes, card_without, count_after, StoreDid}
 use Rattle.mc_store.specs.Slots.{IsBlock}
 use Rattle.mc_store.specs.Going.{Going, going_is}
-use Rattle.mc_store.specs.Alike.{Gates, gates}
+use Rattle.mc_store.specs.Alike.{gates}
 use Rattle.mc_store.specs.Sections.{length-section}
 use Rattle.mc_store.specs.Deletion.{Deletes, deletes-plan, deletes-count}
 use Rattle.mc_store.specs.Splices.{placed_words}

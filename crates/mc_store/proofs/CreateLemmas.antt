@@ -1,28 +1,27 @@
 -- A creation as items of a store: the words of its record, and what its calls ask.
-use Rattle.std.proofs.Common.{◌≡◌, ◌≢◌, ◌⊎◌, ℕ, zero, suc, ◌+◌, ◌-◌, ◌*◌, ◌%◌, ◌/◌, ◌<◌, ◌≤◌, Bool, true, false, List, [], ◌∷◌, ◌++◌, length, take, drop, map, Option, Some, None, Ok, Err, refl, sym, ◌∙◌, ap, subst, inl, inr, arith, length-append, append_assoc}
-use Rattle.std.specs.Prelude.{OnOk, slice_index_or, slice_set}
-use Rattle.std.proofs.lemmas.List.{drop_more, length-replicate, get_or_append_left, length-drop}
+use Rattle.std.proofs.Common.{◌≡◌, ◌⊎◌, ℕ, zero, suc, ◌+◌, ◌-◌, ◌%◌, ◌/◌, ◌<◌, ◌≤◌, true, false, List, [], ◌∷◌, ◌++◌, length, take, drop, map, Ok, Err, refl, sym, ◌∙◌, ap, subst, inl, inr, arith, length-append}
+use Rattle.std.specs.Prelude.{OnOk, slice_index_or}
+use Rattle.std.proofs.lemmas.List.{drop_more, length-replicate, get_or_append_left}
 use Rattle.std.proofs.Math.Seq.{drop-append-add}
 use Rattle.mc_model.specs.declared.card.Sizes.{Sizes}
 use Rattle.mc_model.specs.declared.card.Part.TheVariants.{Data}
-use Rattle.mc_model.specs.Orders.{Answer, InOrder}
-use Rattle.mc_model.specs.Bytes.{up, zeros, bytes2, lookup, insert, splice}
+use Rattle.mc_model.specs.Orders.{Answer}
+use Rattle.mc_model.specs.Bytes.{zeros, bytes2, splice}
 use Rattle.mc_model.specs.Device.{DeviceState, IsImage, Wrote, Makes}
 use Rattle.mc_model.specs.Image.{Two, is_open, look, Closed}
-use Rattle.mc_model.specs.Stopped.{writes, IsAtomic}
-use Rattle.mc_model.specs.Card.{App, Card, means, card_of, word}
+use Rattle.mc_model.specs.Stopped.{writes}
+use Rattle.mc_model.specs.Card.{means, word}
 use Rattle.mc_model.specs.Layout.{gaps, spans, put_at, step_of, IsWellLaid}
-use Rattle.mc_model.specs.Items.{Site, BankItem, Blank, Note, Enter}
+use Rattle.mc_model.specs.Items.{Site, Blank, Note, Enter}
 use Rattle.mc_base.specs.Name.{IsName}
-use Rattle.mc_bank.specs.Bank.{FitsLimits}
 use Rattle.mc_blocks.specs.Plans.{plan, has_room}
 use Rattle.mc_store.specs.Store.{is_going, needed_by, part_from, record_bytes, record_word, card_with, count_after, IsGoodIn, IsInWord, IsReady, StoreDid}
 use Rattle.mc_store.specs.Going.{Going, going_is}
-use Rattle.mc_store.specs.Alike.{Gates, gates}
+use Rattle.mc_store.specs.Alike.{gates}
 use Rattle.mc_store.specs.Creation.{AtSite, at-site, Creates, creates-plan}
 use Rattle.mc_store.specs.Turns.{Standing, standing-of, blanked}
 use Rattle.mc_store.specs.Did.{blank_items}
-use Rattle.mc_store.proofs.FillLemmas.{PlainOn, good-on, blank-on, note-on, parts-step}
+use Rattle.mc_store.proofs.FillLemmas.{good-on, blank-on, note-on, parts-step}
 
 -- ---- the words of a record
 
@@ -37,7 +36,7 @@ eight l i h = rw (
   drop_more l (i + 1 + 1 + 1 + 1) 0 (omega arith),
   drop_more l (i + 1 + 1 + 1 + 1 + 1) 0 (omega arith),
   drop_more l (i + 1 + 1 + 1 + 1 + 1 + 1) 0 (omega arith),
-  drop_more l (i + 1 + 1 + 1 + 1 + 1 + 1 + 1) 0 (omega arith)
+  drop_more l (i + 1 + 1 + 1 + 1 + 1 + 1 + 1) 0 (omega arith),
 ) refl
 
 abbrev behind : Sizes → List ℕ → List ℕ
@@ -187,6 +186,3 @@ blank-next s at j end lt some few fits least =
     ap (λ (l : List (ℕ × List ℕ)). map (λ (c : ℕ × List ℕ). Blank s c.0 (length c.1)) l) (parts-step at j b some (omega (arith, long, few)) fits (elim least [ inl all ↦ inl (all ∙ sym long) | inr full ↦ inr full ]))
     ∙ ap (λ (k : ℕ). Blank s at k ∷ blank_items s (at + j) (drop j b)) (ap length (zeros-front j (end - at) few) ∙ length-replicate {A = ℕ} j 0)
     ∙ ap (λ (l : List ℕ). Blank s at j ∷ blank_items s (at + j) l) (zeros-drop j (end - at) few ∙ ap zeros (let e : end - at - j ≡ end - (at + j) = omega arith in e))
-
-pub blank-end : (s : Site) (at end : ℕ) → end ≤ at → blank_items s at (zeros (end - at)) ≡ []
-blank-end s at end h = ap (λ (k : ℕ). blank_items s at (zeros k)) (let e : end - at ≡ 0 = omega arith in e)

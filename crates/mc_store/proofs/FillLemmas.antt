@@ -1,23 +1,21 @@
 -- Bytes of a section set word by word: the parts of a piece, and what each write asks and leaves.
-use Rattle.std.proofs.Common.{◌≡◌, ◌⊎◌, ℕ, zero, suc, ◌+◌, ◌-◌, ◌*◌, ◌%◌, ◌/◌, ◌<◌, ◌≤◌, Bool, true, false, not, List, [], ◌∷◌, ◌++◌, length, take, drop, map, Option, Some, None, Ok, Err, refl, sym, ◌∙◌, ap, subst, inl, inr, arith}
+use Rattle.std.proofs.Common.{◌≡◌, ◌⊎◌, ℕ, zero, suc, ◌+◌, ◌-◌, ◌%◌, ◌/◌, ◌<◌, ◌≤◌, true, List, [], ◌∷◌, length, take, drop, map, Ok, Err, refl, sym, ◌∙◌, ap, subst, inl, inr, arith}
 use Rattle.std.specs.Prelude.{OnOk}
 use Rattle.std.proofs.lemmas.List.{length-drop, drop-drop, take_all, drop_all}
 use Rattle.mc_model.specs.declared.card.Part.{Part}
-use Rattle.mc_model.specs.declared.card.Part.TheVariants.{Code, Data, Dir, Fci}
 use Rattle.mc_model.specs.declared.device.Stop.{Stop}
 use Rattle.mc_model.specs.Orders.{Answer, InOrder}
-use Rattle.mc_model.specs.Bytes.{up, down, splice, zeros}
+use Rattle.mc_model.specs.Bytes.{splice}
 use Rattle.mc_model.specs.Device.{DeviceState, IsImage, Wrote, Makes}
 use Rattle.mc_model.specs.Card.{App, Card, card_of, means, word}
 use Rattle.mc_model.specs.Layout.{gaps, first_fitting}
 use Rattle.mc_model.specs.Items.{Site, BankItem, Piece, Blank, Note}
 use Rattle.mc_model.specs.Manager.{in_words, word_parts}
-use Rattle.mc_bank.specs.Bank.{FitsLimits, IsGood, part_len}
-use Rattle.mc_store.specs.Store.{apps_in, is_going, store_standing, needed_by, part_from, IsGoodIn, IsInWord, StoreDid}
+use Rattle.mc_bank.specs.Bank.{part_len}
+use Rattle.mc_store.specs.Store.{apps_in, is_going, needed_by, part_from, IsGoodIn, IsInWord, StoreDid}
 use Rattle.mc_store.specs.Going.{Going, going_is, is_going_of, closed_means}
 use Rattle.mc_store.specs.Creation.{AtSite, at-site}
-use Rattle.mc_store.specs.Did.{blank_items}
-use Rattle.mc_store.specs.Turns.{Turned, Turns, Standing, standing-of, turns, parted, blanked}
+use Rattle.mc_store.specs.Turns.{Turned, Standing, standing-of, turns, parted}
 
 -- ---- the parts of a piece
 

@@ -1,11 +1,10 @@
 -- What the items of a load and of a creation do to a store as a bank, one after another.
-use Rattle.std.proofs.Common.{◌≡◌, ◌≢◌, ℕ, zero, suc, ◌+◌, ◌-◌, ◌%◌, drop, ◌<◌, ◌≤◌, Bool, true, false, not, List, [], ◌∷◌, ◌++◌, length, map, Option, Some, None, Ok, Err, refl, sym, ◌∙◌, ap, subst, inl, inr, arith, append_assoc}
-use Rattle.std.specs.Prelude.{◌⊎◌, IsSome, OnOk, Result, slice_set}
+use Rattle.std.proofs.Common.{◌≡◌, ◌≢◌, ℕ, zero, suc, ◌+◌, ◌-◌, ◌%◌, drop, ◌<◌, ◌≤◌, Bool, true, false, not, List, [], ◌∷◌, ◌++◌, length, map, Some, None, Ok, Err, refl, sym, ◌∙◌, ap, subst, inl, inr, arith, append_assoc}
+use Rattle.std.specs.Prelude.{IsSome, OnOk, slice_set}
 use Rattle.std.specs.List.{AllByRecursion}
-use Rattle.std.proofs.lemmas.List.{length-replicate, length-drop}
+use Rattle.std.proofs.lemmas.List.{length-replicate}
 use Rattle.mc_model.specs.declared.card.Part.{Part}
 use Rattle.mc_model.specs.declared.card.Part.TheVariants.{Code, Data, Dir, Fci}
-use Rattle.mc_model.specs.declared.card.Sizes.{Sizes}
 use Rattle.mc_model.specs.declared.device.Stop.{Stop}
 use Rattle.mc_model.specs.declared.device.Stop.TheVariants.{Off, Worn}
 use Rattle.mc_model.specs.Counts.{Rose}
@@ -13,19 +12,19 @@ use Rattle.mc_model.specs.Orders.{Answer, InOrder}
 use Rattle.mc_model.specs.Bytes.{zeros, splice, lookup, insert}
 use Rattle.mc_model.specs.Pieces.{laid_pieces}
 use Rattle.mc_model.specs.Manager.{in_words, word_parts, create_items}
-use Rattle.mc_model.specs.Device.{DeviceState, IsImage, Wrote, WriteDone, Makes}
+use Rattle.mc_model.specs.Device.{DeviceState, Wrote, WriteDone, Makes}
 use Rattle.mc_model.specs.Card.{App, Card, means, card_of}
 use Rattle.mc_model.specs.Layout.{gaps, first_fitting}
 use Rattle.mc_model.specs.Items.{Site, BankItem, Piece, Blank, Note, Commit, Enter, Remove}
 use Rattle.mc_model.proofs.ImageLemmas.{all-map}
 use Rattle.mc_bank.specs.Bank.{BankState, IsGood, StayGood, entered, item_done, part_len, IsChanged, IsStopped, StopRose, Changes}
 use Rattle.mc_store.specs.declared.store.Store.{Store}
-use Rattle.mc_store.specs.Store.{settled, apps_in, is_going, store_state, store_named, store_room, store_standing, name_of_place, part_from, part_in, needed_by, IsGoodIn, IsInWord, StoreDid, item_writes}
+use Rattle.mc_store.specs.Store.{apps_in, is_going, store_state, store_named, store_room, store_standing, name_of_place, part_in, needed_by, IsGoodIn, IsInWord, item_writes}
 use Rattle.mc_store.specs.Going.{Going, going_is, closed_means, closed_settled, closed_apps, laid_apps}
 use Rattle.mc_store.specs.Gaps.{just-one}
-use Rattle.mc_store.specs.Creation.{AtSite, at-site}
-use Rattle.mc_store.specs.Turns.{some-is, Turned, Halted, Turns, Standing, standing-of, turns}
-use Rattle.mc_store.specs.Laws.{store_obeys, store_keeps, changes-of}
+use Rattle.mc_store.specs.Creation.{at-site}
+use Rattle.mc_store.specs.Turns.{some-is, Turns, Standing, standing-of, turns}
+use Rattle.mc_store.specs.Laws.{store_obeys, store_keeps}
 use Rattle.mc_store.specs.Did.{store_did}
 use Rattle.mc_store.proofs.SiteLemmas.{piece_part, piece_other, blank_part, note_part, laid_parts, none_laid, part_length}
 

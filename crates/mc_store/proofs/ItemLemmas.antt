@@ -1,23 +1,11 @@
 -- Lists of items of a store that leave the card: pieces, zeros and words of a record, done or stopped.
-use Rattle.std.proofs.Common.{◌≡◌, ◌≢◌, ◌⊎◌, ℕ, zero, suc, ◌+◌, ◌-◌, ◌*◌, ◌%◌, ◌/◌, ◌<◌, ◌≤◌, Bool, true, false, List, [], ◌∷◌, ◌++◌, length, take, drop, map, Option, Some, None, Ok, Err, refl, sym, ◌∙◌, ap, subst, inl, inr, arith}
+use Rattle.std.proofs.Common.{◌≡◌, ℕ, true, List, [], ◌∷◌, Ok, refl, sym, ◌∙◌, subst, inl, inr}
 use Rattle.std.specs.List.{AllByRecursion}
-use Rattle.std.proofs.lemmas.List.{length-drop, length-take-le}
-use Rattle.mc_model.specs.declared.card.Part.{Part}
-use Rattle.mc_model.specs.declared.device.Stop.{Stop}
-use Rattle.mc_model.specs.declared.device.Stop.TheVariants.{Off, Worn}
 use Rattle.mc_model.specs.Orders.{Answer, InOrder}
-use Rattle.mc_model.specs.Counts.{Rose}
 use Rattle.mc_model.specs.Device.{DeviceState, Wrote}
-use Rattle.mc_model.specs.Card.{App, Card, means}
-use Rattle.mc_model.specs.Items.{Site, BankItem, Piece, Blank, Note, Commit, Enter, Remove}
-use Rattle.mc_model.specs.Manager.{in_words, word_parts}
-use Rattle.mc_bank.specs.Bank.{part_len, BankState, IsStopped, StopRose, Changes}
-use Rattle.mc_store.specs.Store.{apps_in, is_going, store_state, needed_by, part_in, IsGoodIn, StoreDid}
-use Rattle.mc_store.specs.Going.{Going, going_is}
-use Rattle.mc_store.specs.Creation.{AtSite, at-site}
-use Rattle.mc_store.specs.Turns.{Standing, standing-of}
-use Rattle.mc_store.specs.Laws.{store_obeys}
-use Rattle.mc_store.proofs.FillLemmas.{PlainOn, piece-on, blank-on, note-on, good-on}
+use Rattle.mc_model.specs.Items.{BankItem, Piece, Blank, Note, Commit, Enter, Remove}
+use Rattle.mc_store.specs.Store.{is_going, StoreDid}
+use Rattle.mc_store.proofs.FillLemmas.{PlainOn, piece-on, blank-on, note-on}
 
 -- an item that leaves the card
 abbrev pub IsPlain : BankItem → Type 0
@@ -33,13 +21,6 @@ on-self d c going = record { going = going; means = refl; cuts = refl; faults = 
 
 pub on-then : (d e f : DeviceState) (c : ℕ) → PlainOn d e c → PlainOn e f c → PlainOn d f c
 on-then d e f c x y = record { going = y.going; means = y.means ∙ x.means; cuts = y.cuts ∙ x.cuts; faults = y.faults ∙ x.faults }
-
--- the applications stay
-pub on-apps : (d e : DeviceState) (c : ℕ) → is_going d c ≡ true → PlainOn d e c → apps_in e.words ≡ apps_in d.words
-on-apps d e c going on =
-    let s : Standing d.words = standing-of d c (going_is d c going) in
-    let t : Standing e.words = standing-of e c (going_is e c on.going) in
-    t.map ∙ sym t.apps ∙ ap (λ (x : Card). x.apps) on.means ∙ s.apps ∙ sym s.map
 
 module _ {D S : Type 0} (dev : S → D) (cnt : S → ℕ) (state : D → DeviceState) (wrote : D → ℕ → List ℕ → Answer → D → Type 0)
     (obeys : (d : D) (at : ℕ) (w : List ℕ) (a : Answer) (e : D) → (state d).on ≡ true → wrote d at w a e → Wrote (state d) at w a (state e)) where

@@ -1,23 +1,21 @@
 -- The migration of a card of layout 1, done or stopped at any of its writes.
-use Rattle.std.proofs.Common.{◌≡◌, ◌≢◌, ℕ, zero, suc, ◌+◌, ◌-◌, ◌<◌, ◌≤◌, Bool, true, false, ◌&&◌, ◌||◌, List, [], ◌∷◌, ◌++◌, length, take, drop, Option, Some, None, refl, sym, ◌∙◌, ap, subst, arith, cond, inl, inr}
+use Rattle.std.proofs.Common.{◌≡◌, ◌≢◌, ℕ, ◌≤◌, Bool, true, false, ◌&&◌, ◌||◌, List, [], ◌∷◌, length, take, Option, Some, None, refl, ◌∙◌, ap, subst, arith, cond, inl, inr}
 use Rattle.std.specs.Prelude.{bytes_eq, ◌⊎◌, ◌==◌, slice_index, slice_set}
 use Rattle.std.specs.List.{AllByRecursion}
 use Rattle.std.proofs.lemmas.List.{get_or-set_same, get_or-set_other, length-set}
 use Rattle.std.proofs.lemmas.Bool.{eqb-true}
-use Rattle.mc_model.specs.declared.card.Cause.{Cause}
 use Rattle.mc_model.specs.declared.card.Cause.TheVariants.{NoRoot, BadBlock, BadRecord, BadChain}
 use Rattle.mc_model.specs.Bytes.{be2, or_else}
-use Rattle.mc_model.specs.Image.{Journal, One, Two, opening, shut, gate, word_at, is_open, Only, which, Look, Closed, look, laid, Words}
-use Rattle.mc_model.specs.Stopped.{Inside, writes, cost, stands, owes, torn, stood, IsAtomic, SameOutside, Leaves, Stands}
-use Rattle.mc_model.specs.Card.{App, Card, Block, card_of, word, blocks, heap_start}
+use Rattle.mc_model.specs.Image.{One, Two, opening, is_open, Closed, look, laid}
+use Rattle.mc_model.specs.Stopped.{Inside, writes, stands, owes, torn, stood, IsAtomic, SameOutside, Leaves, Stands}
+use Rattle.mc_model.specs.Card.{App, Block, card_of, word, blocks, heap_start}
 use Rattle.mc_model.specs.Layout.{words_fault, root, no_root, bad_block, bad_record, bad_link, bad_chain, first_hole, by_cause}
-use Rattle.mc_model.specs.Play.{Base, OnCard, AtFault, migrated}
-use Rattle.mc_model.proofs.ImageLemmas.{length-laid, laid-other}
-use Rattle.mc_model.proofs.StoppedLemmas.{length-torn, torn-other, shut-closed, tear, done}
+use Rattle.mc_model.proofs.ImageLemmas.{laid-other}
+use Rattle.mc_model.proofs.StoppedLemmas.{torn-other, shut-closed, tear, done}
 use Rattle.mc_blocks.proofs.Bridge.{Faultless, faultless}
 use Rattle.mc_store.specs.Power.{new_root, IsBase}
 use Rattle.mc_store.proofs.HeapLemmas.{SameHeap, root_test, same_drop, all_blocks, all_apps, bad_blocks, bad_records}
-use Rattle.mc_store.proofs.JournalLemmas.{other, closed_alone, raw, base_in, same_raw, stays}
+use Rattle.mc_store.proofs.JournalLemmas.{closed_alone, raw, same_raw, stays}
 
 -- ---- the new root
 

@@ -1,29 +1,16 @@
 -- Bytes of a section set in one word.
-use Rattle.std.proofs.Common.{◌≡◌, ◌≢◌, ◌⊎◌, ℕ, zero, suc, ◌+◌, ◌-◌, ◌*◌, ◌%◌, ◌/◌, ◌<◌, ◌≤◌, Bool, true, false, not, List, [], ◌∷◌, ◌++◌, length, take, drop, map, Option, Some, None, Ok, Err, refl, sym, ◌∙◌, ap, subst, inl, inr, arith, append_assoc}
-use Rattle.std.specs.Prelude.{OnOk, slice_set}
-use Rattle.std.proofs.lemmas.List.{length-set, get_or-set_same, get_or-set_other, take-append-le, drop-append-le, length-take-le, length-drop, take-append-drop, take_all, drop_all}
+use Rattle.std.proofs.Common.{◌≡◌, ◌≢◌, ℕ, suc, ◌+◌, ◌-◌, ◌*◌, ◌%◌, ◌/◌, ◌≤◌, List, [], ◌++◌, length, take, drop, sym, ◌∙◌, ap, inl, inr, arith, append_assoc}
+use Rattle.std.specs.Prelude.{slice_set}
+use Rattle.std.proofs.lemmas.List.{length-set, get_or-set_same, get_or-set_other, take-append-le, drop-append-le, length-take-le, take-append-drop, take_all, drop_all}
 use Rattle.std.proofs.lemmas.List.Edits.{paste_none}
 use Rattle.std.proofs.lemmas.Bool.{cases_lt}
 use Rattle.std.proofs.Math.Seq.{take-append-add, drop-append-add}
-use Rattle.mc_model.specs.declared.card.Part.{Part}
-use Rattle.mc_model.specs.declared.card.Part.TheVariants.{Code, Data, Dir, Fci}
-use Rattle.mc_model.specs.declared.card.Sizes.{Sizes}
-use Rattle.mc_model.specs.declared.device.Stop.{Stop}
-use Rattle.mc_model.specs.Orders.{Answer, InOrder}
-use Rattle.mc_model.specs.Bytes.{up, down, splice, zeros}
-use Rattle.mc_model.specs.Device.{DeviceState, IsImage, Wrote, WriteDone, Makes}
-use Rattle.mc_model.specs.Card.{App, Card, means, word, cells, section}
-use Rattle.mc_model.specs.Items.{Site, BankItem, Piece, Blank, Note}
-use Rattle.mc_model.specs.Manager.{in_words, word_parts}
-use Rattle.mc_bank.specs.Bank.{FitsLimits, IsGood, part_len}
-use Rattle.mc_bank.proofs.LeftLemmas.{length-spliced, front_piece, splice-splice}
-use Rattle.mc_store.specs.Store.{is_going, needed_by, part_from, part_in, IsGoodIn, IsInWord, StoreDid}
-use Rattle.mc_store.specs.Going.{Going, going_is}
-use Rattle.mc_store.specs.Gaps.{just-one}
-use Rattle.mc_store.specs.Sections.{length-section, cells-more, cells-append, length-cells, same-cells, same-section}
-use Rattle.mc_store.specs.Creation.{AtSite, at-site}
-use Rattle.mc_store.specs.Turns.{Standing, standing-of}
-use Rattle.mc_store.proofs.FillLemmas.{PlainOn, piece-on, good-on}
+use Rattle.mc_model.specs.Bytes.{up, splice}
+use Rattle.mc_model.specs.Device.{IsImage}
+use Rattle.mc_model.specs.Card.{word, cells, section}
+use Rattle.mc_bank.proofs.LeftLemmas.{front_piece, splice-splice}
+use Rattle.mc_store.specs.Store.{IsInWord}
+use Rattle.mc_store.specs.Sections.{cells-more, cells-append, length-cells, same-cells}
 
 -- ---- bytes set in one word
 

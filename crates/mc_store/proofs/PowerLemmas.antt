@@ -1,23 +1,21 @@
 -- A power-up: what its writes leave, done or stopped at any of them.
-use Rattle.std.proofs.Common.{◌≡◌, ◌≢◌, ℕ, zero, suc, ◌+◌, ◌-◌, ◌<◌, ◌≤◌, Bool, true, false, List, [], ◌∷◌, ◌++◌, length, Option, Some, None, Ok, Err, refl, sym, ◌∙◌, ap, subst, arith, cond, inl, inr, length-append, append-nil}
+use Rattle.std.proofs.Common.{◌≡◌, ℕ, ◌+◌, ◌-◌, ◌≤◌, Bool, true, false, List, [], ◌++◌, length, Option, Some, None, refl, sym, ◌∙◌, ap, subst, arith, cond, inl, inr, length-append}
 use Rattle.std.specs.Prelude.{◌⊎◌, ◌==◌}
 use Rattle.std.proofs.lemmas.Bool.{eqb-true, eq-eqb, ne_eqb}
 use Rattle.mc_model.specs.declared.card.Cause.{Cause}
-use Rattle.mc_model.specs.declared.card.Cause.TheVariants.{BadJournal}
-use Rattle.mc_model.specs.declared.device.Stop.{Stop}
 use Rattle.mc_model.specs.Orders.{Answer}
 use Rattle.mc_model.specs.Device.{DeviceState, IsImage, Wrote, Makes}
-use Rattle.mc_model.specs.Image.{Journal, One, Two, is_open, Which, Only, which, Look, Refused, Closed, Pending, look, laid, Words, After, after, replayed, owed, debt}
+use Rattle.mc_model.specs.Image.{Journal, One, which, Look, Refused, Closed, Pending, look, laid, Words, After, after, replayed, owed, debt}
 use Rattle.mc_model.specs.Stopped.{writes, replay, owed_writes, torn, stood, stands, owes, remains}
-use Rattle.mc_model.specs.Card.{App, Card, card_of, means, words_after}
+use Rattle.mc_model.specs.Card.{Card, card_of, means, words_after}
 use Rattle.mc_model.specs.Layout.{words_fault, fault, fault_of}
 use Rattle.mc_model.specs.Play.{Base, OnCard, AtFault, base_of, migration, migrated, owing}
 use Rattle.mc_model.proofs.ImageLemmas.{length-laid, laid-append}
 use Rattle.mc_model.proofs.StoppedLemmas.{torn-within, torn-past}
 use Rattle.mc_model.proofs.DeviceLemmas.{DoneAll, StoppedAt, makes-done, makes-stopped}
-use Rattle.mc_store.specs.Store.{settled, is_going}
-use Rattle.mc_store.specs.Power.{found, new_root, migrating, power_writes, power_count, IsBase, IsPowered, IsUnusable, IsHalted, IsTorn, Powered, Runs, Halts, Fails, PowersUp, power_answer, PowerFollows}
-use Rattle.mc_store.specs.Going.{Going, is_going_of, closed_settled, closed_means}
+use Rattle.mc_store.specs.Store.{settled}
+use Rattle.mc_store.specs.Power.{found, new_root, migrating, power_writes, power_count, IsBase, IsHalted, Powered, Runs, Halts, Fails, PowersUp, power_answer, PowerFollows}
+use Rattle.mc_store.specs.Going.{is_going_of, closed_settled, closed_means}
 use Rattle.mc_store.proofs.HeapLemmas.{same_fault, same_card}
 use Rattle.mc_store.proofs.JournalLemmas.{IsPending, is_pending, NoneOpen, none_open, open_alone, base_in, raw, found_after, recovered_closed, recovery_halted}
 use Rattle.mc_store.proofs.MigrationLemmas.{version_is, upgrade, IsUpgraded, is_upgraded, migration_halted, migration_closed, migration_heap, migration_root}

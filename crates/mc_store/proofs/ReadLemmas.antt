@@ -1,6 +1,6 @@
 -- What the calls of a store that read answer.
-use Rattle.std.proofs.Common.{◌≡◌, ℕ, ◌+◌, ◌-◌, ◌*◌, ◌<◌, ◌≤◌, Bool, true, false, not, List, [], ◌∷◌, length, take, drop, Option, Some, None, Ok, Err, refl, sym, ◌∙◌, ap, subst, arith}
-use Rattle.std.specs.Prelude.{IsSome, IfSome, IfOk, Result, is_some, nat_le, slice_index}
+use Rattle.std.proofs.Common.{◌≡◌, ℕ, ◌+◌, ◌*◌, ◌<◌, ◌≤◌, Bool, true, false, not, List, length, take, drop, Option, Some, None, Ok, Err, refl, sym, ◌∙◌, ap, subst, arith}
+use Rattle.std.specs.Prelude.{IsSome, IfOk, Result, is_some, nat_le, slice_index}
 use Rattle.std.proofs.lemmas.Bool.{leb-false}
 use Rattle.mc_model.specs.declared.card.Part.{Part}
 use Rattle.mc_model.specs.declared.card.Part.TheVariants.{Code, Data, Dir, Fci}
@@ -8,13 +8,12 @@ use Rattle.mc_model.specs.declared.card.Sizes.{Sizes}
 use Rattle.mc_model.specs.declared.card.OpenRefusal.{OpenRefusal}
 use Rattle.mc_model.specs.Bytes.{be2, up, lookup}
 use Rattle.mc_model.specs.Device.{DeviceState, IsImage}
-use Rattle.mc_model.specs.Card.{App, Card, record_at, name_at, app_at, section, needed_of, blocks, card_of, means}
+use Rattle.mc_model.specs.Card.{App, Card, record_at, name_at, app_at, section, needed_of, blocks, means}
 use Rattle.mc_model.specs.Layout.{words_fault, IsWellLaid}
 use Rattle.mc_model.specs.Image.{look, Closed}
 use Rattle.mc_model.specs.Items.{Site}
-use Rattle.mc_bank.specs.declared.bank.Facts.{Facts}
 use Rattle.mc_bank.specs.Bank.{app_of, sizes_of, FitsLimits, AreApps, opened, IsGood, HasParts, part_len}
-use Rattle.mc_store.specs.Store.{settled, apps_in, is_going, store_state, store_named, store_room, store_standing, name_of_place, part_from, part_in, needed_by, IsGoodIn}
+use Rattle.mc_store.specs.Store.{apps_in, is_going, store_named, store_room, store_standing, name_of_place, part_from, part_in, needed_by}
 use Rattle.mc_store.specs.Slots.{first_named, record_sizes, IsBlock, part_of_app, flat}
 use Rattle.mc_store.specs.Going.{Going, closed_means, closed_fault, closed_settled}
 use Rattle.mc_store.specs.Sections.{length-section}

@@ -1,26 +1,23 @@
 -- After the zeros and the words of the record a site is ready to be an application.
-use Rattle.std.proofs.Common.{◌≡◌, ◌≢◌, ◌⊎◌, ℕ, zero, suc, ◌+◌, ◌-◌, ◌*◌, ◌%◌, ◌/◌, ◌<◌, ◌≤◌, Bool, true, false, List, [], ◌∷◌, ◌++◌, length, take, drop, map, Option, Some, None, Ok, Err, refl, sym, ◌∙◌, ap, subst, inl, inr, arith, length-append, append_assoc, append-nil}
-use Rattle.std.specs.Prelude.{OnOk, slice_set}
+use Rattle.std.proofs.Common.{◌≡◌, ◌≢◌, ℕ, zero, suc, ◌+◌, ◌-◌, ◌%◌, ◌<◌, ◌≤◌, true, List, [], ◌∷◌, ◌++◌, length, take, drop, map, None, Ok, refl, sym, ◌∙◌, ap, subst, inl, inr, arith, length-append, append_assoc, append-nil}
 use Rattle.std.proofs.lemmas.List.{length-replicate, length-drop, drop-drop, take-append-drop, take_all, drop_all, drop_at, length-take-le, length-set, get_or-set_same, get_or-set_other}
 use Rattle.std.proofs.lemmas.List.Edits.{paste_none}
-use Rattle.mc_model.specs.declared.card.Part.{Part}
 use Rattle.mc_model.specs.declared.card.Part.TheVariants.{Data}
 use Rattle.mc_model.specs.Orders.{Answer, InOrder}
-use Rattle.mc_model.specs.Bytes.{up, zeros, bytes2, lookup, splice}
+use Rattle.mc_model.specs.Bytes.{zeros, bytes2, lookup, splice}
 use Rattle.mc_model.specs.Device.{DeviceState, IsImage, Wrote, WriteDone}
-use Rattle.mc_model.specs.Card.{App, Card, means, word, cells, section, record_at}
+use Rattle.mc_model.specs.Card.{Card, means, word, cells, section, record_at}
 use Rattle.mc_model.specs.Items.{Site, BankItem, Blank, Note}
-use Rattle.mc_model.specs.Manager.{in_words, word_parts}
+use Rattle.mc_model.specs.Manager.{in_words}
 use Rattle.mc_base.specs.Name.{IsName}
-use Rattle.mc_bank.specs.Bank.{FitsLimits}
 use Rattle.mc_store.specs.Store.{is_going, needed_by, part_from, record_bytes, record_word, IsGoodIn, IsInWord, IsReady, StoreDid}
 use Rattle.mc_store.specs.Going.{Going, going_is}
 use Rattle.mc_store.specs.Gaps.{just-one}
 use Rattle.mc_store.specs.Sections.{length-section, cells-more, same-section}
 use Rattle.mc_store.specs.Creation.{AtSite, at-site}
-use Rattle.mc_store.specs.Turns.{Standing, standing-of}
+use Rattle.mc_store.specs.Turns.{standing-of}
 use Rattle.mc_store.specs.Did.{blank_items}
-use Rattle.mc_store.proofs.FillLemmas.{PlainOn, blank-on, note-on, good-on}
+use Rattle.mc_store.proofs.FillLemmas.{PlainOn, blank-on}
 use Rattle.mc_store.proofs.PieceLemmas.{section-write, splice-parts}
 
 -- ---- zeros
@@ -148,9 +145,6 @@ module _ {D S : Type 0} (dev : S → D) (cnt : S → ℕ) (state : D → DeviceS
         own = get_or-set_same m (s.place + 1 + i) (record_word s.sizes k i) [] (omega (arith, site.ends));
         other = λ j ne. get_or-set_other m (s.place + 1 + i) j (record_word s.sizes k i) [] ne;
       })
-
-  note-on-of : (x y : S) (s : Site) (k : List ℕ) (i : ℕ) → Did x (Note s k i) (Ok tt) y → PlainOn (state (dev x)) (state (dev y)) (cnt x)
-  note-on-of x y s k i did = note-on state wrote obeys (dev x) (dev y) (cnt x) s k i (subst (λ (q : ℕ). StoreDid state wrote (dev x) (cnt x) (Note s k i) (Ok tt) (dev y) q) did.count did)
 
   -- ---- the site afterwards
 

@@ -1,5 +1,5 @@
 -- What a good record says, and the block that it stands in.
-use Rattle.std.proofs.Common.{◌≡◌, ℕ, ◌+◌, ◌*◌, ◌<◌, ◌≤◌, Bool, true, false, ◌&&◌, List, [], ◌∷◌, length, take, drop, Option, Some, None, refl, sym, ◌∙◌, ap, subst, arith, min, length-take}
+use Rattle.std.proofs.Common.{◌≡◌, ℕ, ◌+◌, ◌≤◌, true, ◌&&◌, List, length, take, drop, arith, min, length-take}
 use Rattle.std.specs.Prelude.{nat_le, ◌==◌, slice_index, bytes_eq, ◌-◌}
 use Rattle.std.proofs.lemmas.Bool.{and_parts, leb-true, eqb-true}
 use Rattle.mc_model.specs.Bytes.{be2, up, zeros}
@@ -83,9 +83,3 @@ name_size r w size h =
     let high : slice_index r 16 ≤ 16 = k.name_high in
     let e : length (name_in r) ≡ min (slice_index r 16) (length r) = length-take (slice_index r 16) r in
     (omega (arith, e, size), omega (arith, e, size))
-
--- the same of the record that was read
-pub block_name : (m : List (List ℕ)) (p : ℕ) (r : List ℕ) (n : List ℕ) → IsBlock m p → length r ≡ 32 → r ≡ record_at m p → n ≡ name_in r → (5 ≤ length n) × (length n ≤ 16)
-block_name m p r n b size e f =
-    subst (λ (l : List ℕ). (5 ≤ length l) × (length l ≤ 16)) (sym f)
-    (name_size r b.words size (subst (λ (l : List ℕ). is_record l b.words ≡ true) (sym e) b.good))

@@ -1,21 +1,20 @@
 -- The steps of a power-up, one after another: the replay, the check, the migration.
-use Rattle.std.proofs.Common.{◌≡◌, ℕ, ◌+◌, ◌≤◌, Bool, true, false, List, [], ◌∷◌, ◌++◌, length, Option, Some, None, Ok, Err, refl, sym, ◌∙◌, ap, subst, arith, cond, append-nil}
+use Rattle.std.proofs.Common.{◌≡◌, ℕ, ◌+◌, ◌≤◌, true, false, List, [], ◌∷◌, ◌++◌, length, Option, None, Ok, Err, refl, sym, ◌∙◌, ap, subst, cond, append-nil}
 use Rattle.std.specs.Prelude.{Result, IfOk, ◌==◌, slice_set}
 use Rattle.mc_model.specs.declared.card.Cause.{Cause}
-use Rattle.mc_model.specs.declared.device.Stop.{Stop}
-use Rattle.mc_model.specs.Orders.{Answer, InOrder}
-use Rattle.mc_model.specs.Device.{DeviceState, IsImage, Wrote, Makes}
-use Rattle.mc_model.specs.Image.{Journal, One, Two, is_open, Look, Refused, Closed, Pending, look, look_j, laid, Words, owed, debt, replayed}
-use Rattle.mc_model.specs.Stopped.{writes, replay, owed_writes, Outcome, Recovered, Interrupted, BadAt, Follows, RecoverEnds}
-use Rattle.mc_model.specs.Card.{Card, card_of, means, word, words_after}
+use Rattle.mc_model.specs.Orders.{Answer}
+use Rattle.mc_model.specs.Device.{DeviceState, Wrote, Makes}
+use Rattle.mc_model.specs.Image.{Journal, One, is_open, Look, Refused, Closed, Pending, look, look_j, owed, debt, replayed}
+use Rattle.mc_model.specs.Stopped.{writes, owed_writes, Recovered, Follows, RecoverEnds}
+use Rattle.mc_model.specs.Card.{Card, means, word, words_after}
 use Rattle.mc_model.specs.Layout.{words_fault, fault, fault_of}
-use Rattle.mc_model.specs.Play.{Base, OnCard, AtFault, base_of, migration}
+use Rattle.mc_model.specs.Play.{Base, base_of, migration}
 use Rattle.mc_model.proofs.OrdersLemmas.{InOrder-append, InOrder-stopped}
 use Rattle.mc_model.proofs.DeviceLemmas.{DoneAll, makes-done}
 use Rattle.mc_store.specs.declared.power.Up.{Up}
 use Rattle.mc_store.specs.declared.power.Up.TheVariants as up
 use Rattle.mc_store.specs.Store.{settled}
-use Rattle.mc_store.specs.Power.{found, new_root, migrating, power_writes, power_count, Powered, Runs, Halts, Fails, power_answer, PowerFollows, RecoverFollows, FinishFollows, failed, recovered}
+use Rattle.mc_store.specs.Power.{found, new_root, migrating, power_writes, Powered, Runs, Halts, Fails, power_answer, PowerFollows, RecoverFollows, FinishFollows, failed, recovered}
 use Rattle.mc_store.specs.Going.{closed_settled, closed_means, closed_fault}
 use Rattle.mc_store.proofs.JournalLemmas.{other, look_alone, IsPending, is_pending, recovered_closed}
 use Rattle.mc_store.proofs.PowerLemmas.{Settles, settles}

@@ -1,24 +1,24 @@
 -- What a write into a word of a hole does to the sections of a site there.
-use Rattle.std.proofs.Common.{◌≡◌, ◌≢◌, ℕ, zero, suc, ◌+◌, ◌-◌, ◌*◌, ◌/◌, ◌%◌, ◌<◌, ◌≤◌, min, List, [], ◌∷◌, ◌++◌, length, take, drop, map, refl, sym, ◌∙◌, ap, subst, arith, length-append, length-drop, append-nil, append_assoc, inl, inr}
+use Rattle.std.proofs.Common.{◌≡◌, ◌≢◌, ℕ, zero, suc, ◌+◌, ◌-◌, ◌/◌, ◌%◌, ◌<◌, ◌≤◌, List, [], ◌∷◌, ◌++◌, length, take, drop, refl, sym, ◌∙◌, ap, arith, length-append, length-drop, inl, inr}
 use Rattle.std.specs.Prelude.{slice_set, ◌⊎◌}
 use Rattle.std.proofs.lemmas.Bool.{cases_lt}
-use Rattle.std.proofs.lemmas.List.{take_at, drop_at, length-take-le, take-take, drop-take, take-append-le, take-append-drop, get_or-set_other, length-set, drop-drop, take_all, drop_all, drop-append-le}
+use Rattle.std.proofs.lemmas.List.{length-take-le, take-take, take-append-le, get_or-set_other, length-set, take_all, drop_all}
 use Rattle.std.proofs.lemmas.List.Edits.{paste_none}
 use Rattle.mc_model.specs.declared.card.Part.{Part}
 use Rattle.mc_model.specs.declared.card.Part.TheVariants.{Code, Data, Dir, Fci}
 use Rattle.mc_model.specs.declared.card.Sizes.{Sizes}
-use Rattle.mc_model.specs.Bytes.{up, down, zeros, splice}
+use Rattle.mc_model.specs.Bytes.{up, down, splice}
 use Rattle.mc_model.specs.Pieces.{laid_pieces}
 use Rattle.mc_model.specs.Manager.{in_words, word_parts}
 use Rattle.mc_model.specs.Device.{IsImage}
-use Rattle.mc_model.specs.Card.{word, cells, section}
+use Rattle.mc_model.specs.Card.{word, section}
 use Rattle.mc_model.specs.Items.{Site}
 use Rattle.mc_bank.specs.Bank.{FitsLimits, part_len}
-use Rattle.mc_bank.proofs.LeftLemmas.{length-spliced, front_piece, splice-splice}
+use Rattle.mc_bank.proofs.LeftLemmas.{length-spliced}
 use Rattle.mc_store.specs.Store.{needed_by, part_from, part_in, piece_write, IsInWord}
 use Rattle.mc_store.proofs.PieceLemmas.{section-write, splice-parts}
-use Rattle.mc_store.specs.Sections.{section-front, length-cells, cells-append, cells-more, same-section, length-section}
-use Rattle.mc_store.specs.Splices.{cells-set, image-set}
+use Rattle.mc_store.specs.Sections.{section-front, same-section, length-section}
+use Rattle.mc_store.specs.Splices.{image-set}
 
 -- ---- bytes
 

@@ -1,24 +1,23 @@
 -- The applications of words without a fault, by their slots.
-use Rattle.std.proofs.Common.{◌≡◌, ◌≢◌, ℕ, zero, suc, ◌+◌, ◌-◌, ◌*◌, ◌<◌, ◌≤◌, min, Bool, true, false, ◌&&◌, not, cond, List, [], ◌∷◌, ◌++◌, length, take, drop, Option, Some, None, refl, sym, ◌∙◌, ap, subst, arith, length-take}
-use Rattle.std.specs.Prelude.{◌==◌, slice_index, bytes_eq, IsSome, IfSome, is_some, unwrap_or}
+use Rattle.std.proofs.Common.{◌≡◌, ℕ, ◌+◌, ◌≤◌, Bool, true, false, ◌&&◌, not, cond, List, [], ◌∷◌, length, Option, Some, None, refl, sym, ◌∙◌, ap, subst, arith}
+use Rattle.std.specs.Prelude.{◌==◌, slice_index, bytes_eq, IsSome, is_some, unwrap_or}
 use Rattle.std.specs.List.{AllByRecursion}
 use Rattle.std.proofs.lemmas.Bool.{eqb-true, eq-eqb}
 use Rattle.mc_model.specs.declared.card.Sizes.{Sizes}
 use Rattle.mc_model.specs.Bytes.{be2, up, lookup, insert, name_before}
 use Rattle.mc_model.specs.Image.{look, Closed}
 use Rattle.mc_model.specs.Device.{DeviceState, IsImage}
-use Rattle.mc_model.specs.Card.{App, Card, Block, blocks, record_at, name_in, name_at, app_at, apps_of, card_of, needed_of, section, means}
-use Rattle.mc_model.specs.Layout.{is_record, words_fault}
+use Rattle.mc_model.specs.Card.{App, Card, Block, blocks, record_at, name_at, app_at, apps_of, card_of, needed_of}
+use Rattle.mc_model.specs.Layout.{words_fault}
 use Rattle.mc_model.proofs.ImageLemmas.{all-map}
 use Rattle.mc_base.specs.Name.{IsName}
 use Rattle.mc_bank.specs.Bank.{app_of, no_app, sizes_of, FitsLimits, IsEntry, AscendByName, AreApps}
 use Rattle.mc_bank.specs.Names.{same_name, name_is_itself, not_after, lookup-inserted, lookup-beside, each-inserted, ascend-inserted}
-use Rattle.mc_blocks.specs.Blocks.{blocks_at}
 use Rattle.mc_blocks.proofs.Steps.{blocks_all}
 use Rattle.mc_blocks.proofs.Tiles.{AreRead}
 use Rattle.mc_blocks.proofs.Bridge.{some-apps, no-apps, with-block, fault-closed}
 use Rattle.mc_blocks.proofs.Applications.{few-applications}
-use Rattle.mc_store.specs.Store.{apps_in, is_going, name_of_place, store_state, store_named}
+use Rattle.mc_store.specs.Store.{apps_in, is_going, name_of_place, store_named}
 use Rattle.mc_store.specs.Slots.{first_named, record_sizes, IsBlock}
 use Rattle.mc_store.specs.Going.{Going, going_is, closed_apps, closed_means}
 use Rattle.mc_store.specs.Sections.{length-cells, length-section}

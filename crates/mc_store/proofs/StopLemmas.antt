@@ -1,26 +1,24 @@
 -- A stop at any device write of an item of a store, whatever word it leaves.
-use Rattle.std.proofs.Common.{◌≡◌, ◌≢◌, ℕ, zero, suc, ◌+◌, ◌-◌, ◌*◌, ◌<◌, ◌≤◌, Bool, true, false, List, [], ◌∷◌, length, Option, Some, None, refl, sym, ◌∙◌, ap, subst, arith, cond, inl, inr}
+use Rattle.std.proofs.Common.{◌≡◌, ℕ, ◌+◌, ◌<◌, ◌≤◌, Bool, true, false, List, [], ◌∷◌, length, Option, Some, None, refl, sym, ◌∙◌, ap, subst, arith, cond, inl, inr}
 use Rattle.std.specs.Prelude.{◌⊎◌, bytes_eq, slice_set, unwrap_or}
 use Rattle.std.proofs.lemmas.List.{length-map}
-use Rattle.mc_model.specs.declared.card.Part.{Part}
-use Rattle.mc_model.specs.declared.card.Part.TheVariants.{Code, Data, Dir, Fci}
-use Rattle.mc_model.specs.Bytes.{up, down, lookup, insert, remove}
+use Rattle.mc_model.specs.Bytes.{up, lookup, insert}
 use Rattle.mc_model.specs.Device.{IsImage}
-use Rattle.mc_model.specs.Image.{Journal, One, Two, opening, is_open, look, Closed, laid, Words, after, debt}
+use Rattle.mc_model.specs.Image.{One, Two, opening, look, Closed, laid, debt}
 use Rattle.mc_model.specs.Stopped.{writes, cost, stands, owes, torn, stood, IsAtomic, Inside, Leaves}
-use Rattle.mc_model.specs.Card.{App, Card, word, card_of, means}
+use Rattle.mc_model.specs.Card.{App, Card, card_of, means}
 use Rattle.mc_model.specs.Layout.{words_fault, gaps, step_of, IsWellLaid}
 use Rattle.mc_model.specs.Play.{Base, OnCard}
 use Rattle.mc_model.specs.Items.{Site, BankItem, Piece, Blank, Note, Commit, Enter, Remove}
 use Rattle.mc_model.proofs.ImageLemmas.{length-laid}
 use Rattle.mc_model.proofs.CallLemmas.{length-writes}
 use Rattle.mc_model.proofs.StoppedLemmas.{torn-other, tear}
-use Rattle.mc_bank.specs.Bank.{no_app, app_of, CanCommit, with_words, committed, entered, item_done, part_len}
+use Rattle.mc_bank.specs.Bank.{no_app, app_of, CanCommit, with_words}
 use Rattle.mc_blocks.specs.Plans.{has_room}
-use Rattle.mc_store.specs.Store.{part_from, part_in, needed_by, static_writes, card_with, card_without, item_writes, IsGoodIn, IsReady, Allows}
+use Rattle.mc_store.specs.Store.{needed_by, static_writes, card_with, card_without, item_writes, IsGoodIn, Allows}
 use Rattle.mc_store.specs.Going.{closed_means, closed_fault}
 use Rattle.mc_store.specs.Power.{IsBase}
-use Rattle.mc_store.specs.Stops.{card_after, IsTornAt, IsStoppedAt}
+use Rattle.mc_store.specs.Stops.{card_after, IsStoppedAt}
 use Rattle.mc_store.specs.Alike.{alike-self}
 use Rattle.mc_store.specs.Atomic.{writes-apart}
 use Rattle.mc_store.specs.Planning.{first-room}

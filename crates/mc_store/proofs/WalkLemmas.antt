@@ -1,6 +1,6 @@
 -- A walk over the blocks of words without a fault, one header after another.
-use Rattle.std.proofs.Common.{◌≡◌, ℕ, zero, suc, ◌+◌, ◌-◌, ◌<◌, ◌≤◌, Bool, true, false, ◌&&◌, List, [], ◌∷◌, length, Option, Some, None, refl, sym, ◌∙◌, ap, subst, arith, cond, not}
-use Rattle.std.specs.Prelude.{nat_le, ◌==◌, slice_index, bytes_eq, MatchBool}
+use Rattle.std.proofs.Common.{◌≡◌, ℕ, ◌+◌, ◌<◌, ◌≤◌, Bool, true, false, ◌&&◌, List, [], ◌∷◌, length, Option, Some, None, refl, sym, ◌∙◌, ap, subst, arith, cond, not}
+use Rattle.std.specs.Prelude.{◌==◌, slice_index, bytes_eq, MatchBool}
 use Rattle.std.specs.List.{AllByRecursion}
 use Rattle.std.proofs.lemmas.Bool.{le-leb}
 use Rattle.mc_model.specs.Bytes.{be2, has_name}
@@ -10,9 +10,8 @@ use Rattle.mc_model.specs.Layout.{is_record, words_fault}
 use Rattle.mc_blocks.specs.Blocks.{fitting, blocks_at}
 use Rattle.mc_blocks.proofs.Steps.{HeaderIs, header-is, blocks_step, blocks_all}
 use Rattle.mc_blocks.proofs.Tiles.{Tiled, AreRead}
-use Rattle.mc_blocks.proofs.Bridge.{Laid, laid, AreNamed, named, Faultless, faultless}
+use Rattle.mc_blocks.proofs.Bridge.{Laid, laid, AreNamed, named, faultless}
 use Rattle.mc_store.specs.Slots.{first_named, IsBlock}
-use Rattle.mc_store.proofs.RecordLemmas.{long_enough}
 
 -- a used block has a good record
 abbrev pub HasRecord : List (List ℕ) → Block → Type 0

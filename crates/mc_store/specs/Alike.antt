@@ -1,9 +1,7 @@
 -- Words that are the same in word 0 and in the heap hold the same card, whatever stands in their journals.
-use Rattle.std.proofs.Common.{◌≡◌, ◌⊎◌, ℕ, ◌+◌, ◌<◌, ◌≤◌, Bool, true, false, List, [], ◌∷◌, length, Option, Some, None, Result, Ok, Err, refl, sym, ◌∙◌, ap, subst, arith}
-use Rattle.std.specs.Prelude.{bytes_eq}
-use Rattle.mc_model.specs.declared.card.Cause.{Cause}
+use Rattle.std.proofs.Common.{◌≡◌, ℕ, ◌+◌, ◌≤◌, Bool, true, false, List, [], ◌∷◌, length, Option, Some, None, Result, Ok, Err, refl, sym, ◌∙◌, ap, arith}
 use Rattle.mc_model.specs.Device.{IsImage}
-use Rattle.mc_model.specs.Image.{Journal, One, Two, opening, gate, is_open, count, targets, Look, Refused, Closed, Pending, which_of, look, look_at, look_j, headed, aimed, opened, After, Words, NoWords, after, replayed}
+use Rattle.mc_model.specs.Image.{Journal, One, Two, is_open, count, targets, Look, Refused, Closed, Pending, which_of, look, look_at, look_j, headed, aimed, opened, After, Words, after, replayed}
 use Rattle.mc_model.specs.Stopped.{Inside, SameOutside}
 use Rattle.mc_model.specs.Card.{Block, word, blocks, card_of, means, words_after}
 use Rattle.mc_model.specs.Layout.{words_fault, fault, fault_of}
@@ -23,15 +21,6 @@ pub record Alike (n m : List (List ℕ)) : Type 0 where
 
 pub alike-self : (m : List (List ℕ)) → Alike m m
 alike-self m = record { size = refl; root = refl; heap = λ i low. refl }
-
-pub alike-same : (n m : List (List ℕ)) → n ≡ m → Alike n m
-alike-same n m e = subst (λ (t : List (List ℕ)). Alike n t) e (alike-self n)
-
-pub alike-then : (a b c : List (List ℕ)) → Alike a b → Alike b c → Alike a c
-alike-then a b c x y = record { size = x.size ∙ y.size; root = x.root ∙ y.root; heap = λ i low. x.heap i low ∙ y.heap i low }
-
-pub alike-back : (a b : List (List ℕ)) → Alike a b → Alike b a
-alike-back a b x = record { size = sym x.size; root = sym x.root; heap = λ i low. sym (x.heap i low) }
 
 root-outside : (j : Journal) → Inside j 0 → ⊥
 root-outside One inside = omega (arith, inside)
@@ -93,9 +82,6 @@ pub record Settles (t n : List (List ℕ)) : Type 0 where
   pub left : List (List ℕ)
   pub is : after n ≡ Words left
   pub alike : Alike left t
-
-pub settles-closed : (t n : List (List ℕ)) → look n ≡ Closed → Alike n t → Settles t n
-settles-closed t n closed alike = record { left = n; is = ap (λ (l : Look). replayed n l) closed; alike = alike }
 
 fault-by : (n w : List (List ℕ)) (l : Look) → look n ≡ l → replayed n l ≡ Words w → fault_of l n ≡ words_fault w
 fault-by n w (Refused p) e h = absurd (cc h)

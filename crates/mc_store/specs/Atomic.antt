@@ -1,12 +1,11 @@
 -- An atomic write of journal 2 to words with no open journal: done or stopped, the words once the journal is replayed.
-use Rattle.std.proofs.Common.{◌≡◌, ◌≢◌, ◌⊎◌, ℕ, ◌+◌, ◌<◌, ◌≤◌, Bool, true, false, List, [], ◌∷◌, ◌++◌, length, Ok, Err, refl, sym, ◌∙◌, ap, subst, inl, inr, arith}
+use Rattle.std.proofs.Common.{◌≡◌, ◌≢◌, ◌⊎◌, ℕ, ◌≤◌, Bool, true, false, List, [], ◌∷◌, length, Ok, Err, ◌∙◌, ap, inl, inr, arith}
 use Rattle.std.specs.Prelude.{bytes_eq}
 use Rattle.std.specs.List.{AllByRecursion}
-use Rattle.mc_model.specs.declared.device.Stop.{Stop}
 use Rattle.mc_model.specs.Orders.{Answer}
 use Rattle.mc_model.specs.Device.{DeviceState, IsImage, Wrote, Makes, Ended}
-use Rattle.mc_model.specs.Image.{Journal, One, Two, opening, shut, gate, word_at, is_open, within, laid, Look, Closed, look, look_j, after, replayed, Words}
-use Rattle.mc_model.specs.Stopped.{Inside, numbered, entries, replay, writes, IsAtomic, torn, stands, stood, SameOutside, Leaves, WriteStands, WriteTorn, WriteEnds}
+use Rattle.mc_model.specs.Image.{One, Two, opening, shut, gate, is_open, laid, Look, Closed, look, after, replayed, Words}
+use Rattle.mc_model.specs.Stopped.{numbered, entries, replay, writes, IsAtomic, stands, stood, SameOutside, WriteStands, WriteTorn}
 use Rattle.mc_model.specs.Card.{word}
 use Rattle.mc_model.proofs.ImageLemmas.{all-append, all-map, laid-other}
 use Rattle.mc_model.proofs.DeviceLemmas.{StoppedAt, makes-stopped}

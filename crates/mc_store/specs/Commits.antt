@@ -1,7 +1,7 @@
 -- What a commit of static words makes of a card, and of its holes.
 -- This project's profile.
-use Rattle.std.proofs.Common.{◌≡◌, ◌≢◌, ◌⊎◌, ℕ, ◌+◌, ◌*◌, ◌<◌, ◌≤◌, Bool, true, List, [], ◌∷◌, length, map, Some, None, refl, sym, ◌∙◌, ap, subst, inl, inr, arith}
-use Rattle.std.specs.Prelude.{nat_le, nat_lt, ◌==◌, ◌&&◌, ◌||◌}
+use Rattle.std.proofs.Common.{◌≡◌, ◌≢◌, ◌⊎◌, ℕ, ◌+◌, ◌<◌, ◌≤◌, true, List, [], ◌∷◌, length, map, Some, None, refl, sym, ◌∙◌, ap, subst, inl, inr, arith}
+use Rattle.std.specs.Prelude.{nat_le, nat_lt, ◌==◌, ◌&&◌}
 use Rattle.std.specs.List.{AllByRecursion}
 use Rattle.std.proofs.lemmas.List.{length-map}
 use Rattle.std.proofs.lemmas.Bool.{le-leb, lt-ltb, and_from, or_right}
@@ -10,7 +10,7 @@ use Rattle.mc_model.specs.Device.{IsImage}
 use Rattle.mc_model.specs.Image.{within, ascend, laid}
 use Rattle.mc_model.specs.Stopped.{IsAtomic}
 use Rattle.mc_model.specs.Pieces.{Ascend, numbers, laid_words}
-use Rattle.mc_model.specs.Card.{App, Card, Block, word, blocks, card_of}
+use Rattle.mc_model.specs.Card.{App, Card, Block, word, card_of}
 use Rattle.mc_model.specs.Layout.{gaps, words_fault}
 use Rattle.mc_model.proofs.ImageLemmas.{laid-other, length-laid}
 use Rattle.mc_bank.specs.Bank.{CanCommit, with_words}

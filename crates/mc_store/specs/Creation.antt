@@ -1,25 +1,23 @@
 -- What the atomic write of a creation makes of a card: the application that stands at the site is there.
 -- This project's profile.
-use Rattle.std.proofs.Common.{◌≡◌, ◌≢◌, ◌⊎◌, ℕ, ◌+◌, ◌-◌, ◌*◌, ◌<◌, ◌≤◌, Bool, true, false, ◌&&◌, ◌||◌, List, [], ◌∷◌, ◌++◌, length, take, drop, map, Option, Some, None, cond, refl, sym, ◌∙◌, ap, subst, inl, inr, arith}
+use Rattle.std.proofs.Common.{◌≡◌, ◌≢◌, ℕ, ◌+◌, ◌-◌, ◌<◌, ◌≤◌, Bool, true, false, ◌||◌, List, [], ◌∷◌, ◌++◌, length, map, None, cond, refl, sym, ◌∙◌, ap, subst, inl, inr, arith}
 use Rattle.std.specs.Prelude.{◌==◌, nat_le, nat_lt, slice_index}
 use Rattle.std.specs.List.{AllByRecursion}
 use Rattle.std.proofs.lemmas.Bool.{leb-true, and_parts, ne_eqb}
 use Rattle.mc_model.specs.declared.card.Sizes.{Sizes}
-use Rattle.mc_model.specs.declared.card.Part.TheVariants.{Code, Data, Dir, Fci}
 use Rattle.mc_model.specs.Bytes.{up, zeros, be2, lookup, insert}
 use Rattle.mc_model.specs.Device.{IsImage}
 use Rattle.mc_model.specs.Image.{look, Closed, within, ascend, laid}
 use Rattle.mc_model.specs.Stopped.{IsAtomic}
-use Rattle.mc_model.specs.Card.{App, Card, Block, word, needed, needed_of, section, record_at, name_at, name_in, app_of, app_at, blocks, means}
-use Rattle.mc_model.specs.Layout.{gaps, spans, spans_of, put_at, step_of, is_record, used_header, hole_header, words_fault, IsWellLaid}
+use Rattle.mc_model.specs.Card.{App, Block, word, needed, needed_of, section, record_at, name_at, app_of, app_at, blocks, means}
+use Rattle.mc_model.specs.Layout.{gaps, spans, put_at, step_of, used_header, hole_header, IsWellLaid}
 use Rattle.mc_model.specs.Items.{Site}
 use Rattle.mc_model.proofs.ImageLemmas.{laid-other, length-laid}
-use Rattle.mc_base.specs.Name.{IsName}
 use Rattle.mc_bank.specs.Bank.{FitsLimits, entered}
 use Rattle.mc_bank.specs.Names.{insert-swap}
 use Rattle.mc_blocks.specs.Chains.{Above}
 use Rattle.mc_blocks.specs.Blocks.{used_spans, hole_spans}
-use Rattle.mc_blocks.specs.Plans.{plan, has_room, has_span, gap_before, link_word, take_front}
+use Rattle.mc_blocks.specs.Plans.{plan, has_room, has_span, gap_before, link_word}
 use Rattle.mc_blocks.proofs.Tiles.{Tiled}
 use Rattle.mc_blocks.proofs.Maps.{Free, free-from, spans-insert}
 use Rattle.mc_blocks.proofs.Bridge.{Laid, well-laid, used-above}
@@ -29,7 +27,7 @@ use Rattle.std.proofs.lemmas.List.{length-append, length-replicate}
 use Rattle.mc_blocks.proofs.Plans.{gaps-are, spans-are, TakeIs, take-is}
 use Rattle.mc_blocks.proofs.Cards.{Swaps}
 use Rattle.mc_blocks.proofs.Outcome.{Leaves, creates}
-use Rattle.mc_store.specs.Store.{part_in, part_from, needed_by, record_bytes, card_with, IsGoodIn, IsReady}
+use Rattle.mc_store.specs.Store.{part_in, needed_by, record_bytes, card_with, IsGoodIn, IsReady}
 use Rattle.mc_store.specs.Alike.{Alike}
 use Rattle.mc_store.specs.RecordBytes.{Fields, fields, is-record}
 use Rattle.mc_store.specs.Sections.{length-section, section-split, same-cells, same-section}

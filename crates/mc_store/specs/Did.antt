@@ -1,14 +1,12 @@
 -- Items of a store as a value, and the application of a slot.
 -- This project's profile.
-use Rattle.std.proofs.Common.{◌≡◌, ℕ, ◌+◌, ◌≤◌, Bool, true, false, List, [], ◌∷◌, length, map, Option, Some, None, Ok, Err, cond, refl, sym, ◌∙◌, ap, subst, inl, inr, arith}
+use Rattle.std.proofs.Common.{◌≡◌, ℕ, Bool, true, false, List, [], ◌∷◌, length, map, Some, Ok, Err, cond, refl, sym, ◌∙◌, ap, subst, inl, inr}
 use Rattle.std.specs.Prelude.{◌==◌, bytes_eq, IsSome}
 use Rattle.std.proofs.lemmas.Bool.{eqb-true}
 use Rattle.mc_model.specs.Orders.{Answer, InOrder}
-use Rattle.mc_model.specs.Bytes.{up, lookup}
+use Rattle.mc_model.specs.Bytes.{lookup}
 use Rattle.mc_model.specs.Device.{DeviceState, IsImage}
-use Rattle.mc_model.specs.Image.{look, Closed}
-use Rattle.mc_model.specs.Card.{App, means, card_of, record_at, app_at}
-use Rattle.mc_model.specs.Layout.{words_fault}
+use Rattle.mc_model.specs.Card.{App, means}
 use Rattle.mc_model.specs.Items.{Site, BankItem, Blank}
 use Rattle.mc_model.specs.Manager.{word_parts}
 use Rattle.mc_bank.specs.Names.{name_is_itself}

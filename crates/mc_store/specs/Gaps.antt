@@ -1,18 +1,17 @@
 -- A word inside a hole, behind its header, may hold anything: the card stays, done or stopped.
-use Rattle.std.proofs.Common.{◌≡◌, ◌≢◌, ◌⊎◌, ℕ, ◌+◌, ◌-◌, ◌<◌, ◌≤◌, Bool, true, false, ◌&&◌, not, List, [], ◌∷◌, length, Option, Some, None, Ok, Err, refl, sym, ◌∙◌, ap, subst, inl, inr, arith}
-use Rattle.std.specs.Prelude.{bytes_eq, slice_set, ◌==◌, nat_lt}
+use Rattle.std.proofs.Common.{◌≡◌, ◌≢◌, ℕ, ◌+◌, ◌<◌, ◌≤◌, Bool, true, false, not, List, [], ◌∷◌, length, None, Ok, Err, sym, ◌∙◌, ap, subst, inl, inr, arith}
+use Rattle.std.specs.Prelude.{bytes_eq, slice_set}
 use Rattle.std.proofs.lemmas.List.{get_or-set_other, length-set}
-use Rattle.mc_model.specs.declared.device.Stop.{Stop}
 use Rattle.mc_model.specs.declared.device.Stop.TheVariants.{Off, Worn}
-use Rattle.mc_model.specs.Orders.{Answer, InOrder}
+use Rattle.mc_model.specs.Orders.{Answer}
 use Rattle.mc_model.specs.Device.{DeviceState, IsImage, Wrote, WriteDone, WriteCut, WriteWorn, Makes, Ended}
-use Rattle.mc_model.specs.Image.{Journal, One, Two, opening, gate, is_open, look, Closed}
-use Rattle.mc_model.specs.Card.{Block, word, blocks, card_of, means}
-use Rattle.mc_model.specs.Layout.{gaps, words_fault, IsWellLaid}
-use Rattle.mc_blocks.specs.Blocks.{Agree, used_spans, hole_spans}
+use Rattle.mc_model.specs.Image.{One, Two, opening, look, Closed}
+use Rattle.mc_model.specs.Card.{Block, word, blocks, card_of}
+use Rattle.mc_model.specs.Layout.{gaps, words_fault}
+use Rattle.mc_blocks.specs.Blocks.{Agree, hole_spans}
 use Rattle.mc_blocks.specs.Plans.{has_room}
 use Rattle.mc_blocks.proofs.Tiles.{Tiled}
-use Rattle.mc_blocks.proofs.Bridge.{Laid, laid, well-laid}
+use Rattle.mc_blocks.proofs.Bridge.{Laid, laid}
 use Rattle.mc_blocks.proofs.Taking.{RoomAt, room-at, room-from}
 use Rattle.mc_blocks.proofs.Search.{holes-above}
 use Rattle.mc_blocks.proofs.Built.{SameCard, same-card}

@@ -1,35 +1,33 @@
 -- The laws of a bank for the items of a store, over any device that keeps the rules of writes.
 -- This project's profile.
-use Rattle.std.proofs.Common.{◌≡◌, ◌≢◌, ◌⊎◌, ℕ, ◌+◌, ◌-◌, ◌*◌, ◌<◌, ◌≤◌, Bool, true, false, not, List, [], ◌∷◌, length, Option, Some, None, Ok, Err, refl, sym, ◌∙◌, ap, subst, inl, inr, arith}
-use Rattle.std.specs.Prelude.{IsSome, unwrap_or}
+use Rattle.std.proofs.Common.{◌≡◌, ◌⊎◌, ℕ, ◌+◌, ◌<◌, ◌≤◌, true, not, List, length, Option, Some, Ok, Err, refl, sym, ◌∙◌, ap, subst, inl, inr, arith}
+use Rattle.std.specs.Prelude.{unwrap_or}
 use Rattle.mc_model.specs.declared.card.Part.{Part}
 use Rattle.mc_model.specs.declared.card.Part.TheVariants.{Code, Data, Dir, Fci}
-use Rattle.mc_model.specs.declared.card.Sizes.{Sizes}
 use Rattle.mc_model.specs.declared.device.Stop.{Stop}
 use Rattle.mc_model.specs.declared.device.Stop.TheVariants.{Off, Worn}
 use Rattle.mc_model.specs.Orders.{Answer}
-use Rattle.mc_model.specs.Bytes.{up, lookup, insert, remove}
-use Rattle.mc_model.specs.Image.{look, Closed, Two, laid}
-use Rattle.mc_model.specs.Device.{DeviceState, IsImage, Wrote, Makes, Ended}
+use Rattle.mc_model.specs.Bytes.{lookup, insert}
+use Rattle.mc_model.specs.Image.{Two, laid}
+use Rattle.mc_model.specs.Device.{DeviceState, Wrote, Makes, Ended}
 use Rattle.mc_model.specs.Stopped.{writes}
 use Rattle.mc_model.specs.Card.{App, Card, word, card_of, means}
 use Rattle.mc_model.specs.Layout.{gaps, first_fitting}
 use Rattle.mc_model.specs.Items.{Site, BankItem, Piece, Blank, Note, Commit, Enter, Remove}
 use Rattle.mc_model.proofs.ImageLemmas.{length-laid}
-use Rattle.mc_bank.specs.Bank.{BankState, FitsLimits, IsGood, StayGood, BytesStay, CanCommit, part_len, no_app, app_of, with_words, entered, committed, item_done, Spares, IsChanged, IsStopped, StopRose, Changes}
+use Rattle.mc_bank.specs.Bank.{FitsLimits, StayGood, BytesStay, CanCommit, part_len, no_app, app_of, with_words, entered, committed, item_done, Spares, StopRose, Changes}
 use Rattle.mc_blocks.specs.Plans.{has_room}
 use Rattle.mc_blocks.proofs.Maps.{OneAt}
 use Rattle.mc_blocks.proofs.Applications.{found-application}
-use Rattle.mc_store.specs.Store.{settled, apps_in, is_going, store_state, store_named, store_room, store_standing, needed_by, part_from, part_in, static_writes, name_of_place, IsGoodIn, StoreDid}
+use Rattle.mc_store.specs.Store.{settled, apps_in, store_state, store_named, store_room, store_standing, needed_by, part_from, part_in, static_writes, name_of_place, IsGoodIn, StoreDid}
 use Rattle.mc_store.specs.Going.{Going, going_is, is_going_of, closed_settled, closed_means, closed_apps, laid_apps}
-use Rattle.mc_store.specs.Alike.{Alike, alike-self, alike-same, Settles, Means, means-after}
+use Rattle.mc_store.specs.Alike.{Alike, means-after}
 use Rattle.mc_store.specs.Atomic.{AtomicEnds, atomic-ends}
-use Rattle.mc_store.specs.Planning.{first-room}
 use Rattle.mc_store.specs.Sections.{same-section}
 use Rattle.mc_store.specs.Creation.{AtSite, at-site, Creates, creates-plan}
 use Rattle.mc_store.specs.Commits.{Committed, commits}
 use Rattle.mc_store.specs.Places.{place-changed, place-new, place-removed}
-use Rattle.mc_store.specs.Turns.{Turned, Halted, Turns, Standing, standing-of, some-is, turns}
+use Rattle.mc_store.specs.Turns.{Turns, Standing, standing-of, some-is, turns}
 
 -- ---- the applications
 
@@ -85,9 +83,6 @@ settled-alike d e list (Err s) t =
       | inl old ↦ inl (subst (λ (x : List (List ℕ)). Alike x d.words) (sym (means-after e.words old.left old.is).words) old.alike)
       | inr new ↦ inr (subst (λ (x : List (List ℕ)). Alike x (laid d.words list)) (sym (means-after e.words new.left new.is).words) new.alike)
     ]
-
-heap-word : (w m : List (List ℕ)) (i : ℕ) → Alike w m → 131 ≤ i → word w i ≡ word m i
-heap-word w m i a low = a.heap i low
 
 module _ {D : Type 0} (state : D → DeviceState) (wrote : D → ℕ → List ℕ → Answer → D → Type 0)
     (obeys : (d : D) (at : ℕ) (w : List ℕ) (a : Answer) (e : D) → (state d).on ≡ true → wrote d at w a e → Wrote (state d) at w a (state e)) where

@@ -1,23 +1,22 @@
 -- What words of a static segment make of a card: the application has them laid over its static bytes, and all else stays.
 -- This project's profile.
-use Rattle.std.proofs.Common.{◌≡◌, ◌≢◌, ◌⊎◌, ℕ, zero, suc, ◌+◌, ◌-◌, ◌*◌, ◌<◌, ◌≤◌, Bool, true, false, ◌&&◌, ◌||◌, List, [], ◌∷◌, ◌++◌, length, take, drop, map, Option, Some, None, cond, not, refl, sym, ◌∙◌, ap, subst, inl, inr, arith}
-use Rattle.std.specs.Prelude.{◌==◌, nat_le, nat_lt, slice_index, bytes_eq, MatchBool}
+use Rattle.std.proofs.Common.{◌≡◌, ◌⊎◌, ℕ, ◌+◌, ◌<◌, ◌≤◌, Bool, true, false, ◌&&◌, ◌||◌, List, [], ◌∷◌, length, Some, None, cond, not, refl, sym, ◌∙◌, ap, subst, inl, inr, arith}
+use Rattle.std.specs.Prelude.{◌==◌, nat_le, slice_index, bytes_eq, MatchBool}
 use Rattle.std.proofs.lemmas.Bool.{eqb-true, leb-true, and_parts, or_cases}
 use Rattle.mc_model.specs.Bytes.{up, be2, lookup, insert, has_name}
 use Rattle.mc_model.specs.Device.{IsImage}
-use Rattle.mc_model.specs.Card.{App, Card, Block, word, header, blocks, section, record_at, name_in, name_at, app_of, app_at, apps_of, card_of, needed_of}
+use Rattle.mc_model.specs.Card.{App, Block, word, header, blocks, section, record_at, name_in, name_at, app_of, app_at, apps_of, card_of, needed_of}
 use Rattle.mc_model.specs.Layout.{is_record, words_fault, first_hole, bad_link}
 use Rattle.mc_bank.specs.Names.{same_name, name_is_itself, insert-swap, insert-twice, other_way}
 use Rattle.mc_blocks.specs.Chains.{Above}
-use Rattle.mc_blocks.specs.Blocks.{used_spans, hole_spans, is_root_word}
+use Rattle.mc_blocks.specs.Blocks.{hole_spans, is_root_word}
 use Rattle.mc_blocks.specs.Plans.{has_room}
 use Rattle.mc_blocks.proofs.Search.{holes-above}
 use Rattle.mc_blocks.proofs.Taking.{room-from}
 use Rattle.mc_blocks.proofs.Tiles.{Tiled, AreRead}
 use Rattle.mc_blocks.proofs.Bridge.{Laid, laid, AreNamed, named, Faultless, faultless, with-block, some-apps, no-apps}
 use Rattle.mc_blocks.proofs.Applications.{few-blocks, lookup-insert}
-use Rattle.mc_blocks.proofs.Maps.{has-self, has-more, names-apart}
-use Rattle.mc_blocks.proofs.Built.{Built, Stands, built, SameBlock, same-block, root-good, chain-parts}
+use Rattle.mc_blocks.proofs.Built.{Stands, built, SameBlock, same-block, root-good, chain-parts}
 use Rattle.mc_store.specs.Slots.{IsBlock}
 use Rattle.mc_store.specs.Sections.{length-section, same-cells, same-section}
 

@@ -1,26 +1,25 @@
 -- What an item of a store leaves of its words, done or stopped at any write.
 -- This project's profile.
-use Rattle.std.proofs.Common.{◌≡◌, ◌≢◌, ◌⊎◌, ℕ, suc, ◌+◌, ◌-◌, ◌*◌, ◌<◌, ◌≤◌, Bool, true, false, List, [], ◌∷◌, length, Option, Some, None, Ok, Err, refl, sym, ◌∙◌, ap, subst, inl, inr, arith}
+use Rattle.std.proofs.Common.{◌≡◌, ◌⊎◌, ℕ, suc, ◌+◌, ◌-◌, ◌<◌, true, List, [], ◌∷◌, length, Option, Some, None, Ok, Err, refl, sym, ◌∙◌, ap, subst, inl, inr, arith}
 use Rattle.std.specs.Prelude.{IsSome, unwrap_or}
 use Rattle.mc_model.specs.declared.card.Part.{Part}
 use Rattle.mc_model.specs.declared.card.Part.TheVariants.{Code, Data, Dir, Fci}
 use Rattle.mc_model.specs.declared.card.Sizes.{Sizes}
 use Rattle.mc_model.specs.declared.device.Stop.{Stop}
-use Rattle.mc_model.specs.declared.device.Stop.TheVariants.{Off, Worn}
 use Rattle.mc_model.specs.Orders.{Answer}
-use Rattle.mc_model.specs.Bytes.{up, down, lookup, insert, remove}
-use Rattle.mc_model.specs.Image.{look, Closed, Two, After, Words, after, laid}
+use Rattle.mc_model.specs.Bytes.{down, lookup, insert, remove}
+use Rattle.mc_model.specs.Image.{look, Closed, Two, laid}
 use Rattle.mc_model.specs.Device.{DeviceState, IsImage, Wrote, Makes, Ended}
 use Rattle.mc_model.specs.Stopped.{writes, IsAtomic}
 use Rattle.mc_model.specs.Card.{App, Card, card_of, means}
-use Rattle.mc_model.specs.Layout.{gaps, first_fitting, step_of, words_fault, fault, IsWellLaid}
+use Rattle.mc_model.specs.Layout.{gaps, step_of, words_fault, fault, IsWellLaid}
 use Rattle.mc_model.specs.Items.{Site, BankItem, Piece, Blank, Note, Commit, Enter, Remove}
-use Rattle.mc_bank.specs.Bank.{FitsLimits, IsGood, CanCommit, part_len, no_app, app_of, with_words, entered, committed, item_done}
+use Rattle.mc_bank.specs.Bank.{FitsLimits, CanCommit, part_len, no_app, app_of, with_words, entered, committed, item_done}
 use Rattle.mc_bank.specs.Names.{length-inserted}
 use Rattle.mc_blocks.specs.Plans.{has_room}
 use Rattle.mc_blocks.proofs.Built.{SameCard}
 use Rattle.mc_blocks.proofs.Outcome.{Leaves}
-use Rattle.mc_store.specs.Store.{settled, apps_in, is_going, store_state, store_standing, needed_by, part_from, part_in, item_writes, static_writes, card_with, card_without, IsGoodIn, IsInWord, IsReady, Allows, count_after, StoreDid}
+use Rattle.mc_store.specs.Store.{settled, apps_in, store_standing, needed_by, part_from, part_in, item_writes, static_writes, card_with, card_without, IsGoodIn, IsInWord, IsReady, Allows, count_after, StoreDid}
 use Rattle.mc_store.specs.Going.{Going, going_is, closed_settled, closed_means, closed_fault, closed_apps}
 use Rattle.mc_store.specs.Alike.{Alike, alike-card, Settles, Means, means-after}
 use Rattle.mc_store.specs.Atomic.{AtomicEnds, atomic-ends}
@@ -69,10 +68,6 @@ blanked z q at n i = let some = i.some in let ends = i.section in (omega arith, 
 pub some-is : {A : Type 0} → (o : Option A) → IsSome o → (x : A) × (o ≡ Some x)
 some-is None h = absurd (cc h)
 some-is (Some x) h = (x, refl)
-
--- a card with its own applications
-same-apps : (k l : Card) → k ≡ l → k ≡ record l { apps = l.apps }
-same-apps k l e = e
 
 -- what the words of a going store are
 pub record Standing (m : List (List ℕ)) : Type 0 where

@@ -1,4 +1,3 @@
-use Rattle.std.proofs.Common.{rules, ◌≡◌, ◌+◌, ◌≤◌, length}
 use Rattle.mc_store.proofs.RecordLemmas.{block_fits}
 use Rattle.mc_store.proofs.block.facts_at.Goals as goal
 

@@ -1,5 +1,4 @@
 use Rattle.std.proofs.Common.{◌-◌, ◌≡◌, ◌≤◌, length}
-use Rattle.mc_model.specs.Device.{IsImage}
 use Rattle.mc_model.specs.Card.{blocks}
 use Rattle.mc_blocks.specs.Blocks.{blocks_at}
 use Rattle.mc_store.specs.Slots.{first_named}

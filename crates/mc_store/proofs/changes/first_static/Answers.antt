@@ -1,4 +1,3 @@
-use Rattle.std.proofs.Common.{◌≤◌, length, arith}
 use Rattle.mc_store.proofs.RecordLemmas.{block_fits}
 use Rattle.mc_store.proofs.changes.first_static.Goals as goal
 

@@ -1,4 +1,4 @@
-use Rattle.std.proofs.Common.{◌≡◌, ◌+◌, ◌-◌, ◌≤◌, true}
+use Rattle.std.proofs.Common.{◌≡◌, ◌-◌, ◌≤◌, true}
 use Rattle.mc_model.specs.Bytes.{zeros}
 use Rattle.mc_store.specs.Store.{is_going, IsGoodIn}
 use Rattle.mc_store.specs.Did.{store_did, blank_items}

@@ -1,9 +1,8 @@
-use Rattle.std.proofs.Common.{◌-◌, ◌++◌, [], ◌∷◌, List, Ok, Err, ap, sym, subst, append_assoc}
+use Rattle.std.proofs.Common.{◌-◌, [], ◌∷◌}
 use Rattle.std.proofs.lemmas.Result.{err_from_is_err_and}
 use Rattle.mc_model.specs.Bytes.{zeros}
-use Rattle.mc_model.specs.Orders.{InOrder}
 use Rattle.mc_model.proofs.OrdersLemmas.{InOrder-append, InOrder-stopped}
-use Rattle.mc_model.specs.Items.{BankItem, Note, Enter}
+use Rattle.mc_model.specs.Items.{Note, Enter}
 use Rattle.mc_store.specs.Did.{store_did, one_item, blank_items}
 use Rattle.mc_store.proofs.EnterLemmas.{create-ready, name-of}
 use Rattle.mc_store.proofs.creation.create.Goals as goal

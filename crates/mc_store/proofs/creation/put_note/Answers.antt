@@ -1,4 +1,4 @@
-use Rattle.std.proofs.Common.{◌≡◌, ◌+◌, ◌<◌, ℕ, length, sym, subst, ap, ◌∙◌}
+use Rattle.std.proofs.Common.{◌+◌, ◌<◌, ℕ, length, sym, subst, ap, ◌∙◌}
 use Rattle.mc_model.specs.declared.card.Sizes.{Sizes}
 use Rattle.mc_store.specs.Store.{record_word}
 use Rattle.mc_store.proofs.FillLemmas.{power-on}

@@ -1,7 +1,5 @@
-use Rattle.std.proofs.Common.{◌≡◌, ◌+◌, ◌-◌, ◌≤◌, ◌%◌, ℕ, List, length, take, drop, ap, sym, ◌∙◌, arith}
-use Rattle.std.proofs.lemmas.List.{length-drop}
+use Rattle.std.proofs.Common.{◌+◌, drop, arith}
 use Rattle.std.proofs.lemmas.Result.{err_from_is_err_and}
-use Rattle.mc_model.specs.Items.{Piece}
 use Rattle.mc_store.specs.Did.{store_did}
 use Rattle.mc_store.proofs.FillLemmas.{piece_items, piece-next, leads-on, leads-stop}
 use Rattle.mc_store.proofs.filling.fill.Goals as goal

@@ -1,4 +1,4 @@
-use Rattle.std.proofs.Common.{◌≡◌, ◌+◌, ◌/◌, ◌<◌, ℕ, length, sym, subst, ap, ◌∙◌}
+use Rattle.std.proofs.Common.{◌+◌, ◌/◌, ◌<◌, ℕ, length, sym, subst, ap, ◌∙◌}
 use Rattle.mc_model.specs.declared.card.Sizes.{Sizes}
 use Rattle.mc_store.specs.Store.{part_from}
 use Rattle.mc_store.proofs.FillLemmas.{site-word, power-on, piece-did, piece-going, piece-good}

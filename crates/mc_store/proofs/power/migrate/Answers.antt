@@ -1,4 +1,4 @@
-use Rattle.std.proofs.Common.{◌≡◌, ℕ, arith}
+use Rattle.std.proofs.Common.{◌≡◌}
 use Rattle.mc_model.specs.Orders.{answer_of}
 use Rattle.mc_store.proofs.RecoverLemmas.{version_makes}
 use Rattle.mc_store.proofs.power.migrate.Goals as goal

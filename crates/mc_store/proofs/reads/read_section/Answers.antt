@@ -1,9 +1,9 @@
-use Rattle.std.proofs.Common.{◌≡◌, ℕ, ◌+◌, ◌*◌, ◌≤◌, length, List, take, drop, ap, subst, sym, ◌∙◌}
+use Rattle.std.proofs.Common.{◌≡◌, ℕ, ◌+◌, ◌≤◌, length, ap, subst, sym, ◌∙◌}
 use Rattle.mc_model.specs.Card.{record_at}
 use Rattle.mc_model.specs.declared.card.Sizes.{Sizes}
-use Rattle.mc_store.specs.Store.{part_from, store_named}
+use Rattle.mc_store.specs.Store.{part_from}
 use Rattle.mc_store.specs.Slots.{record_sizes}
-use Rattle.mc_store.proofs.ReadLemmas.{Reads, reads, slot_fits}
+use Rattle.mc_store.proofs.ReadLemmas.{reads, slot_fits}
 use Rattle.mc_store.proofs.reads.read_section.Goals as goal
 
 pub sizes_at-sizes-requires : goal.sizes_at-sizes-requires

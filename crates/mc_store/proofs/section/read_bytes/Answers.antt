@@ -1,4 +1,4 @@
-use Rattle.std.proofs.Common.{rules, ◌≡◌, ◌+◌, ◌-◌, ◌*◌, ◌<◌, ◌≤◌, ℕ, List, length, take, drop, arith, ◌∙◌, subst}
+use Rattle.std.proofs.Common.{◌≡◌, ◌+◌, ◌-◌, ◌*◌, ◌≤◌, ℕ, length, take, drop, arith, ◌∙◌, subst}
 use Rattle.mc_store.proofs.FlatLemmas.{part_done, length-drop-take}
 use Rattle.mc_store.proofs.section.read_bytes.Goals as goal
 

@@ -1,4 +1,4 @@
-use Rattle.std.proofs.Common.{rules, ◌≡◌, ◌+◌, ◌-◌, ◌*◌, ◌<◌, ◌≤◌, length, take, drop, arith}
+use Rattle.std.proofs.Common.{arith}
 use Rattle.mc_store.proofs.FlatLemmas.{part_copied}
 use Rattle.mc_store.proofs.section.read_part.Goals as goal
 

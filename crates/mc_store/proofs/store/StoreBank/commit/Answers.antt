@@ -1,4 +1,4 @@
-use Rattle.std.proofs.Common.{ℕ, List, subst}
+use Rattle.std.proofs.Common.{ℕ, subst}
 use Rattle.mc_bank.specs.Bank.{name_or}
 use Rattle.mc_model.specs.Items.{Commit}
 use Rattle.mc_store.specs.Store.{store_named}

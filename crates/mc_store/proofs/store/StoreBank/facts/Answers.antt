@@ -1,4 +1,4 @@
-use Rattle.std.proofs.Common.{◌≡◌, ℕ, ap, subst, sym, ◌∙◌}
+use Rattle.std.proofs.Common.{ℕ, ap, subst, sym, ◌∙◌}
 use Rattle.mc_model.specs.Card.{name_at, record_at}
 use Rattle.mc_store.specs.Slots.{IsBlock, record_sizes}
 use Rattle.mc_store.proofs.SlotLemmas.{slot}
