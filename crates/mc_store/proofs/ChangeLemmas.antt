@@ -1,0 +1,149 @@
+-- A commit and a deletion as items of a store: what their calls ask, and what they made.
+use Rattle.std.proofs.Common.{◌≡◌, ℕ, suc, ◌+◌, ◌*◌, ◌<◌, ◌≤◌, true, false, List, [], ◌∷◌, length, Option, Some, refl, sym, ◌∙◌, ap, subst, arith}
+use Rattle.std.specs.Prelude.{IsSome, is_some, unwrap_or}
+use Rattle.std.specs.List.{AllByRecursion}
+use Rattle.mc_model.specs.Orders.{Answer}
+use Rattle.mc_model.specs.Bytes.{up, be2, lookup, remove}
+use Rattle.mc_model.specs.Device.{DeviceState, IsImage, Makes}
+use Rattle.mc_model.specs.Image.{Two, is_open, look, Closed}
+use Rattle.mc_model.specs.Stopped.{writes, IsAtomic}
+use Rattle.mc_model.specs.Card.{App, means, card_of, record_at, app_at, section}
+use Rattle.mc_model.specs.Layout.{spans, step_of, IsWellLaid}
+use Rattle.mc_model.specs.Items.{Commit, Remove}
+use Rattle.mc_bank.specs.Bank.{CanCommit, no_app, app_of, name_or}
+use Rattle.mc_blocks.specs.Plans.{plan, without, has_span}
+use Rattle.mc_store.specs.Store.{apps_in, is_going, store_named, static_writes, card_without, count_after, StoreDid}
+use Rattle.mc_store.specs.Slots.{IsBlock}
+use Rattle.mc_store.specs.Going.{Going, going_is}
+use Rattle.mc_store.specs.Alike.{gates}
+use Rattle.mc_store.specs.Sections.{length-section}
+use Rattle.mc_store.specs.Deletion.{Deletes, deletes-plan, deletes-count}
+use Rattle.mc_store.specs.Splices.{placed_words}
+use Rattle.mc_store.specs.Statics.{static_from, StaticIn, static-in}
+use Rattle.mc_store.specs.Commits.{Committed, commits}
+use Rattle.mc_store.specs.Turns.{Standing, standing-of, some-is}
+use Rattle.mc_store.specs.Did.{SlotIs, slot_is}
+use Rattle.mc_store.proofs.RecordLemmas.{RecordIs, record_is}
+
+-- ---- a deletion
+
+-- the words that a deletion of a name writes
+abbrev pub item_plan : List (List ℕ) → List ℕ → List (ℕ × List ℕ)
+item_plan m n = step_of (means m) (card_without m n)
+
+pub record DeleteIs (d : DeviceState) (c p : ℕ) : Type 0 where
+  pub on : d.on ≡ true
+  pub closed : look d.words ≡ Closed
+  pub well : IsWellLaid d.words
+  pub gate : is_open Two d.words ≡ false
+  pub span : has_span p (spans (means d.words)) ≡ true
+  pub some : 1 ≤ c
+  pub there : IsSome (lookup (means d.words).apps (name_or (store_named d p)))
+  pub writes : plan (means d.words) (without p (spans (means d.words))) ≡ item_plan d.words (name_or (store_named d p))
+
+pub delete-is : (d : DeviceState) (c p : ℕ) → IsImage d.words → is_going d c ≡ true → IsSome (store_named d p) → DeleteIs d c p
+delete-is d c p image going there =
+    let m = d.words in
+    let g : Going d c = going_is d c going in
+    let s : Standing m = standing-of d c g in
+    let named = some-is (store_named d p) there in
+    let n = named.0 in
+    let name : name_or (store_named d p) ≡ n = ap (λ (o : Option (List ℕ)). unwrap_or o []) named.1 in
+    let slot : SlotIs m p n = slot_is d c p n image g named.1 in
+    let del : Deletes m n slot.app = deletes-plan m n slot.app image g.closed s.well slot.there in
+    let count : length (means m).apps ≡ suc (length (remove (means m).apps n)) = deletes-count m n slot.app image g.closed s.well slot.there in
+    let old : c ≡ length (means m).apps = g.count ∙ sym (ap length s.apps) in
+    record {
+      on = g.on;
+      closed = g.closed;
+      well = s.well;
+      gate = (gates m g.closed).two;
+      span = subst (λ (q : ℕ). has_span q (spans (means m)) ≡ true) slot.place del.span;
+      some = omega (arith, old, count);
+      there = subst (λ (k : List ℕ). IsSome (lookup (means m).apps k)) (sym name) (ap (λ (o : Option App). is_some o) slot.there);
+      writes = ap (λ (q : ℕ). plan (means m) (without q (spans (means m)))) (sym slot.place) ∙ sym del.plan ∙ ap (λ (k : List ℕ). item_plan m k) (sym name);
+    }
+
+module _ {D : Type 0} (state : D → DeviceState) (wrote : D → ℕ → List ℕ → Answer → D → Type 0) where
+  pub delete-did : (d e : D) (c p : ℕ) (items : List (ℕ × List ℕ)) (a : Answer) → IsImage (state d).words → is_going (state d) c ≡ true → IsSome (store_named (state d) p) → items ≡ plan (means (state d).words) (without p (spans (means (state d).words)))
+      → Makes wrote d (writes Two items) a e → StoreDid state wrote d c (Remove (name_or (store_named (state d) p))) a e (count_after (Remove (name_or (store_named (state d) p))) a c)
+  delete-did d e c p items a image going there is made =
+      let k : DeleteIs (state d) c p = delete-is (state d) c p image going there in
+      record {
+        going = going;
+        image = image;
+        allowed = k.there;
+        makes = subst (λ (l : List (ℕ × List ℕ)). Makes wrote d (writes Two l) a e) (is ∙ k.writes) made;
+        count = refl;
+      }
+
+-- ---- a commit
+
+-- the first word of static bytes, by the record
+pub static-first : (m : List (List ℕ)) (p : ℕ) (a : App) → IsImage m → IsBlock m p → app_at m p ≡ a → static_from a ≡ p + 5 + up (be2 (record_at m p) 20) 8
+static-first m p a image block is =
+    let r = record_at m p in
+    let k : RecordIs r block.words = record_is r block.words block.good in
+    let end : p + block.words ≤ length m = block.end in
+    let long : length (section m (p + 5) (be2 r 20)) ≡ be2 r 20 = length-section m (p + 5) (be2 r 20) image (omega (arith, k.words)) in
+    ap static_from (sym is) ∙ ap (λ (x : ℕ). p + 5 + up x 8) long
+
+pub record CommitIs (d : DeviceState) (p : ℕ) (ws : List (ℕ × List ℕ)) : Type 0 where
+  pub on : d.on ≡ true
+  pub gate : is_open Two d.words ≡ false
+  pub block : IsBlock d.words p
+  pub atomic : IsAtomic (length d.words) (placed_words (p + 5 + up (be2 (record_at d.words p) 20) 8) ws)
+  pub few : length ws ≤ 64
+  pub within : AllByRecursion (λ w. p + 5 + up (be2 (record_at d.words p) 20) 8 + w.0 ≤ 65535) ws
+  pub there : IsSome (lookup (means d.words).apps (name_or (store_named d p)))
+  pub can : CanCommit (app_of (means d.words).apps (Some (name_or (store_named d p)))).fixed ws
+  pub is : placed_words (p + 5 + up (be2 (record_at d.words p) 20) 8) ws ≡ static_writes (app_of (means d.words).apps (Some (name_or (store_named d p)))) ws
+
+small : (size q n : ℕ) (ws : List (ℕ × List ℕ)) → size ≤ 16384 → q + up n 8 ≤ size → AllByRecursion (λ w. 8 * w.0 < n) ws → AllByRecursion (λ w. q + w.0 ≤ 65535) ws
+small size q n [] high ends a = tt
+small size q n (w ∷ ws) high ends a = let lt : 8 * w.0 < n = a.0 in (omega arith, small size q n ws high ends a.1)
+
+pub commit-is : (d : DeviceState) (c p : ℕ) (ws : List (ℕ × List ℕ)) → IsImage d.words → is_going d c ≡ true → IsSome (store_named d p) → CanCommit (app_of (apps_in d.words) (store_named d p)).fixed ws → CommitIs d p ws
+commit-is d c p ws image going there can =
+    let m = d.words in
+    let g : Going d c = going_is d c going in
+    let s : Standing m = standing-of d c g in
+    let named = some-is (store_named d p) there in
+    let n = named.0 in
+    let name : name_or (store_named d p) ≡ n = ap (λ (o : Option (List ℕ)). unwrap_or o []) named.1 in
+    let slot : SlotIs m p n = slot_is d c p n image g named.1 in
+    let a = slot.app in
+    let found : lookup (card_of m).apps n ≡ Some a = ap (λ (es : List (List ℕ × App)). lookup es n) (sym s.apps) ∙ slot.there in
+    let st : StaticIn m n a = static-in m n a image g.laid found in
+    let block : IsBlock m p = subst (λ (q : ℕ). IsBlock m q) slot.place st.block in
+    let self : app_at m p ≡ a = subst (λ (q : ℕ). app_at m q ≡ a) slot.place st.self in
+    let first : static_from a ≡ p + 5 + up (be2 (record_at m p) 20) 8 = static-first m p a image block self in
+    let app : app_of (means m).apps (Some (name_or (store_named d p))) ≡ a = ap (λ (k : List ℕ). unwrap_or (lookup (means m).apps k) no_app) name ∙ ap (λ (o : Option App). unwrap_or o no_app) slot.there in
+    let here : app_of (apps_in m) (store_named d p) ≡ a =
+    ap (λ (o : Option (List ℕ)). app_of (apps_in m) o) named.1 ∙ ap (λ (es : List (List ℕ × App)). unwrap_or (lookup es n) no_app) (s.map ∙ sym s.apps) ∙ ap (λ (o : Option App). unwrap_or o no_app) slot.there in
+    let ok : CanCommit a.fixed ws = subst (λ (x : App). CanCommit x.fixed ws) here can in
+    let t : Committed m n a ws = commits m n a ws image g.laid found ok in
+    record {
+      on = g.on;
+      gate = (gates m g.closed).two;
+      block = block;
+      atomic = subst (λ (q : ℕ). IsAtomic (length m) (placed_words q ws)) first t.atomic;
+      few = ok.few;
+      within = subst (λ (q : ℕ). AllByRecursion (λ (w : ℕ × List ℕ). q + w.0 ≤ 65535) ws) first (small (length m) (static_from a) (length a.fixed) ws image.high st.ends ok.within);
+      there = subst (λ (k : List ℕ). IsSome (lookup (means m).apps k)) (sym name) (ap (λ (o : Option App). is_some o) slot.there);
+      can = subst (λ (x : App). CanCommit x.fixed ws) (sym app) ok;
+      is = ap (λ (q : ℕ). placed_words q ws) (sym first) ∙ ap (λ (x : App). static_writes x ws) (sym app);
+    }
+
+module _ {D : Type 0} (state : D → DeviceState) (wrote : D → ℕ → List ℕ → Answer → D → Type 0) where
+  pub commit-did : (d e : D) (c p : ℕ) (ws items : List (ℕ × List ℕ)) (a : Answer) → IsImage (state d).words → is_going (state d) c ≡ true → IsSome (store_named (state d) p) → CanCommit (app_of (apps_in (state d).words) (store_named (state d) p)).fixed ws
+      → items ≡ placed_words (p + 5 + up (be2 (record_at (state d).words p) 20) 8) ws → Makes wrote d (writes Two items) a e → StoreDid state wrote d c (Commit (name_or (store_named (state d) p)) ws) a e c
+  commit-did d e c p ws items a image going there can is made =
+      let k : CommitIs (state d) p ws = commit-is (state d) c p ws image going there can in
+      record {
+        going = going;
+        image = image;
+        allowed = (k.there, k.can);
+        makes = subst (λ (l : List (ℕ × List ℕ)). Makes wrote d (writes Two l) a e) (is ∙ k.is) made;
+        count = refl;
+      }

@@ -1,0 +1,188 @@
+-- A creation as items of a store: the words of its record, and what its calls ask.
+use Rattle.std.proofs.Common.{◌≡◌, ◌⊎◌, ℕ, zero, suc, ◌+◌, ◌-◌, ◌%◌, ◌/◌, ◌<◌, ◌≤◌, true, false, List, [], ◌∷◌, ◌++◌, length, take, drop, map, Ok, Err, refl, sym, ◌∙◌, ap, subst, inl, inr, arith, length-append}
+use Rattle.std.specs.Prelude.{OnOk, slice_index_or}
+use Rattle.std.proofs.lemmas.List.{drop_more, length-replicate, get_or_append_left}
+use Rattle.std.proofs.Math.Seq.{drop-append-add}
+use Rattle.mc_model.specs.declared.card.Sizes.{Sizes}
+use Rattle.mc_model.specs.declared.card.Part.TheVariants.{Data}
+use Rattle.mc_model.specs.Orders.{Answer}
+use Rattle.mc_model.specs.Bytes.{zeros, bytes2, splice}
+use Rattle.mc_model.specs.Device.{DeviceState, IsImage, Wrote, Makes}
+use Rattle.mc_model.specs.Image.{Two, is_open, look, Closed}
+use Rattle.mc_model.specs.Stopped.{writes}
+use Rattle.mc_model.specs.Card.{means, word}
+use Rattle.mc_model.specs.Layout.{gaps, spans, put_at, step_of, IsWellLaid}
+use Rattle.mc_model.specs.Items.{Site, Blank, Note, Enter}
+use Rattle.mc_base.specs.Name.{IsName}
+use Rattle.mc_blocks.specs.Plans.{plan, has_room}
+use Rattle.mc_store.specs.Store.{is_going, needed_by, part_from, record_bytes, record_word, card_with, count_after, IsGoodIn, IsInWord, IsReady, StoreDid}
+use Rattle.mc_store.specs.Going.{Going, going_is}
+use Rattle.mc_store.specs.Alike.{gates}
+use Rattle.mc_store.specs.Creation.{AtSite, at-site, Creates, creates-plan}
+use Rattle.mc_store.specs.Turns.{Standing, standing-of, blanked}
+use Rattle.mc_store.specs.Did.{blank_items}
+use Rattle.mc_store.proofs.FillLemmas.{good-on, blank-on, note-on, parts-step}
+
+-- ---- the words of a record
+
+-- eight bytes from one on
+eight : (l : List ℕ) (i : ℕ) → i + 8 ≤ length l → take 8 (drop i l)
+    ≡ slice_index_or l i 0 ∷ slice_index_or l (i + 1) 0 ∷ slice_index_or l (i + 1 + 1) 0 ∷ slice_index_or l (i + 1 + 1 + 1) 0 ∷ slice_index_or l (i + 1 + 1 + 1 + 1) 0 ∷ slice_index_or l (i + 1 + 1 + 1 + 1 + 1) 0 ∷ slice_index_or l (i + 1 + 1 + 1 + 1 + 1 + 1) 0 ∷ slice_index_or l (i + 1 + 1 + 1 + 1 + 1 + 1 + 1) 0 ∷ []
+eight l i h = rw (
+  drop_more l i 0 (omega arith),
+  drop_more l (i + 1) 0 (omega arith),
+  drop_more l (i + 1 + 1) 0 (omega arith),
+  drop_more l (i + 1 + 1 + 1) 0 (omega arith),
+  drop_more l (i + 1 + 1 + 1 + 1) 0 (omega arith),
+  drop_more l (i + 1 + 1 + 1 + 1 + 1) 0 (omega arith),
+  drop_more l (i + 1 + 1 + 1 + 1 + 1 + 1) 0 (omega arith),
+  drop_more l (i + 1 + 1 + 1 + 1 + 1 + 1 + 1) 0 (omega arith),
+) refl
+
+abbrev behind : Sizes → List ℕ → List ℕ
+behind s n = length n ∷ s.dir ∷ s.fci ∷ 0 ∷ (bytes2 s.code ++ bytes2 s.fixed ++ bytes2 s.session ++ bytes2 s.deny ++ zeros 4)
+
+front-size : (n r : List ℕ) → IsName n → r ≡ n ++ zeros (16 - length n) → length r ≡ 16
+front-size n r is e = let a = ap length e ∙ length-append n (zeros (16 - length n)) in let f = length-replicate {A = ℕ} (16 - length n) 0 in omega (arith, a, f, is)
+
+of-front : (s : Sizes) (n r : List ℕ) (i : ℕ) → IsName n → r ≡ n ++ zeros (16 - length n) → i < 16 → slice_index_or (record_bytes s n) i 0 ≡ slice_index_or r i 0
+of-front s n r i is e lt =
+    ap (λ (l : List ℕ). slice_index_or (l ++ behind s n) i 0) (sym e) ∙ get_or_append_left r (behind s n) 0 i (let f = front-size n r is e in omega (arith, f))
+
+record-long : (s : Sizes) (n : List ℕ) → IsName n → 16 ≤ length (record_bytes s n)
+record-long s n is = let a = length-append (n ++ zeros (16 - length n)) (behind s n) in let f = front-size n (n ++ zeros (16 - length n)) is refl in omega (arith, a, f)
+
+pub first-word : (s : Sizes) (n r : List ℕ) (k : ℕ) → IsName n → r ≡ n ++ zeros (16 - length n) → k ≡ 0
+    → slice_index_or r 0 0 ∷ slice_index_or r 1 0 ∷ slice_index_or r 2 0 ∷ slice_index_or r 3 0 ∷ slice_index_or r 4 0 ∷ slice_index_or r 5 0 ∷ slice_index_or r 6 0 ∷ slice_index_or r 7 0 ∷ [] ≡ record_word s n k
+first-word s n r k is e none =
+    sym (ap (λ (x : ℕ). record_word s n x) none
+    ∙ eight (record_bytes s n) 0 (let f = record-long s n is in omega (arith, f))
+    ∙ rw (of-front s n r 0 is e (omega arith), of-front s n r 1 is e (omega arith), of-front s n r 2 is e (omega arith), of-front s n r 3 is e (omega arith), of-front s n r 4 is e (omega arith), of-front s n r 5 is e (omega arith), of-front s n r 6 is e (omega arith), of-front s n r 7 is e (omega arith)) refl)
+
+pub second-word : (s : Sizes) (n r : List ℕ) (k : ℕ) → IsName n → r ≡ n ++ zeros (16 - length n) → k ≡ 1
+    → slice_index_or r 8 0 ∷ slice_index_or r 9 0 ∷ slice_index_or r 10 0 ∷ slice_index_or r 11 0 ∷ slice_index_or r 12 0 ∷ slice_index_or r 13 0 ∷ slice_index_or r 14 0 ∷ slice_index_or r 15 0 ∷ [] ≡ record_word s n k
+second-word s n r k is e one =
+    sym (ap (λ (x : ℕ). record_word s n x) one
+    ∙ eight (record_bytes s n) 8 (let f = record-long s n is in omega (arith, f))
+    ∙ rw (of-front s n r 8 is e (omega arith), of-front s n r 9 is e (omega arith), of-front s n r 10 is e (omega arith), of-front s n r 11 is e (omega arith), of-front s n r 12 is e (omega arith), of-front s n r 13 is e (omega arith), of-front s n r 14 is e (omega arith), of-front s n r 15 is e (omega arith)) refl)
+
+pub last-word : (s : Sizes) (n : List ℕ) (k : ℕ) (w : List ℕ) → IsName n → k ≡ 3 → w ≡ bytes2 s.session ++ bytes2 s.deny ++ zeros 4 → w ≡ record_word s n k
+last-word s n k w is three e =
+    let f : length (n ++ zeros (16 - length n)) ≡ 16 = front-size n (n ++ zeros (16 - length n)) is refl in
+    e ∙ sym (ap (λ (x : ℕ). record_word s n x) three ∙ ap (λ (t : ℕ). take 8 (drop (t + 8) (record_bytes s n))) (sym f) ∙ ap (λ (l : List ℕ). take 8 l) (drop-append-add (n ++ zeros (16 - length n)) (behind s n) 8))
+
+-- ---- the creation itself
+
+pub record EnterIs (d : DeviceState) (c : ℕ) (s : Site) (n : List ℕ) : Type 0 where
+  pub on : d.on ≡ true
+  pub closed : look d.words ≡ Closed
+  pub well : IsWellLaid d.words
+  pub gate : is_open Two d.words ≡ false
+  pub room : has_room s.place (needed_by s.sizes) (gaps (means d.words)) ≡ true
+  pub few : c < 32
+  pub plan : plan (means d.words) (put_at s.place (needed_by s.sizes) (spans (means d.words))) ≡ step_of (means d.words) (card_with d.words s n)
+
+pub enter-is : (d : DeviceState) (c : ℕ) (s : Site) (n : List ℕ) → IsImage d.words → is_going d c ≡ true → IsReady d.words s n → EnterIs d c s n
+enter-is d c s n image going ready =
+    let m = d.words in
+    let g : Going d c = going_is d c going in
+    let t : Standing m = standing-of d c g in
+    let site : AtSite m s = at-site m s image g.closed t.well ready.good in
+    let p : Creates m s n = creates-plan m s n image g.closed t.well ready.good ready.fresh in
+    let few : length (means m).apps < 32 = ready.good.few in
+    let old : c ≡ length (means m).apps = g.count ∙ sym (ap length t.apps) in
+    record { on = g.on; closed = g.closed; well = t.well; gate = (gates m g.closed).two; room = site.room; few = omega (arith, few, old); plan = sym p.plan }
+
+module _ {D : Type 0} (state : D → DeviceState) (wrote : D → ℕ → List ℕ → Answer → D → Type 0) where
+  pub enter-did : (d e : D) (c p need : ℕ) (s : Site) (n : List ℕ) (items : List (ℕ × List ℕ)) (a : Answer) → IsImage (state d).words → is_going (state d) c ≡ true → IsReady (state d).words s n → p ≡ s.place → need ≡ needed_by s.sizes
+      → items ≡ plan (means (state d).words) (put_at p need (spans (means (state d).words))) → Makes wrote d (writes Two items) a e → StoreDid state wrote d c (Enter s n) a e (count_after (Enter s n) a c)
+  enter-did d e c p need s n items a image going ready place sizes is made =
+      let k : EnterIs (state d) c s n = enter-is (state d) c s n image going ready in
+      record {
+        going = going;
+        image = image;
+        allowed = ready;
+        makes = subst (λ (l : List (ℕ × List ℕ)). Makes wrote d (writes Two l) a e)
+            (is ∙ ap (λ (q : ℕ). plan (means (state d).words) (put_at q need (spans (means (state d).words)))) place ∙ ap (λ (q : ℕ). plan (means (state d).words) (put_at s.place q (spans (means (state d).words)))) sizes ∙ k.plan) made;
+        count = refl;
+      }
+
+-- ---- zeros and the words of the record
+
+pub blank-word : (d : DeviceState) (c : ℕ) (s : Site) (at n : ℕ) → IsImage d.words → is_going d c ≡ true → IsGoodIn d.words s → IsInWord s.sizes.fixed at n → part_from Data s.sizes s.place + at / 8 < length d.words
+blank-word d c s at n image going good i =
+    let g : Going d c = going_is d c going in
+    let site : AtSite d.words s = at-site d.words s image g.closed (standing-of d c g).well good in
+    let lies = blanked s.sizes s.place at n i in
+    omega (arith, site.ends, lies.1)
+
+pub note-word : (d : DeviceState) (c : ℕ) (s : Site) (i : ℕ) → IsImage d.words → is_going d c ≡ true → IsGoodIn d.words s → i < 4 → s.place + 1 + i < length d.words
+note-word d c s i image going good few =
+    let g : Going d c = going_is d c going in
+    let site : AtSite d.words s = at-site d.words s image g.closed (standing-of d c g).well good in
+    omega (arith, site.ends)
+
+pub zeros-front : (n k : ℕ) → n ≤ k → take n (zeros k) ≡ zeros n
+zeros-front zero k h = refl
+zeros-front (suc n) zero h = absurd (omega arith)
+zeros-front (suc n) (suc k) h = ap (λ (l : List ℕ). 0 ∷ l) (zeros-front n k (omega arith))
+
+module _ {D : Type 0} (state : D → DeviceState) (wrote : D → ℕ → List ℕ → Answer → D → Type 0)
+    (obeys : (d : D) (at : ℕ) (w : List ℕ) (a : Answer) (e : D) → (state d).on ≡ true → wrote d at w a e → Wrote (state d) at w a (state e)) where
+  one-write : (d e : D) (at : ℕ) (w : List ℕ) (a : Answer) → wrote d at w a e → Makes wrote d ((at, w) ∷ []) a e
+  one-write d e at w (Ok u) h = inl (e, h, refl)
+  one-write d e at w (Err s) h = inr (s, h, refl)
+
+  pub blank-did : (d e : D) (c : ℕ) (s : Site) (at n from : ℕ) (b : List ℕ) (a : Answer) → IsImage (state d).words → is_going (state d) c ≡ true → IsGoodIn (state d).words s → IsInWord s.sizes.fixed at n → from ≡ part_from Data s.sizes s.place → b ≡ zeros n
+      → wrote d (from + at / 8) (splice (word (state d).words (from + at / 8)) (at % 8) b) a e → StoreDid state wrote d c (Blank s at n) a e c
+  blank-did d e c s at n from b a image going good i is clear made =
+      record {
+        going = going;
+        image = image;
+        allowed = (good, i);
+        makes = one-write d e _ _ a (subst (λ (q : ℕ). wrote d (q + at / 8) (splice (word (state d).words (q + at / 8)) (at % 8) (zeros n)) a e) is (subst (λ (z : List ℕ). wrote d (from + at / 8) (splice (word (state d).words (from + at / 8)) (at % 8) z) a e) clear made));
+        count = refl;
+      }
+
+  pub note-did : (d e : D) (c : ℕ) (s : Site) (n : List ℕ) (i place : ℕ) (w : List ℕ) (a : Answer) → IsImage (state d).words → is_going (state d) c ≡ true → IsGoodIn (state d).words s → IsName n → i < 4 → place ≡ s.place → w ≡ record_word s.sizes n i
+      → wrote d (place + 1 + i) w a e → StoreDid state wrote d c (Note s n i) a e c
+  note-did d e c s n i place w a image going good name few at is made =
+      record {
+        going = going;
+        image = image;
+        allowed = (good, name, few);
+        makes = one-write d e _ _ a (subst (λ (q : ℕ). wrote d (q + 1 + i) (record_word s.sizes n i) a e) at (subst (λ (x : List ℕ). wrote d (place + 1 + i) x a e) is made));
+        count = refl;
+      }
+
+  pub blank-going : (d e : D) (c : ℕ) (s : Site) (at n : ℕ) (a : Answer) → StoreDid state wrote d c (Blank s at n) a e c → OnOk a (is_going (state e) c ≡ true)
+  blank-going d e c s at n (Ok tt) did = (blank-on state wrote obeys d e c s at n did).going
+  blank-going d e c s at n (Err t) did = tt
+
+  pub blank-good : (d e : D) (c : ℕ) (s : Site) (at n : ℕ) (a : Answer) → IsGoodIn (state d).words s → StoreDid state wrote d c (Blank s at n) a e c → OnOk a (IsGoodIn (state e).words s)
+  blank-good d e c s at n (Ok tt) good did = good-on (state d) (state e) c s (blank-on state wrote obeys d e c s at n did) good
+  blank-good d e c s at n (Err t) good did = tt
+
+  pub note-going : (d e : D) (c : ℕ) (s : Site) (n : List ℕ) (i : ℕ) (a : Answer) → StoreDid state wrote d c (Note s n i) a e c → OnOk a (is_going (state e) c ≡ true)
+  note-going d e c s n i (Ok tt) did = (note-on state wrote obeys d e c s n i did).going
+  note-going d e c s n i (Err t) did = tt
+
+  pub note-good : (d e : D) (c : ℕ) (s : Site) (n : List ℕ) (i : ℕ) (a : Answer) → IsGoodIn (state d).words s → StoreDid state wrote d c (Note s n i) a e c → OnOk a (IsGoodIn (state e).words s)
+  note-good d e c s n i (Ok tt) good did = good-on (state d) (state e) c s (note-on state wrote obeys d e c s n i did) good
+  note-good d e c s n i (Err t) good did = tt
+
+-- ---- zeros behind the data
+
+zeros-drop : (j k : ℕ) → j ≤ k → drop j (zeros k) ≡ zeros (k - j)
+zeros-drop zero k h = ap zeros (let e : k ≡ k - 0 = omega arith in e)
+zeros-drop (suc j) zero h = absurd (omega arith)
+zeros-drop (suc j) (suc k) h = zeros-drop j k (omega arith) ∙ ap zeros (let e : k - j ≡ suc k - suc j = omega arith in e)
+
+-- the zeros from one on, as a loop has them
+pub blank-next : (s : Site) (at j end : ℕ) → at < end → 1 ≤ j → j ≤ end - at → at % 8 + j ≤ 8 → (j ≡ end - at) ⊎ (at % 8 + j ≡ 8) → blank_items s at (zeros (end - at)) ≡ Blank s at j ∷ blank_items s (at + j) (zeros (end - (at + j)))
+blank-next s at j end lt some few fits least =
+    let b = zeros (end - at) in
+    let long : length b ≡ end - at = length-replicate {A = ℕ} (end - at) 0 in
+    ap (λ (l : List (ℕ × List ℕ)). map (λ (c : ℕ × List ℕ). Blank s c.0 (length c.1)) l) (parts-step at j b some (omega (arith, long, few)) fits (elim least [ inl all ↦ inl (all ∙ sym long) | inr full ↦ inr full ]))
+    ∙ ap (λ (k : ℕ). Blank s at k ∷ blank_items s (at + j) (drop j b)) (ap length (zeros-front j (end - at) few) ∙ length-replicate {A = ℕ} j 0)
+    ∙ ap (λ (l : List ℕ). Blank s at j ∷ blank_items s (at + j) l) (zeros-drop j (end - at) few ∙ ap zeros (let e : end - at - j ≡ end - (at + j) = omega arith in e))

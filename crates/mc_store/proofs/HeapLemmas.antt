@@ -1,0 +1,182 @@
+-- What blocks, records and applications of an image are read from: its heap alone.
+use Rattle.std.proofs.Common.{◌≡◌, ℕ, zero, suc, ◌+◌, ◌-◌, ◌≤◌, Bool, true, false, ◌&&◌, ◌||◌, List, [], ◌∷◌, length, take, drop, Option, Some, None, refl, sym, ◌∙◌, ap, arith, cond, not, length-drop}
+use Rattle.std.specs.Prelude.{nat_lt, nat_le, ◌==◌, slice_index, bytes_eq}
+use Rattle.std.specs.List.{concat, AllByRecursion}
+use Rattle.std.proofs.lemmas.List.{drop-drop, get_or-drop, get_or_default, same_lists}
+use Rattle.mc_model.specs.Bytes.{be2, has_name, insert, or_else, up}
+use Rattle.mc_model.specs.Card.{App, Block, word, header, block_and, blocks_from, blocks, heap_start, cells, section, record_at, name_in, name_at, app_of, app_at, apps_of, card_of}
+use Rattle.mc_model.specs.Layout.{is_record, no_root, bad_header, next_block, is_hole, bad_block, bad_record, bad_link, bad_chain, first_hole, by_cause, words_fault, root}
+use Rattle.mc_model.specs.declared.card.Cause.TheVariants.{NoRoot, BadBlock, BadRecord, BadChain}
+use Rattle.mc_blocks.proofs.Steps.{HeaderIs, header-is}
+
+-- the test of a root
+abbrev pub root_test : List ℕ → ℕ → Option ℕ
+root_test x n =
+    let v = slice_index x 3 in
+    cond ((v == 1 || v == 2) && bytes_eq (take 6 x) (take 6 (root v n 0))) None (Some 0)
+
+-- two images with the same heap
+pub record SameHeap (a b : List (List ℕ)) : Type 0 where
+  pub size : length a ≡ length b
+  pub low : 131 ≤ length a
+  pub heap : drop 131 a ≡ drop 131 b
+
+-- lists with the same words from a place on
+pub same_drop : (a b : List (List ℕ)) (p : ℕ) → length a ≡ length b → ((i : ℕ) → p ≤ i → word a i ≡ word b i) → drop p a ≡ drop p b
+same_drop a b p size h =
+    same_lists (drop p a) (drop p b) (length-drop p a ∙ ap (λ (n : ℕ). n - p) size ∙ sym (length-drop p b))
+    (λ k d lt.
+    let left : length (drop p a) ≡ length a - p = length-drop p a in
+    get_or-drop p a k d
+    ∙ get_or_default a (p + k) d [] (omega (arith, left, lt))
+    ∙ h (p + k) (omega arith)
+    ∙ get_or_default b (p + k) [] d (omega (arith, left, lt, size))
+    ∙ sym (get_or-drop p b k d))
+
+module _ (a b : List (List ℕ)) (same : SameHeap a b) where
+  from_heap : (p : ℕ) → 131 ≤ p → drop p a ≡ drop p b
+  from_heap p low =
+      let is : 131 + (p - 131) ≡ p = omega arith in
+      ap (λ (n : ℕ). drop n a) (sym is) ∙ sym (drop-drop (p - 131) 131 a) ∙ ap (λ (l : List (List ℕ)). drop (p - 131) l) same.heap ∙ drop-drop (p - 131) 131 b ∙ ap (λ (n : ℕ). drop n b) is
+
+  pub word_heap : (p : ℕ) → 131 ≤ p → word a p ≡ word b p
+  word_heap p low =
+      let is : 131 + (p - 131) ≡ p = omega arith in
+      ap (λ (n : ℕ). word a n) (sym is) ∙ sym (get_or-drop 131 a (p - 131) []) ∙ ap (λ (l : List (List ℕ)). word l (p - 131)) same.heap ∙ get_or-drop 131 b (p - 131) [] ∙ ap (λ (n : ℕ). word b n) is
+
+  cells_heap : (p n : ℕ) → 131 ≤ p → cells a p n ≡ cells b p n
+  cells_heap p n low = ap (λ (l : List (List ℕ)). concat (take n l)) (from_heap p low)
+
+  section_heap : (p n : ℕ) → 131 ≤ p → section a p n ≡ section b p n
+  section_heap p n low = ap (λ (l : List ℕ). take n l) (cells_heap p (up n 8) low)
+
+  record_heap : (p : ℕ) → 131 ≤ p → record_at a p ≡ record_at b p
+  record_heap p low = cells_heap (p + 1) 4 (omega arith)
+
+  app_heap : (p : ℕ) → 131 ≤ p → app_at a p ≡ app_at b p
+  app_heap p low =
+      let r = record_at b p in
+      let code = be2 r 20 in
+      let fixed = be2 r 22 in
+      let dir = slice_index r 17 in
+      let fci = slice_index r 18 in
+      let x = app_of b p r in
+      let one : section a (p + 5) code ≡ section b (p + 5) code = section_heap (p + 5) code (omega arith) in
+      let two : section a (p + 5 + up code 8) fixed ≡ section b (p + 5 + up code 8) fixed = section_heap (p + 5 + up code 8) fixed (omega arith) in
+      let three : section a (p + 5 + up code 8 + up fixed 8) dir ≡ section b (p + 5 + up code 8 + up fixed 8) dir = section_heap (p + 5 + up code 8 + up fixed 8) dir (omega arith) in
+      let four : section a (p + 5 + up code 8 + up fixed 8 + up dir 8) fci ≡ section b (p + 5 + up code 8 + up fixed 8 + up dir 8) fci = section_heap (p + 5 + up code 8 + up fixed 8 + up dir 8) fci (omega arith) in
+      ap (λ (l : List ℕ). app_of a p l) (record_heap p low)
+      ∙ ap (λ (l : List ℕ). record (app_of a p r) { code = l }) one
+      ∙ ap (λ (l : List ℕ). record (app_of a p r) { code = x.code; fixed = l }) two
+      ∙ ap (λ (l : List ℕ). record (app_of a p r) { code = x.code; fixed = x.fixed; dir = l }) three
+      ∙ ap (λ (l : List ℕ). record (app_of a p r) { code = x.code; fixed = x.fixed; dir = x.dir; fci = l }) four
+
+  -- ---- blocks
+
+  header_heap : (p : ℕ) → 131 ≤ p → header p (word a p) ≡ header p (word b p)
+  header_heap p low = ap (λ (x : List ℕ). header p x) (word_heap p low)
+
+  and_same : (size p : ℕ) (x : List ℕ) (o : Option Block) (f g : ℕ → List Block) → 131 ≤ p → header p x ≡ o → ((q : ℕ) → 131 ≤ q → f q ≡ g q) → block_and size o f ≡ block_and size o g
+  and_same size p x None f g low e h = refl
+  and_same size p x (Some k) f g low e h =
+      let is : HeaderIs p x k = header-is p x k e in
+      let place : k.place ≡ p = is.place in
+      ap (λ (l : List Block). cond (nat_le (k.place + k.words) size) (k ∷ l) []) (h (k.place + k.words) (omega arith))
+
+  blocks_heap : (n p : ℕ) → 131 ≤ p → blocks_from n a p ≡ blocks_from n b p
+  unfolding blocks_from
+  blocks_heap zero p low = refl
+  blocks_heap (suc n) p low =
+      ap (λ (s : ℕ). block_and s (header p (word a p)) (λ q. blocks_from n a q)) same.size
+      ∙ and_same (length b) p (word a p) (header p (word a p)) (λ q. blocks_from n a q) (λ q. blocks_from n b q) low refl (λ q h. blocks_heap n q h)
+      ∙ ap (λ (o : Option Block). block_and (length b) o (λ q. blocks_from n b q)) (header_heap p low)
+
+  pub all_blocks : blocks a ≡ blocks b
+  all_blocks = ap (λ (n : ℕ). blocks_from n a 131) same.size ∙ blocks_heap (length b) 131 (omega arith)
+
+  -- all blocks begin in the heap
+  and_high : (size p : ℕ) (x : List ℕ) (o : Option Block) (f : ℕ → List Block) (t : Bool) → 131 ≤ p → header p x ≡ o → ((q : ℕ) → 131 ≤ q → AllByRecursion (λ k. 131 ≤ k.place) (f q)) → AllByRecursion (λ k. 131 ≤ k.place) (block_and size o f)
+  and_high size p x None f t low e h = tt
+  and_high size p x (Some k) f t low e h =
+      let is : HeaderIs p x k = header-is p x k e in
+      let place : k.place ≡ p = is.place in
+      by_test (nat_le (k.place + k.words) size) (omega arith) (h (k.place + k.words) (omega arith))
+    where
+      by_test : (s : Bool) → 131 ≤ k.place → AllByRecursion (λ (j : Block). 131 ≤ j.place) (f (k.place + k.words)) → AllByRecursion (λ (j : Block). 131 ≤ j.place) (cond s (k ∷ f (k.place + k.words)) [])
+      by_test true here rest = (here, rest)
+      by_test false here rest = tt
+
+  high : (n p : ℕ) → 131 ≤ p → AllByRecursion (λ k. 131 ≤ k.place) (blocks_from n b p)
+  unfolding blocks_from
+  high zero p low = tt
+  high (suc n) p low = and_high (length b) p (word b p) (header p (word b p)) (λ q. blocks_from n b q) true low refl (λ q h. high n q h)
+
+  pub high_blocks : AllByRecursion (λ k. 131 ≤ k.place) (blocks b)
+  high_blocks = high (length b) 131 (omega arith)
+
+  -- ---- faults
+
+  next_high : (p : ℕ) (x : List ℕ) (o : Option Block) → 131 ≤ p → header p x ≡ o → 131 ≤ next_block (length b) o
+  next_high p x None low e = let size : length a ≡ length b = same.size in let l : 131 ≤ length a = same.low in omega arith
+  next_high p x (Some k) low e =
+      let is : HeaderIs p x k = header-is p x k e in
+      let place : k.place ≡ p = is.place in
+      omega arith
+
+  bad_heap : (n p : ℕ) (h : Bool) → 131 ≤ p → bad_block n a p h ≡ bad_block n b p h
+  unfolding bad_block
+  bad_heap zero p h low = refl
+  bad_heap (suc n) p h low =
+      let o = header p (word b p) in
+      ap (λ (x : Option Block). cond (p == length a) None (cond (bad_header (length a) h x) (Some p) (bad_block n a (next_block (length a) x) (is_hole x)))) (header_heap p low)
+      ∙ ap (λ (s : ℕ). cond (p == s) None (cond (bad_header s h o) (Some p) (bad_block n a (next_block s o) (is_hole o)))) same.size
+      ∙ ap (λ (x : Option ℕ). cond (p == length b) None (cond (bad_header (length b) h o) (Some p) x)) (bad_heap n (next_block (length b) o) (is_hole o) (next_high p (word b p) o low refl))
+
+  records_heap : (bs : List Block) (names : List (List ℕ)) (used : ℕ) → AllByRecursion (λ k. 131 ≤ k.place) bs → bad_record a bs names used ≡ bad_record b bs names used
+  unfolding bad_record
+  records_heap [] names used h = refl
+  records_heap (k ∷ ks) names used h =
+      let r = record_at b k.place in
+      ap (λ (l : List ℕ). cond k.used (cond (is_record l k.words && not (has_name (name_in l) names) && nat_lt used 32) (bad_record a ks (name_in l ∷ names) (used + 1)) (Some k.place)) (bad_record a ks names used)) (record_heap k.place h.0)
+      ∙ ap (λ (x : Option ℕ). cond k.used (cond (is_record r k.words && not (has_name (name_in r) names) && nat_lt used 32) x (Some k.place)) (bad_record a ks names used)) (records_heap ks (name_in r ∷ names) (used + 1) h.1)
+      ∙ ap (λ (x : Option ℕ). cond k.used (cond (is_record r k.words && not (has_name (name_in r) names) && nat_lt used 32) (bad_record b ks (name_in r ∷ names) (used + 1)) (Some k.place)) x) (records_heap ks names used h.1)
+
+  pub bad_blocks : bad_block (length a) a heap_start false ≡ bad_block (length b) b heap_start false
+  bad_blocks = ap (λ (n : ℕ). bad_block n a heap_start false) same.size ∙ bad_heap (length b) 131 false (omega arith)
+
+  pub bad_records : bad_record a (blocks a) [] 0 ≡ bad_record b (blocks b) [] 0
+  bad_records = ap (λ (bs : List Block). bad_record a bs [] 0) all_blocks ∙ records_heap (blocks b) [] 0 high_blocks
+
+  -- ---- applications
+
+  apps_heap : (bs : List Block) → AllByRecursion (λ k. 131 ≤ k.place) bs → apps_of a bs ≡ apps_of b bs
+  unfolding apps_of
+  apps_heap [] h = refl
+  apps_heap (k ∷ ks) h =
+      ap (λ (l : List ℕ). cond k.used (insert (apps_of a ks) (name_in l) (app_at a k.place)) (apps_of a ks)) (record_heap k.place h.0)
+      ∙ ap (λ (x : App). cond k.used (insert (apps_of a ks) (name_at b k.place) x) (apps_of a ks)) (app_heap k.place h.0)
+      ∙ ap (λ (l : List (List ℕ × App)). cond k.used (insert l (name_at b k.place) (app_at b k.place)) l) (apps_heap ks h.1)
+
+  pub all_apps : apps_of a (blocks a) ≡ apps_of b (blocks b)
+  all_apps = ap (λ (bs : List Block). apps_of a bs) all_blocks ∙ apps_heap (blocks b) high_blocks
+
+  -- ---- the root besides
+
+  -- with the same root they have the same fault and hold the same card
+  pub same_fault : word a 0 ≡ word b 0 → words_fault a ≡ words_fault b
+  same_fault root =
+      let rest = or_else (by_cause BadBlock (bad_block (length a) a heap_start false)) (or_else (by_cause BadRecord (bad_record a (blocks a) [] 0)) (by_cause BadChain (bad_chain a (blocks a)))) in
+      let first : no_root a ≡ no_root b = ap (λ (x : List ℕ). root_test x (length a)) root ∙ ap (λ (n : ℕ). root_test (word b 0) n) same.size in
+      let chain : bad_chain a (blocks a) ≡ bad_chain b (blocks b) =
+      ap (λ (x : List ℕ). or_else (cond (be2 x 6 == first_hole (blocks a)) None (Some 0)) (bad_link (blocks a))) root
+      ∙ ap (λ (bs : List Block). or_else (cond (be2 (word b 0) 6 == first_hole bs) None (Some 0)) (bad_link bs)) all_blocks in
+      ap (λ (o : Option ℕ). or_else (by_cause NoRoot o) rest) first
+      ∙ ap (λ (o : Option ℕ). or_else (by_cause NoRoot (no_root b)) (or_else (by_cause BadBlock o) (or_else (by_cause BadRecord (bad_record a (blocks a) [] 0)) (by_cause BadChain (bad_chain a (blocks a)))))) bad_blocks
+      ∙ ap (λ (o : Option ℕ). or_else (by_cause NoRoot (no_root b)) (or_else (by_cause BadBlock (bad_block (length b) b heap_start false)) (or_else (by_cause BadRecord o) (by_cause BadChain (bad_chain a (blocks a)))))) bad_records
+      ∙ ap (λ (o : Option ℕ). or_else (by_cause NoRoot (no_root b)) (or_else (by_cause BadBlock (bad_block (length b) b heap_start false)) (or_else (by_cause BadRecord (bad_record b (blocks b) [] 0)) (by_cause BadChain o)))) chain
+
+  pub same_card : word a 0 ≡ word b 0 → card_of a ≡ card_of b
+  same_card root =
+      ap (λ (n : ℕ). record (card_of a) { size = n }) same.size
+      ∙ ap (λ (x : List ℕ). record (card_of a) { size = length b; layout = slice_index x 3 }) root
+      ∙ ap (λ (l : List (List ℕ × App)). record (card_of b) { apps = l }) all_apps

@@ -1,0 +1,145 @@
+-- What the calls of a store that read answer.
+use Rattle.std.proofs.Common.{◌≡◌, ℕ, ◌+◌, ◌*◌, ◌<◌, ◌≤◌, Bool, true, false, not, List, length, take, drop, Option, Some, None, Ok, Err, refl, sym, ◌∙◌, ap, subst, arith}
+use Rattle.std.specs.Prelude.{IsSome, IfOk, Result, is_some, nat_le, slice_index}
+use Rattle.std.proofs.lemmas.Bool.{leb-false}
+use Rattle.mc_model.specs.declared.card.Part.{Part}
+use Rattle.mc_model.specs.declared.card.Part.TheVariants.{Code, Data, Dir, Fci}
+use Rattle.mc_model.specs.declared.card.Sizes.{Sizes}
+use Rattle.mc_model.specs.declared.card.OpenRefusal.{OpenRefusal}
+use Rattle.mc_model.specs.Bytes.{be2, up, lookup}
+use Rattle.mc_model.specs.Device.{DeviceState, IsImage}
+use Rattle.mc_model.specs.Card.{App, Card, record_at, name_at, app_at, section, needed_of, blocks, means}
+use Rattle.mc_model.specs.Layout.{words_fault, IsWellLaid}
+use Rattle.mc_model.specs.Image.{look, Closed}
+use Rattle.mc_model.specs.Items.{Site}
+use Rattle.mc_bank.specs.Bank.{app_of, sizes_of, FitsLimits, AreApps, opened, IsGood, HasParts, part_len}
+use Rattle.mc_store.specs.Store.{apps_in, is_going, store_named, store_room, store_standing, name_of_place, part_from, part_in, needed_by}
+use Rattle.mc_store.specs.Slots.{first_named, record_sizes, IsBlock, part_of_app, flat}
+use Rattle.mc_store.specs.Going.{Going, closed_means, closed_fault, closed_settled}
+use Rattle.mc_store.specs.Sections.{length-section}
+use Rattle.mc_store.specs.Creation.{AtSite, at-site}
+use Rattle.mc_store.proofs.RecordLemmas.{RecordIs, record_is, block_fits}
+use Rattle.mc_store.proofs.FlatLemmas.{section_bytes}
+use Rattle.mc_store.proofs.SlotLemmas.{runs, map_is, name_there, name_slot, are_apps, sizes_are, fits_limits, Slot, slot}
+
+-- ---- sections
+
+part_ends : (m : List (List ℕ)) (k : ℕ) (p : Part) → IsBlock m k → part_from p (record_sizes (record_at m k)) k + up (part_len p (record_sizes (record_at m k))) 8 ≤ length m
+part_ends m k p b =
+    let r : RecordIs (record_at m k) b.words = record_is (record_at m k) b.words b.good in
+    let fits : b.words ≡ needed_of (be2 (record_at m k) 20) (be2 (record_at m k) 22) (slice_index (record_at m k) 17) (slice_index (record_at m k) 18) = r.words in
+    let end : k + b.words ≤ length m = b.end in
+    by_part p fits end
+  where
+    by_part : (q : Part) → b.words ≡ needed_of (be2 (record_at m k) 20) (be2 (record_at m k) 22) (slice_index (record_at m k) 17) (slice_index (record_at m k) 18) → k + b.words ≤ length m
+        → part_from q (record_sizes (record_at m k)) k + up (part_len q (record_sizes (record_at m k))) 8 ≤ length m
+    by_part Code f e = omega (arith, f, e)
+    by_part Data f e = omega (arith, f, e)
+    by_part Dir f e = omega (arith, f, e)
+    by_part Fci f e = omega (arith, f, e)
+
+part_is : (m : List (List ℕ)) (k : ℕ) (p : Part) → part_of_app p (app_at m k) ≡ section m (part_from p (record_sizes (record_at m k)) k) (part_len p (record_sizes (record_at m k)))
+part_is m k Code = refl
+part_is m k Data = refl
+part_is m k Dir = refl
+part_is m k Fci = refl
+
+-- bytes of a section of a slot
+pub record Reads (d : DeviceState) (k : ℕ) (p : Part) (at count from : ℕ) : Type 0 where
+  pub inside : 8 * from + at + count ≤ 8 * length d.words
+  pub bytes : take count (drop (8 * from + at) (flat d.words)) ≡ take count (drop at (part_of_app p (app_of (apps_in d.words) (store_named d k))))
+
+pub reads : (d : DeviceState) (c k : ℕ) (p : Part) (at count from : ℕ) → IsImage d.words → not (is_going d c) ≡ false → IsSome (store_named d k)
+    → at + count ≤ length (part_of_app p (app_of (apps_in d.words) (store_named d k))) → from ≡ part_from p (record_sizes (record_at d.words k)) k → Reads d k p at count from
+reads d c k p at count from image h some range is =
+    let m = d.words in
+    let s : Slot d k = slot d c k image h some in
+    let sizes = record_sizes (record_at m k) in
+    let q = part_from p sizes k in
+    let n = part_len p sizes in
+    let ends : q + up n 8 ≤ length m = part_ends m k p s.block in
+    let long : length (part_of_app p (app_of (apps_in m) (store_named d k))) ≡ n = ap (λ (a : App). length (part_of_app p a)) s.app ∙ ap length (part_is m k p) ∙ length-section m q n image ends in
+    record {
+      inside = omega (arith, is, ends, long, range);
+      bytes = ap (λ (x : ℕ). take count (drop (8 * x + at) (flat m))) is
+          ∙ section_bytes m image q n at count ends (omega (arith, long, range))
+          ∙ ap (λ (l : List ℕ). take count (drop at l)) (sym (ap (λ (a : App). part_of_app p a) s.app ∙ part_is m k p));
+    }
+
+pub slot_fits : (d : DeviceState) (c k : ℕ) → IsImage d.words → not (is_going d c) ≡ false → IsSome (store_named d k) → k + 5 ≤ length d.words
+slot_fits d c k image h some = block_fits d.words k (slot d c k image h some).block
+
+-- ---- names and facts
+
+pub good_words : (d : DeviceState) (c : ℕ) → not (is_going d c) ≡ false → words_fault d.words ≡ None
+good_words d c h = (runs d c h).laid
+
+pub is_there : (d : DeviceState) (c : ℕ) (n : List ℕ) (o : Option ℕ) → IsImage d.words → not (is_going d c) ≡ false → o ≡ first_named d.words (blocks d.words) n → is_some o ≡ is_some (lookup (apps_in d.words) n)
+is_there d c n o image h is = name_there d.words image (good_words d c h) n o is ∙ ap (λ (es : List (List ℕ × App)). is_some (lookup es n)) (sym (map_is d c h))
+
+pub is_slot : (d : DeviceState) (c : ℕ) (n : List ℕ) (p : ℕ) → IsImage d.words → not (is_going d c) ≡ false → Some p ≡ first_named d.words (blocks d.words) n → store_named d p ≡ Some n
+is_slot d c n p image h is = ap (λ (es : List (List ℕ × App)). name_of_place es p) (map_is d c h) ∙ name_slot d.words image (good_words d c h) n p is
+
+-- what is told of the application of a slot
+pub record Told (d : DeviceState) (k : ℕ) (n : List ℕ) (z : Sizes) : Type 0 where
+  pub name : store_named d k ≡ Some n
+  pub app : IsSome (lookup (apps_in d.words) n)
+  pub sizes : z ≡ sizes_of (app_of (apps_in d.words) (store_named d k))
+  pub limits : FitsLimits z
+
+pub told : (d : DeviceState) (c k : ℕ) (n : List ℕ) (z : Sizes) → IsImage d.words → not (is_going d c) ≡ false → IsSome (store_named d k) → n ≡ name_at d.words k → z ≡ record_sizes (record_at d.words k) → Told d k n z
+told d c k n z image h some named sized =
+    let m = d.words in
+    let s : Slot d k = slot d c k image h some in
+    record {
+      name = s.name ∙ ap (λ (x : List ℕ). Some x) (sym named);
+      app = subst (λ (o : Option App). IsSome o) (sym (ap (λ (x : List ℕ). lookup (apps_in m) x) named ∙ s.there)) refl;
+      sizes = sized ∙ sym (sizes_are m image (good_words d c h) k s.block) ∙ ap sizes_of (sym s.app);
+      limits = subst (λ (x : Sizes). FitsLimits x) (sym sized) (fits_limits m image (good_words d c h) k s.block);
+    }
+
+pub counted : (d : DeviceState) (c : ℕ) → not (is_going d c) ≡ false → c ≡ length (apps_in d.words)
+counted d c h = (runs d c h).count ∙ ap length (sym (map_is d c h))
+
+pub all_apps : (d : DeviceState) (c : ℕ) → IsImage d.words → not (is_going d c) ≡ false → AreApps (apps_in d.words)
+all_apps d c image h = subst (λ (es : List (List ℕ × App)). AreApps es) (sym (map_is d c h)) (are_apps d.words image (good_words d c h) (runs d c h).closed)
+
+-- ---- room
+
+pub no_journal : (d : DeviceState) (c : ℕ) → not (is_going d c) ≡ false → look d.words ≡ Closed
+no_journal d c h = (runs d c h).closed
+
+pub well_laid : (d : DeviceState) (c : ℕ) → not (is_going d c) ≡ false → IsWellLaid d.words
+well_laid d c h = closed_fault d.words (no_journal d c h) ∙ good_words d c h
+
+pub answers : (d : DeviceState) (c : ℕ) (s : Sizes) (r : Result Site OpenRefusal) → not (is_going d c) ≡ false → r ≡ opened s (nat_le 32 c) (store_room d s) → r ≡ opened s (nat_le 32 (length (apps_in d.words))) (store_room d s)
+answers d c s r h is = is ∙ ap (λ (n : ℕ). opened s (nat_le 32 n) (store_room d s)) (counted d c h)
+
+site_by : (apps : List (List ℕ × App)) (room : Sizes → Option ℕ) (s : Sizes) (t : Bool) (o : Option ℕ) → FitsLimits s → nat_le 32 (length apps) ≡ t → room s ≡ o → IfOk (opened s t o) (λ site. IsGood apps room site)
+site_by apps room s true o limits e f = tt
+site_by apps room s false None limits e f = tt
+site_by apps room s false (Some p) limits e f = record { limits = limits; few = let past = leb-false 32 (length apps) e in omega (arith, past); place = f }
+
+pub good_site : (apps : List (List ℕ × App)) (room : Sizes → Option ℕ) (s : Sizes) (r : Result Site OpenRefusal) → FitsLimits s → r ≡ opened s (nat_le 32 (length apps)) (room s) → IfOk r (λ site. IsGood apps room site)
+good_site apps room s r limits is = subst (λ (x : Result Site OpenRefusal). IfOk x (λ site. IsGood apps room site)) (sym is) (site_by apps room s (nat_le 32 (length apps)) (room s) limits refl refl)
+
+-- the sections of a good site have their lengths
+site_parts : (d : DeviceState) (c : ℕ) (s : Site) → IsImage d.words → not (is_going d c) ≡ false → IsGood (apps_in d.words) (store_room d) s → HasParts s (store_standing d s)
+unfolding part_in
+site_parts d c s image h good p =
+    let m = d.words in
+    let g : Going d c = runs d c h in
+    let fewer : length (means m).apps < 32 = subst (λ (n : ℕ). n < 32) (ap length (map_is d c h ∙ ap (λ (x : Card). x.apps) (sym (closed_means m g.closed)))) good.few in
+    let at : AtSite m s = at-site m s image g.closed (well_laid d c h) (record { limits = good.limits; few = fewer; place = good.place }) in
+    ap (λ (w : List (List ℕ)). length (section w (part_from p s.sizes s.place) (part_len p s.sizes))) (closed_settled m g.closed)
+    ∙ length-section m (part_from p s.sizes s.place) (part_len p s.sizes) image (by_part p good.limits at.ends)
+  where
+    by_part : (q : Part) → FitsLimits s.sizes → s.place + needed_by s.sizes ≤ length d.words → part_from q s.sizes s.place + up (part_len q s.sizes) 8 ≤ length d.words
+    by_part Code l e = omega (arith, e)
+    by_part Data l e = let init = l.init in omega (arith, e, init)
+    by_part Dir l e = omega (arith, e)
+    by_part Fci l e = omega (arith, e)
+
+pub open_parts : (d : DeviceState) (c : ℕ) (r : Result Site OpenRefusal) → IsImage d.words → not (is_going d c) ≡ false → IfOk r (λ site. IsGood (apps_in d.words) (store_room d) site) → IfOk r (λ site. HasParts site (store_standing d site))
+open_parts d c (Ok s) image h good = site_parts d c s image h good
+open_parts d c (Err e) image h good = tt

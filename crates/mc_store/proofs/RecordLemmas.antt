@@ -1,0 +1,85 @@
+-- What a good record says, and the block that it stands in.
+use Rattle.std.proofs.Common.{◌≡◌, ℕ, ◌+◌, ◌≤◌, true, ◌&&◌, List, length, take, drop, arith, min, length-take}
+use Rattle.std.specs.Prelude.{nat_le, ◌==◌, slice_index, bytes_eq, ◌-◌}
+use Rattle.std.proofs.lemmas.Bool.{and_parts, leb-true, eqb-true}
+use Rattle.mc_model.specs.Bytes.{be2, up, zeros}
+use Rattle.mc_model.specs.Card.{needed_of, record_at, name_in}
+use Rattle.mc_model.specs.Layout.{is_record}
+use Rattle.mc_store.specs.Slots.{IsBlock}
+
+-- the limits that a good record keeps, and the words of its block
+pub record RecordIs (r : List ℕ) (w : ℕ) : Type 0 where
+  pub name_low : 5 ≤ slice_index r 16
+  pub name_high : slice_index r 16 ≤ 16
+  pub dir : slice_index r 17 ≤ 128
+  pub fci : slice_index r 18 ≤ 128
+  pub code_low : 1 ≤ be2 r 20
+  pub code_high : be2 r 20 ≤ 8192
+  pub fixed : be2 r 22 ≤ 4096
+  pub session : be2 r 24 ≤ 256
+  pub deny : be2 r 26 ≤ 15
+  pub words : w ≡ needed_of (be2 r 20) (be2 r 22) (slice_index r 17) (slice_index r 18)
+
+pub record_is : (r : List ℕ) (w : ℕ) → is_record r w ≡ true → RecordIs r w
+record_is r w h =
+    let n = slice_index r 16 in
+    let a1 = nat_le 5 n && nat_le n 16 in
+    let a2 = a1 && bytes_eq (take (16 - n) (drop n r)) (zeros (16 - n)) in
+    let a3 = a2 && nat_le (slice_index r 17) 128 in
+    let a4 = a3 && nat_le (slice_index r 18) 128 in
+    let a5 = a4 && slice_index r 19 == 0 in
+    let a6 = a5 && nat_le 1 (be2 r 20) in
+    let a7 = a6 && nat_le (be2 r 20) 8192 in
+    let a8 = a7 && nat_le (be2 r 22) 4096 in
+    let a9 = a8 && nat_le (be2 r 24) 256 in
+    let a10 = a9 && nat_le (be2 r 26) 15 in
+    let a11 = a10 && bytes_eq (drop 28 r) (zeros 4) in
+    let fits = w == needed_of (be2 r 20) (be2 r 22) (slice_index r 17) (slice_index r 18) in
+    let p11 = and_parts a11 fits h in
+    let p10 = and_parts a10 (bytes_eq (drop 28 r) (zeros 4)) p11.0 in
+    let p9 = and_parts a9 (nat_le (be2 r 26) 15) p10.0 in
+    let p8 = and_parts a8 (nat_le (be2 r 24) 256) p9.0 in
+    let p7 = and_parts a7 (nat_le (be2 r 22) 4096) p8.0 in
+    let p6 = and_parts a6 (nat_le (be2 r 20) 8192) p7.0 in
+    let p5 = and_parts a5 (nat_le 1 (be2 r 20)) p6.0 in
+    let p4 = and_parts a4 (slice_index r 19 == 0) p5.0 in
+    let p3 = and_parts a3 (nat_le (slice_index r 18) 128) p4.0 in
+    let p2 = and_parts a2 (nat_le (slice_index r 17) 128) p3.0 in
+    let p1 = and_parts a1 (bytes_eq (take (16 - n) (drop n r)) (zeros (16 - n))) p2.0 in
+    let p0 = and_parts (nat_le 5 n) (nat_le n 16) p1.0 in
+    record {
+      name_low = leb-true 5 n p0.0;
+      name_high = leb-true n 16 p0.1;
+      dir = leb-true (slice_index r 17) 128 p2.1;
+      fci = leb-true (slice_index r 18) 128 p3.1;
+      code_low = leb-true 1 (be2 r 20) p5.1;
+      code_high = leb-true (be2 r 20) 8192 p6.1;
+      fixed = leb-true (be2 r 22) 4096 p7.1;
+      session = leb-true (be2 r 24) 256 p8.1;
+      deny = leb-true (be2 r 26) 15 p9.1;
+      words = eqb-true w (needed_of (be2 r 20) (be2 r 22) (slice_index r 17) (slice_index r 18)) p11.1;
+    }
+
+pub long_enough : (r : List ℕ) (w : ℕ) → is_record r w ≡ true → 6 ≤ w
+long_enough r w h =
+    let k : RecordIs r w = record_is r w h in
+    let some : 1 ≤ be2 r 20 = k.code_low in
+    let e : w ≡ 5 + up (be2 r 20) 8 + up (be2 r 22) 8 + up (slice_index r 17) 8 + up (slice_index r 18) 8 = k.words in
+    let one : 1 ≤ up (be2 r 20) 8 = omega arith in
+    omega (arith, e, one)
+
+-- its header and its record end in time
+pub block_fits : (m : List (List ℕ)) (p : ℕ) → IsBlock m p → p + 5 ≤ length m
+block_fits m p b =
+    let six : 6 ≤ b.words = long_enough (record_at m p) b.words b.good in
+    let end : p + b.words ≤ length m = b.end in
+    omega arith
+
+-- its name has 5 to 16 bytes
+pub name_size : (r : List ℕ) (w : ℕ) → length r ≡ 32 → is_record r w ≡ true → (5 ≤ length (name_in r)) × (length (name_in r) ≤ 16)
+name_size r w size h =
+    let k : RecordIs r w = record_is r w h in
+    let low : 5 ≤ slice_index r 16 = k.name_low in
+    let high : slice_index r 16 ≤ 16 = k.name_high in
+    let e : length (name_in r) ≡ min (slice_index r 16) (length r) = length-take (slice_index r 16) r in
+    (omega (arith, e, size), omega (arith, e, size))

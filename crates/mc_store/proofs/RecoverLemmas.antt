@@ -1,0 +1,138 @@
+-- The steps of a power-up, one after another: the replay, the check, the migration.
+use Rattle.std.proofs.Common.{◌≡◌, ℕ, ◌+◌, ◌≤◌, true, false, List, [], ◌∷◌, ◌++◌, length, Option, None, Ok, Err, refl, sym, ◌∙◌, ap, subst, cond, append-nil}
+use Rattle.std.specs.Prelude.{Result, IfOk, ◌==◌, slice_set}
+use Rattle.mc_model.specs.declared.card.Cause.{Cause}
+use Rattle.mc_model.specs.Orders.{Answer}
+use Rattle.mc_model.specs.Device.{DeviceState, Wrote, Makes}
+use Rattle.mc_model.specs.Image.{Journal, One, is_open, Look, Refused, Closed, Pending, look, look_j, owed, debt, replayed}
+use Rattle.mc_model.specs.Stopped.{writes, owed_writes, Recovered, Follows, RecoverEnds}
+use Rattle.mc_model.specs.Card.{Card, means, word, words_after}
+use Rattle.mc_model.specs.Layout.{words_fault, fault, fault_of}
+use Rattle.mc_model.specs.Play.{Base, base_of, migration}
+use Rattle.mc_model.proofs.OrdersLemmas.{InOrder-append, InOrder-stopped}
+use Rattle.mc_model.proofs.DeviceLemmas.{DoneAll, makes-done}
+use Rattle.mc_store.specs.declared.power.Up.{Up}
+use Rattle.mc_store.specs.declared.power.Up.TheVariants as up
+use Rattle.mc_store.specs.Store.{settled}
+use Rattle.mc_store.specs.Power.{found, new_root, migrating, power_writes, Powered, Runs, Halts, Fails, power_answer, PowerFollows, RecoverFollows, FinishFollows, failed, recovered}
+use Rattle.mc_store.specs.Going.{closed_settled, closed_means, closed_fault}
+use Rattle.mc_store.proofs.JournalLemmas.{other, look_alone, IsPending, is_pending, recovered_closed}
+use Rattle.mc_store.proofs.PowerLemmas.{Settles, settles}
+
+-- ---- a replay that was done
+
+ends_follow : (j : Journal) (l : Look) (d e : DeviceState) (n : ℕ) → RecoverEnds j l d (Recovered n) e → Follows l (Recovered n)
+ends_follow j (Refused p) d e n h = h.0
+ends_follow j Closed d e n h = h.0
+ends_follow j (Pending i ps) d e n h = h.0
+
+follows_by : (m : List (List ℕ)) (n : ℕ) (l : Look) → 256 ≤ length m → look m ≡ l → Follows l (Recovered n) → (n ≡ owed m) × (look (settled m) ≡ Closed)
+follows_by m n (Refused p) low e f = absurd (cc f)
+follows_by m n Closed low e f =
+    let none : n ≡ 0 = cc f in
+    (none ∙ sym (ap debt e), ap look (closed_settled m e) ∙ e)
+follows_by m n (Pending j ps) low e f =
+    let p : IsPending m j ps = is_pending m j ps e in
+    (f ∙ sym (ap debt e), ap (λ (l : Look). look (words_after (replayed m l) m)) e ∙ recovered_closed m j ps low p)
+
+-- the number of writes, and that no journal is open
+pub replay_follows : (j : Journal) (d e : DeviceState) (n : ℕ) → 256 ≤ length d.words → is_open (other j) d.words ≡ false → RecoverEnds j (look_j j d.words) d (Recovered n) e → (n ≡ owed d.words) × (look (settled d.words) ≡ Closed)
+replay_follows j d e n low h r =
+    let m = d.words in
+    let alone : look m ≡ look_j j m = look_alone j m h in
+    follows_by m n (look m) low refl (subst (λ (l : Look). Follows l (Recovered n)) (sym alone) (ends_follow j (look_j j m) d e n r))
+
+-- ---- what is settled
+
+settled_fault : (m : List (List ℕ)) (l : Look) → look m ≡ l → look (settled m) ≡ Closed → fault m ≡ words_fault (settled m)
+settled_fault m (Refused p) e closed =
+    let same : settled m ≡ m = ap (λ (l : Look). words_after (replayed m l) m) e in
+    absurd (cc (sym closed ∙ ap look same ∙ e))
+settled_fault m Closed e closed = ap (λ (l : Look). fault_of l m) e ∙ sym (ap words_fault (closed_settled m e))
+settled_fault m (Pending j ps) e closed = ap (λ (l : Look). fault_of l m) e
+
+same_fault_settled : (m : List (List ℕ)) → look (settled m) ≡ Closed → fault (settled m) ≡ fault m
+same_fault_settled m closed = closed_fault (settled m) closed ∙ sym (settled_fault m (look m) refl closed)
+
+same_means_settled : (m : List (List ℕ)) → look (settled m) ≡ Closed → means (settled m) ≡ means m
+same_means_settled m closed = closed_means (settled m) closed
+
+finish_by : (m : List (List ℕ)) (p : Powered) → 256 ≤ length m → look (settled m) ≡ Closed → FinishFollows (settled m) (owed m) p → PowerFollows m p
+finish_by m (Runs n c) low closed f =
+    (sym (same_fault_settled m closed) ∙ f.0, f.1 ∙ ap (λ (b : Base). owed m + migration b) (settles m low).found, f.2 ∙ ap (λ (k : Card). length k.apps) (same_means_settled m closed))
+finish_by m (Halts s) low closed f = tt
+finish_by m (Fails cause place) low closed f = sym (same_fault_settled m closed) ∙ f
+
+-- what comes behind the owed writes follows from the whole
+pub finish_follows : (m w : List (List ℕ)) (n : ℕ) (p : Powered) → 256 ≤ length m → w ≡ settled m → look w ≡ Closed → n ≡ owed m → FinishFollows w n p → PowerFollows m p
+finish_follows m w n p low is closed same f =
+    finish_by m p low (ap look (sym is) ∙ closed)
+    (subst (λ (x : List (List ℕ)). FinishFollows x (owed m) p) is (subst (λ (k : ℕ). FinishFollows w k p) same f))
+
+-- ---- the writes
+
+-- those of the migration of a card
+pub upgrade_writes : (m : List (List ℕ)) (v : ℕ) → fault m ≡ None → v ≡ (means m).layout → cond (v == 1) (writes One (new_root m)) [] ≡ migrating (found m) m
+upgrade_writes m v h e =
+    ap (λ (n : ℕ). cond (n == 1) (writes One (new_root m)) []) e ∙ sym (ap (λ (o : Option (Cause × ℕ)). migrating (base_of o m) m) h)
+
+module _ {D : Type 0} (state : D → DeviceState) (wrote : D → ℕ → List ℕ → Answer → D → Type 0)
+    (obeys : (d : D) (at : ℕ) (w : List ℕ) (a : Answer) (e : D) → (state d).on ≡ true → wrote d at w a e → Wrote (state d) at w a (state e)) where
+  -- a recovery that was done leaves settled words, no journal open, and power on
+  recovered_words : (d e : D) (r : Result ℕ Up) → 256 ≤ length (state d).words → (state d).on ≡ true → Makes wrote d (owed_writes (look (state d).words)) (power_answer (recovered r)) e
+      → IfOk r (λ n. ((state e).words ≡ settled (state d).words) × ((state e).on ≡ true))
+  recovered_words d e (Ok n) low on made =
+      let all : DoneAll (state d) (owed_writes (look (state d).words)) (state e) = makes-done state wrote obeys (owed_writes (look (state d).words)) d e on made in
+      (all.words ∙ (settles (state d).words low).laid, all.power)
+  recovered_words d e (Err u) low on made = tt
+
+  ok_words : (d e : D) (r : Result ℕ Up) → IfOk r (λ n. ((state e).words ≡ settled (state d).words) × ((state e).on ≡ true)) → IfOk r (λ n. (state e).words ≡ settled (state d).words)
+  ok_words d e (Ok n) h = h.0
+  ok_words d e (Err u) h = tt
+
+  ok_on : (d e : D) (r : Result ℕ Up) → IfOk r (λ n. ((state e).words ≡ settled (state d).words) × ((state e).on ≡ true)) → IfOk r (λ n. (state e).on ≡ true)
+  ok_on d e (Ok n) h = h.1
+  ok_on d e (Err u) h = tt
+
+  ok_closed : (d e : D) (r : Result ℕ Up) → IfOk r (λ n. ((state e).words ≡ settled (state d).words) × ((state e).on ≡ true)) → RecoverFollows (state d).words (recovered r) → IfOk r (λ n. look (state e).words ≡ Closed)
+  ok_closed d e (Ok n) h f = ap look h.0 ∙ f.1
+  ok_closed d e (Err u) h f = tt
+
+  pub recovered_settles : (d e : D) (r : Result ℕ Up) → 256 ≤ length (state d).words → (state d).on ≡ true → Makes wrote d (owed_writes (look (state d).words)) (power_answer (recovered r)) e → IfOk r (λ n. (state e).words ≡ settled (state d).words)
+  recovered_settles d e r low on made = ok_words d e r (recovered_words d e r low on made)
+
+  pub recovered_on : (d e : D) (r : Result ℕ Up) → 256 ≤ length (state d).words → (state d).on ≡ true → Makes wrote d (owed_writes (look (state d).words)) (power_answer (recovered r)) e → IfOk r (λ n. (state e).on ≡ true)
+  recovered_on d e r low on made = ok_on d e r (recovered_words d e r low on made)
+
+  pub recovered_shut : (d e : D) (r : Result ℕ Up) → 256 ≤ length (state d).words → (state d).on ≡ true → Makes wrote d (owed_writes (look (state d).words)) (power_answer (recovered r)) e → RecoverFollows (state d).words (recovered r) → IfOk r (λ n. look (state e).words ≡ Closed)
+  recovered_shut d e r low on made f = ok_closed d e r (recovered_words d e r low on made) f
+
+  -- the owed writes, and those behind them
+  pub whole_makes : (d e f : D) (p : Powered) → 256 ≤ length (state d).words → (state e).words ≡ settled (state d).words → Makes wrote d (owed_writes (look (state d).words)) (Ok tt) e
+      → Makes wrote e (migrating (found (state e).words) (state e).words) (power_answer p) f → Makes wrote d (power_writes (state d).words) (power_answer p) f
+  unfolding power_writes
+  whole_makes d e f p low is first second =
+      let m = (state d).words in
+      let s : Settles m = settles m low in
+      let same : migrating (found (state e).words) (state e).words ≡ migrating (found m) (settled m) =
+      ap (λ (w : List (List ℕ)). migrating (found w) w) is ∙ ap (λ (b : Base). migrating b (settled m)) s.found in
+      InOrder-append (λ x q a y. wrote x q.0 q.1 a y) (owed_writes (look m)) (migrating (found m) (settled m)) d e f (power_answer p) first
+      (subst (λ (l : List (ℕ × List ℕ)). Makes wrote e l (power_answer p) f) same second)
+
+  -- the owed writes alone, where they stopped or there is no more to do
+  pub failed_makes : (d e : D) (u : Up) → Makes wrote d (owed_writes (look (state d).words)) (power_answer (failed u)) e → RecoverFollows (state d).words (failed u) → Makes wrote d (power_writes (state d).words) (power_answer (failed u)) e
+  unfolding power_writes
+  failed_makes d e (up.Stop s) made follows =
+      let m = (state d).words in
+      InOrder-stopped (λ x q a y. wrote x q.0 q.1 a y) (owed_writes (look m)) (migrating (found m) (settled m)) d e s made
+  failed_makes d e (up.Unusable u) made follows =
+      let m = (state d).words in
+      let none : migrating (found m) (settled m) ≡ [] = ap (λ (l : Look). migrating (base_of (fault_of l m) m) (settled m)) follows.1 in
+      subst (λ (l : List (ℕ × List ℕ)). Makes wrote d l (Ok tt) e) (sym (ap (λ (l : List (ℕ × List ℕ)). owed_writes (look m) ++ l) none ∙ append-nil (owed_writes (look m)))) made
+
+  -- the migration of a card of layout 1
+  pub version_makes : (d e : D) (v : ℕ) (root : List ℕ) (a : Answer) → v ≡ 1 → root ≡ slice_set (word (state d).words 0) 3 2 → Makes wrote d (writes One ((0, root) ∷ [])) a e
+      → Makes wrote d (cond (v == 1) (writes One (new_root (state d).words)) []) a e
+  version_makes d e v root a one is made =
+      subst (λ (n : ℕ). Makes wrote d (cond (n == 1) (writes One (new_root (state d).words)) []) a e) (sym one)
+      (subst (λ (x : List ℕ). Makes wrote d (writes One ((0, x) ∷ [])) a e) is made)

@@ -1,0 +1,231 @@
+-- The applications of words without a fault, by their slots.
+use Rattle.std.proofs.Common.{◌≡◌, ℕ, ◌+◌, ◌≤◌, Bool, true, false, ◌&&◌, not, cond, List, [], ◌∷◌, length, Option, Some, None, refl, sym, ◌∙◌, ap, subst, arith}
+use Rattle.std.specs.Prelude.{◌==◌, slice_index, bytes_eq, IsSome, is_some, unwrap_or}
+use Rattle.std.specs.List.{AllByRecursion}
+use Rattle.std.proofs.lemmas.Bool.{eqb-true, eq-eqb}
+use Rattle.mc_model.specs.declared.card.Sizes.{Sizes}
+use Rattle.mc_model.specs.Bytes.{be2, up, lookup, insert, name_before}
+use Rattle.mc_model.specs.Image.{look, Closed}
+use Rattle.mc_model.specs.Device.{DeviceState, IsImage}
+use Rattle.mc_model.specs.Card.{App, Card, Block, blocks, record_at, name_at, app_at, apps_of, card_of, needed_of}
+use Rattle.mc_model.specs.Layout.{words_fault}
+use Rattle.mc_model.proofs.ImageLemmas.{all-map}
+use Rattle.mc_base.specs.Name.{IsName}
+use Rattle.mc_bank.specs.Bank.{app_of, no_app, sizes_of, FitsLimits, IsEntry, AscendByName, AreApps}
+use Rattle.mc_bank.specs.Names.{same_name, name_is_itself, not_after, lookup-inserted, lookup-beside, each-inserted, ascend-inserted}
+use Rattle.mc_blocks.proofs.Steps.{blocks_all}
+use Rattle.mc_blocks.proofs.Tiles.{AreRead}
+use Rattle.mc_blocks.proofs.Bridge.{some-apps, no-apps, with-block, fault-closed}
+use Rattle.mc_blocks.proofs.Applications.{few-applications}
+use Rattle.mc_store.specs.Store.{apps_in, is_going, name_of_place, store_named}
+use Rattle.mc_store.specs.Slots.{first_named, record_sizes, IsBlock}
+use Rattle.mc_store.specs.Going.{Going, going_is, closed_apps, closed_means}
+use Rattle.mc_store.specs.Sections.{length-cells, length-section}
+use Rattle.mc_store.specs.Turns.{some-is}
+use Rattle.mc_store.proofs.RecordLemmas.{RecordIs, record_is, name_size, long_enough}
+use Rattle.mc_store.proofs.WalkLemmas.{HasRecord, Walk, walk_begins}
+
+-- ---- the entries of the map
+
+-- an entry is what stands in the block at its place
+pub record IsOf (m : List (List ℕ)) (e : List ℕ × App) : Type 0 where
+  pub name : e.0 ≡ name_at m (e.1).place
+  pub app : e.1 ≡ app_at m (e.1).place
+  pub block : IsBlock m (e.1).place
+
+module _ (m : List (List ℕ)) where
+  entries : (bs : List Block) → AreRead m bs → AllByRecursion (HasRecord m) bs → AllByRecursion (IsOf m) (apps_of m bs) × AscendByName (apps_of m bs)
+  entries [] r h = (subst (λ (es : List (List ℕ × App)). AllByRecursion (IsOf m) es) (sym (no-apps m)) tt, subst (λ (es : List (List ℕ × App)). AscendByName es) (sym (no-apps m)) tt)
+  entries (b ∷ bs) r h =
+      let rest = entries bs r.2 h.1 in
+      let both = by_kind b.used refl rest.0 rest.1 in
+      (subst (λ (es : List (List ℕ × App)). AllByRecursion (IsOf m) es) (sym (some-apps m b bs)) both.0, subst (λ (es : List (List ℕ × App)). AscendByName es) (sym (some-apps m b bs)) both.1)
+    where
+      by_kind : (t : Bool) → b.used ≡ t → AllByRecursion (IsOf m) (apps_of m bs) → AscendByName (apps_of m bs)
+          → AllByRecursion (IsOf m) (cond t (with-block m b bs) (apps_of m bs)) × AscendByName (cond t (with-block m b bs) (apps_of m bs))
+      by_kind true e each up = (
+        each-inserted (IsOf m) (apps_of m bs) (name_at m b.place) (app_at m b.place) (record { name = refl; app = refl; block = record { words = b.words; good = h.0 e; end = r.1 } }) each,
+        ascend-inserted (apps_of m bs) (name_at m b.place) (app_at m b.place) up,
+      )
+      by_kind false e each up = (each, up)
+
+  -- ---- found by a name
+
+  found_kind : (n : List ℕ) (b : Block) (bs : List Block) (u t : Bool) → bytes_eq (name_at m b.place) n ≡ t → (p : ℕ) → cond (u && t) (Some b.place) (first_named m bs n) ≡ Some p
+      → (first_named m bs n ≡ Some p → lookup (apps_of m bs) n ≡ Some (app_at m p)) → lookup (cond u (with-block m b bs) (apps_of m bs)) n ≡ Some (app_at m p)
+  found_kind n b bs false t e p h rest = rest h
+  found_kind n b bs true false e p h rest = lookup-beside (apps_of m bs) (name_at m b.place) (app_at m b.place) n e ∙ rest h
+  found_kind n b bs true true e p h rest =
+      let place : b.place ≡ p = cc in
+      ap (λ (k : List ℕ). lookup (insert (apps_of m bs) k (app_at m b.place)) n) (same_name (name_at m b.place) n e)
+      ∙ lookup-inserted (apps_of m bs) n (app_at m b.place)
+      ∙ ap (λ (q : ℕ). Some (app_at m q)) place
+
+  found : (n : List ℕ) (bs : List Block) (p : ℕ) → first_named m bs n ≡ Some p → lookup (apps_of m bs) n ≡ Some (app_at m p)
+  unfolding first_named
+  found n [] p h = absurd (cc h)
+  found n (b ∷ bs) p h =
+      ap (λ (es : List (List ℕ × App)). lookup es n) (some-apps m b bs) ∙ found_kind n b bs b.used (bytes_eq (name_at m b.place) n) refl p h (λ r. found n bs p r)
+
+  none_kind : (n : List ℕ) (b : Block) (bs : List Block) (u t : Bool) → bytes_eq (name_at m b.place) n ≡ t → cond (u && t) (Some b.place) (first_named m bs n) ≡ None
+      → (first_named m bs n ≡ None → lookup (apps_of m bs) n ≡ None) → lookup (cond u (with-block m b bs) (apps_of m bs)) n ≡ None
+  none_kind n b bs false t e h rest = rest h
+  none_kind n b bs true false e h rest = lookup-beside (apps_of m bs) (name_at m b.place) (app_at m b.place) n e ∙ rest h
+  none_kind n b bs true true e h rest = absurd (cc h)
+
+  none : (n : List ℕ) (bs : List Block) → first_named m bs n ≡ None → lookup (apps_of m bs) n ≡ None
+  unfolding first_named
+  none n [] h = ap (λ (es : List (List ℕ × App)). lookup es n) (no-apps m)
+  none n (b ∷ bs) h = ap (λ (es : List (List ℕ × App)). lookup es n) (some-apps m b bs) ∙ none_kind n b bs b.used (bytes_eq (name_at m b.place) n) refl h (λ r. none n bs r)
+
+-- ---- maps
+
+-- what holds of all entries holds of one that is found
+each_found : (P : List ℕ × App → Type 0) (es : List (List ℕ × App)) (n : List ℕ) (a : App) → AllByRecursion P es → lookup es n ≡ Some a → P (n, a)
+each_found P [] n a h l = absurd (cc l)
+each_found P (e ∷ es) n a h l = by_test (bytes_eq e.0 n) refl l (λ k. each_found P es n a h.1 k)
+  where
+    by_test : (t : Bool) → bytes_eq e.0 n ≡ t → cond t (Some e.1) (lookup es n) ≡ Some a → (lookup es n ≡ Some a → P (n, a)) → P (n, a)
+    by_test true is k rest = let same : e.1 ≡ a = cc in subst (λ (x : App). P (n, x)) same (subst (λ (x : List ℕ). P (x, e.1)) (same_name e.0 n is) h.0)
+    by_test false is k rest = rest k
+
+module _ (m : List (List ℕ)) where
+  place_of : (es : List (List ℕ × App)) (n : List ℕ) (a : App) → AllByRecursion (IsOf m) es → lookup es n ≡ Some a → name_of_place es a.place ≡ Some n
+  place_of [] n a h l = absurd (cc l)
+  place_of (e ∷ es) n a h l = by_test (bytes_eq e.0 n) ((e.1).place == a.place) refl refl l (λ k. place_of es n a h.1 k)
+    where
+      by_test : (t s : Bool) → bytes_eq e.0 n ≡ t → ((e.1).place == a.place) ≡ s → cond t (Some e.1) (lookup es n) ≡ Some a → (lookup es n ≡ Some a → name_of_place es a.place ≡ Some n) → cond s (Some e.0) (name_of_place es a.place) ≡ Some n
+      by_test true true is at k rest = ap (λ (x : List ℕ). Some x) (same_name e.0 n is)
+      by_test true false is at k rest = let same : e.1 ≡ a = cc in absurd (cc (sym at ∙ eq-eqb (e.1).place a.place (ap (λ (x : App). x.place) same)))
+      by_test false true is at k rest =
+          let other : IsOf m (n, a) = each_found (IsOf m) es n a h.1 k in
+          ap (λ (x : List ℕ). Some x) (h.0.name ∙ ap (λ (q : ℕ). name_at m q) (eqb-true (e.1).place a.place at) ∙ sym other.name)
+      by_test false false is at k rest = rest k
+
+  -- the application of a slot
+  pub record IsHeld (es : List (List ℕ × App)) (k : ℕ) (n : List ℕ) : Type 0 where
+    pub name : n ≡ name_at m k
+    pub app : lookup es n ≡ Some (app_at m k)
+    pub block : IsBlock m k
+
+  held : (es : List (List ℕ × App)) (k : ℕ) (n : List ℕ) → AllByRecursion (IsOf m) es → AscendByName es → name_of_place es k ≡ Some n → IsHeld es k n
+  held [] k n h sorted is = absurd (cc is)
+  held (e ∷ es) k n h sorted is = by_test ((e.1).place == k) refl is (λ j. held es k n h.1 sorted.1 j)
+    where
+      behind : (t : Bool) → bytes_eq e.0 n ≡ t → name_before e.0 n ≡ true → (o : Option App) → cond t (Some e.1) o ≡ o
+      behind false b h o = refl
+      behind true b h o =
+          let same : e.0 ≡ n = same_name e.0 n b in
+          let before : name_before n n ≡ true = subst (λ (x : List ℕ). name_before x n ≡ true) same h in
+          absurd (cc (sym before ∙ not_after n n before))
+
+      by_test : (t : Bool) → ((e.1).place == k) ≡ t → cond t (Some e.0) (name_of_place es k) ≡ Some n → (name_of_place es k ≡ Some n → IsHeld es k n) → IsHeld (e ∷ es) k n
+      by_test true at j rest =
+          let same : e.0 ≡ n = cc in
+          let place : (e.1).place ≡ k = eqb-true (e.1).place k at in
+          record {
+            name = sym same ∙ h.0.name ∙ ap (λ (q : ℕ). name_at m q) place;
+            app = ap (λ (t : Bool). cond t (Some e.1) (lookup es n)) (ap (λ (x : List ℕ). bytes_eq x n) same ∙ name_is_itself n) ∙ ap (λ (x : App). Some x) (h.0.app ∙ ap (λ (q : ℕ). app_at m q) place);
+            block = subst (λ (q : ℕ). IsBlock m q) place h.0.block;
+          }
+      by_test false at j rest =
+          let r : IsHeld es k n = rest j in
+          let after : name_before e.0 n ≡ true = each_found (λ f. name_before e.0 f.0 ≡ true) es n (app_at m k) sorted.0 r.app in
+          record { name = r.name; app = behind (bytes_eq e.0 n) refl after (lookup es n) ∙ r.app; block = r.block }
+
+-- ---- words without a fault
+
+module _ (m : List (List ℕ)) (image : IsImage m) (good : words_fault m ≡ None) where
+  all_entries : AllByRecursion (IsOf m) (apps_of m (blocks m)) × AscendByName (apps_of m (blocks m))
+  all_entries =
+      let w : Walk m 131 (blocks m) = subst (λ (bs : List Block). Walk m 131 bs) (sym (blocks_all m)) (walk_begins m image good) in
+      entries m (blocks m) w.read w.records
+
+  pub slot_held : (k : ℕ) (n : List ℕ) → name_of_place (card_of m).apps k ≡ Some n → IsHeld m (card_of m).apps k n
+  slot_held k n is = held m (card_of m).apps k n all_entries.0 all_entries.1 is
+
+  -- a name that is looked for
+  pub name_there : (n : List ℕ) (o : Option ℕ) → o ≡ first_named m (blocks m) n → is_some o ≡ is_some (lookup (card_of m).apps n)
+  name_there n None is = sym (ap is_some (none m n (blocks m) (sym is)))
+  name_there n (Some p) is = sym (ap is_some (found m n (blocks m) p (sym is)))
+
+  pub name_slot : (n : List ℕ) (p : ℕ) → Some p ≡ first_named m (blocks m) n → name_of_place (card_of m).apps p ≡ Some n
+  name_slot n p is = place_of m (card_of m).apps n (app_at m p) all_entries.0 (found m n (blocks m) p (sym is))
+
+  -- the sizes of an application are those in its record
+  pub sizes_are : (p : ℕ) → IsBlock m p → sizes_of (app_at m p) ≡ record_sizes (record_at m p)
+  sizes_are p b =
+      let r = record_at m p in
+      let k : RecordIs r b.words = record_is r b.words b.good in
+      let fits : b.words ≡ needed_of (be2 r 20) (be2 r 22) (slice_index r 17) (slice_index r 18) = k.words in
+      let end : p + b.words ≤ length m = b.end in
+      let one : length (app_at m p).code ≡ be2 r 20 = length-section m (p + 5) (be2 r 20) image (omega (arith, fits, end)) in
+      let two : length (app_at m p).fixed ≡ be2 r 22 = length-section m (p + 5 + up (be2 r 20) 8) (be2 r 22) image (omega (arith, fits, end)) in
+      let three : length (app_at m p).dir ≡ slice_index r 17 = length-section m (p + 5 + up (be2 r 20) 8 + up (be2 r 22) 8) (slice_index r 17) image (omega (arith, fits, end)) in
+      let four : length (app_at m p).fci ≡ slice_index r 18 = length-section m (p + 5 + up (be2 r 20) 8 + up (be2 r 22) 8 + up (slice_index r 17) 8) (slice_index r 18) image (omega (arith, fits, end)) in
+      let s = sizes_of (app_at m p) in
+      ap (λ (n : ℕ). record s { code = n }) one
+      ∙ ap (λ (n : ℕ). record s { code = be2 r 20; fixed = n; init = n }) two
+      ∙ ap (λ (n : ℕ). record s { code = be2 r 20; fixed = be2 r 22; init = be2 r 22; dir = n }) three
+      ∙ ap (λ (n : ℕ). record s { code = be2 r 20; fixed = be2 r 22; init = be2 r 22; dir = slice_index r 17; fci = n }) four
+
+  pub fits_limits : (p : ℕ) → IsBlock m p → FitsLimits (record_sizes (record_at m p))
+  fits_limits p b =
+      let k : RecordIs (record_at m p) b.words = record_is (record_at m p) b.words b.good in
+      let deny : be2 (record_at m p) 26 ≤ 15 = k.deny in
+      record { some_code = k.code_low; code = k.code_high; fixed = k.fixed; init = omega arith; session = k.session; dir = k.dir; fci = k.fci; deny = omega arith }
+
+  entry_is : (e : List ℕ × App) → IsOf m e → IsEntry e
+  entry_is e h =
+      let p = (e.1).place in
+      let b : IsBlock m p = h.block in
+      let six : 6 ≤ b.words = long_enough (record_at m p) b.words b.good in
+      let end : p + b.words ≤ length m = b.end in
+      let long : length (record_at m p) ≡ 32 = length-cells m 4 (p + 1) image (omega arith) in
+      record {
+        name = subst (λ (n : List ℕ). IsName n) (sym h.name) (name_size (record_at m p) b.words long b.good);
+        limits = subst (λ (a : App). FitsLimits (sizes_of a)) (sym h.app) (subst (λ (s : Sizes). FitsLimits s) (sym (sizes_are p b)) (fits_limits p b));
+      }
+
+  pub are_apps : look m ≡ Closed → AreApps (card_of m).apps
+  are_apps closed =
+      record {
+        few = subst (λ (n : ℕ). n ≤ 32) (ap (λ (c : Card). length c.apps) (closed_means m closed)) (few-applications m image closed (fault-closed m closed ∙ good));
+        each = all-map (IsOf m) IsEntry (λ e h. entry_is e h) (card_of m).apps all_entries.0;
+        ascending = all_entries.1;
+      }
+
+-- ---- a store that runs
+
+pub runs : (d : DeviceState) (c : ℕ) → not (is_going d c) ≡ false → Going d c
+runs d c h = going_is d c (by_test (is_going d c) h)
+  where
+    by_test : (t : Bool) → not t ≡ false → t ≡ true
+    by_test true h = refl
+    by_test false h = absurd (cc h)
+
+pub map_is : (d : DeviceState) (c : ℕ) → not (is_going d c) ≡ false → apps_in d.words ≡ (card_of d.words).apps
+map_is d c h = let g : Going d c = runs d c h in closed_apps d.words g.closed g.laid
+
+-- what a slot of a store that runs holds
+pub record Slot (d : DeviceState) (k : ℕ) : Type 0 where
+  pub name : store_named d k ≡ Some (name_at d.words k)
+  pub there : lookup (apps_in d.words) (name_at d.words k) ≡ Some (app_at d.words k)
+  pub app : app_of (apps_in d.words) (store_named d k) ≡ app_at d.words k
+  pub block : IsBlock d.words k
+
+pub slot : (d : DeviceState) (c k : ℕ) → IsImage d.words → not (is_going d c) ≡ false → IsSome (store_named d k) → Slot d k
+slot d c k image h some =
+    let m = d.words in
+    let g : Going d c = runs d c h in
+    let apps : apps_in m ≡ (card_of m).apps = closed_apps m g.closed g.laid in
+    let n = some-is (store_named d k) some in
+    let held : IsHeld m (card_of m).apps k n.0 = slot_held m image g.laid k n.0 (sym (ap (λ (es : List (List ℕ × App)). name_of_place es k) apps) ∙ n.1) in
+    let name : store_named d k ≡ Some (name_at m k) = n.1 ∙ ap (λ (x : List ℕ). Some x) held.name in
+    let there : lookup (apps_in m) (name_at m k) ≡ Some (app_at m k) = ap (λ (es : List (List ℕ × App)). lookup es (name_at m k)) apps ∙ ap (λ (x : List ℕ). lookup (card_of m).apps x) (sym held.name) ∙ held.app in
+    record {
+      name = name;
+      there = there;
+      app = ap (λ (o : Option (List ℕ)). app_of (apps_in m) o) name ∙ ap (λ (o : Option App). unwrap_or o no_app) there;
+      block = held.block;
+    }

@@ -1,0 +1,133 @@
+-- A stop at any device write of an item of a store, whatever word it leaves.
+use Rattle.std.proofs.Common.{◌≡◌, ℕ, ◌+◌, ◌<◌, ◌≤◌, Bool, true, false, List, [], ◌∷◌, length, Option, Some, None, refl, sym, ◌∙◌, ap, subst, arith, cond, inl, inr}
+use Rattle.std.specs.Prelude.{◌⊎◌, bytes_eq, slice_set, unwrap_or}
+use Rattle.std.proofs.lemmas.List.{length-map}
+use Rattle.mc_model.specs.Bytes.{up, lookup, insert}
+use Rattle.mc_model.specs.Device.{IsImage}
+use Rattle.mc_model.specs.Image.{One, Two, opening, look, Closed, laid, debt}
+use Rattle.mc_model.specs.Stopped.{writes, cost, stands, owes, torn, stood, IsAtomic, Inside, Leaves}
+use Rattle.mc_model.specs.Card.{App, Card, card_of, means}
+use Rattle.mc_model.specs.Layout.{words_fault, gaps, step_of, IsWellLaid}
+use Rattle.mc_model.specs.Play.{Base, OnCard}
+use Rattle.mc_model.specs.Items.{Site, BankItem, Piece, Blank, Note, Commit, Enter, Remove}
+use Rattle.mc_model.proofs.ImageLemmas.{length-laid}
+use Rattle.mc_model.proofs.CallLemmas.{length-writes}
+use Rattle.mc_model.proofs.StoppedLemmas.{torn-other, tear}
+use Rattle.mc_bank.specs.Bank.{no_app, app_of, CanCommit, with_words}
+use Rattle.mc_blocks.specs.Plans.{has_room}
+use Rattle.mc_store.specs.Store.{needed_by, static_writes, card_with, card_without, item_writes, IsGoodIn, Allows}
+use Rattle.mc_store.specs.Going.{closed_means, closed_fault}
+use Rattle.mc_store.specs.Power.{IsBase}
+use Rattle.mc_store.specs.Stops.{card_after, IsStoppedAt}
+use Rattle.mc_store.specs.Alike.{alike-self}
+use Rattle.mc_store.specs.Atomic.{writes-apart}
+use Rattle.mc_store.specs.Planning.{first-room}
+use Rattle.mc_store.specs.Gaps.{Keeps, keeps-gap, besides-set}
+use Rattle.mc_store.specs.Commits.{Committed, commits}
+use Rattle.mc_store.specs.Creation.{Creates, creates-plan, creates-card}
+use Rattle.mc_store.specs.Deletion.{Deletes, deletes-plan, deletes-card}
+use Rattle.mc_store.specs.Turns.{some-is, parted, blanked}
+use Rattle.mc_store.proofs.JournalLemmas.{NoneOpen, none_open, raw, found_after, same_raw, stays}
+use Rattle.mc_store.proofs.PowerLemmas.{raw_card, closed_words}
+
+outside_two : (i : ℕ) → (i ≡ 0) ⊎ (131 ≤ i) → Inside Two i → ⊥
+outside_two i (inl z) (inl h) = let low = h.0 in absurd (omega (arith, z, low))
+outside_two i (inl z) (inr e) = absurd (omega (arith, z, e))
+outside_two i (inr g) (inl h) = let high = h.1 in absurd (omega (arith, g, high))
+outside_two i (inr g) (inr e) = absurd (omega (arith, g, e))
+
+module _ (m : List (List ℕ)) (image : IsImage m) (closed : look m ≡ Closed) (good : words_fault m ≡ None) where
+  well : IsWellLaid m
+  well = closed_fault m closed ∙ good
+
+  own_card : card_of m ≡ means m
+  own_card = sym (closed_means m closed)
+
+  -- ---- an atomic write
+
+  stood_card : (list : List (ℕ × List ℕ)) (c : Card) (b : Bool) → words_fault (laid m list) ≡ None → card_of (laid m list) ≡ c → raw (stood b m list) ≡ OnCard (cond b c (means m))
+  stood_card list c true f e = raw_card (laid m list) c f e
+  stood_card list c false f e = raw_card m (means m) good own_card
+
+  stood_size : (list : List (ℕ × List ℕ)) (b : Bool) → length (stood b m list) ≡ length m
+  stood_size list true = length-laid m list
+  stood_size list false = refl
+
+  atomic_stops : (list : List (ℕ × List ℕ)) (c : Card) (k : ℕ) (x : List ℕ) → IsAtomic (length m) list → words_fault (laid m list) ≡ None → card_of (laid m list) ≡ c → 1 ≤ k → k ≤ length (writes Two list)
+      → IsBase (OnCard (cond (stands Two (length list) k x) c (means m))) (owes Two (length list) k x) Two (torn m (writes Two list) k x)
+  atomic_stops list c k x atomic f card first last =
+      let gates : NoneOpen m = none_open m closed in
+      let e = torn m (writes Two list) k x in
+      let few : k ≤ cost Two (length list) = subst (λ (n : ℕ). k ≤ n) (length-writes Two (length m) list image.high atomic) last in
+      let t = stands Two (length list) k x in
+      let l : Leaves Two e (owes Two (length list) k x) (stood t m list) = tear Two m list image.low image.high atomic gates.two k x first few in
+      let size : length l.after ≡ length (stood t m list) = l.same.size in
+      let long : length (stood t m list) ≡ length m = stood_size list t in
+      let low : 256 ≤ length m = image.low in
+      subst (λ (b : Base). IsBase b (owes Two (length list) k x) Two e) (stood_card list c t f card)
+      (stays Two e l.after (stood t m list) (owes Two (length list) k x)
+      (ap (λ (y : List ℕ). bytes_eq y (opening One)) (torn-other m (writes Two list) k x 1 (writes-apart (length m) list image.high atomic)) ∙ gates.one)
+      l.owed l.is
+      (same_raw l.after (stood t m list) size (omega (arith, size, long, low)) (λ i h. l.same.words i (outside_two i h))))
+
+  -- ---- a write into a hole
+
+  torn_one : (w : ℕ × List ℕ) (k : ℕ) (x : List ℕ) → 1 ≤ k → k ≤ 1 → torn m (w ∷ []) k x ≡ slice_set m w.0 x
+  torn_one w k x first last = let one : k ≡ 1 = omega arith in ap (λ (n : ℕ). torn m (w ∷ []) n x) one
+
+  plain_stops : (s : Site) (w : ℕ × List ℕ) (k : ℕ) (x : List ℕ) → IsGoodIn m s → s.place < w.0 → w.0 < s.place + needed_by s.sizes → 1 ≤ k → k ≤ 1 → IsBase (OnCard (means m)) 0 Two (torn m (w ∷ []) k x)
+  plain_stops s w k x site low high first last =
+      let room : has_room s.place (needed_by s.sizes) (gaps (card_of m)) ≡ true =
+      subst (λ (c : Card). has_room s.place (needed_by s.sizes) (gaps c) ≡ true) (sym own_card) (first-room (needed_by s.sizes) s.place (gaps (means m)) site.place) in
+      let n = slice_set m w.0 x in
+      let kept : Keeps m n = keeps-gap m n s.place (needed_by s.sizes) w.0 image closed good room low high (besides-set m w.0 x) in
+      subst (λ (e : List (List ℕ)). IsBase (OnCard (means m)) 0 Two e) (sym (torn_one w k x first last))
+      (record {
+        base = found_after n n (closed_words n kept.closed) ∙ raw_card n (means m) kept.good (kept.card ∙ own_card);
+        owed = ap debt kept.closed;
+        by = λ ne. absurd (ne refl);
+      })
+
+  -- ---- an item
+
+  by_atomic : (list ps : List (ℕ × List ℕ)) (w : ℕ) (b : Base) (c : Card) (k : ℕ) (x : List ℕ) → list ≡ ps → w ≡ length ps
+      → IsBase (OnCard (cond (stands Two (length list) k x) c (means m))) (owes Two (length list) k x) Two (torn m (writes Two list) k x)
+      → IsBase (OnCard (cond (stands Two w k x) c (means m))) (owes Two w k x) Two (torn m (writes Two ps) k x)
+  by_atomic list ps w b c k x e n h =
+      subst (λ (v : ℕ). IsBase (OnCard (cond (stands Two v k x) c (means m))) (owes Two v k x) Two (torn m (writes Two ps) k x)) (sym n)
+      (subst (λ (l : List (ℕ × List ℕ)). IsBase (OnCard (cond (stands Two (length l) k x) c (means m))) (owes Two (length l) k x) Two (torn m (writes Two l) k x)) e h)
+
+  pub item_stops : (i : BankItem) (k : ℕ) (x : List ℕ) → Allows m i → 1 ≤ k → k ≤ length (item_writes m i) → IsStoppedAt m i k x (torn m (item_writes m i) k x)
+  item_stops (Piece s p at b) k x allowed first last =
+      let inside = parted p s.sizes s.place at (length b) allowed.0.limits allowed.1 in
+      plain_stops s _ k x allowed.0 inside.0 inside.1 first last
+  item_stops (Blank s at n) k x allowed first last =
+      let inside = blanked s.sizes s.place at n allowed.1 in
+      plain_stops s _ k x allowed.0 inside.0 inside.1 first last
+  item_stops (Note s n i) k x allowed first last =
+      let few : i < 4 = allowed.2 in
+      plain_stops s _ k x allowed.0 (omega arith) (omega arith) first last
+  item_stops (Commit n ws) k x allowed first last =
+      let found = some-is (lookup (means m).apps n) allowed.0 in
+      let a = found.0 in
+      let app : app_of (means m).apps (Some n) ≡ a = ap (λ (o : Option App). unwrap_or o no_app) found.1 in
+      let there : lookup (card_of m).apps n ≡ Some a = ap (λ (c : Card). lookup c.apps n) own_card ∙ found.1 in
+      let t : Committed m n a ws = commits m n a ws image good there (subst (λ (y : App). CanCommit y.fixed ws) app allowed.1) in
+      let list : static_writes a ws ≡ static_writes (app_of (means m).apps (Some n)) ws = ap (λ (y : App). static_writes y ws) (sym app) in
+      let card : card_of (laid m (static_writes a ws)) ≡ card_after m (Commit n ws) =
+      t.card ∙ ap (λ (c : Card). record c { apps = insert c.apps n (with_words ws a) }) own_card
+      ∙ ap (λ (y : App). record (means m) { apps = insert (means m).apps n (with_words ws y) }) (sym app) in
+      let few : k ≤ length (writes Two (static_writes a ws)) = subst (λ (l : List (ℕ × List ℕ)). k ≤ length (writes Two l)) (sym list) last in
+      by_atomic (static_writes a ws) (static_writes (app_of (means m).apps (Some n)) ws) (length ws) (OnCard (means m)) (card_after m (Commit n ws)) k x list (sym (length-map ws (λ w. ((app_of (means m).apps (Some n)).place + 5 + up (length (app_of (means m).apps (Some n)).code) 8 + w.0, w.1))))
+      (atomic_stops (static_writes a ws) (card_after m (Commit n ws)) k x t.atomic t.good card first few)
+  item_stops (Enter s n) k x ready first last =
+      let p : Creates m s n = creates-plan m s n image closed well ready.good ready.fresh in
+      let list = step_of (means m) (card_with m s n) in
+      let l = creates-card m (laid m list) s n image closed well ready (alike-self (laid m list)) in
+      atomic_stops list (card_after m (Enter s n)) k x p.atomic l.good l.card first last
+  item_stops (Remove n) k x there first last =
+      let found = some-is (lookup (means m).apps n) there in
+      let p : Deletes m n found.0 = deletes-plan m n found.0 image closed well found.1 in
+      let list = step_of (means m) (card_without m n) in
+      let l = deletes-card m (laid m list) n found.0 image closed well found.1 (alike-self (laid m list)) in
+      atomic_stops list (card_after m (Remove n)) k x p.atomic l.good l.card first last

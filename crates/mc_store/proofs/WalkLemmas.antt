@@ -1,0 +1,107 @@
+-- A walk over the blocks of words without a fault, one header after another.
+use Rattle.std.proofs.Common.{◌≡◌, ℕ, ◌+◌, ◌<◌, ◌≤◌, Bool, true, false, ◌&&◌, List, [], ◌∷◌, length, Option, Some, None, refl, sym, ◌∙◌, ap, subst, arith, cond, not}
+use Rattle.std.specs.Prelude.{◌==◌, slice_index, bytes_eq, MatchBool}
+use Rattle.std.specs.List.{AllByRecursion}
+use Rattle.std.proofs.lemmas.Bool.{le-leb}
+use Rattle.mc_model.specs.Bytes.{be2, has_name}
+use Rattle.mc_model.specs.Device.{IsImage}
+use Rattle.mc_model.specs.Card.{Block, word, header, blocks, record_at, name_at, used_tag}
+use Rattle.mc_model.specs.Layout.{is_record, words_fault}
+use Rattle.mc_blocks.specs.Blocks.{fitting, blocks_at}
+use Rattle.mc_blocks.proofs.Steps.{HeaderIs, header-is, blocks_step, blocks_all}
+use Rattle.mc_blocks.proofs.Tiles.{Tiled, AreRead}
+use Rattle.mc_blocks.proofs.Bridge.{Laid, laid, AreNamed, named, faultless}
+use Rattle.mc_store.specs.Slots.{first_named, IsBlock}
+
+-- a used block has a good record
+abbrev pub HasRecord : List (List ℕ) → Block → Type 0
+HasRecord m b = b.used ≡ true → is_record (record_at m b.place) b.words ≡ true
+
+has-step : (m : List (List ℕ)) (names : List (List ℕ)) (b : Block) (bs : List Block) (t : Bool) → b.used ≡ t
+    → MatchBool t ((is_record (record_at m b.place) b.words ≡ true) × (has_name (name_at m b.place) names ≡ false) × AreNamed m (name_at m b.place ∷ names) bs) (AreNamed m names bs)
+    → HasRecord m b × ((ns : List (List ℕ)) × AreNamed m ns bs)
+has-step m names b bs true e n = (λ h. n.0, (name_at m b.place ∷ names, n.2))
+has-step m names b bs false e n = (λ h. absurd (cc (sym h ∙ e)), (names, n))
+
+pub all-records : (m : List (List ℕ)) (bs : List Block) (names : List (List ℕ)) → AreNamed m names bs → AllByRecursion (HasRecord m) bs
+all-records m [] names n = tt
+all-records m (b ∷ bs) names n =
+    let s = has-step m names b bs b.used refl n in
+    (s.0, all-records m bs s.1.0 s.1.1)
+
+-- what is left of the walk from place p on
+pub record Walk (m : List (List ℕ)) (p : ℕ) (bs : List Block) : Type 0 where
+  pub after : Bool
+  pub tiled : Tiled p after bs (length m)
+  pub read : AreRead m bs
+  pub records : AllByRecursion (HasRecord m) bs
+
+pub walk_begins : (m : List (List ℕ)) → IsImage m → words_fault m ≡ None → Walk m 131 (blocks_at m 131)
+walk_begins m image h =
+    let l : Laid m = laid m image h in
+    subst (λ (bs : List Block). Walk m 131 bs) (blocks_all m)
+    (record { after = false; tiled = l.tiled; read = l.read; records = all-records m (blocks m) [] (named m (blocks m) [] 0 (faultless m h).records) })
+
+-- the block at place p: what its header says, and the walk behind it
+pub record Stands (m : List (List ℕ)) (p : ℕ) (used : Bool) (words : ℕ) : Type 0 where
+  pub low : 1 ≤ words
+  pub high : p + words ≤ length m
+  pub block : used ≡ true → IsBlock m p
+  pub next : Walk m (p + words) (blocks_at m (p + words))
+  pub first : (n : List ℕ) → first_named m (blocks_at m p) n ≡ cond (used && bytes_eq (name_at m p) n) (Some p) (first_named m (blocks_at m (p + words)) n)
+
+module _ (m : List (List ℕ)) where
+  first-is : (b : Block) (bs : List Block) (n : List ℕ) → first_named m (b ∷ bs) n ≡ cond (b.used && bytes_eq (name_at m b.place) n) (Some b.place) (first_named m bs n)
+  unfolding first_named
+  first-is b bs n = refl
+
+  fits-here : (b : Block) → header b.place (word m b.place) ≡ Some b → b.place + b.words ≤ length m → Some b ≡ fitting (length m) (header b.place (word m b.place))
+  fits-here b e h = sym (ap (λ (o : Option Block). fitting (length m) o) e ∙ ap (λ (t : Bool). cond t (Some b) None) (le-leb (b.place + b.words) (length m) h))
+
+  stands : (b : Block) (bs : List Block) → blocks_at m b.place ≡ b ∷ bs → Walk m b.place (b ∷ bs) → Stands m b.place b.used b.words
+  stands b bs e w =
+      let step : blocks_at m b.place ≡ b ∷ blocks_at m (b.place + b.words) = blocks_step m b.place b (fits-here b w.read.0 w.read.1) in
+      let both : b ∷ bs ≡ b ∷ blocks_at m (b.place + b.words) = sym e ∙ step in
+      let rest : bs ≡ blocks_at m (b.place + b.words) = cc in
+      let tail : Walk m (b.place + b.words) bs = record { after = not b.used; tiled = w.tiled.3; read = w.read.2; records = w.records.1 } in
+      record {
+        low = w.tiled.1;
+        high = w.read.1;
+        block = λ h. record { words = b.words; good = w.records.0 h; end = w.read.1 };
+        next = subst (λ (l : List Block). Walk m (b.place + b.words) l) rest tail;
+        first = λ n. ap (λ (l : List Block). first_named m l n) step ∙ first-is b (blocks_at m (b.place + b.words)) n;
+      }
+
+  stands-at : (p : ℕ) (b : Block) (bs : List Block) → b.place ≡ p → blocks_at m p ≡ b ∷ bs → Walk m p (b ∷ bs) → Stands m p b.used b.words
+  stands-at p b bs place e w =
+      subst (λ (q : ℕ). Stands m q b.used b.words) place
+      (stands b bs (ap (λ (q : ℕ). blocks_at m q) place ∙ e) (subst (λ (q : ℕ). Walk m q (b ∷ bs)) (sym place) w))
+
+  stands-by : (p : ℕ) (bs : List Block) → p < length m → blocks_at m p ≡ bs → Walk m p bs → Stands m p (slice_index (word m p) 0 == used_tag) (be2 (word m p) 2)
+  stands-by p [] lt e w = let end : p ≡ length m = w.tiled in absurd (omega (arith, end))
+  stands-by p (b ∷ bs) lt e w =
+      let place : b.place ≡ p = w.tiled.0 in
+      let read : header p (word m p) ≡ Some b = subst (λ (q : ℕ). header q (word m q) ≡ Some b) place w.read.0 in
+      let h : HeaderIs p (word m p) b = header-is p (word m p) b read in
+      subst (λ (u : Bool). Stands m p u (be2 (word m p) 2)) h.used (subst (λ (k : ℕ). Stands m p b.used k) h.words (stands-at p b bs place e w))
+
+  block_stands : (p : ℕ) → p < length m → Walk m p (blocks_at m p) → Stands m p (slice_index (word m p) 0 == used_tag) (be2 (word m p) 2)
+  block_stands p lt w = stands-by p (blocks_at m p) lt refl w
+
+  -- the same of the header that was read
+  pub header_stands : (p : ℕ) (used : Bool) (words : ℕ) → p < length m → Walk m p (blocks_at m p) → used ≡ (slice_index (word m p) 0 == used_tag) → words ≡ be2 (word m p) 2 → Stands m p used words
+  header_stands p used words lt w u k =
+      subst (λ (t : Bool). Stands m p t words) (sym u) (subst (λ (n : ℕ). Stands m p (slice_index (word m p) 0 == used_tag) n) (sym k) (block_stands p lt w))
+
+  -- past the end no block has the name
+  none-left : (p : ℕ) (bs : List Block) (n : List ℕ) → Walk m p bs → length m ≤ p → first_named m bs n ≡ None
+  unfolding first_named
+  none-left p [] n w h = refl
+  none-left p (b ∷ bs) n w h =
+      let place : b.place ≡ p = w.tiled.0 in
+      let long : 1 ≤ b.words = w.tiled.1 in
+      let end : b.place + b.words ≤ length m = w.read.1 in
+      absurd (omega arith)
+
+  pub walk_ends : (p : ℕ) (n : List ℕ) → Walk m p (blocks_at m p) → length m ≤ p → first_named m (blocks_at m p) n ≡ None
+  walk_ends p n w h = none-left p (blocks_at m p) n w h

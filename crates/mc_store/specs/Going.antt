@@ -1,0 +1,81 @@
+-- A store that runs, fact by fact. This project's profile.
+use Rattle.std.specs.Prelude.{◌≡◌, ℕ, Bool, true, false, ◌&&◌, cond, ◌==◌, List, [], length, Option, Some, None, is_none}
+use Rattle.std.proofs.Common.{refl, sym, ◌∙◌, ap}
+use Rattle.std.proofs.lemmas.Bool.{and_parts, eqb-true, eq-eqb}
+use Rattle.mc_model.specs.declared.card.Cause.{Cause}
+use Rattle.mc_model.specs.Image.{Look, Refused, Closed, Pending, look, replayed}
+use Rattle.mc_model.specs.Device.{DeviceState}
+use Rattle.mc_model.specs.Card.{Card, card_of, means, words_after}
+use Rattle.mc_model.specs.Layout.{words_fault, fault, fault_of}
+use Rattle.mc_store.specs.Store.{is_closed, settled, apps_in, is_going}
+
+-- power is on, no journal is open, the words are a card of layout 2 with so many applications
+pub record Going (d : DeviceState) (c : ℕ) : Type 0 where
+  pub on : d.on ≡ true
+  pub closed : look d.words ≡ Closed
+  pub laid : words_fault d.words ≡ None
+  pub layout : (card_of d.words).layout ≡ 2
+  pub count : c ≡ length (card_of d.words).apps
+
+pub closed_is : (l : Look) → is_closed l ≡ true → l ≡ Closed
+closed_is (Refused p) h = absurd (cc h)
+closed_is Closed h = refl
+closed_is (Pending j ps) h = absurd (cc h)
+
+pub none_is : {A : Type 0} → (o : Option A) → is_none o ≡ true → o ≡ None
+none_is None h = refl
+none_is (Some x) h = absurd (cc h)
+
+-- words with no open journal are their own words after it, mean the card that they hold, and have the faults of words
+pub closed_settled : (m : List (List ℕ)) → look m ≡ Closed → settled m ≡ m
+closed_settled m h = ap (λ (l : Look). words_after (replayed m l) m) h
+
+pub closed_means : (m : List (List ℕ)) → look m ≡ Closed → means m ≡ card_of m
+closed_means m h = ap card_of (closed_settled m h)
+
+pub closed_fault : (m : List (List ℕ)) → look m ≡ Closed → fault m ≡ words_fault m
+closed_fault m h = ap (λ (l : Look). fault_of l m) h
+
+pub laid_apps : (m : List (List ℕ)) → fault m ≡ None → apps_in m ≡ (means m).apps
+unfolding apps_in
+laid_apps m h = ap (λ (o : Option (Cause × ℕ)). cond (is_none o) (means m).apps []) h
+
+pub closed_apps : (m : List (List ℕ)) → look m ≡ Closed → words_fault m ≡ None → apps_in m ≡ (card_of m).apps
+closed_apps m closed laid = laid_apps m (closed_fault m closed ∙ laid) ∙ ap (λ (c : Card). c.apps) (closed_means m closed)
+
+pub going_is : (d : DeviceState) (c : ℕ) → is_going d c ≡ true → Going d c
+unfolding is_going
+going_is d c h =
+    let a = d.on && is_closed (look d.words) in
+    let b = a && is_none (words_fault d.words) in
+    let l = b && (means d.words).layout == 2 in
+    let one = and_parts l (c == length (means d.words).apps) h in
+    let two = and_parts b ((means d.words).layout == 2) one.0 in
+    let three = and_parts a (is_none (words_fault d.words)) two.0 in
+    let four = and_parts d.on (is_closed (look d.words)) three.0 in
+    let closed : look d.words ≡ Closed = closed_is (look d.words) four.1 in
+    record {
+      on = four.0;
+      closed = closed;
+      laid = none_is (words_fault d.words) three.1;
+      layout = sym (ap (λ (k : Card). k.layout) (closed_means d.words closed)) ∙ eqb-true (means d.words).layout 2 two.1;
+      count = eqb-true c (length (means d.words).apps) one.1 ∙ ap (λ (k : Card). length k.apps) (closed_means d.words closed);
+    }
+
+all_true : (a b c e f : Bool) → a ≡ true → b ≡ true → c ≡ true → e ≡ true → f ≡ true → (a && b && c && e && f) ≡ true
+all_true true true true true true p q r s t = refl
+all_true false b c e f p q r s t = absurd (cc p)
+all_true true false c e f p q r s t = absurd (cc q)
+all_true true true false e f p q r s t = absurd (cc r)
+all_true true true true false f p q r s t = absurd (cc s)
+all_true true true true true false p q r s t = absurd (cc t)
+
+pub is_going_of : (d : DeviceState) (c : ℕ) → Going d c → is_going d c ≡ true
+unfolding is_going
+is_going_of d c g =
+    all_true d.on (is_closed (look d.words)) (is_none (words_fault d.words)) ((means d.words).layout == 2) (c == length (means d.words).apps)
+    g.on
+    (ap is_closed g.closed)
+    (ap (λ (o : Option (Cause × ℕ)). is_none o) g.laid)
+    (eq-eqb (means d.words).layout 2 (ap (λ (k : Card). k.layout) (closed_means d.words g.closed) ∙ g.layout))
+    (eq-eqb c (length (means d.words).apps) (g.count ∙ sym (ap (λ (k : Card). length k.apps) (closed_means d.words g.closed))))

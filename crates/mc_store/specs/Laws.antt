@@ -1,0 +1,197 @@
+-- The laws of a bank for the items of a store, over any device that keeps the rules of writes.
+-- This project's profile.
+use Rattle.std.proofs.Common.{◌≡◌, ◌⊎◌, ℕ, ◌+◌, ◌<◌, ◌≤◌, true, not, List, length, Option, Some, Ok, Err, refl, sym, ◌∙◌, ap, subst, inl, inr, arith}
+use Rattle.std.specs.Prelude.{unwrap_or}
+use Rattle.mc_model.specs.declared.card.Part.{Part}
+use Rattle.mc_model.specs.declared.card.Part.TheVariants.{Code, Data, Dir, Fci}
+use Rattle.mc_model.specs.declared.device.Stop.{Stop}
+use Rattle.mc_model.specs.declared.device.Stop.TheVariants.{Off, Worn}
+use Rattle.mc_model.specs.Orders.{Answer}
+use Rattle.mc_model.specs.Bytes.{lookup, insert}
+use Rattle.mc_model.specs.Image.{Two, laid}
+use Rattle.mc_model.specs.Device.{DeviceState, Wrote, Makes, Ended}
+use Rattle.mc_model.specs.Stopped.{writes}
+use Rattle.mc_model.specs.Card.{App, Card, word, card_of, means}
+use Rattle.mc_model.specs.Layout.{gaps, first_fitting}
+use Rattle.mc_model.specs.Items.{Site, BankItem, Piece, Blank, Note, Commit, Enter, Remove}
+use Rattle.mc_model.proofs.ImageLemmas.{length-laid}
+use Rattle.mc_bank.specs.Bank.{FitsLimits, StayGood, BytesStay, CanCommit, part_len, no_app, app_of, with_words, entered, committed, item_done, Spares, StopRose, Changes}
+use Rattle.mc_blocks.specs.Plans.{has_room}
+use Rattle.mc_blocks.proofs.Maps.{OneAt}
+use Rattle.mc_blocks.proofs.Applications.{found-application}
+use Rattle.mc_store.specs.Store.{settled, apps_in, store_state, store_named, store_room, store_standing, needed_by, part_from, part_in, static_writes, name_of_place, IsGoodIn, StoreDid}
+use Rattle.mc_store.specs.Going.{Going, going_is, is_going_of, closed_settled, closed_means, closed_apps, laid_apps}
+use Rattle.mc_store.specs.Alike.{Alike, means-after}
+use Rattle.mc_store.specs.Atomic.{AtomicEnds, atomic-ends}
+use Rattle.mc_store.specs.Sections.{same-section}
+use Rattle.mc_store.specs.Creation.{AtSite, at-site, Creates, creates-plan}
+use Rattle.mc_store.specs.Commits.{Committed, commits}
+use Rattle.mc_store.specs.Places.{place-changed, place-new, place-removed}
+use Rattle.mc_store.specs.Turns.{Turns, Standing, standing-of, some-is, turns}
+
+-- ---- the applications
+
+rose-of : (s : Stop) (d e : DeviceState) (c k : ℕ) → Ended (Err s) d e → StopRose s (store_state d c) (store_state e k)
+rose-of Off d e c k h = (h.1, h.2, h.3)
+rose-of Worn d e c k h = (h.1, h.2, h.3)
+
+pub changes-of : (d e : DeviceState) (c k : ℕ) (apps : List (List ℕ × App)) (a : Answer) → Going d c → Turns d apps a e k → Changes (store_state d c) apps a (store_state e k)
+changes-of d e c k apps (Ok tt) g t =
+    record {
+      apps = closed_apps e.words t.closed t.good ∙ ap (λ (x : Card). x.apps) t.card;
+      cuts = t.ended.1;
+      faults = t.ended.2;
+      going = ap not (is_going_of e k (record {
+        on = t.ended.0;
+        closed = t.closed;
+        laid = t.good;
+        layout = ap (λ (x : Card). x.layout) t.card ∙ g.layout;
+        count = t.count ∙ sym (ap (λ (x : Card). length x.apps) t.card);
+      }));
+    }
+changes-of d e c k apps (Err s) g t =
+    let old : apps_in d.words ≡ (card_of d.words).apps = closed_apps d.words g.closed g.laid in
+    let now : apps_in e.words ≡ (means e.words).apps = laid_apps e.words t.good in
+    record {
+      apps = elim t.card [ inl same ↦ inl (now ∙ ap (λ (x : Card). x.apps) same ∙ sym old) | inr new ↦ inr (now ∙ ap (λ (x : Card). x.apps) new) ];
+      rose = rose-of s d e c k t.ended;
+    }
+
+-- the card is the old or the new one
+means-of : (d e : DeviceState) (k : ℕ) (apps : List (List ℕ × App)) (a : Answer) → Turns d apps a e k → (means e.words ≡ card_of d.words) ⊎ (means e.words ≡ record (card_of d.words) { apps = apps })
+means-of d e k apps (Ok tt) t = inr (closed_means e.words t.closed ∙ t.card)
+means-of d e k apps (Err s) t = t.card
+
+map-of : (d e : DeviceState) (c k : ℕ) (apps : List (List ℕ × App)) (a : Answer) → Going d c → Turns d apps a e k → (apps_in e.words ≡ apps_in d.words) ⊎ (apps_in e.words ≡ apps)
+map-of d e c k apps (Ok tt) g t = inr (changes-of d e c k apps (Ok tt) g t).apps
+map-of d e c k apps (Err s) g t = (changes-of d e c k apps (Err s) g t).apps
+
+-- ---- sites
+
+-- the bytes of a site stay where its words do
+pub site-stays : (m w : List (List ℕ)) (s : Site) (p : Part) → FitsLimits s.sizes → s.place + needed_by s.sizes ≤ length m → length w ≡ length m → ((i : ℕ) → s.place ≤ i → i < s.place + needed_by s.sizes → word w i ≡ word m i) → part_in w s p ≡ part_in m s p
+unfolding part_in
+site-stays m w s Code limits ends size same = same-section m w (part_from Code s.sizes s.place) (part_len Code s.sizes) size (omega arith) (λ i low high. same i (omega arith) (omega arith))
+site-stays m w s Data limits ends size same = let few = limits.init in same-section m w (part_from Data s.sizes s.place) (part_len Data s.sizes) size (omega arith) (λ i low high. same i (omega arith) (omega arith))
+site-stays m w s Dir limits ends size same = same-section m w (part_from Dir s.sizes s.place) (part_len Dir s.sizes) size (omega arith) (λ i low high. same i (omega arith) (omega arith))
+site-stays m w s Fci limits ends size same = same-section m w (part_from Fci s.sizes s.place) (part_len Fci s.sizes) size (omega arith) (λ i low high. same i (omega arith) (omega arith))
+
+settled-alike : (d e : DeviceState) (list : List (ℕ × List ℕ)) (a : Answer) → AtomicEnds d list a e → Alike (settled e.words) d.words ⊎ Alike (settled e.words) (laid d.words list)
+settled-alike d e list (Ok tt) t = inr (subst (λ (x : List (List ℕ)). Alike x (laid d.words list)) (sym (closed_settled e.words t.0)) t.1)
+settled-alike d e list (Err s) t =
+    elim t.0 [
+      | inl old ↦ inl (subst (λ (x : List (List ℕ)). Alike x d.words) (sym (means-after e.words old.left old.is).words) old.alike)
+      | inr new ↦ inr (subst (λ (x : List (List ℕ)). Alike x (laid d.words list)) (sym (means-after e.words new.left new.is).words) new.alike)
+    ]
+
+module _ {D : Type 0} (state : D → DeviceState) (wrote : D → ℕ → List ℕ → Answer → D → Type 0)
+    (obeys : (d : D) (at : ℕ) (w : List ℕ) (a : Answer) (e : D) → (state d).on ≡ true → wrote d at w a e → Wrote (state d) at w a (state e)) where
+  -- an item changes the applications by its definition
+  pub store_obeys : (d e : D) (c k : ℕ) (i : BankItem) (a : Answer) → StoreDid state wrote d c i a e k → Changes (store_state (state d) c) (item_done (store_standing (state d)) i (apps_in (state d).words)) a (store_state (state e) k)
+  store_obeys d e c k i a did = changes-of (state d) (state e) c k _ a (going_is (state d) c did.going) (turns state wrote obeys i d e c k a did)
+
+  -- what a commit's words are
+  commit-of : (d e : D) (c k : ℕ) (n : List ℕ) (ws : List (ℕ × List ℕ)) (a : Answer) → StoreDid state wrote d c (Commit n ws) a e k → (x : App) × (app_of (means (state d).words).apps (Some n) ≡ x) × (lookup (means (state d).words).apps n ≡ Some x) × Committed (state d).words n x ws
+  commit-of d e c k n ws a did =
+      let m = (state d).words in
+      let g : Going (state d) c = going_is (state d) c did.going in
+      let s : Standing m = standing-of (state d) c g in
+      let found = some-is (lookup (means m).apps n) did.allowed.0 in
+      let x = found.0 in
+      let app : app_of (means m).apps (Some n) ≡ x = ap (λ (o : Option App). unwrap_or o no_app) found.1 in
+      let there : lookup (card_of m).apps n ≡ Some x = sym (ap (λ (es : List (List ℕ × App)). lookup es n) s.apps) ∙ found.1 in
+      (x, app, found.1, commits m n x ws did.image g.laid there (subst (λ (y : App). CanCommit y.fixed ws) app did.allowed.1))
+
+  slots-by : (d e : D) (c k : ℕ) (i : BankItem) (a : Answer) (q : ℕ) (n : List ℕ) → StoreDid state wrote d c i a e k → store_named (state d) q ≡ Some n
+      → name_of_place (item_done (store_standing (state d)) i (apps_in (state d).words)) q ≡ Some n → store_named (state e) q ≡ Some n
+  slots-by d e c k i a q n did is new =
+      elim (map-of (state d) (state e) c k _ a (going_is (state d) c did.going) (turns state wrote obeys i d e c k a did)) [
+        | inl old ↦ ap (λ (es : List (List ℕ × App)). name_of_place es q) old ∙ is
+        | inr later ↦ ap (λ (es : List (List ℕ × App)). name_of_place es q) later ∙ new
+      ]
+
+  -- and keeps the slots of all applications but the one that it deletes
+  pub store_keeps : (d e : D) (c k : ℕ) (i : BankItem) (a : Answer) → StoreDid state wrote d c i a e k → (q : ℕ) (n : List ℕ) → store_named (state d) q ≡ Some n → Spares n i → store_named (state e) q ≡ Some n
+  store_keeps d e c k (Piece s p at b) a did q n is spares = slots-by d e c k (Piece s p at b) a q n did is is
+  store_keeps d e c k (Blank s at x) a did q n is spares = slots-by d e c k (Blank s at x) a q n did is is
+  store_keeps d e c k (Note s m i) a did q n is spares = slots-by d e c k (Note s m i) a q n did is is
+  store_keeps d e c k (Commit m ws) a did q n is spares =
+      slots-by d e c k (Commit m ws) a q n did is (place-of-commit d e c k m ws a did q ∙ is)
+    where
+      place-of-commit : (d e : D) (c k : ℕ) (n : List ℕ) (ws : List (ℕ × List ℕ)) (a : Answer) → StoreDid state wrote d c (Commit n ws) a e k → (q : ℕ) → name_of_place (committed (apps_in (state d).words) n ws) q ≡ name_of_place (apps_in (state d).words) q
+      place-of-commit d e c k n ws a did q =
+          let m = (state d).words in
+          let g : Going (state d) c = going_is (state d) c did.going in
+          let s : Standing m = standing-of (state d) c g in
+          let t = commit-of d e c k n ws a did in
+          let x = t.0 in
+          let one : OneAt n x.place (means m).apps = (found-application m n x did.image g.closed s.well t.2).1 in
+          let same : apps_in m ≡ (means m).apps = s.map ∙ sym s.apps in
+          ap (λ (es : List (List ℕ × App)). name_of_place (insert es n (with_words ws (app_of es (Some n)))) q) same
+          ∙ ap (λ (y : App). name_of_place (insert (means m).apps n (with_words ws y)) q) t.1
+          ∙ place-changed (means m).apps n x.place q x (with_words ws x) refl one t.2
+          ∙ ap (λ (es : List (List ℕ × App)). name_of_place es q) (sym same)
+  store_keeps d e c k (Enter s m) a did q n is spares =
+      let w = (state d).words in
+      let g : Going (state d) c = going_is (state d) c did.going in
+      let t : Standing w = standing-of (state d) c g in
+      let p : Creates w s m = creates-plan w s m did.image g.closed t.well did.allowed.good did.allowed.fresh in
+      let same : apps_in w ≡ (means w).apps = t.map ∙ sym t.apps in
+      slots-by d e c k (Enter s m) a q n did is
+      (ap (λ (es : List (List ℕ × App)). name_of_place (insert es m (entered s (store_standing (state d) s))) q) same
+      ∙ place-new (means w).apps m n s.place q (entered s (store_standing (state d) s)) refl p.free (ap (λ (es : List (List ℕ × App)). name_of_place es q) (sym same) ∙ is))
+  store_keeps d e c k (Remove m) a did q n is spares = slots-by d e c k (Remove m) a q n did is (place-removed (apps_in (state d).words) m n q spares is)
+
+  -- a commit keeps the holes
+  holes-stay : (d e : D) (c k : ℕ) (n : List ℕ) (ws : List (ℕ × List ℕ)) (a : Answer) → StoreDid state wrote d c (Commit n ws) a e k → (gaps (means (state e).words) ≡ gaps (means (state d).words)) × (length (apps_in (state e).words) ≡ length (apps_in (state d).words))
+  holes-stay d e c k n ws a did =
+      let m = (state d).words in
+      let g : Going (state d) c = going_is (state d) c did.going in
+      let s : Standing m = standing-of (state d) c g in
+      let t = commit-of d e c k n ws a did in
+      let x = t.0 in
+      let there : lookup (card_of m).apps n ≡ Some x = sym (ap (λ (es : List (List ℕ × App)). lookup es n) s.apps) ∙ t.2 in
+      let apps : committed (apps_in m) n ws ≡ insert (card_of m).apps n (with_words ws x) =
+      ap (λ (es : List (List ℕ × App)). insert es n (with_words ws (app_of es (Some n)))) s.map
+      ∙ ap (λ (y : App). insert (card_of m).apps n (with_words ws y)) (ap (λ (o : Option App). unwrap_or o no_app) there) in
+      let turned = turns state wrote obeys (Commit n ws) d e c k a did in
+      let same : gaps (record (card_of m) { apps = committed (apps_in m) n ws }) ≡ gaps (card_of m) = ap (λ (es : List (List ℕ × App)). gaps (record (card_of m) { apps = es })) apps ∙ sym (ap gaps t.3.card) ∙ t.3.left in
+      let own : gaps (card_of m) ≡ gaps (means m) = ap gaps (sym (closed_means m g.closed)) in (
+        elim (means-of (state d) (state e) k (committed (apps_in m) n ws) a turned) [ inl old ↦ ap gaps old ∙ own | inr new ↦ ap gaps new ∙ same ∙ own ],
+        elim (map-of (state d) (state e) c k (committed (apps_in m) n ws) a g turned) [
+          | inl old ↦ ap length old
+          | inr new ↦ ap length new ∙ ap length apps ∙ t.3.count ∙ sym (ap length s.map)
+        ],
+      )
+
+  -- so good sites stay good
+  pub store_spares : (d e : D) (c k : ℕ) (n : List ℕ) (ws : List (ℕ × List ℕ)) (a : Answer) → StoreDid state wrote d c (Commit n ws) a e k → StayGood (apps_in (state d).words) (store_room (state d)) (apps_in (state e).words) (store_room (state e))
+  store_spares d e c k n ws a did = λ s good.
+      let h = holes-stay d e c k n ws a did in
+      record {
+        limits = good.limits;
+        few = subst (λ (x : ℕ). x < 32) (sym h.1) good.few;
+        place = ap (λ (x : List (ℕ × ℕ)). first_fitting (needed_by s.sizes) x) h.0 ∙ good.place;
+      }
+
+  -- and their bytes stay
+  pub store_leaves : (d e : D) (c k : ℕ) (n : List ℕ) (ws : List (ℕ × List ℕ)) (a : Answer) → StoreDid state wrote d c (Commit n ws) a e k → BytesStay (apps_in (state d).words) (store_room (state d)) (store_standing (state d)) (store_standing (state e))
+  store_leaves d e c k n ws a did = λ s good p.
+      let m = (state d).words in
+      let g : Going (state d) c = going_is (state d) c did.going in
+      let stand : Standing m = standing-of (state d) c g in
+      let t = commit-of d e c k n ws a did in
+      let x = t.0 in
+      let list = static_writes x ws in
+      let made : Makes wrote d (writes Two list) a e = subst (λ (y : App). Makes wrote d (writes Two (static_writes y ws)) a e) t.1 did.makes in
+      let ends : AtomicEnds (state d) list a (state e) = atomic-ends state wrote obeys list d e a did.image g.on g.closed t.3.atomic made in
+      let in-it : IsGoodIn m s = record { limits = good.limits; few = subst (λ (y : ℕ). y < 32) (ap length (stand.map ∙ sym stand.apps)) good.few; place = good.place } in
+      let site : AtSite m s = at-site m s did.image g.closed stand.well in-it in
+      let room : has_room s.place (needed_by s.sizes) (gaps (card_of m)) ≡ true = subst (λ (y : Card). has_room s.place (needed_by s.sizes) (gaps y) ≡ true) (closed_means m g.closed) site.room in
+      let w = settled (state e).words in
+      let now : part_in w s p ≡ part_in m s p =
+      elim (settled-alike (state d) (state e) list a ends) [
+        | inl old ↦ site-stays m w s p good.limits site.ends old.size (λ i low high. old.heap i (omega (arith, site.low)))
+        | inr new ↦ site-stays m w s p good.limits site.ends (new.size ∙ length-laid m list) (λ i low high. new.heap i (omega (arith, site.low)) ∙ t.3.holes s.place (needed_by s.sizes) i room low high)
+      ] in
+      now ∙ ap (λ (y : List (List ℕ)). part_in y s p) (sym stand.self)

@@ -1,0 +1,83 @@
+-- The header words of a plan, laid into words: they stand where they are due, and all else of the heap stays.
+-- This project's profile.
+use Rattle.std.proofs.Common.{◌≡◌, ◌⊎◌, ℕ, ◌+◌, ◌<◌, ◌≤◌, Bool, true, false, ◌&&◌, List, [], ◌∷◌, length, map, Some, cond, refl, sym, ◌∙◌, ap, subst, inl, inr, arith}
+use Rattle.std.specs.Prelude.{◌==◌, nat_le, nat_lt}
+use Rattle.std.specs.List.{AllByRecursion}
+use Rattle.std.proofs.lemmas.Bool.{leb-true, eqb-true, ltb-true, eq-eqb, or_cases, and_parts, and_from, or_left, or_right}
+use Rattle.mc_model.specs.Image.{within, ascend, laid}
+use Rattle.mc_model.specs.Stopped.{IsAtomic}
+use Rattle.mc_model.specs.Card.{Card, word, means}
+use Rattle.mc_model.specs.Layout.{layout, spans, step_of, first_fitting}
+use Rattle.mc_model.proofs.ImageLemmas.{Holds, Ascends, all-map, laid-other, laid-holds, length-laid, holds-point}
+use Rattle.mc_model.proofs.GeometryLemmas.{targets-within}
+use Rattle.mc_blocks.specs.Plans.{changes, layout_of, plan, has_room}
+use Rattle.mc_blocks.proofs.Heads.{layout-spans}
+use Rattle.mc_blocks.proofs.Outcome.{Planned}
+use Rattle.mc_store.specs.Alike.{Alike}
+
+-- ---- targets
+
+target-is : (size t : ℕ) → within size t ≡ true → (t ≡ 0) ⊎ ((131 ≤ t) × (t < size))
+target-is size t h =
+    elim (or_cases (t == 0) (nat_le 131 t && nat_lt t size) h) [
+      | inl is ↦ inl (eqb-true t 0 is)
+      | inr heap ↦ let parts = and_parts (nat_le 131 t) (nat_lt t size) heap in inr (leb-true 131 t parts.0, ltb-true t size parts.1)
+    ]
+
+pub ascends-list : (size least : ℕ) (list : List (ℕ × List ℕ)) → ascend size least (map (λ p. p.0) list) ≡ true → Ascends least list
+ascends-list size least [] h = tt
+ascends-list size least (p ∷ ps) h =
+    let a = and_parts (nat_le least p.0) (within size p.0 && ascend size (p.0 + 1) (map (λ q. q.0) ps)) h in
+    (leb-true least p.0 a.0, ascends-list size (p.0 + 1) ps (and_parts (within size p.0) (ascend size (p.0 + 1) (map (λ q. q.0) ps)) a.1).1)
+
+below : (size t : ℕ) → 256 ≤ size → within size t ≡ true → t < size
+below size t low h = elim (target-is size t h) [ inl is ↦ omega (arith, is) | inr heap ↦ heap.1 ]
+
+alike-target : (w n : List (List ℕ)) (size t : ℕ) → Alike w n → within size t ≡ true → word w t ≡ word n t
+alike-target w n size t a h =
+    elim (target-is size t h) [
+      | inl is ↦ subst (λ (x : ℕ). word w x ≡ word n x) (sym is) a.root
+      | inr heap ↦ a.heap t heap.0
+    ]
+
+-- the words of an atomic write stand in words that are like those with them
+pub holds-alike : (m w : List (List ℕ)) (list : List (ℕ × List ℕ)) → 256 ≤ length m → IsAtomic (length m) list → Alike w (laid m list) → Holds w list
+holds-alike m w list low atomic alike =
+    let inside : AllByRecursion (λ p. within (length m) p.0 ≡ true) list = targets-within (length m) list atomic in
+    holds-point (laid m list) w list
+    (all-map (λ p. within (length m) p.0 ≡ true) (λ p. word w p.0 ≡ word (laid m list) p.0) (λ p h. alike-target w (laid m list) (length m) p.0 alike h) list inside)
+    (laid-holds m 0 list (ascends-list (length m) 0 list atomic.targets) (all-map (λ p. within (length m) p.0 ≡ true) (λ p. p.0 < length m) (λ p h. below (length m) p.0 low h) list inside))
+
+pub planned : (m w : List (List ℕ)) (ss : List (ℕ × ℕ)) → 256 ≤ length m → IsAtomic (length m) (plan (means m) ss) → Alike w (laid m (plan (means m) ss)) → Planned m w ss
+planned m w ss low atomic alike =
+    let list = plan (means m) ss in
+    record {
+      size = alike.size ∙ length-laid m list;
+      holds = holds-alike m w list low atomic alike;
+      root = λ free. alike.root ∙ laid-other m list 0 free;
+      kept = λ q above free. alike.heap q above ∙ laid-other m list q free;
+    }
+
+-- ---- steps
+
+step-changes : (a b : Card) → step_of a b ≡ changes (layout a) (layout b)
+unfolding step_of
+step-changes a b = refl
+
+-- the atomic write between two cards is the plan for the spans of the second
+pub step-plan : (a b : Card) (ss : List (ℕ × ℕ)) → b.layout ≡ a.layout → b.size ≡ a.size → spans b ≡ ss → step_of a b ≡ plan a ss
+step-plan a b ss version size same =
+    step-changes a b
+    ∙ ap (λ (l : List (ℕ × List ℕ)). changes (layout a) l) (layout-spans b)
+    ∙ ap (λ (v : ℕ). changes (layout a) (layout_of v b.size (spans b))) version
+    ∙ ap (λ (s : ℕ). changes (layout a) (layout_of a.layout s (spans b))) size
+    ∙ ap (λ (ss : List (ℕ × ℕ)). changes (layout a) (layout_of a.layout a.size ss)) same
+
+room-test : (need p : ℕ) (g : ℕ × ℕ) (gs : List (ℕ × ℕ)) (t : Bool) → nat_le need g.1 ≡ t → cond t (Some g.0) (first_fitting need gs) ≡ Some p → (first_fitting need gs ≡ Some p → has_room p need gs ≡ true) → has_room p need (g ∷ gs) ≡ true
+room-test need p g gs true e h rest = let is : g.0 ≡ p = cc in or_left (g.0 == p && nat_le need g.1) (has_room p need gs) (and_from (g.0 == p) (nat_le need g.1) (eq-eqb g.0 p is) e)
+room-test need p g gs false e h rest = or_right (g.0 == p && nat_le need g.1) (has_room p need gs) (rest h)
+
+-- where the first gap that is long enough is, there is room
+pub first-room : (need p : ℕ) (gs : List (ℕ × ℕ)) → first_fitting need gs ≡ Some p → has_room p need gs ≡ true
+first-room need p [] h = absurd (cc h)
+first-room need p (g ∷ gs) h = room-test need p g gs (nat_le need g.1) refl h (first-room need p gs)

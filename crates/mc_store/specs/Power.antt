@@ -1,0 +1,156 @@
+-- What a power-up does: the writes that it owes, then the migration of a card of layout 1, and what a stop leaves.
+-- This project's profile.
+use Rattle.std.specs.Prelude.{◌≡◌, ◌≢◌, ℕ, ◌+◌, ◌-◌, ◌<◌, ◌≤◌, true, cond, ◌==◌, List, [], ◌∷◌, ◌++◌, length, slice_set, Some, None, Result, Ok, Err}
+use Rattle.mc_model.specs.declared.card.Cause.{Cause}
+use Rattle.mc_model.specs.declared.card.Cause.TheVariants.{BadJournal}
+use Rattle.mc_model.specs.declared.device.Stop.{Stop}
+use Rattle.mc_model.specs.Orders.{Answer}
+use Rattle.mc_model.specs.Image.{Journal, One, look, which, owed, Only, Closed, Refused}
+use Rattle.mc_model.specs.Device.{DeviceState, Ended, GrowsBy, done_entries, torn_entries}
+use Rattle.mc_model.specs.Stopped.{writes, owed_writes, torn, stands, owes, remains}
+use Rattle.mc_model.specs.Card.{word, means}
+use Rattle.mc_model.specs.Layout.{fault}
+use Rattle.mc_model.specs.Play.{Base, OnCard, AtFault, base_of, migration, migrated, owing}
+use Rattle.mc_store.specs.Store.{settled, is_going}
+use Rattle.mc_store.specs.declared.store.Store.{Store}
+use Rattle.mc_store.specs.declared.power.Ready.{Ready}
+use Rattle.mc_store.specs.declared.power.Up.{Up}
+use Rattle.mc_store.specs.declared.power.Up.TheVariants as up
+
+-- ---- the device writes
+
+-- what words are: a card, or a fault with its place
+abbrev pub found : List (List ℕ) → Base
+found m = base_of (fault m) m
+
+-- the one word of a migration: the same root with version 2
+abbrev pub new_root : List (List ℕ) → List (ℕ × List ℕ)
+new_root m = (0, slice_set (word m 0) 3 2) ∷ []
+
+-- the writes of the migration of a card with these words, where it has layout 1
+abbrev pub migrating : Base → List (List ℕ) → List (ℕ × List ℕ)
+migrating (OnCard c) m = cond (c.layout == 1) (writes One (new_root m)) []
+migrating (AtFault cause p) m = []
+
+-- the owed writes, and behind them those of a migration
+unfoldable pub power_writes : List (List ℕ) → List (ℕ × List ℕ)
+power_writes m = owed_writes (look m) ++ migrating (found m) (settled m)
+
+-- their number
+abbrev pub power_count : List (List ℕ) → ℕ
+power_count m = owed m + migration (found m)
+
+-- ---- how it ends
+
+-- words that are a base and owe so many writes, by this journal where they owe any
+pub record IsBase (b : Base) (n : ℕ) (j : Journal) (m : List (List ℕ)) : Type 0 where
+  pub base : found m ≡ b
+  pub owed : owed m ≡ n
+  pub by : n ≢ 0 → which m ≡ Only j
+
+-- a card is there, with layout 2, and the store runs
+pub record IsPowered (d : DeviceState) (n c : ℕ) (e : DeviceState) : Type 0 where
+  pub card : fault d.words ≡ None
+  pub number : n ≡ power_count d.words
+  pub means : means e.words ≡ record (means d.words) { layout = 2 }
+  pub going : is_going e c ≡ true
+  pub base : IsBase (migrated (found d.words)) 0 One e.words
+  pub ended : Ended (Ok tt) d e
+  pub tape : GrowsBy d.tape (done_entries (power_writes d.words)) e.tape
+
+-- the words are no card; what they owed is done, and nothing else
+pub record IsUnusable (d : DeviceState) (c : Cause) (p : ℕ) (e : DeviceState) : Type 0 where
+  pub fault : fault d.words ≡ Some (c, p)
+  pub words : e.words ≡ settled d.words
+  pub base : IsBase (found d.words) 0 One e.words
+  pub ended : Ended (Ok tt) d e
+  pub tape : GrowsBy d.tape (done_entries (power_writes d.words)) e.tape
+
+-- what words are that a stop at write k, which left x, made of words m: as before while writes are owed, and in the migration by journal 1
+abbrev pub IsHalted : List (List ℕ) → ℕ → List ℕ → List (List ℕ) → Type 0
+IsHalted m k x n =
+    (k ≤ owed m → IsBase (found m) (remains (owing (which m)) (owed m - 1) k x) (owing (which m)) n)
+    × (owed m < k → IsBase (cond (stands One 1 (k - owed m) x) (migrated (found m)) (found m)) (owes One 1 (k - owed m) x) One n)
+
+-- it was stopped at write k, which left x
+pub record IsTorn (d : DeviceState) (s : Stop) (e : DeviceState) : Type 0 where
+  pub k : ℕ
+  pub x : List ℕ
+  pub low : 1 ≤ k
+  pub high : k ≤ power_count d.words
+  pub size : length x ≡ 8
+  pub words : e.words ≡ torn d.words (power_writes d.words) k x
+  pub halted : IsHalted d.words k x e.words
+  pub ended : Ended (Err s) d e
+  pub tape : GrowsBy d.tape (torn_entries (power_writes d.words) k x s) e.tape
+
+-- how a power-up ended
+pub data Powered : Type 0 where
+  Runs : (number count : ℕ) → Powered
+  Halts : Stop → Powered
+  Fails : Cause → ℕ → Powered
+
+-- what each end says
+abbrev pub PowersUp : DeviceState → Powered → DeviceState → Type 0
+PowersUp d (Runs number count) e = IsPowered d number count e
+PowersUp d (Halts s) e = IsTorn d s e
+PowersUp d (Fails cause place) e = IsUnusable d cause place e
+
+-- the answer of its device writes
+abbrev pub power_answer : Powered → Answer
+power_answer (Runs number count) = Ok tt
+power_answer (Halts s) = Err s
+power_answer (Fails cause place) = Ok tt
+
+-- the ends that words allow, whatever stops
+abbrev pub PowerFollows : List (List ℕ) → Powered → Type 0
+PowerFollows m (Runs number count) = (fault m ≡ None) × (number ≡ power_count m) × (count ≡ length (means m).apps)
+PowerFollows m (Halts s) = Unit {0}
+PowerFollows m (Fails cause place) = fault m ≡ Some (cause, place)
+
+-- the ends of a recovery alone: the writes that were owed, or a bad journal
+abbrev pub RecoverFollows : List (List ℕ) → Powered → Type 0
+RecoverFollows m (Runs number count) = (number ≡ owed m) × (look (settled m) ≡ Closed)
+RecoverFollows m (Halts s) = Unit {0}
+RecoverFollows m (Fails cause place) = (cause ≡ BadJournal) × (look m ≡ Refused place)
+
+-- the ends of what comes behind so many owed writes, on words with no open journal
+abbrev pub FinishFollows : List (List ℕ) → ℕ → Powered → Type 0
+FinishFollows m n (Runs number count) = (fault m ≡ None) × (number ≡ n + migration (found m)) × (count ≡ length (means m).apps)
+FinishFollows m n (Halts s) = Unit {0}
+FinishFollows m n (Fails cause place) = fault m ≡ Some (cause, place)
+
+-- ---- the answer of the call
+
+-- the device of a store, and the number of applications that it counts
+abbrev pub device_of : {N : Type 0} → Store N → N
+device_of s = s.device
+
+-- the number of applications that a store counts
+abbrev pub count_of : {N : Type 0} → Store N → ℕ
+count_of s = s.count
+
+-- the end of a power-up without a store
+abbrev pub failed : Up → Powered
+failed (up.Stop s) = Halts s
+failed (up.Unusable u) = Fails u.cause u.place
+
+-- the end of the work on a device, before there is a store
+abbrev pub prepared : Result Ready Up → Powered
+prepared (Ok r) = Runs r.writes r.count
+prepared (Err u) = failed u
+
+-- the end of a recovery alone
+abbrev pub recovered : Result ℕ Up → Powered
+recovered (Ok n) = Runs n 0
+recovered (Err u) = failed u
+
+-- the end of a power-up
+abbrev pub powered : {N : Type 0} → Result (Store N × ℕ) (N × Up) → Powered
+powered (Ok p) = Runs p.1 (count_of p.0)
+powered (Err p) = failed p.1
+
+-- the device after a power-up
+abbrev pub device_after : {N : Type 0} → Result (Store N × ℕ) (N × Up) → N
+device_after (Ok p) = device_of p.0
+device_after (Err p) = p.0

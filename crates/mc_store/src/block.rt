@@ -1,0 +1,141 @@
+// The used blocks of a card and their records, read by their places.
+ghost use Rattle.std.specs.Prelude.{◌≡◌, ◌+◌, ◌*◌, ◌<◌, ◌≤◌, ◌&&◌, ◌==◌, None, length, slice_index, bytes_eq, true};
+ghost use Rattle.mc_model.specs.Bytes.{be2};
+ghost use Rattle.mc_model.specs.Device.{IsImage};
+ghost use Rattle.mc_model.specs.Card.{word, blocks, used_tag, record_at, name_at, name_in};
+ghost use Rattle.mc_model.specs.Layout.{words_fault};
+ghost use Rattle.mc_store.specs.Slots.{first_named, record_sizes, IsBlock};
+
+use mc_bank::{Facts, Sizes};
+use mc_base::Aid;
+use mc_nvm::Nvm;
+
+/// The first word of the heap.
+const HEAP: u32 = 131;
+
+/// The first byte of the header of a used block.
+const USED: u8 = 0x55;
+
+/// The 32 bytes of a record.
+pub type Record = [u8; 32];
+
+/// What the header of a block says: whether the block is used, and its words with the header.
+#[derive(Clone, Copy, Debug, PartialEq, Eq)]
+pub struct Header {
+    pub used: bool,
+    pub words: u16,
+}
+
+/// The place of the used block that has this name, on words without a fault.
+pub fn find_block<N: Nvm>(device: &N, aid: &Aid) -> Option<u16>
+    requires laid { words_fault (N.state device.now).words ≡ None }
+    ensures place { result ≡ first_named (N.state device.now).words (blocks (N.state device.now).words) aid.now }
+    ensures image { IsImage (N.state device.now).words }
+{
+    let size = device.len();
+    let mut place = HEAP;
+    while place < size {
+        let header = read_header(device, place);
+        if has_name(device, place, &header, aid) {
+            return Some(place as u16);
+        }
+        place += header.words as u32;
+    }
+    None
+}
+
+// The header at a place.
+fn read_header<N: Nvm>(device: &N, place: u32) -> Header
+    requires { place < length (N.state device.now).words }
+    ensures used { result.used ≡ (slice_index (word (N.state device.now).words place) 0 == used_tag) }
+    ensures words { result.words ≡ be2 (word (N.state device.now).words place) 2 }
+{
+    let word = device.read(place);
+    Header {
+        used: word[0] == USED,
+        words: number_of(word[2], word[3]),
+    }
+}
+
+// Whether a block is used and has this name.
+fn has_name<N: Nvm>(device: &N, place: u32, header: &Header, aid: &Aid) -> bool
+    requires { header.now.used ≡ true → place + 5 ≤ length (N.state device.now).words }
+    ensures { result ≡ (header.now.used && bytes_eq (name_at (N.state device.now).words place) aid.now) }
+{
+    if !header.used {
+        return false;
+    }
+    let entry = read_record(device, place);
+    name_of(&entry) == aid.bytes()
+}
+
+/// The name and the sizes in the record of the used block at a place.
+pub fn facts_at<N: Nvm>(device: &N, place: u16) -> Facts
+    requires block { IsBlock (N.state device.now).words place }
+    ensures aid { result.aid ≡ name_at (N.state device.now).words place }
+    ensures sizes { result.sizes ≡ record_sizes (record_at (N.state device.now).words place) }
+{
+    let entry = read_record(device, place as u32);
+    Facts {
+        aid: Aid::new(name_of(&entry)).unwrap(),
+        sizes: sizes_of(&entry),
+    }
+}
+
+/// The sizes in the record of the used block at a place.
+pub fn sizes_at<N: Nvm>(device: &N, place: u16) -> Sizes
+    requires { place + 5 ≤ length (N.state device.now).words }
+    ensures { result ≡ record_sizes (record_at (N.state device.now).words place) }
+{
+    sizes_of(&read_record(device, place as u32))
+}
+
+// The record of the block at a place: the four words behind its header.
+#[tactic(auto, using(mc_blocks::proofs::Records::record_words))]
+fn read_record<N: Nvm>(device: &N, place: u32) -> Record
+    requires { place + 5 ≤ length (N.state device.now).words }
+    ensures { result ≡ record_at (N.state device.now).words place }
+{
+    let _size = device.len();
+    let words = [
+        device.read(place + 1),
+        device.read(place + 2),
+        device.read(place + 3),
+        device.read(place + 4),
+    ];
+    let mut bytes = [0; 32];
+    bytes.copy_from_slice(words.as_flattened());
+    bytes
+}
+
+// The sizes in a record; its data are its whole static segment.
+fn sizes_of(entry: &Record) -> Sizes
+    ensures { result ≡ record_sizes entry.now }
+{
+    let fixed = number_of(entry[22], entry[23]);
+    Sizes {
+        code: number_of(entry[20], entry[21]),
+        fixed,
+        init: fixed,
+        session: number_of(entry[24], entry[25]),
+        dir: entry[17] as u16,
+        fci: entry[18] as u16,
+        deny: number_of(entry[26], entry[27]),
+    }
+}
+
+// The name in a record.
+#[tactic(auto, using(std::proofs::lemmas::List::take_min))]
+fn name_of(entry: &Record) -> &[u8]
+    ensures { result.now ≡ name_in entry.now }
+{
+    let len = (entry[16] as usize).min(32);
+    &entry[..len]
+}
+
+// The number in two bytes.
+fn number_of(high: u8, low: u8) -> u16
+    ensures { result ≡ 256 * high + low }
+{
+    256 * high as u16 + low as u16
+}

@@ -1,0 +1,93 @@
+// What a load makes of a hole: bytes of its sections, each word of them in one write.
+ghost use Rattle.std.specs.Prelude.{◌≡◌, ◌+◌, ◌*◌, ◌/◌, ◌%◌, ◌<◌, ◌≤◌, ◌⊎◌, true, length, map, OnOk};
+ghost use Rattle.mc_model.specs.Bytes.{splice};
+ghost use Rattle.mc_model.specs.Orders.{InOrder};
+ghost use Rattle.mc_model.specs.Card.{word};
+ghost use Rattle.mc_model.specs.Items.{Piece};
+ghost use Rattle.mc_model.specs.Manager.{word_parts};
+ghost use Rattle.mc_bank.specs.Bank.{part_len};
+ghost use Rattle.mc_store.specs.Store.{is_going, IsGoodIn, IsInWord};
+ghost use Rattle.mc_store.specs.Did.{store_did};
+
+use crate::place::part_place;
+use crate::store::Store;
+use mc_bank::{Part, Site};
+use mc_base::{Stop, Word};
+use mc_nvm::Nvm;
+
+/// Sets bytes of a section of a site that has room.
+pub fn fill<N: Nvm>(
+    store: &mut Store<N>,
+    site: &Site,
+    part: Part,
+    at: u16,
+    piece: &[u8],
+) -> Result<(), Stop>
+    requires going { is_going (N.state store.old.device) store.old.count ≡ true }
+    requires good { IsGoodIn (N.state store.old.device).words site.now }
+    requires range { at + length piece.now ≤ part_len part site.now.sizes }
+    ensures items { InOrder (store_did N.state N.wrote) store.old (map (λ c. Piece site.now part c.0 c.1) (word_parts at piece.now)) result store.new }
+{
+    let mut done = 0;
+    while done < piece.len() {
+        let from = at + done as u16;
+        let count = room_in_word(from, piece.len() - done);
+        put_part(store, site, part, from, &piece[done..done + count])?;
+        done += count;
+    }
+    Ok(())
+}
+
+/// How many of so many bytes lie in the word in which the first of them lies.
+pub fn room_in_word(at: u16, count: usize) -> usize
+    requires { 1 ≤ count }
+    ensures low { 1 ≤ result }
+    ensures high { result ≤ count }
+    ensures word { at % 8 + result ≤ 8 }
+    ensures least { (result ≡ count) ⊎ (at % 8 + result ≡ 8) }
+{
+    (8 - (at % 8) as usize).min(count)
+}
+
+// Sets bytes in one word of a section.
+fn put_part<N: Nvm>(
+    store: &mut Store<N>,
+    site: &Site,
+    part: Part,
+    at: u16,
+    bytes: &[u8],
+) -> Result<(), Stop>
+    requires going { is_going (N.state store.old.device) store.old.count ≡ true }
+    requires good { IsGoodIn (N.state store.old.device).words site.now }
+    requires word { IsInWord (part_len part site.now.sizes) at (length bytes.now) }
+    ensures did { store_did N.state N.wrote store.old (Piece site.now part at bytes.now) result store.new }
+    ensures going { OnOk result (is_going (N.state store.new.device) store.new.count ≡ true) }
+    ensures good { OnOk result (IsGoodIn (N.state store.new.device).words site.now) }
+{
+    let _size = store.device.len();
+    let place = part_place(part, &site.sizes(), site.place());
+    write_part(&mut store.device, place, at, bytes)
+}
+
+/// Writes bytes into one word of those from a place on; its other bytes stay.
+pub fn write_part<N: Nvm>(device: &mut N, from: u32, at: u16, bytes: &[u8]) -> Result<(), Stop>
+    requires power { (N.state device.old).on ≡ true }
+    requires place { from + at / 8 < length (N.state device.old).words }
+    requires word { at % 8 + length bytes.now ≤ 8 }
+    ensures wrote { N.wrote device.old (from + at / 8) (splice (word (N.state device.old).words (from + at / 8)) (at % 8) bytes.now) result device.new }
+{
+    let _size = device.len();
+    let place = from + (at / 8) as u32;
+    let word = with_bytes(device.read(place), (at % 8) as usize, bytes);
+    device.write(place, word)
+}
+
+// A word with bytes in the place of what stood there.
+fn with_bytes(word: Word, at: usize, bytes: &[u8]) -> Word
+    requires { at + length bytes.now ≤ 8 }
+    ensures { result ≡ splice word at bytes.now }
+{
+    let mut new = word;
+    new[at..at + bytes.len()].copy_from_slice(bytes);
+    new
+}

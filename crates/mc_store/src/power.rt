@@ -1,0 +1,240 @@
+// A power-up: the journal that is open is replayed, the words are checked, and a card of layout 1 is migrated.
+ghost use Rattle.std.specs.Prelude.{◌≡◌, ◌≤◌, ◌==◌, [], ◌∷◌, None, length, slice_set, cond, true, false, IfOk, IfErr};
+ghost use Rattle.mc_model.specs.Orders.{answer_of};
+ghost use Rattle.mc_model.specs.Device.{Makes, IsImage};
+ghost use Rattle.mc_model.specs.Image.{One, Two, Closed, look, is_open, owed, opening};
+ghost use Rattle.mc_model.specs.Stopped.{writes, owed_writes};
+ghost use Rattle.mc_model.specs.Card.{means, word};
+ghost use Rattle.mc_model.specs.Layout.{fault};
+ghost use Rattle.mc_store.specs.Store.{settled};
+ghost use Rattle.mc_store.specs.Power.{new_root, found, migrating, power_writes, power_answer, PowersUp, PowerFollows, RecoverFollows, FinishFollows, recovered, prepared};
+
+use mc_base::{Stop, Word};
+use mc_blocks::{Cause, Shape, Unusable, walk};
+use mc_nvm::Nvm;
+
+/// The gate word of the journal of layout 1, and the word that opens it.
+const PLAIN_GATE: u32 = 1;
+
+const PLAIN_OPEN: Word = *b"OPEN-1--";
+
+/// The gate word of the journal of layout 2, and the word that opens it.
+const PACKED_GATE: u32 = 130;
+
+const PACKED_OPEN: Word = *b"OPEN-2--";
+
+/// The byte of the root that holds the version of the layout.
+const VERSION: usize = 3;
+
+/// Why a power-up gives no store: a write of it stopped, or the words are no card.
+#[derive(Clone, Copy, Debug, PartialEq, Eq)]
+pub enum Up {
+    Stop(Stop),
+    Unusable(Unusable),
+}
+
+/// A device that holds a card of layout 2: the writes that it took to get there, and the number of applications.
+#[derive(Clone, Copy, Debug, PartialEq, Eq)]
+pub struct Ready {
+    pub writes: u16,
+    pub count: u16,
+}
+
+/// Makes the owed writes, checks the words, and migrates a card of layout 1.
+pub fn prepare<N: Nvm>(device: &mut N) -> Result<Ready, Up>
+    requires power { (N.state device.old).on ≡ true }
+    ensures makes { Makes N.wrote device.old (power_writes (N.state device.old).words) (power_answer (prepared result)) device.new }
+    ensures ends { PowersUp (N.state device.old) (prepared result) (N.state device.new) }
+    ensures lent { N.same device.old device.new }
+{
+    let _size = device.len();
+    recover_and_finish(device)
+}
+
+// The same, by its writes.
+fn recover_and_finish<N: Nvm>(device: &mut N) -> Result<Ready, Up>
+    requires power { (N.state device.old).on ≡ true }
+    ensures makes { Makes N.wrote device.old (power_writes (N.state device.old).words) (power_answer (prepared result)) device.new }
+    ensures follows { PowerFollows (N.state device.old).words (prepared result) }
+    ensures lent { N.same device.old device.new }
+{
+    match recover(device) {
+        Ok(owed) => finish(device, owed),
+        Err(up) => Err(up),
+    }
+}
+
+// Replays the journal that is open, if one is, and answers the number of writes. The gate of layout 2 is looked at first.
+fn recover<N: Nvm>(device: &mut N) -> Result<u16, Up>
+    requires power { (N.state device.old).on ≡ true }
+    ensures makes { Makes N.wrote device.old (owed_writes (look (N.state device.old).words)) (power_answer (recovered result)) device.new }
+    ensures follows { RecoverFollows (N.state device.old).words (recovered result) }
+    ensures words { IfOk result (λ n. (N.state device.new).words ≡ settled (N.state device.old).words) }
+    ensures closed { IfOk result (λ n. look (N.state device.new).words ≡ Closed) }
+    ensures on { IfOk result (λ n. (N.state device.new).on ≡ true) }
+    ensures few { IfOk result (λ n. n ≤ 65) }
+    ensures low { 256 ≤ length (N.state device.old).words }
+    ensures lent { N.same device.old device.new }
+{
+    let _size = device.len();
+    replay_open(device)
+}
+
+// The same, by its writes.
+fn replay_open<N: Nvm>(device: &mut N) -> Result<u16, Up>
+    requires power { (N.state device.old).on ≡ true }
+    ensures makes { Makes N.wrote device.old (owed_writes (look (N.state device.old).words)) (power_answer (recovered result)) device.new }
+    ensures follows { RecoverFollows (N.state device.old).words (recovered result) }
+    ensures few { IfOk result (λ n. n ≤ 65) }
+    ensures lent { N.same device.old device.new }
+{
+    let packed = is_packed_open(device);
+    let plain = is_plain_open(device);
+    match (packed, plain) {
+        (true, true) => Err(Up::Unusable(Unusable {
+            cause: Cause::BadJournal,
+            place: PLAIN_GATE as u16,
+        })),
+        (true, false) => replay_packed(device),
+        (false, true) => replay_plain(device),
+        (false, false) => Ok(0),
+    }
+}
+
+// Whether the journal of layout 2 is open.
+fn is_packed_open<N: Nvm>(device: &N) -> bool
+    ensures open { result ≡ is_open Two (N.state device.now).words }
+    ensures low { 256 ≤ length (N.state device.now).words }
+{
+    let _size = device.len();
+    device.read(PACKED_GATE) == PACKED_OPEN
+}
+
+// Whether the journal of layout 1 is open.
+fn is_plain_open<N: Nvm>(device: &N) -> bool
+    ensures open { result ≡ is_open One (N.state device.now).words }
+    ensures low { 256 ≤ length (N.state device.now).words }
+{
+    let _size = device.len();
+    device.read(PLAIN_GATE) == PLAIN_OPEN
+}
+
+// Replays the journal of layout 2, which alone is open.
+fn replay_packed<N: Nvm>(device: &mut N) -> Result<u16, Up>
+    requires power { (N.state device.old).on ≡ true }
+    requires low { 256 ≤ length (N.state device.old).words }
+    requires other { is_open One (N.state device.old).words ≡ false }
+    ensures makes { Makes N.wrote device.old (owed_writes (look (N.state device.old).words)) (power_answer (recovered result)) device.new }
+    ensures follows { RecoverFollows (N.state device.old).words (recovered result) }
+    ensures few { IfOk result (λ n. n ≤ 65) }
+    ensures lent { N.same device.old device.new }
+{
+    match mc_packed::recover(device) {
+        Ok(writes) => Ok(writes),
+        Err(mc_packed::Recover::Stop(stop)) => Err(Up::Stop(stop)),
+        Err(mc_packed::Recover::BadJournal(place)) => Err(bad_journal(place)),
+    }
+}
+
+// Replays the journal of layout 1, which alone is open.
+fn replay_plain<N: Nvm>(device: &mut N) -> Result<u16, Up>
+    requires power { (N.state device.old).on ≡ true }
+    requires low { 256 ≤ length (N.state device.old).words }
+    requires other { is_open Two (N.state device.old).words ≡ false }
+    ensures makes { Makes N.wrote device.old (owed_writes (look (N.state device.old).words)) (power_answer (recovered result)) device.new }
+    ensures follows { RecoverFollows (N.state device.old).words (recovered result) }
+    ensures few { IfOk result (λ n. n ≤ 65) }
+    ensures lent { N.same device.old device.new }
+{
+    match mc_journal::recover(device) {
+        Ok(writes) => Ok(writes),
+        Err(mc_journal::Recover::Stop(stop)) => Err(Up::Stop(stop)),
+        Err(mc_journal::Recover::BadJournal(place)) => Err(bad_journal(place)),
+    }
+}
+
+// A journal that is bad at a place.
+fn bad_journal(place: u16) -> Up
+    ensures { result ≡ Up.Unusable (record { cause = Cause.BadJournal; place = place }) }
+{
+    Up::Unusable(Unusable {
+        cause: Cause::BadJournal,
+        place,
+    })
+}
+
+// Checks words with no open journal, and migrates a card of layout 1, behind so many owed writes.
+fn finish<N: Nvm>(device: &mut N, owed: u16) -> Result<Ready, Up>
+    requires power { (N.state device.old).on ≡ true }
+    requires closed { look (N.state device.old).words ≡ Closed }
+    requires few { owed ≤ 65 }
+    ensures makes { Makes N.wrote device.old (migrating (found (N.state device.old).words) (N.state device.old).words) (power_answer (prepared result)) device.new }
+    ensures follows { FinishFollows (N.state device.old).words owed (prepared result) }
+    ensures lent { N.same device.old device.new }
+{
+    match walk(device) {
+        Ok(shape) => upgrade(device, owed, &shape),
+        Err(unusable) => Err(Up::Unusable(unusable)),
+    }
+}
+
+// Migrates a card of layout 1, and lets one of layout 2 be.
+fn upgrade<N: Nvm>(device: &mut N, owed: u16, shape: &Shape) -> Result<Ready, Up>
+    requires power { (N.state device.old).on ≡ true }
+    requires closed { look (N.state device.old).words ≡ Closed }
+    requires card { fault (N.state device.old).words ≡ None }
+    requires used { shape.now.used ≡ length (means (N.state device.old).words).apps }
+    requires layout { shape.now.layout ≡ (means (N.state device.old).words).layout }
+    requires few { owed ≤ 65 }
+    ensures makes { Makes N.wrote device.old (migrating (found (N.state device.old).words) (N.state device.old).words) (power_answer (prepared result)) device.new }
+    ensures follows { FinishFollows (N.state device.old).words owed (prepared result) }
+    ensures lent { N.same device.old device.new }
+{
+    match migrate(device, shape.layout) {
+        Ok(moved) => Ok(Ready {
+            writes: owed + moved,
+            count: shape.used,
+        }),
+        Err(stop) => Err(Up::Stop(stop)),
+    }
+}
+
+// Gives a root of layout 1 the version 2 by one atomic write of the journal of layout 1, and answers the number of
+// device writes.
+fn migrate<N: Nvm>(device: &mut N, layout: u8) -> Result<u16, Stop>
+    requires power { (N.state device.old).on ≡ true }
+    requires gate { is_open One (N.state device.old).words ≡ false }
+    ensures makes { Makes N.wrote device.old (cond (layout == 1) (writes One (new_root (N.state device.old).words)) []) (answer_of result) device.new }
+    ensures count { IfOk result (λ n. n ≡ cond (layout == 1) 6 0) }
+    ensures lent { N.same device.old device.new }
+{
+    if layout != 1 {
+        return Ok(0);
+    }
+    let root = upgraded_root(device);
+    write_root(device, root)
+}
+
+// The root with version 2.
+fn upgraded_root<N: Nvm>(device: &N) -> Word
+    ensures { result ≡ slice_set (word (N.state device.now).words 0) 3 2 }
+{
+    let _size = device.len();
+    let mut root = device.read(0);
+    root[VERSION] = 2;
+    root
+}
+
+// Sets the root by an atomic write.
+fn write_root<N: Nvm>(device: &mut N, root: Word) -> Result<u16, Stop>
+    requires power { (N.state device.old).on ≡ true }
+    requires gate { is_open One (N.state device.old).words ≡ false }
+    ensures makes { Makes N.wrote device.old (writes One ((0, root) ∷ [])) (answer_of result) device.new }
+    ensures count { IfOk result (λ n. n ≡ 6) }
+    ensures lent { N.same device.old device.new }
+{
+    match mc_journal::write_words(device, &[(0, root)]) {
+        Ok(()) => Ok(6),
+        Err(stop) => Err(stop),
+    }
+}

@@ -1,0 +1,25 @@
+// Bytes of the sections of an application.
+ghost use Rattle.std.specs.Prelude.{◌≡◌, ◌+◌, ◌≤◌, length, take, drop, false, IsSome};
+ghost use Rattle.mc_bank.specs.Bank.{app_of};
+ghost use Rattle.mc_store.specs.Store.{store_state, store_named};
+ghost use Rattle.mc_store.specs.Slots.{part_of_app};
+
+use crate::block::sizes_at;
+use crate::place::part_place;
+use crate::section::read_bytes;
+use crate::store::Store;
+use mc_bank::{Part, Slot};
+use mc_nvm::Nvm;
+
+/// Copies bytes of a section of the application of a slot, from a byte of the section on. They lie in the section.
+pub fn read_section<N: Nvm>(store: &Store<N>, slot: Slot, part: Part, at: u16, into: &mut [u8])
+    requires going { (store_state (N.state store.now.device) store.now.count).stopped ≡ false }
+    requires there { IsSome (store_named (N.state store.now.device) slot) }
+    requires range { at + length into.old ≤ length (part_of_app part (app_of (store_state (N.state store.now.device) store.now.count).apps (store_named (N.state store.now.device) slot))) }
+    ensures { into.new ≡ take (length into.old) (drop at (part_of_app part (app_of (store_state (N.state store.now.device) store.now.count).apps (store_named (N.state store.now.device) slot)))) }
+{
+    let _size = store.device.len();
+    let place = slot.index();
+    let sizes = sizes_at(&store.device, place);
+    read_bytes(&store.device, part_place(part, &sizes, place), at, into);
+}

@@ -1,0 +1,60 @@
+// The search for room for a load.
+ghost use Rattle.std.specs.Prelude.{◌≡◌, ◌+◌, ◌≤◌, ◌-◌, false, nat_le, length};
+ghost use Rattle.mc_model.specs.Image.{Closed, look};
+ghost use Rattle.mc_model.specs.Card.{means};
+ghost use Rattle.mc_model.specs.Layout.{gaps, IsWellLaid};
+ghost use Rattle.mc_model.specs.Device.{IsImage};
+ghost use Rattle.mc_bank.specs.Bank.{FitsLimits, opened};
+ghost use Rattle.mc_store.specs.Store.{store_state, store_room};
+
+use crate::place::needed_words;
+use mc_bank::{OpenRefusal, Site, Sizes};
+use mc_base::Steps;
+use mc_blocks::first_fit;
+use mc_nvm::{Nvm, Probe};
+use std::sync::ledger::Ledger;
+
+/// How many applications a card may have.
+const APPS: u16 = 32;
+
+/// Looks for a hole with the words that a load of these sizes takes, on a card with so many applications. It reads
+/// along the chain of holes alone.
+pub fn find_room<N: Nvm, L: Ledger>(
+    device: &N,
+    count: u16,
+    sizes: &Sizes,
+    steps: &mut Steps<L>,
+) -> Result<Site, OpenRefusal>
+    requires going { (store_state (N.state device.now) count).stopped ≡ false }
+    requires limits { FitsLimits sizes.now }
+    ensures answer { result ≡ opened sizes.now (nat_le 32 count) (store_room (N.state device.now) sizes.now) }
+    ensures image { IsImage (N.state device.now).words }
+    ensures rises { steps.old ≤ steps.new }
+    ensures ticks { steps.new ≤ steps.old + (2 + length (gaps (means (N.state device.now).words))) }
+{
+    let _size = device.len();
+    if count >= APPS {
+        return Err(OpenRefusal::Apps);
+    }
+    first_room(device, sizes, steps)
+}
+
+// The same where fewer than 32 applications are there.
+fn first_room<N: Nvm, L: Ledger>(
+    device: &N,
+    sizes: &Sizes,
+    steps: &mut Steps<L>,
+) -> Result<Site, OpenRefusal>
+    requires image { IsImage (N.state device.now).words }
+    requires closed { look (N.state device.now).words ≡ Closed }
+    requires laid { IsWellLaid (N.state device.now).words }
+    requires limits { FitsLimits sizes.now }
+    ensures answer { result ≡ opened sizes.now false (store_room (N.state device.now) sizes.now) }
+    ensures rises { steps.old ≤ steps.new }
+    ensures ticks { steps.new ≤ steps.old + (2 + length (gaps (means (N.state device.now).words))) }
+{
+    match first_fit(&Probe::new(device), needed_words(sizes), steps) {
+        Some(place) => Ok(Site::new(*sizes, place)),
+        None => Err(OpenRefusal::NoRoom),
+    }
+}

@@ -1,0 +1,119 @@
+ghost use Rattle.std.specs.Prelude.{◌≡◌, true};
+ghost use Rattle.mc_model.specs.Device.{Makes};
+ghost use Rattle.mc_store.specs.Power.{power_writes, power_answer, powered, device_of, device_after, PowersUp};
+
+use crate::block::{facts_at, find_block};
+use crate::power::{Ready, Up, prepare};
+use crate::reads::read_section;
+use crate::room::find_room;
+use crate::{changes, creation, filling};
+use mc_bank::{Bank, Facts, OpenRefusal, Part, Site, Sizes, Slot};
+use mc_base::{Aid, Steps, Stop, Word};
+use mc_nvm::Nvm;
+use std::sync::ledger::Ledger;
+
+/// The applications of a card, in the words of its device. It keeps the number of applications, so that a search for
+/// room reads no more than the chain of holes.
+#[derive(Drop)]
+pub struct Store<N: Nvm> {
+    pub(crate) device: N,
+    pub(crate) count: u16,
+}
+
+impl<N: Nvm> Store<N> {
+    /// The store of a card, and the number of writes that it took: the writes that are owed, a journal that is open being
+    /// replayed, and the six of a migration where the card has layout 1. It gives the device back where a write stops,
+    /// and with the first fault and its place where the words are no card.
+    pub fn power_up(dev: N) -> Result<(Store<N>, u16), (N, Up)>
+        requires power { (N.state dev).on ≡ true }
+        ensures makes { Makes N.wrote dev (power_writes (N.state dev).words) (power_answer (powered result)) (device_after result) }
+        ensures ends { PowersUp (N.state dev) (powered result) (N.state (device_after result)) }
+        ensures lent { N.same dev (device_after result) }
+    {
+        let mut device = dev;
+        match prepare(&mut device) {
+            Ok(Ready { writes, count }) => Ok((Store { device, count }, writes)),
+            Err(up) => Err((device, up)),
+        }
+    }
+
+    /// The device, whose words are the card.
+    pub fn into_dev(self) -> N
+        ensures { result ≡ device_of self }
+    {
+        let Store { device, count: _ } = self;
+        device
+    }
+}
+
+impl<N: Nvm> Bank for Store<N> {
+    ghost use Rattle.mc_store.specs.Store.{store_state, store_named, store_room, store_standing, StoreDid};
+    ghost use Rattle.mc_store.specs.Laws.{store_obeys, store_keeps, store_spares, store_leaves};
+
+    ghost state = { λ s. store_state (N.state s.device) s.count };
+
+    ghost named = { λ s k. store_named (N.state s.device) k };
+
+    ghost room = { λ s. store_room (N.state s.device) };
+
+    ghost standing = { λ s. store_standing (N.state s.device) };
+
+    ghost did = { λ s i a e. StoreDid N.state N.wrote s.device s.count i a e.device e.count };
+
+    ghost obeys = { λ s i a e did. store_obeys N.state N.wrote N.obeys s.device e.device s.count e.count i a did };
+
+    ghost keeps = { λ s i a e did. store_keeps N.state N.wrote N.obeys s.device e.device s.count e.count i a did };
+
+    ghost spares = { λ s n ws a e did. store_spares N.state N.wrote N.obeys s.device e.device s.count e.count n ws a did };
+
+    ghost leaves = { λ s n ws a e did. store_leaves N.state N.wrote N.obeys s.device e.device s.count e.count n ws a did };
+
+    fn find(&self, aid: &Aid) -> Option<Slot> {
+        match find_block(&self.device, aid) {
+            Some(place) => Some(Slot::new(place)),
+            None => None,
+        }
+    }
+
+    fn count(&self) -> u16 {
+        let _size = self.device.len();
+        self.count
+    }
+
+    fn facts(&self, slot: Slot) -> Facts {
+        let _size = self.device.len();
+        facts_at(&self.device, slot.index())
+    }
+
+    fn code(&self, slot: Slot, at: u16, into: &mut [u8]) {
+        read_section(self, slot, Part::Code, at, into);
+    }
+
+    fn fixed(&self, slot: Slot, at: u16, into: &mut [u8]) {
+        read_section(self, slot, Part::Data, at, into);
+    }
+
+    fn fci(&self, slot: Slot, at: u16, into: &mut [u8]) {
+        read_section(self, slot, Part::Fci, at, into);
+    }
+
+    fn commit(&mut self, slot: Slot, list: &[(u16, Word)]) -> Result<(), Stop> {
+        changes::commit(self, slot.index(), list)
+    }
+
+    fn open<L: Ledger>(&self, sizes: &Sizes, steps: &mut Steps<L>) -> Result<Site, OpenRefusal> {
+        find_room(&self.device, self.count, sizes, steps)
+    }
+
+    fn fill(&mut self, site: &Site, part: Part, at: u16, piece: &[u8]) -> Result<(), Stop> {
+        filling::fill(self, site, part, at, piece)
+    }
+
+    fn create(&mut self, site: &Site, aid: &Aid) -> Result<(), Stop> {
+        creation::create(self, site, aid)
+    }
+
+    fn delete(&mut self, slot: Slot) -> Result<(), Stop> {
+        changes::delete(self, slot.index())
+    }
+}
