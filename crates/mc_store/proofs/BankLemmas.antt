@@ -42,7 +42,7 @@ module _ {N : Type 0} (state : N → DeviceState) (wrote : N → ℕ → List �
       let found = some-is (lookup (means m).apps n) there in
       let x = found.0 in
       let app : app_of (means m).apps (Some n) ≡ x = ap (λ (o : Option App). unwrap_or o no_app) found.1 in
-      let one : OneAt n x.place (means m).apps = (found-application m n x image g.closed t.well found.1).1 in
+      let one : OneAt n x.place (means m).apps = (found-application m n x image g.closed t.well found.1).one in
       let same : apps_in m ≡ (means m).apps = t.map ∙ sym t.apps in
       ap (λ (es : List (List ℕ × App)). name_of_place (insert es n (with_words ws (app_of es (Some n)))) k) same
       ∙ ap (λ (y : App). name_of_place (insert (means m).apps n (with_words ws y)) k) app

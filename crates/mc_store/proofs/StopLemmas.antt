@@ -124,10 +124,10 @@ module _ (m : List (List ℕ)) (image : IsImage m) (closed : look m ≡ Closed) 
       let p : Creates m s n = creates-plan m s n image closed well ready.good ready.fresh in
       let list = step_of (means m) (card_with m s n) in
       let l = creates-card m (laid m list) s n image closed well ready (alike-self (laid m list)) in
-      atomic_stops list (card_after m (Enter s n)) k x p.atomic l.good l.card first last
+      atomic_stops list (card_after m (Enter s n)) k x p.atomic l.laid l.card first last
   item_stops (Remove n) k x there first last =
       let found = some-is (lookup (means m).apps n) there in
       let p : Deletes m n found.0 = deletes-plan m n found.0 image closed well found.1 in
       let list = step_of (means m) (card_without m n) in
       let l = deletes-card m (laid m list) n found.0 image closed well found.1 (alike-self (laid m list)) in
-      atomic_stops list (card_after m (Remove n)) k x p.atomic l.good l.card first last
+      atomic_stops list (card_after m (Remove n)) k x p.atomic l.laid l.card first last

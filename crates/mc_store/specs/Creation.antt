@@ -14,7 +14,6 @@ use Rattle.mc_model.specs.Layout.{gaps, spans, put_at, step_of, used_header, hol
 use Rattle.mc_model.specs.Items.{Site}
 use Rattle.mc_model.proofs.ImageLemmas.{laid-other, length-laid}
 use Rattle.mc_bank.specs.Bank.{FitsLimits, entered}
-use Rattle.mc_bank.specs.Names.{insert-swap}
 use Rattle.mc_blocks.specs.Chains.{Above}
 use Rattle.mc_blocks.specs.Blocks.{used_spans, hole_spans}
 use Rattle.mc_blocks.specs.Plans.{plan, has_room, has_span, gap_before, link_word}
@@ -25,16 +24,13 @@ use Rattle.mc_blocks.proofs.Taking.{RoomAt, room-at, room-from}
 use Rattle.mc_blocks.proofs.Search.{holes-above}
 use Rattle.std.proofs.lemmas.List.{length-append, length-replicate}
 use Rattle.mc_blocks.proofs.Plans.{gaps-are, spans-are, TakeIs, take-is}
-use Rattle.mc_blocks.proofs.Cards.{Swaps}
-use Rattle.mc_blocks.proofs.Outcome.{Leaves, creates}
+use Rattle.mc_blocks.specs.Outcomes.{Leaves}
+use Rattle.mc_blocks.proofs.Outcome.{creates}
 use Rattle.mc_store.specs.Store.{part_in, needed_by, record_bytes, card_with, IsGoodIn, IsReady}
 use Rattle.mc_store.specs.Alike.{Alike}
 use Rattle.mc_store.specs.RecordBytes.{Fields, fields, is-record}
 use Rattle.mc_store.specs.Sections.{length-section, section-split, same-cells, same-section}
 use Rattle.mc_store.specs.Planning.{planned, step-plan, first-room}
-
-pub swaps : Swaps
-swaps = λ es n a k b ne. insert-swap es n a k b ne
 
 -- ---- the place of a hole
 
@@ -203,6 +199,6 @@ creates-card m w s n image closed h ready alike =
     let f : Fields s.sizes n (record_at w p) = subst (λ (x : List ℕ). Fields s.sizes n x) (sym stands.0) (fields s.sizes n ready.good.limits ready.name) in
     let name : name_at w p ≡ n = f.name in
     let left : Leaves m w (insert (means m).apps (name_at w p) (app_at w p)) =
-    creates m w p need swaps image closed h (omega arith) site.room (planned m w (put_at p need (spans (means m))) image.low atomic new)
+    creates m w p need image closed h (omega arith) site.room (planned m w (put_at p need (spans (means m))) image.low atomic new)
     (is-record s.sizes n (record_at w p) ready.good.limits ready.name stands.0) (ap (λ (k : List ℕ). lookup (means m).apps k) name ∙ ready.fresh) ready.good.few in
     subst (λ (k : List ℕ). Leaves m w (insert (means m).apps k (entered s (part_in m s)))) name (subst (λ (x : App). Leaves m w (insert (means m).apps (name_at w p) x)) stands.1 left)

@@ -65,6 +65,6 @@ slot_is d c k n image g is =
     let named : name_of_place (means m).apps k ≡ Some n = ap (λ (es : List (List ℕ × App)). name_of_place es k) (s.apps ∙ sym s.map) ∙ is in
     let found = some-is (lookup (means m).apps n) (named-there (means m).apps k n named) in
     let a = found.0 in
-    let one : OneAt n a.place (means m).apps = (found-application m n a image g.closed s.well found.1).1 in
+    let one : OneAt n a.place (means m).apps = (found-application m n a image g.closed s.well found.1).one in
     let place : k ≡ a.place = place-of (means m).apps k a.place n one named in
     record { app = a; there = found.1; place = sym place; one = subst (λ (p : ℕ). OneAt n p (means m).apps) (sym place) one }

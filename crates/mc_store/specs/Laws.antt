@@ -125,7 +125,7 @@ module _ {D : Type 0} (state : D → DeviceState) (wrote : D → ℕ → List �
           let s : Standing m = standing-of (state d) c g in
           let t = commit-of d e c k n ws a did in
           let x = t.0 in
-          let one : OneAt n x.place (means m).apps = (found-application m n x did.image g.closed s.well t.2).1 in
+          let one : OneAt n x.place (means m).apps = (found-application m n x did.image g.closed s.well t.2).one in
           let same : apps_in m ≡ (means m).apps = s.map ∙ sym s.apps in
           ap (λ (es : List (List ℕ × App)). name_of_place (insert es n (with_words ws (app_of es (Some n)))) q) same
           ∙ ap (λ (y : App). name_of_place (insert (means m).apps n (with_words ws y)) q) t.1

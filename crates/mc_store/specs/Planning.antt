@@ -12,7 +12,7 @@ use Rattle.mc_model.proofs.ImageLemmas.{Holds, Ascends, all-map, laid-other, lai
 use Rattle.mc_model.proofs.GeometryLemmas.{targets-within}
 use Rattle.mc_blocks.specs.Plans.{changes, layout_of, plan, has_room}
 use Rattle.mc_blocks.proofs.Heads.{layout-spans}
-use Rattle.mc_blocks.proofs.Outcome.{Planned}
+use Rattle.mc_blocks.specs.Outcomes.{Planned}
 use Rattle.mc_store.specs.Alike.{Alike}
 
 -- ---- targets
@@ -53,9 +53,9 @@ planned m w ss low atomic alike =
     let list = plan (means m) ss in
     record {
       size = alike.size ∙ length-laid m list;
-      holds = holds-alike m w list low atomic alike;
+      stand = holds-alike m w list low atomic alike;
       root = λ free. alike.root ∙ laid-other m list 0 free;
-      kept = λ q above free. alike.heap q above ∙ laid-other m list q free;
+      heap = λ q above free. alike.heap q above ∙ laid-other m list q free;
     }
 
 -- ---- steps

@@ -18,7 +18,7 @@ use Rattle.mc_bank.specs.Bank.{FitsLimits, CanCommit, part_len, no_app, app_of, 
 use Rattle.mc_bank.specs.Names.{length-inserted}
 use Rattle.mc_blocks.specs.Plans.{has_room}
 use Rattle.mc_blocks.proofs.Built.{SameCard}
-use Rattle.mc_blocks.proofs.Outcome.{Leaves}
+use Rattle.mc_blocks.specs.Outcomes.{Leaves}
 use Rattle.mc_store.specs.Store.{settled, apps_in, store_standing, needed_by, part_from, part_in, item_writes, static_writes, card_with, card_without, IsGoodIn, IsInWord, IsReady, Allows, count_after, StoreDid}
 use Rattle.mc_store.specs.Going.{Going, going_is, closed_settled, closed_means, closed_fault, closed_apps}
 use Rattle.mc_store.specs.Alike.{Alike, alike-card, Settles, Means, means-after}
@@ -118,7 +118,7 @@ module _ {D : Type 0} (state : D → DeviceState) (wrote : D → ℕ → List �
       plain-by (state d) (state e) c k a going (keeps-gap m (state e).words s.place (needed_by s.sizes) at image going.closed going.laid room low high one.besides) one.ended count
 
   by-leaves : (m w : List (List ℕ)) (apps : List (List ℕ × App)) → look m ≡ Closed → Leaves m w apps → New m w apps
-  by-leaves m w apps closed l = record { good = l.good; card = l.card ∙ ap (λ (x : Card). record x { apps = apps }) (closed_means m closed) }
+  by-leaves m w apps closed l = record { good = l.laid; card = l.card ∙ ap (λ (x : Card). record x { apps = apps }) (closed_means m closed) }
 
   plain-item : (d e : D) (c k : ℕ) (a : Answer) → Going (state d) c → Turns (state d) (card_of (state d).words).apps a (state e) k → Turns (state d) (apps_in (state d).words) a (state e) k
   plain-item d e c k a g t = subst (λ (es : List (List ℕ × App)). Turns (state d) es a (state e) k) (sym (standing-of (state d) c g).map) t
