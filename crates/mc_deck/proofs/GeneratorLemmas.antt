@@ -1,0 +1,160 @@
+-- The generated deck, part by part.
+use Rattle.std.proofs.Common.{◌≡◌, ◌==◌, ◌/◌, ℕ, zero, suc, ◌+◌, ◌-◌, ◌<◌, ◌≤◌, ◌%◌, Bool, true, false, cond, List, [], ◌∷◌, ◌++◌, length, append-nil, append_assoc, add-one, arith, refl, sym, ap, ◌∙◌}
+use Rattle.std.specs.Prelude.{nat_lt}
+use Rattle.std.specs.List.{AllByRecursion}
+use Rattle.mc_model.specs.Bytes.{bytes, zeros}
+use Rattle.mc_model.specs.Text.{numbered}
+use Rattle.mc_model.specs.DeckGrammar.{DeckLine, Format, Power, Named, Load, Select, Delete, Dump, Apdu, made_unit}
+use Rattle.mc_model.specs.Generator.{command, next, draw, turns, line_of, opening, closing, opening_word, cut_line, purse_line, generated, counter, purse, relay, counter_aid, purse_aid, relay_aid}
+use Rattle.mc_unit.proofs.Made.{made_name}
+use Rattle.mc_deck.specs.declared.line.OwnedLine.{OwnedLine}
+use Rattle.mc_deck.specs.Lines.{powered_by, Inside, GoodLine, GoodUnit, Timely, OnTime, AreDeck}
+use Rattle.mc_deck.proofs.ReaderLemmas.{all_more}
+
+-- ---- numbers
+
+numbered_both : (n : ℕ) (xs ys : List DeckLine) → numbered n (xs ++ ys) ≡ numbered n xs ++ numbered (n + length xs) ys
+numbered_both n [] ys = let e : n + 0 ≡ n = omega arith in rw e refl
+numbered_both n (x ∷ xs) ys = let e : n + suc (length xs) ≡ suc n + length xs = omega arith in rw e (ap (λ ls. (n, x) ∷ ls) (numbered_both (suc n) xs ys))
+
+turns_len : (k x : ℕ) → length (turns k x) ≡ k
+turns_len zero x = refl
+turns_len (suc k) x = ap suc (turns_len k (next (next x)))
+
+-- the parts of the generated deck
+pub generated_parts : (n : ℕ) → generated n ≡ (numbered 1 opening ++ numbered 9 (turns 4000 n)) ++ numbered 4009 closing
+unfolding generated
+generated_parts n =
+    let e : 9 + length (turns 4000 n) ≡ 4009 = ap (λ k. 9 + k) (turns_len 4000 n) in
+    numbered_both 1 opening (turns 4000 n ++ closing)
+    ∙ ap (λ ls. numbered 1 opening ++ ls) (numbered_both 9 (turns 4000 n) closing ∙ ap (λ k. numbered 9 (turns 4000 n) ++ numbered k closing) e)
+    ∙ sym (append_assoc (numbered 1 opening) (numbered 9 (turns 4000 n)) (numbered 4009 closing))
+
+-- ---- turns
+
+turns_next : (n x : ℕ) → n < 4009 → numbered n (turns (4009 - n) x) ≡ (n, line_of (draw (next x)) (draw (next (next x)))) ∷ numbered (n + 1) (turns (4009 - (n + 1)) (next (next x)))
+turns_next n x h = let e : 4009 - n ≡ suc (4009 - (n + 1)) = omega (arith, h) in rw (e, add-one n) refl
+
+-- one more turn, and the last
+pub turn_more : (so now : List (ℕ × DeckLine)) (n x r q : ℕ) (l : DeckLine) (whole : List (ℕ × DeckLine)) → n < 4009 → now ≡ so ++ (n, l) ∷ [] → r ≡ next x → q ≡ next r → l ≡ line_of (draw r) (draw q)
+    → so ++ numbered n (turns (4009 - n) x) ≡ whole → now ++ numbered (n + 1) (turns (4009 - (n + 1)) q) ≡ whole
+turn_more so now n x r q l whole h e f g s w =
+    let left = numbered (n + 1) (turns (4009 - (n + 1)) (next (next x))) in
+    let k : l ≡ line_of (draw (next x)) (draw (next (next x))) = rw (s, g, f) refl in
+    let y : q ≡ next (next x) = g ∙ ap next f in
+    ap (λ q. now ++ numbered (n + 1) (turns (4009 - (n + 1)) q)) y ∙ ap (λ t. t ++ left) e ∙ append_assoc so ((n, l) ∷ []) left
+    ∙ ap (λ (k : DeckLine). so ++ ((n, k) ∷ left)) k ∙ ap (λ t. so ++ t) (sym (turns_next n x h)) ∙ w
+
+pub turns_done : (so : List (ℕ × DeckLine)) (n x : ℕ) (whole : List (ℕ × DeckLine)) → 4009 ≤ n → so ++ numbered n (turns (4009 - n) x) ≡ whole → so ≡ whole
+turns_done so n x whole h w =
+    let e : 4009 - n ≡ 0 = omega (arith, h) in
+    sym (append-nil so) ∙ sym (ap (λ k. so ++ numbered n (turns k x)) e) ∙ w
+
+-- four lines more
+pub four_more : (so s t u v : List (ℕ × DeckLine)) (a b d e : ℕ × DeckLine) → s ≡ so ++ a ∷ [] → t ≡ s ++ b ∷ [] → u ≡ t ++ d ∷ [] → v ≡ u ++ e ∷ [] → v ≡ so ++ a ∷ b ∷ d ∷ e ∷ []
+four_more so s t u v a b d e f g h i = rw (i, h, g, f) (append_assoc ((so ++ a ∷ []) ++ b ∷ []) (d ∷ []) (e ∷ []) ∙ append_assoc (so ++ a ∷ []) (b ∷ []) (d ∷ e ∷ []) ∙ append_assoc so (a ∷ []) (b ∷ d ∷ e ∷ []))
+
+-- a line behind others
+pub inside_behind : (ls ks : List (ℕ × OwnedLine)) (n : ℕ) (l : OwnedLine) → ks ≡ ls ++ (n, l) ∷ [] → Inside 3 l → AllByRecursion (λ l. Inside 3 l.1) ls → AllByRecursion (λ (l : ℕ × OwnedLine). Inside 3 l.1) ks
+inside_behind ls ks n l e h a = rw e (all_more (λ (l : ℕ × OwnedLine). Inside 3 l.1) ls (n, l) a h)
+
+-- ---- the lines of a generated deck are those of a deck
+
+-- a line that may stand anywhere
+abbrev GoodTurn : DeckLine → Type 0
+GoodTurn l = GoodLine l × ((p : Bool) → Timely p l)
+
+pick : (b : Bool) (x y : DeckLine) → GoodTurn x → GoodTurn y → GoodTurn (cond b x y)
+pick true x y g h = g
+pick false x y g h = h
+
+fill_len : (b : Bool) → length (cond b opening_word (zeros 8)) ≡ 8
+fill_len true = refl
+fill_len false = refl
+
+made_good : (aid code init : List ℕ) → 5 ≤ length aid → length aid ≤ 16 → 0 < length code → length code ≤ 8192 → length init ≤ 4096 → GoodUnit (made_unit aid code init)
+made_good aid code init low high some short data_short = record {
+  number = refl;
+  limits = record { some_code = some; code_len = short; init_len = data_short; dir_len = omega (arith, high); fci_len = omega (arith, high) };
+  name = made_name aid low high;
+}
+
+purse_good : GoodUnit purse
+purse_good = made_good purse_aid purse.code purse.init (omega arith) (omega arith) (omega arith) (omega arith) (omega arith)
+
+counter_good : GoodUnit counter
+counter_good = made_good counter_aid counter.code counter.init (omega arith) (omega arith) (omega arith) (omega arith) (omega arith)
+
+relay_good : GoodUnit relay
+relay_good = made_good relay_aid relay.code relay.init (omega arith) (omega arith) (omega arith) (omega arith) (omega arith)
+
+purse_line_good : (q : ℕ) → GoodTurn (purse_line q)
+purse_line_good q =
+    pick (q % 4 == 0) (Delete purse_aid) (cond (q % 4 == 1) (Load purse 10 0) Power) ((omega arith, omega arith), λ p. tt)
+    (pick (q % 4 == 1) (Load purse 10 0) Power ((purse_good, omega arith, omega arith), λ p. tt) (tt, λ p. tt))
+
+cut_line_good : (q : ℕ) → GoodTurn (cut_line q)
+cut_line_good q = (((omega arith, omega arith), fill_len (q / 12 % 2 == 1)), λ p. tt)
+
+line_good : (r q : ℕ) → GoodTurn (line_of r q)
+line_good r q =
+    let power : GoodTurn Power = (tt, λ p. tt) in
+    let count : GoodTurn (Apdu (0x80 ∷ 1 ∷ 0 ∷ 0 ∷ 2 ∷ [])) = (omega arith, λ p. tt) in
+    let credit : GoodTurn (command 0x30 (bytes 4 q)) = (omega arith, λ p. tt) in
+    let debit : GoodTurn (command 0x40 (bytes 4 q)) = (omega arith, λ p. tt) in
+    let balance : GoodTurn (command 0x50 []) = (omega arith, λ p. tt) in
+    let first : GoodTurn (Select counter_aid) = ((omega arith, omega arith), λ p. tt) in
+    let second : GoodTurn (Select relay_aid) = ((omega arith, omega arith), λ p. tt) in
+    let third : GoodTurn (Select purse_aid) = ((omega arith, omega arith), λ p. tt) in
+    pick (r % 16 == 0) _ _ first
+    (pick (r % 16 == 1) _ _ second
+    (pick (r % 16 == 2) _ _ third
+    (pick (r % 16 == 3) _ _ power
+    (pick (nat_lt (r % 16) 9) _ _ count
+    (pick (nat_lt (r % 16) 11) _ _ credit
+    (pick (nat_lt (r % 16) 13) _ _ debit
+    (pick (r % 16 == 13) _ _ balance
+    (pick (r % 16 == 14) _ _ (cut_line_good q) (purse_line_good q)))))))))
+
+turns_good : (k x : ℕ) → AllByRecursion GoodTurn (turns k x)
+turns_good zero x = tt
+turns_good (suc k) x = (line_good (draw (next x)) (draw (next (next x))), turns_good k (next (next x)))
+
+both_good : (ks ls : List DeckLine) → AllByRecursion GoodTurn ks → AllByRecursion GoodTurn ls → AllByRecursion GoodTurn (ks ++ ls)
+both_good [] ls g h = h
+both_good (k ∷ ks) ls g h = (g.0, both_good ks ls g.1 h)
+
+good_ranges : (n : ℕ) (ls : List DeckLine) → AllByRecursion GoodTurn ls → AllByRecursion (λ (l : ℕ × DeckLine). GoodLine l.1) (numbered n ls)
+good_ranges n [] g = tt
+good_ranges n (l ∷ ls) g = ((g.0).0, good_ranges (suc n) ls g.1)
+
+good_times : (p : Bool) (n : ℕ) (ls : List DeckLine) → AllByRecursion GoodTurn ls → OnTime p (numbered n ls)
+good_times p n [] g = tt
+good_times p n (l ∷ ls) g = ((g.0).1 p, good_times (powered_by p l) (suc n) ls g.1)
+
+-- the lines behind the first
+abbrev behind_first : ℕ → List DeckLine
+behind_first n = Power ∷ Named ∷ Named ∷ Named ∷ Load counter 2 0 ∷ Load purse 10 0 ∷ Load relay 6 0 ∷ (turns 4000 n ++ closing)
+
+behind_good : (n : ℕ) → AllByRecursion GoodTurn (behind_first n)
+behind_good n =
+    let dump : GoodTurn (Dump counter_aid) = ((omega arith, omega arith), λ p. tt) in
+    let dump_second : GoodTurn (Dump purse_aid) = ((omega arith, omega arith), λ p. tt) in
+    let dump_third : GoodTurn (Dump relay_aid) = ((omega arith, omega arith), λ p. tt) in
+    let plain : GoodTurn Power = (tt, λ p. tt) in
+    let named : GoodTurn Named = (tt, λ p. tt) in
+    let first : GoodTurn (Load counter 2 0) = ((counter_good, omega arith, omega arith), λ p. tt) in
+    let second : GoodTurn (Load purse 10 0) = ((purse_good, omega arith, omega arith), λ p. tt) in
+    let third : GoodTurn (Load relay 6 0) = ((relay_good, omega arith, omega arith), λ p. tt) in
+    let dumps : AllByRecursion GoodTurn closing = (plain, (dump, (dump_second, (dump_third, tt)))) in
+    (plain, (named, (named, (named, (first, (second, (third, both_good (turns 4000 n) closing (turns_good 4000 n) dumps)))))))
+
+first_and_behind : (n : ℕ) → generated n ≡ (1, Format) ∷ numbered 2 (behind_first n)
+unfolding generated
+first_and_behind n = refl
+
+pub generated_deck : (n : ℕ) → AreDeck (generated n)
+generated_deck n = rw (first_and_behind n) (record {
+  ranges = (tt, good_ranges 2 (behind_first n) (behind_good n));
+  times = (refl, good_times false 2 (behind_first n) (behind_good n));
+})

@@ -1,0 +1,64 @@
+-- Hexadecimal digits as the crate `hex` reads them, and as the definition does.
+use Rattle.std.proofs.Common.{◌≡◌, ℕ, ◌+◌, ◌*◌, ◌%◌, ◌<◌, List, [], ◌∷◌, length, Option, Some, None, Result, Ok, Err, inl, inr, arith, refl, sym, ap, ◌∙◌}
+use Rattle.std.specs.Prelude.{option_and_then}
+use Rattle.std.proofs.lemmas.Bool.{cases_eq}
+use Rattle.hex.specs.Hex
+use Rattle.hex.specs.Hex.{decode_of, decode_pairs, digit_or_error, hex_digit_value}
+use Rattle.hex.specs.declared.error.FromHexError.{FromHexError}
+use Rattle.hex.proofs.HexLemmas.{decode_of-even, decode_of-odd, decode_of-ok, decode_pairs-ok}
+use Rattle.mc_model.specs.Text.{hex_value, hex_values, before_values, paired, hex_bytes}
+use Rattle.mc_model.specs.DeckGrammar.{hex_field}
+use Rattle.mc_model.specs.declared.deck.DeckCause.TheVariants.{BadHex}
+
+-- the bytes that were read
+abbrev read_bytes : Result (List ℕ) FromHexError → Option (List ℕ)
+read_bytes (Ok bs) = Some bs
+read_bytes (Err e) = None
+
+digit_same : (c : ℕ) → hex_digit_value c ≡ hex_value c
+digit_same c = grind arith
+
+-- a byte before others, as the crate reads it
+abbrev pair_read : ℕ → ℕ → ℕ → Option ℕ → Option ℕ → Result (List ℕ) FromHexError → Result (List ℕ) FromHexError
+pair_read a b i oa ob d = Hex.◌>>=◌ (Hex.◌>>=◌ (digit_or_error a i oa) (λ h. Hex.◌>>=◌ (digit_or_error b (i + 1) ob) (λ l. Ok (h * 16 + l)))) (λ byte. Hex.◌>>=◌ d (λ bytes. Ok (byte ∷ bytes)))
+
+pair_spelled : (a b i : ℕ) (oa ob : Option ℕ) (vs : Option (List ℕ)) (d : Result (List ℕ) FromHexError) → option_and_then paired vs ≡ read_bytes d
+    → option_and_then paired (before_values oa (before_values ob vs)) ≡ read_bytes (pair_read a b i oa ob d)
+pair_spelled a b i None ob vs d h = refl
+pair_spelled a b i (Some x) None vs d h = refl
+pair_spelled a b i (Some x) (Some y) None (Ok bs) h = absurd (cc h)
+pair_spelled a b i (Some x) (Some y) None (Err e) h = refl
+pair_spelled a b i (Some x) (Some y) (Some vs) (Ok bs) h = rw h refl
+pair_spelled a b i (Some x) (Some y) (Some vs) (Err e) h = rw h refl
+
+spelled_pairs : (i : ℕ) (t : List ℕ) → hex_bytes t ≡ read_bytes (decode_pairs i t)
+unfolding decode_pairs
+spelled_pairs i [] = refl
+spelled_pairs i (a ∷ []) = one_digit (hex_value a)
+  where
+    one_digit : (o : Option ℕ) → option_and_then paired (before_values o (Some [])) ≡ None
+    one_digit None = refl
+    one_digit (Some x) = refl
+spelled_pairs i (a ∷ b ∷ t) = rw (digit_same a, digit_same b) (pair_spelled a b i (hex_value a) (hex_value b) (hex_values t) (decode_pairs (i + 2) t) (spelled_pairs (i + 2) t))
+
+odd_spelled : (t : List ℕ) (d : Result (List ℕ) FromHexError) → length t % 2 ≡ 1 → decode_pairs 0 t ≡ d → read_bytes d ≡ None
+odd_spelled t (Err e) odd h = refl
+odd_spelled t (Ok bs) odd h = let p = decode_pairs-ok 0 t bs h in absurd (omega (arith, odd, p.1))
+
+all_spelled : (t : List ℕ) → hex_bytes t ≡ read_bytes (decode_of t)
+all_spelled t =
+    elim (cases_eq (length t % 2) 1) [
+      | inl odd ↦ spelled_pairs 0 t ∙ odd_spelled t (decode_pairs 0 t) odd refl ∙ sym (ap read_bytes (decode_of-odd t odd))
+      | inr even ↦ let e : length t % 2 ≡ 0 = omega arith in spelled_pairs 0 t ∙ sym (ap read_bytes (decode_of-even t e))
+    ]
+
+-- digits that the crate reads, and others
+pub spelled : (t bs : List ℕ) → decode_of t ≡ Ok bs → hex_field t ≡ Ok bs
+spelled t bs h = rw (all_spelled t ∙ ap read_bytes h) refl
+
+pub misspelled : (t : List ℕ) (e : FromHexError) → decode_of t ≡ Err e → hex_field t ≡ Err BadHex
+misspelled t e h = rw (all_spelled t ∙ ap read_bytes h) refl
+
+-- a digit is a digit of some byte
+pub some_bytes : (t bs : List ℕ) → decode_of t ≡ Ok bs → 0 < length t → 0 < length bs
+some_bytes t bs h l = let p = decode_of-ok t bs h in omega (arith, p.2, l)

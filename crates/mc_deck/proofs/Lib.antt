@@ -1,0 +1,10 @@
+pub mod HexLemmas
+pub mod NumberLemmas
+pub mod FieldLemmas
+pub mod LineLemmas
+pub mod NameLemmas
+pub mod StatementLemmas
+pub mod SectionLemmas
+pub mod ReaderLemmas
+pub mod TurnLemmas
+pub mod GeneratorLemmas

@@ -1,0 +1,163 @@
+-- Turns: a line between statements, and a line of a section.
+use Rattle.std.proofs.Common.{◌≡◌, ◌≢◌, ◌≤◌, Bor, arith, ℕ, ◌+◌, append_assoc, Bool, true, false, List, [], ◌∷◌, ◌++◌, Option, Some, None, Result, Ok, Err, append-nil, refl, sym, ap, subst, ◌∙◌}
+use Rattle.std.specs.Prelude.{⊤, ◌==◌, option_map, MatchOption, MatchResult, IfOk, IfErr}
+use Rattle.mc_model.specs.Text.{◌>>=◌, ok_as, fields, lines, numbered}
+use Rattle.mc_model.specs.Units.{UnitParts}
+use Rattle.std.specs.BTreeMap.{BTreeMap}
+use Rattle.mc_model.specs.declared.deck.DeckCause.{DeckCause}
+use Rattle.mc_model.specs.declared.deck.DeckCause.TheVariants.{NoEnd}
+use Rattle.mc_model.specs.DeckGrammar
+use Rattle.mc_model.specs.DeckGrammar.{DeckLine, Context, Turn, Mode, deck_lines, ended, turn_at, Between, Within, between, within, turn_in, turn_of, is_end, section_unit, with_unit, Named}
+use Rattle.mc_deck.specs.declared.refusal.DeckRefusal.{DeckRefusal}
+use Rattle.mc_deck.specs.declared.refusal.DeckRefusal.TheVariants.{At, NoMemory}
+use Rattle.mc_deck.specs.declared.statement.Statement.{Statement}
+use Rattle.mc_deck.specs.declared.unit.OwnedUnit.{OwnedUnit}
+use Rattle.mc_deck.specs.declared.line.OwnedLine.{OwnedLine}
+use Rattle.mc_deck.specs.declared.section.Section.{Section}
+use Rattle.mc_deck.specs.declared.reading.Reader.{Reader}
+use Rattle.mc_asm.specs.Texts.{next_line}
+use Rattle.mc_asm.proofs.PassLemmas.{numbered_some, numbered_none}
+use Rattle.mc_deck.specs.Refused.{Refused}
+use Rattle.mc_deck.specs.Statements.{stated_of, Fits, InContext}
+use Rattle.mc_deck.specs.Readers.{line_stated, lines_of, mode_of, Stands, StandsBy, Took, Turned}
+use Rattle.mc_deck.specs.Contexts.{AreNames}
+use Rattle.mc_deck.specs.Lines.{said_lines}
+use Rattle.mc_deck.proofs.ReaderLemmas.{between_skipped, between_says, between_refused}
+
+-- what was read so far, as the statement reader has it
+pub in_context : (r : Reader) (c : Context) → Stands r c → InContext r.names r.powered c
+in_context r c s = record { named = s.named; power = s.power }
+
+-- what a line's reading answers of its statement
+abbrev pub Reads : Reader → Context → ℕ → List (List ℕ) → Result (Option Statement) DeckRefusal → Type 0
+Reads old c n ts r = MatchResult r (λ o. line_stated c n ts ≡ Ok (option_map (stated_of old.names.units.items c n) o)) (λ e. Refused (line_stated c n ts) e)
+
+pub fits_some : (n : ℕ) (p : Bool) (s : Statement) (r : Result (Option Statement) DeckRefusal) → r ≡ Ok (Some s) → IfOk r (λ o. MatchOption o ⊤ (Fits n p)) → Fits n p s
+fits_some n p s (Err e) h f = absurd (cc h)
+fits_some n p s (Ok None) h f = absurd (cc h)
+fits_some n p s (Ok (Some t)) h f = let e : t ≡ s = cc h in subst (Fits n p) e f
+
+pub between_none : (old : Reader) (c : Context) (n : ℕ) (ts : List (List ℕ)) (r : Result (Option Statement) DeckRefusal) → r ≡ Ok None → Reads old c n ts r → Stands old c → Turned old old None (between c n ts)
+between_none old c n ts (Err e) h m s = absurd (cc h)
+between_none old c n ts (Ok (Some t)) h m s = absurd (cc h)
+between_none old c n ts (Ok None) h m s = record {
+  turn = record { lines = []; mode = Between c };
+  is = between_skipped c n ts m;
+  took = record { context = c; stands = s; lines = sym (append-nil (lines_of old)); mode = refl };
+}
+
+some_took : (old new : Reader) (c : Context) (n : ℕ) (ts : List (List ℕ)) (t : Statement) (q : Result (Option Section) DeckRefusal) → between c n ts ≡ Ok (turn_of n (stated_of old.names.units.items c n t))
+    → IfOk q (λ s. (c : Context) → Stands old c → Took old new s (turn_of n (stated_of old.names.units.items c n t))) → IfErr q (λ e. e ≡ NoMemory) → Stands old c
+    → MatchResult q (λ s. Turned old new s (between c n ts)) (λ e. Refused (between c n ts) e)
+some_took old new c n ts t (Ok s) e f g h = record { turn = turn_of n (stated_of old.names.units.items c n t); is = e; took = f c h }
+some_took old new c n ts t (Err x) e f g h = subst (λ (x : DeckRefusal). Refused (between c n ts) x) (sym g) tt
+
+pub between_some : (old new : Reader) (c : Context) (n : ℕ) (ts : List (List ℕ)) (t : Statement) (r : Result (Option Statement) DeckRefusal) (q : Result (Option Section) DeckRefusal) → r ≡ Ok (Some t) → Reads old c n ts r
+    → IfOk q (λ s. (c : Context) → Stands old c → Took old new s (turn_of n (stated_of old.names.units.items c n t))) → IfErr q (λ e. e ≡ NoMemory) → Stands old c
+    → MatchResult q (λ s. Turned old new s (between c n ts)) (λ e. Refused (between c n ts) e)
+between_some old new c n ts t (Err e) q h m f g s = absurd (cc h)
+between_some old new c n ts t (Ok None) q h m f g s = absurd (cc h)
+between_some old new c n ts t (Ok (Some u)) q h m f g s =
+    let e : u ≡ t = cc h in
+    some_took old new c n ts t q (between_says c n ts (stated_of old.names.units.items c n t) (m ∙ ap (λ (u : Statement). Ok (Some (stated_of old.names.units.items c n u))) e)) f g s
+
+refused_line : (c : Context) (n : ℕ) (ts : List (List ℕ)) (x : DeckRefusal) → Refused (line_stated c n ts) x → Refused (between c n ts) x
+refused_line c n ts (At m e) h = between_refused c n ts (m, e) h
+refused_line c n ts NoMemory h = tt
+
+pub between_err : (old : Reader) (c : Context) (n : ℕ) (ts : List (List ℕ)) (x : DeckRefusal) (r : Result (Option Statement) DeckRefusal) → r ≡ Err x → Reads old c n ts r → Refused (between c n ts) x
+between_err old c n ts x (Ok o) h m = absurd (cc h)
+between_err old c n ts x (Err y) h m = let e : y ≡ x = cc h in subst (λ (x : DeckRefusal). Refused (between c n ts) x) e (refused_line c n ts y m)
+
+-- ---- a line of a section
+
+ends_step : (s : DeckGrammar.Section) (c : Context) (l : ℕ × List ℕ) → within true s c l ≡ ok_as (λ u. record { lines = (s.first, Named) ∷ []; mode = Between (with_unit c s.name u) }) (section_unit s l.0)
+unfolding within
+ends_step s c l = refl
+
+goes_step : (s : DeckGrammar.Section) (c : Context) (l : ℕ × List ℕ) → within false s c l ≡ Ok (record { lines = []; mode = Within (record s { lines = s.lines ++ (l ∷ []) }) c })
+unfolding within
+goes_step s c l = refl
+
+-- the end of a section, refused or not, and a line that goes on
+pub section_ended : (s : DeckGrammar.Section) (c : Context) (n : ℕ) (t : List ℕ) (u : UnitParts) → is_end (fields t) ≡ true → section_unit s n ≡ Ok u
+    → turn_in (Within s c) (n, t) ≡ Ok (record { lines = (s.first, Named) ∷ []; mode = Between (with_unit c s.name u) })
+section_ended s c n t u e h = ap (λ b. within b s c (n, t)) e ∙ ends_step s c (n, t) ∙ ap (ok_as (λ u. record { lines = (s.first, Named) ∷ []; mode = Between (with_unit c s.name u) })) h
+
+unit_refused : (s : DeckGrammar.Section) (c : Context) (n : ℕ) (t : List ℕ) (x : DeckRefusal) → is_end (fields t) ≡ true → Refused (section_unit s n) x → Refused (turn_in (Within s c) (n, t)) x
+unit_refused s c n t (At m k) e h = ap (λ b. within b s c (n, t)) e ∙ ends_step s c (n, t) ∙ ap (ok_as (λ u. record { lines = (s.first, Named) ∷ []; mode = Between (with_unit c s.name u) })) h
+unit_refused s c n t NoMemory e h = tt
+
+pub section_refused : (s : DeckGrammar.Section) (c : Context) (n : ℕ) (t : List ℕ) (x : DeckRefusal) → is_end (fields t) ≡ true → Refused (section_unit s n) x → Refused (turn_in (Within s c) (n, t)) x
+section_refused s c n t x e h = unit_refused s c n t x e h
+
+pub section_goes : (s : DeckGrammar.Section) (c : Context) (n : ℕ) (t : List ℕ) → is_end (fields t) ≡ false → turn_in (Within s c) (n, t) ≡ Ok (record { lines = []; mode = Within (record s { lines = s.lines ++ ((n, t) ∷ []) }) c })
+section_goes s c n t e = ap (λ b. within b s c (n, t)) e ∙ goes_step s c (n, t)
+
+-- ---- all lines
+
+lines_step : (m : Mode) (n : ℕ) (l : List ℕ) (ls : List (ℕ × List ℕ)) → deck_lines m ((n, l) ∷ ls) ≡ (turn_at (n == 20001) m (n, l) >>= λ t. ok_as (λ rest. t.lines ++ rest) (deck_lines t.mode ls))
+unfolding deck_lines
+lines_step m n l ls = refl
+
+lines_end : (m : Mode) → deck_lines m [] ≡ ended m
+unfolding deck_lines
+lines_end m = refl
+
+-- what the lines that are left make of those so far
+abbrev pub left_lines : List (ℕ × DeckLine) → Mode → ℕ → List ℕ → Result (List (ℕ × DeckLine)) (ℕ × DeckCause)
+left_lines so m n t = ok_as (λ rest. so ++ rest) (deck_lines m (numbered n (lines t)))
+
+lines_behind : (so more : List (ℕ × DeckLine)) (r : Result (List (ℕ × DeckLine)) (ℕ × DeckCause)) → ok_as (λ rest. (so ++ more) ++ rest) r ≡ ok_as (λ rest. so ++ rest) (ok_as (λ rest. more ++ rest) r)
+lines_behind so more (Ok rest) = ap Ok (append_assoc so more rest)
+lines_behind so more (Err e) = refl
+
+-- one more line, a line that is refused, and the end
+pub line_read : (so now : List (ℕ × DeckLine)) (m : Mode) (turn : Turn) (n : ℕ) (t l b : List ℕ) (whole : Result (List (ℕ × DeckLine)) (ℕ × DeckCause)) → Some (l, b) ≡ next_line t → turn_at (n == 20001) m (n, l) ≡ Ok turn
+    → now ≡ so ++ turn.lines → left_lines so m n t ≡ whole → left_lines now turn.mode (n + 1) b ≡ whole
+line_read so now m turn n t l b whole h e g w =
+    ap (λ x. ok_as (λ rest. x ++ rest) (deck_lines turn.mode (numbered (n + 1) (lines b)))) g
+    ∙ lines_behind so turn.lines (deck_lines turn.mode (numbered (n + 1) (lines b)))
+    ∙ ap (ok_as (λ rest. so ++ rest)) (sym (ap (deck_lines m) (numbered_some n t l b h) ∙ lines_step m n l (numbered (n + 1) (lines b)) ∙ ap (λ r. r >>= λ (t : Turn). ok_as (λ rest. t.lines ++ rest) (deck_lines t.mode (numbered (n + 1) (lines b)))) e))
+    ∙ w
+
+line_stops : (so : List (ℕ × DeckLine)) (m : Mode) (n : ℕ) (t l b : List ℕ) (whole : Result (List (ℕ × DeckLine)) (ℕ × DeckCause)) (x : ℕ × DeckCause) → Some (l, b) ≡ next_line t → turn_at (n == 20001) m (n, l) ≡ Err x
+    → left_lines so m n t ≡ whole → whole ≡ Err x
+line_stops so m n t l b whole x h e w =
+    sym w ∙ ap (ok_as (λ rest. so ++ rest)) (ap (deck_lines m) (numbered_some n t l b h) ∙ lines_step m n l (numbered (n + 1) (lines b)) ∙ ap (λ r. r >>= λ (t : Turn). ok_as (λ rest. t.lines ++ rest) (deck_lines t.mode (numbered (n + 1) (lines b)))) e)
+
+pub line_refused : (so : List (ℕ × DeckLine)) (m : Mode) (n : ℕ) (t l b : List ℕ) (whole : Result (List (ℕ × DeckLine)) (ℕ × DeckCause)) (x : DeckRefusal) → Some (l, b) ≡ next_line t → Refused (turn_at (n == 20001) m (n, l)) x
+    → left_lines so m n t ≡ whole → Refused whole x
+line_refused so m n t l b whole (At k c) h e w = line_stops so m n t l b whole (k, c) h e w
+line_refused so m n t l b whole NoMemory h e w = tt
+
+pub lines_done : (so : List (ℕ × DeckLine)) (m : Mode) (n : ℕ) (t : List ℕ) (whole : Result (List (ℕ × DeckLine)) (ℕ × DeckCause)) → None ≡ next_line t → left_lines so m n t ≡ whole → whole ≡ ok_as (λ rest. so ++ rest) (ended m)
+lines_done so m n t whole h w = sym w ∙ ap (ok_as (λ rest. so ++ rest)) (ap (deck_lines m) (numbered_none n t h) ∙ lines_end m)
+
+-- before the first line
+nothing_before : (r : Result (List (ℕ × DeckLine)) (ℕ × DeckCause)) → ok_as (λ rest. [] ++ rest) r ≡ r
+nothing_before (Ok rest) = refl
+nothing_before (Err e) = refl
+
+pub first_stands : (m : BTreeMap (Bor (List ℕ)) ℕ) (us : List OwnedUnit) (ls : List (ℕ × OwnedLine)) → AreNames m us [] → us ≡ [] → ls ≡ [] → StandsBy m us false ls (record { units = []; powered = false })
+first_stands m us ls a u l = record {
+  named = a;
+  power = refl;
+  good = rw u tt;
+  inside = rw l tt;
+  deck = rw l (record { ranges = tt; times = tt });
+  last = rw l refl;
+}
+
+pub first_lines : (us : List OwnedUnit) (ls : List (ℕ × OwnedLine)) (m : Mode) (n : ℕ) (t : List ℕ) → ls ≡ [] → left_lines (said_lines us ls) m n t ≡ deck_lines m (numbered n (lines t))
+first_lines us ls m n t l = rw l (nothing_before (deck_lines m (numbered n (lines t))))
+
+-- the end of a text between statements, and in a section
+pub ended_none : (so : List (ℕ × DeckLine)) (c : Context) (s : Option Section) → s ≡ None → ok_as (λ rest. so ++ rest) (ended (mode_of s c)) ≡ Ok so
+ended_none so c s h = rw h (ap Ok (append-nil so))
+
+pub ended_some : (so : List (ℕ × DeckLine)) (c : Context) (s : Option Section) (t : Section) → s ≡ Some t → ok_as (λ rest. so ++ rest) (ended (mode_of s c)) ≡ Err (t.first, NoEnd)
+ended_some so c s t h = rw h refl
+
+pub still_few : (n : ℕ) → n ≤ 20000 → n + 1 ≢ 20001 → n + 1 ≤ 20000
+still_few n h e = grind (arith, h, e)

@@ -1,0 +1,11 @@
+use Rattle.std.proofs.Common.{◌≡◌, ◌≤◌, drop}
+use Rattle.std.specs.Prelude.{option_map}
+use Rattle.mc_deck.specs.Numbers.{capped, decimal_behind}
+use Rattle.mc_deck.proofs.field.decimal_number.Given as goal
+
+-- the digits that are left, behind the number so far, spell what all of them spell
+abbrev pub invariant-loop-digit : goal.invariant-loop-digit
+invariant-loop-digit l = record {
+  value : option_map capped (decimal_behind l.number (drop l.digit-index l.digits)) ≡ option_map capped (decimal_behind 0 l.digits);
+  bound : l.number ≤ 4294967296;
+}

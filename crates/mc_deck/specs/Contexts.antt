@@ -1,0 +1,17 @@
+-- What stands before a line, as the reader has it.
+-- This project's profile.
+use Rattle.std.specs.Prelude.{◌≡◌, ℕ, ◌<◌, List, length, option_map, IfSome}
+use Rattle.std.specs.Ordering.{nat_cmp}
+use Rattle.std.specs.Cmp.Lexicographic.{slice_cmp}
+use Rattle.std.specs.BTreeMap
+use Rattle.std.specs.BTreeMap.{BTreeMap}
+use denote.Ref.{Bor}
+use Rattle.mc_model.specs.Bytes.{lookup}
+use Rattle.mc_model.specs.Units.{UnitParts}
+use Rattle.mc_deck.specs.declared.unit.OwnedUnit.{OwnedUnit}
+use Rattle.mc_deck.specs.Lines.{unit_at}
+
+-- the map has the place of each name's unit
+pub record AreNames (m : BTreeMap (Bor (List ℕ)) ℕ) (us : List OwnedUnit) (named : List (List ℕ × UnitParts)) : Type 0 where
+  pub found : (q : Bor (List ℕ)) → lookup named q.now ≡ option_map (unit_at us) (BTreeMap.get (λ x y. slice_cmp nat_cmp x.now y.now) m q)
+  pub inside : (q : Bor (List ℕ)) → IfSome (BTreeMap.get (λ x y. slice_cmp nat_cmp x.now y.now) m q) (λ i. i < length us)

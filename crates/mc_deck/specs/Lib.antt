@@ -1,0 +1,11 @@
+pub use Rattle.mc_model.specs.DeckGrammar
+pub use Rattle.mc_model.specs.Generator
+pub mod Refused
+pub mod Numbers
+pub mod Lines
+pub mod Decks
+pub mod Contexts
+pub mod Statements
+pub mod Sections
+pub mod Readers
+pub mod Generated

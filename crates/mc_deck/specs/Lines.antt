@@ -1,0 +1,115 @@
+-- The lines of a deck as the code has them, and what they stand for.
+-- This project's profile.
+use Rattle.std.specs.Prelude.{◌≡◌, ℕ, ◌<◌, ◌≤◌, Bool, true, false, List, [], ◌∷◌, length, map, slice_index_or, Ok}
+use Rattle.std.specs.List.{AllByRecursion}
+use Rattle.mc_model.specs.Bytes.{zeros}
+use Rattle.mc_model.specs.Units.{UnitParts, FitsUnit, name_of}
+use Rattle.mc_model.specs.DeckGrammar
+use Rattle.mc_model.specs.DeckGrammar.{DeckLine}
+use Rattle.mc_unit.specs.Parts.{parts_of}
+use Rattle.mc_deck.specs.declared.unit.OwnedUnit.{OwnedUnit}
+use Rattle.mc_deck.specs.declared.line.Line.{Line}
+use Rattle.mc_deck.specs.declared.line.OwnedLine.{OwnedLine}
+
+-- ---- a line that is lent
+
+-- the parts of a unit
+abbrev pub owned_parts : OwnedUnit → UnitParts
+owned_parts u = record { number = u.number; code = u.code; init = u.init; dir = u.dir; fci = u.fci; aid = u.aid }
+
+-- a line as the grammar has it
+abbrev pub line_of : Line → DeckLine
+line_of Line.Format = DeckGrammar.Format
+line_of Line.Power = DeckGrammar.Power
+line_of Line.Named = DeckGrammar.Named
+line_of (Line.Load u fixed session) = DeckGrammar.Load (parts_of u) fixed session
+line_of (Line.Select a) = DeckGrammar.Select a
+line_of (Line.Delete a) = DeckGrammar.Delete a
+line_of (Line.Dump a) = DeckGrammar.Dump a
+line_of (Line.Apdu b) = DeckGrammar.Apdu b.now
+line_of (Line.Budget n) = DeckGrammar.Budget n
+line_of (Line.Cut k fill) = DeckGrammar.Cut k fill
+line_of (Line.Fail k) = DeckGrammar.Fail k
+line_of (Line.Poke at fill) = DeckGrammar.Poke at fill
+
+-- ---- a line that is kept
+
+-- what a place beyond the units is read as
+abbrev pub no_unit : OwnedUnit
+no_unit = record { number = []; code = []; init = []; dir = []; fci = []; aid = zeros 5 }
+
+-- the parts of the unit at a place
+abbrev pub unit_at : List OwnedUnit → ℕ → UnitParts
+unit_at us i = owned_parts (slice_index_or us i no_unit)
+
+-- a kept line as the grammar has it, where the named units are these
+abbrev pub said : List OwnedUnit → OwnedLine → DeckLine
+said us OwnedLine.Format = DeckGrammar.Format
+said us OwnedLine.Power = DeckGrammar.Power
+said us OwnedLine.Named = DeckGrammar.Named
+said us (OwnedLine.Load i fixed session) = DeckGrammar.Load (unit_at us i) fixed session
+said us (OwnedLine.Select a) = DeckGrammar.Select a
+said us (OwnedLine.Delete a) = DeckGrammar.Delete a
+said us (OwnedLine.Dump a) = DeckGrammar.Dump a
+said us (OwnedLine.Apdu b) = DeckGrammar.Apdu b
+said us (OwnedLine.Budget n) = DeckGrammar.Budget n
+said us (OwnedLine.Cut k fill) = DeckGrammar.Cut k fill
+said us (OwnedLine.Fail k) = DeckGrammar.Fail k
+said us (OwnedLine.Poke at fill) = DeckGrammar.Poke at fill
+
+-- the place of a kept line's unit is one of so many
+abbrev pub Inside : ℕ → OwnedLine → Type 0
+Inside n (OwnedLine.Load i fixed session) = i < n
+Inside n l = Unit {0}
+
+-- kept lines with their numbers
+abbrev pub said_lines : List OwnedUnit → List (ℕ × OwnedLine) → List (ℕ × DeckLine)
+said_lines us ls = map (λ l. (l.0, said us l.1)) ls
+
+-- ---- what is true of every deck
+
+-- a unit is within the limits, and has the name of its DIR record
+pub record GoodUnit (u : UnitParts) : Type 0 where
+  pub number : length u.number ≡ 8
+  pub limits : FitsUnit u.code u.init u.dir u.fci
+  pub name : name_of u.dir ≡ Ok u.aid
+
+-- a number from low to high
+abbrev pub Within : ℕ → ℕ → ℕ → Type 0
+Within low high n = (low ≤ n) × (n ≤ high)
+
+-- the fields of a line are in their ranges
+abbrev pub GoodLine : DeckLine → Type 0
+GoodLine DeckGrammar.Format = Unit {0}
+GoodLine DeckGrammar.Power = Unit {0}
+GoodLine DeckGrammar.Named = Unit {0}
+GoodLine (DeckGrammar.Load u fixed session) = GoodUnit u × (fixed ≤ 65535) × (session ≤ 65535)
+GoodLine (DeckGrammar.Select a) = Within 5 16 (length a)
+GoodLine (DeckGrammar.Delete a) = Within 5 16 (length a)
+GoodLine (DeckGrammar.Dump a) = Within 5 16 (length a)
+GoodLine (DeckGrammar.Apdu b) = 0 < length b
+GoodLine (DeckGrammar.Budget n) = Within 1 65536 n
+GoodLine (DeckGrammar.Cut k fill) = Within 1 4294967295 k × (length fill ≡ 8)
+GoodLine (DeckGrammar.Fail k) = Within 1 4294967295 k
+GoodLine (DeckGrammar.Poke at fill) = (at ≤ 16383) × (length fill ≡ 8)
+
+-- a line that may stand where a `power` stood before, or none
+abbrev pub Timely : Bool → DeckLine → Type 0
+Timely powered DeckGrammar.Format = powered ≡ false
+Timely powered (DeckGrammar.Poke at fill) = powered ≡ false
+Timely powered l = Unit {0}
+
+-- whether a `power` stood, after a line
+abbrev pub powered_by : Bool → DeckLine → Bool
+powered_by powered DeckGrammar.Power = true
+powered_by powered l = powered
+
+-- no line is late
+abbrev pub OnTime : Bool → List (ℕ × DeckLine) → Type 0
+OnTime powered [] = Unit {0}
+OnTime powered (l ∷ ls) = Timely powered l.1 × OnTime (powered_by powered l.1) ls
+
+-- the lines of a deck: their fields are in their ranges, and none is late
+pub record AreDeck (ls : List (ℕ × DeckLine)) : Type 0 where
+  pub ranges : AllByRecursion (λ l. GoodLine l.1) ls
+  pub times : OnTime false ls

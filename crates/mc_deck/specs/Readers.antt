@@ -1,0 +1,63 @@
+-- What was read so far, and what a line makes of it.
+-- This project's profile.
+use Rattle.std.specs.Prelude.{◌≡◌, ℕ, Bool, false, cond, List, [], ◌∷◌, ◌++◌, length, Option, Some, None, ok_or, Result, Ok}
+use Rattle.std.specs.List.{AllByRecursion}
+use Rattle.std.specs.BTreeMap.{BTreeMap}
+use denote.Ref.{Bor}
+use Rattle.mc_model.specs.Bytes.{lookup}
+use Rattle.mc_model.specs.Text.{◌>>=◌, ok_as, err_as, begins}
+use Rattle.mc_model.specs.DeckGrammar.{DeckLine, Context, Stated, Turn, Mode, Between, Within, deck_words, stated}
+use Rattle.mc_model.specs.declared.deck.DeckCause.{DeckCause}
+use Rattle.mc_model.specs.declared.deck.DeckCause.TheVariants.{BadLine}
+use Rattle.mc_deck.specs.declared.unit.OwnedUnit.{OwnedUnit}
+use Rattle.mc_deck.specs.declared.line.OwnedLine.{OwnedLine}
+use Rattle.mc_deck.specs.declared.section.Section.{Section}
+use Rattle.mc_deck.specs.declared.reading.Reader.{Reader}
+use Rattle.mc_deck.specs.Lines.{said_lines, owned_parts, powered_by, Inside, GoodUnit, AreDeck}
+use Rattle.mc_deck.specs.Contexts.{AreNames}
+use Rattle.mc_deck.specs.Sections.{section_of}
+
+-- the statement of a line's fields, none where they are skipped
+abbrev pub line_stated : Context → ℕ → List (List ℕ) → Result (Option Stated) (ℕ × DeckCause)
+line_stated c n [] = Ok None
+line_stated c n (word ∷ rest) = cond (begins 35 word) (Ok None) (err_as (λ e. (n, e)) (ok_or (lookup deck_words word) BadLine >>= λ w. ok_as Some (stated c n w rest)))
+
+-- whether a `power` stood, after lines
+abbrev pub powered_after : Bool → List (ℕ × DeckLine) → Bool
+powered_after powered [] = powered
+powered_after powered (l ∷ ls) = powered_after (powered_by powered l.1) ls
+
+-- the names, the units, the `power` and the lines stand for a context and for lines of a deck
+pub record StandsBy (m : BTreeMap (Bor (List ℕ)) ℕ) (us : List OwnedUnit) (powered : Bool) (ls : List (ℕ × OwnedLine)) (c : Context) : Type 0 where
+  pub named : AreNames m us c.units
+  pub power : powered ≡ c.powered
+  pub good : AllByRecursion (λ u. GoodUnit (owned_parts u)) us
+  pub inside : AllByRecursion (λ l. Inside (length us) l.1) ls
+  pub deck : AreDeck (said_lines us ls)
+  pub last : powered_after false (said_lines us ls) ≡ powered
+
+-- what was read so far stands for a context
+abbrev pub Stands : Reader → Context → Type 0
+Stands r c = StandsBy r.names.places r.names.units.items r.powered r.lines.items c
+
+-- the lines so far
+abbrev pub lines_of : Reader → List (ℕ × DeckLine)
+lines_of r = said_lines r.names.units.items r.lines.items
+
+-- between statements, or in a section that is open
+abbrev pub mode_of : Option Section → Context → Mode
+mode_of None c = Between c
+mode_of (Some s) c = Within (section_of s) c
+
+-- a turn was done to what was read so far
+pub record Took (old new : Reader) (section : Option Section) (t : Turn) : Type 0 where
+  pub context : Context
+  pub stands : Stands new context
+  pub lines : lines_of new ≡ lines_of old ++ t.lines
+  pub mode : t.mode ≡ mode_of section context
+
+-- a line's turn was done
+pub record Turned (old new : Reader) (section : Option Section) (r : Result Turn (ℕ × DeckCause)) : Type 0 where
+  pub turn : Turn
+  pub is : r ≡ Ok turn
+  pub took : Took old new section turn

@@ -1,0 +1,18 @@
+-- What a refusal says of a text.
+-- This project's profile.
+use Rattle.std.specs.Prelude.{◌≡◌, ℕ, Result, Err, ⊤}
+use Rattle.mc_model.specs.declared.deck.DeckCause.{DeckCause}
+use Rattle.mc_deck.specs.declared.refusal.DeckRefusal.{DeckRefusal}
+use Rattle.mc_deck.specs.declared.refusal.DeckRefusal
+use Rattle.mc_deck.specs.declared.refusal.Fault.{Fault}
+use Rattle.mc_deck.specs.declared.refusal.Fault
+
+-- the refusal is the one of the definition, or for want of memory
+abbrev pub Refused : {A : Type 0} → Result A (ℕ × DeckCause) → DeckRefusal → Type 0
+Refused r (DeckRefusal.TheVariants.At n c) = r ≡ Err (n, c)
+Refused r DeckRefusal.TheVariants.NoMemory = ⊤
+
+-- the same of a statement, without its line
+abbrev pub Faulty : {A : Type 0} → Result A DeckCause → Fault → Type 0
+Faulty r (Fault.TheVariants.Cause c) = r ≡ Err c
+Faulty r Fault.TheVariants.NoMemory = ⊤

@@ -1,0 +1,24 @@
+-- Sections as the code has them, and what they stand for.
+-- This project's profile.
+use Rattle.std.specs.Prelude.{ℕ, List, Result}
+use Rattle.mc_model.specs.Text.{err_as}
+use Rattle.mc_model.specs.Units.{UnitParts}
+use Rattle.mc_model.specs.DeckGrammar
+use Rattle.mc_model.specs.Assembly.{assembled_lines}
+use Rattle.mc_model.specs.DeckGrammar.{section_program, unit_within}
+use Rattle.mc_model.specs.declared.deck.DeckCause.{DeckCause}
+use Rattle.mc_model.specs.declared.deck.DeckCause.TheVariants.{Asm, Unit}
+use Rattle.mc_asm.specs.Passes.{numbered_lines}
+use Rattle.mc_deck.specs.declared.section.Section.{Section}
+
+-- a section as the grammar has it
+abbrev pub section_of : Section → DeckGrammar.Section
+section_of s = record { first = s.first; name = s.name.now; aid = s.aid; lines = numbered_lines s.lines.items }
+
+-- a made unit within the limits, refused at line n
+abbrev pub unit_judged : ℕ → UnitParts → Result UnitParts (ℕ × DeckCause)
+unit_judged n u = err_as (λ e. (n, Unit e)) (unit_within u)
+
+-- the code of the lines of a section
+abbrev pub section_code : List (ℕ × List ℕ) → Result (List ℕ) (ℕ × DeckCause)
+section_code ls = err_as (λ e. (e.0, Asm e.1)) (assembled_lines (section_program ls))

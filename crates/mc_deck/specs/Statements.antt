@@ -1,0 +1,77 @@
+-- Statements as the code has them, and what they stand for.
+-- This project's profile.
+use Rattle.std.specs.Prelude.{◌≡◌, ℕ, ◌<◌, ◌≤◌, Bool, true, false, List, [], length, take, drop}
+use Rattle.mc_model.specs.DeckGrammar
+use Rattle.mc_model.specs.DeckGrammar.{Context, Stated, Says, Opens, with_unit}
+use Rattle.mc_deck.specs.declared.unit.OwnedUnit.{OwnedUnit}
+use Rattle.mc_deck.specs.declared.line.OwnedLine.{OwnedLine}
+use Rattle.mc_deck.specs.declared.names.Names.{Names}
+use Rattle.mc_deck.specs.declared.statement.Keyword.{Keyword}
+use Rattle.mc_deck.specs.declared.statement.Statement.{Statement}
+use Rattle.mc_deck.specs.Lines.{said, owned_parts, GoodUnit, Within}
+use Rattle.mc_deck.specs.Contexts.{AreNames}
+
+-- the word of a statement as the grammar has it
+abbrev pub keyword_of : Keyword → DeckGrammar.Word
+keyword_of Keyword.Format = DeckGrammar.FormatWord
+keyword_of Keyword.Power = DeckGrammar.PowerWord
+keyword_of Keyword.Unit = DeckGrammar.UnitWord
+keyword_of Keyword.App = DeckGrammar.AppWord
+keyword_of Keyword.Load = DeckGrammar.LoadWord
+keyword_of Keyword.Select = DeckGrammar.SelectWord
+keyword_of Keyword.Delete = DeckGrammar.DeleteWord
+keyword_of Keyword.Dump = DeckGrammar.DumpWord
+keyword_of Keyword.Apdu = DeckGrammar.ApduWord
+keyword_of Keyword.Budget = DeckGrammar.BudgetWord
+keyword_of Keyword.Cut = DeckGrammar.CutWord
+keyword_of Keyword.Fail = DeckGrammar.FailWord
+keyword_of Keyword.Poke = DeckGrammar.PokeWord
+
+-- the words of the statements in two parts
+abbrev pub first_words : List (List ℕ × DeckGrammar.Word)
+first_words = take 7 DeckGrammar.deck_words
+
+abbrev pub second_words : List (List ℕ × DeckGrammar.Word)
+second_words = drop 7 DeckGrammar.deck_words
+
+-- the named units and the `power` that stands before are those of the context
+pub record InContext (names : Names) (powered : Bool) (c : Context) : Type 0 where
+  pub named : AreNames names.places names.units.items c.units
+  pub power : powered ≡ c.powered
+
+-- what a statement at line n says, as the grammar has it
+abbrev pub stated_of : List OwnedUnit → Context → ℕ → Statement → Stated
+stated_of us c n (Statement.Line l) = Says (said us l) c
+stated_of us c n Statement.Power = Says DeckGrammar.Power (record c { powered = true })
+stated_of us c n (Statement.Unit name u) = Says DeckGrammar.Named (with_unit c name.now (owned_parts u))
+stated_of us c n (Statement.Section name aid) = Opens (record { first = n; name = name.now; aid = aid; lines = [] }) c
+
+-- the fields of a kept line are in their ranges
+abbrev pub Ranged : OwnedLine → Type 0
+Ranged OwnedLine.Format = Unit {0}
+Ranged OwnedLine.Power = Unit {0}
+Ranged OwnedLine.Named = Unit {0}
+Ranged (OwnedLine.Load i fixed session) = (fixed ≤ 65535) × (session ≤ 65535)
+Ranged (OwnedLine.Select a) = Within 5 16 (length a)
+Ranged (OwnedLine.Delete a) = Within 5 16 (length a)
+Ranged (OwnedLine.Dump a) = Within 5 16 (length a)
+Ranged (OwnedLine.Apdu b) = 0 < length b
+Ranged (OwnedLine.Budget n) = Within 1 65536 n
+Ranged (OwnedLine.Cut k fill) = Within 1 4294967295 k × (length fill ≡ 8)
+Ranged (OwnedLine.Fail k) = Within 1 4294967295 k
+Ranged (OwnedLine.Poke at fill) = (at ≤ 16383) × (length fill ≡ 8)
+
+-- a kept line that is no `power`, where so many units were named, and a `power` stood or none
+abbrev pub InRange : ℕ → Bool → OwnedLine → Type 0
+InRange n powered OwnedLine.Format = powered ≡ false
+InRange n powered OwnedLine.Power = ⊥
+InRange n powered (OwnedLine.Load i fixed session) = i < n
+InRange n powered (OwnedLine.Poke at fill) = powered ≡ false
+InRange n powered l = Unit {0}
+
+-- what a statement says is in its ranges
+abbrev pub Fits : ℕ → Bool → Statement → Type 0
+Fits n powered (Statement.Line l) = Ranged l × InRange n powered l
+Fits n powered Statement.Power = Unit {0}
+Fits n powered (Statement.Unit name u) = GoodUnit (owned_parts u)
+Fits n powered (Statement.Section name aid) = Unit {0}

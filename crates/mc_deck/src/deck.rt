@@ -1,0 +1,48 @@
+use crate::line::{Line, OwnedLine, lent_line};
+use crate::unit::OwnedUnit;
+use std::marker::Model;
+
+/// A deck, seen as the list of its lines, each with its number. Lines that are skipped are not in it, and they count in the
+/// numbers of the others. A deck owns all that its lines speak of.
+#[derive(Drop)]
+pub struct Deck {
+    pub units: Vec<OwnedUnit>,
+    pub lines: Vec<(u32, OwnedLine)>,
+}
+
+impl Model for Deck {
+    ghost use Rattle.std.specs.Prelude.{ℕ, List};
+    ghost use Rattle.mc_model.specs.DeckGrammar.{DeckLine};
+
+    ghost Value = { List (ℕ × DeckLine) };
+
+    ghost use Rattle.mc_deck.specs.Decks.{deck_view, KeepsDeck};
+
+    ghost view = { deck_view };
+
+    ghost invariant = { KeepsDeck };
+}
+
+impl Deck {
+    ghost use Rattle.std.specs.Prelude.{◌≡◌, ◌<◌, length, slice_get, Some};
+    ghost use Rattle.mc_deck.specs.Lines.{line_of, AreDeck, GoodLine};
+
+    /// How many lines the deck has.
+    pub fn len(&self) -> usize
+        ensures value { result ≡ length self.now }
+        ensures deck { AreDeck self.now }
+    {
+        self.lines.len()
+    }
+
+    /// The line at a place from 0 on, and its number.
+    pub fn line(&self, i: usize) -> (u32, Line<'_>)
+        requires { i < length self.now }
+        ensures line { slice_get self.now i ≡ Some (result.0, line_of result.1) }
+        ensures good { GoodLine (line_of result.1) }
+        ensures deck { AreDeck self.now }
+    {
+        let (number, line) = &self.lines[i];
+        (*number, lent_line(self.units.as_slice(), line))
+    }
+}

@@ -1,0 +1,123 @@
+// The kinds of fields.
+ghost use Rattle.std.specs.Prelude.{◌≡◌, ◌+◌, ◌*◌, ◌<◌, ◌≤◌, ◌^◌, length, Ok, Err, IfOk, IfErr, MatchResult, option_map};
+ghost use Rattle.mc_model.specs.Text.{decimal_number, every, is_digit, is_name, is_name_character};
+ghost use Rattle.mc_model.specs.DeckGrammar.{aid_field, bytes_field, fill_field, hex_field, name_field, number_field};
+ghost use Rattle.mc_deck.specs.Refused.{Faulty};
+ghost use Rattle.mc_deck.specs.Numbers.{capped};
+
+use crate::refusal::Fault;
+use hex::FromHexError;
+use mc_base::{Aid, Word};
+use mc_model::DeckCause;
+use std::alloc::Global;
+
+// Letters, digits and the underscore.
+fn is_name_character(character: u8) -> bool
+    ensures { result ≡ is_name_character character }
+{
+    character.is_ascii_alphanumeric() || character == b'_'
+}
+
+// Whether all characters may stand in a name.
+fn has_name_characters(text: &[u8]) -> bool
+    ensures { result ≡ every is_name_character text.now }
+{
+    for character in text {
+        if !is_name_character(*character) {
+            return false;
+        }
+    }
+    true
+}
+
+/// A name: 1 to 32 letters, digits and underscores.
+pub fn name_field(text: &[u8]) -> Result<&[u8], DeckCause>
+    ensures value { MatchResult result (λ t. name_field text.now ≡ Ok t.now) (λ e. name_field text.now ≡ Err e) }
+    ensures same { IfOk result (λ t. t.now ≡ text.now) }
+{
+    if text.is_empty() || text.len() > 32 || !has_name_characters(text) {
+        return Err(DeckCause::BadName);
+    }
+    Ok(text)
+}
+
+/// The bytes that hexadecimal digits in either case spell.
+#[tactic(auto, using(crate::proofs::HexLemmas::spelled, crate::proofs::HexLemmas::misspelled, crate::proofs::HexLemmas::some_bytes))]
+pub fn hex_field(alloc: Global, text: &[u8]) -> Result<Vec<u8>, Fault>
+    ensures some { IfOk result (λ v. 0 < length text.now → 0 < length v.items) }
+    ensures value { MatchResult result (λ v. hex_field text.now ≡ Ok v.items) (λ e. Faulty (hex_field text.now) e) }
+{
+    match hex::decode(alloc, text) {
+        Ok(bytes) => Ok(bytes),
+        Err(FromHexError::OutOfMemory) => Err(Fault::NoMemory),
+        Err(_) => Err(Fault::Cause(DeckCause::BadHex)),
+    }
+}
+
+/// A name of an application: 5 to 16 bytes.
+pub fn aid_field(alloc: Global, text: &[u8]) -> Result<Aid, Fault>
+    ensures value { MatchResult result (λ a. aid_field text.now ≡ Ok a) (λ e. Faulty (aid_field text.now) e) }
+    ensures low { IfOk result (λ a. 5 ≤ length a) }
+    ensures high { IfOk result (λ a. length a ≤ 16) }
+{
+    let bytes = hex_field(alloc, text)?;
+    match Aid::new(bytes.as_slice()) {
+        Some(aid) => Ok(aid),
+        None => Err(Fault::Cause(DeckCause::OutOfRange)),
+    }
+}
+
+/// A word of eight bytes.
+pub fn fill_field(alloc: Global, text: &[u8]) -> Result<Word, Fault>
+    ensures { MatchResult result (λ w. fill_field text.now ≡ Ok w) (λ e. Faulty (fill_field text.now) e) }
+{
+    let bytes = hex_field(alloc, text)?;
+    match bytes.as_slice() {
+        [a, b, c, d, e, f, g, h] => Ok([*a, *b, *c, *d, *e, *f, *g, *h]),
+        _ => Err(Fault::Cause(DeckCause::OutOfRange)),
+    }
+}
+
+// A number that is greater than every field may be.
+const LIMIT: u64 = 4294967296;
+
+// The number that decimal digits spell behind others.
+fn with_digit(number: u64, digit: u8) -> u64
+    requires number { number ≤ 4294967296 }
+    requires digit { digit < 10 }
+    ensures { result ≡ capped (number * 10 + digit) }
+{
+    LIMIT.min(number * 10 + digit as u64)
+}
+
+// The number that decimal digits spell.
+fn decimal_number(digits: &[u8]) -> Option<u64>
+    ensures { result ≡ option_map capped (decimal_number digits.now) }
+{
+    if digits.is_empty() {
+        return None;
+    }
+    let mut number = 0;
+    for digit in digits {
+        if !digit.is_ascii_digit() {
+            return None;
+        }
+        number = with_digit(number, *digit - b'0');
+    }
+    Some(number)
+}
+
+/// A decimal number from `low` to `high`; leading zeros are good.
+pub fn number_field(text: &[u8], low: u32, high: u32) -> Result<u32, DeckCause>
+    ensures value { result ≡ number_field low high text.now }
+    ensures low { IfOk result (λ n. low ≤ n) }
+    ensures high { IfOk result (λ n. n ≤ high) }
+{
+    let Some(number) = decimal_number(text) else {
+        return Err(DeckCause::BadNumber);
+    };
+    if number < low as u64 || number > high as u64 {
+        return Err(DeckCause::OutOfRange);
+    }
+    Ok(number as u32)
+}

@@ -1,0 +1,22 @@
+#![tactic(auto)]
+
+// Decks: the text of a play read line by line, and the deck that a number generates.
+mod bytes;
+mod deck;
+mod field;
+mod generator;
+mod line;
+mod names;
+mod reading;
+mod refusal;
+mod section;
+mod statement;
+mod text;
+mod unit;
+
+pub use deck::Deck;
+pub use generator::generate;
+pub use line::Line;
+pub use mc_model::DeckCause;
+pub use reading::read_deck;
+pub use refusal::DeckRefusal;
