@@ -3,7 +3,7 @@ ghost use Rattle.std.specs.Prelude.{◌≡◌, ◌+◌, ◌<◌, ◌≤◌, ◌+
 ghost use Rattle.std.specs.Fmt.{signed_decimal};
 ghost use Rattle.arrayvec.specs.ArrayVec.{array_vec_len};
 ghost use Rattle.mc_model.specs.Code.{Shaped};
-ghost use Rattle.mc_model.specs.Listing.{text_of, hex_digit, hex_word, condition_name, register_name, address_text, address_line, arguments_text, target_line};
+ghost use Rattle.mc_model.specs.Listing.{text_of, hex_digit, hex_word, condition_name, register_name, address_text, address_line, arguments_text, byte_line, target_line, words_line};
 ghost use Rattle.mc_isa.specs.Rows.{line_of, InRange};
 
 use crate::rows::{Operands, row_of};
@@ -154,22 +154,12 @@ fn put_operands(line: &mut Line, operands: Operands)
             put(line, b" ");
             put_byte(line, n);
         }
-        Operands::Bytes(a, b) => {
-            put(line, b" ");
-            put_byte(line, a);
-            put(line, b",");
-            put_byte(line, b);
-        }
+        Operands::Bytes(a, b) => put_bytes(line, a, b),
         Operands::Word(word) => {
             put(line, b" ");
             put_word(line, word);
         }
-        Operands::Words(v, w) => {
-            put(line, b" ");
-            put_word(line, v);
-            put(line, b",");
-            put_word(line, w);
-        }
+        Operands::Words(v, w) => put_words(line, v, w),
         Operands::Near { cond, d } => {
             put(line, b" ");
             put(line, condition(cond));
@@ -194,6 +184,28 @@ fn put_operands(line: &mut Line, operands: Operands)
             put_word(line, word);
         }
     }
+}
+
+// Two bytes.
+fn put_bytes(line: &mut Line, a: u8, b: u8)
+    requires { array_vec_len line.old ≤ 8 }
+    ensures { line.new.items ≡ byte_line line.old.items a ++ codes "," ++ decimal b }
+{
+    put(line, b" ");
+    put_byte(line, a);
+    put(line, b",");
+    put_byte(line, b);
+}
+
+// Two words.
+fn put_words(line: &mut Line, v: u16, w: u16)
+    requires { array_vec_len line.old ≤ 8 }
+    ensures { line.new.items ≡ words_line line.old.items v w }
+{
+    put(line, b" ");
+    put_word(line, v);
+    put(line, b",");
+    put_word(line, w);
 }
 
 // A condition and an address of code, nothing with condition 0.

@@ -135,10 +135,29 @@ sizes_in a =
       deny = p1p2 a;
     }
 
+-- the limits of an application in bytes: its code, its static bytes, its session bytes, its DIR or FCI
+abbrev pub most_code : ℕ
+most_code = 8192
+
+abbrev pub most_static : ℕ
+most_static = 4096
+
+abbrev pub most_session : ℕ
+most_session = 256
+
+abbrev pub most_record : ℕ
+most_record = 128
+
 -- sizes within the limits of an application
 abbrev pub fits_limits : Sizes → Bool
 fits_limits s =
-    nat_le 1 s.code && nat_le s.code 8192 && nat_le s.fixed 4096 && nat_le s.init s.fixed && nat_le s.session 256 && nat_le s.dir 128 && nat_le s.fci 128
+    nat_le 1 s.code
+    && nat_le s.code most_code
+    && nat_le s.fixed most_static
+    && nat_le s.init s.fixed
+    && nat_le s.session most_session
+    && nat_le s.dir most_record
+    && nat_le s.fci most_record
 
 -- `room` says where a load of some sizes finds room, if it does
 abbrev pub open_refusals : (Sizes → Option ℕ) → List (List ℕ × App) → ApduParts → List (ℕ × Bool)

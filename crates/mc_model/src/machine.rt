@@ -1,3 +1,6 @@
+ghost use Rattle.std.specs.Prelude.{◌≡◌};
+ghost use Rattle.mc_model.specs.Transcript.{abend_code};
+
 /// How a chain of applications ends without a reply.
 #[derive(Clone, Copy, Debug, PartialEq, Eq)]
 pub enum Abend {
@@ -21,4 +24,24 @@ pub enum Abend {
     A09,
     /// The access list denies the primitive.
     A0A,
+}
+
+impl Abend {
+    /// The number of the abend, 1 to 10, as a transcript prints it.
+    pub fn code(&self) -> u8
+        ensures { result ≡ abend_code self.now }
+    {
+        match self {
+            Abend::A01 => 1,
+            Abend::A02 => 2,
+            Abend::A03 => 3,
+            Abend::A04 => 4,
+            Abend::A05 => 5,
+            Abend::A06 => 6,
+            Abend::A07 => 7,
+            Abend::A08 => 8,
+            Abend::A09 => 9,
+            Abend::A0A => 10,
+        }
+    }
 }

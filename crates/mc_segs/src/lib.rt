@@ -3,7 +3,6 @@
 // The segments of a running application: its frame, the public bytes of its chain, and the accesses to both.
 mod access;
 mod bytes;
-mod code;
 mod ends;
 mod frame;
 mod protection;
@@ -12,7 +11,6 @@ mod session;
 mod stack;
 
 pub use access::{load, resolve, store};
-pub use code::AbendCode;
 pub use ends::{Halt, Next};
 pub use frame::Frame;
 pub use mc_model::Abend;
