@@ -18,4 +18,4 @@ pub use laws::a_listing_is_assembled;
 pub use line::NumberedLine;
 pub use listing::list;
 pub use mc_model::{AsmCause, DecodeFault};
-pub use refusal::{AsmRefusal, ListRefusal, asm_word, decode_word};
+pub use refusal::{AsmRefusal, ListRefusal};

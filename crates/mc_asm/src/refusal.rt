@@ -1,6 +1,3 @@
-ghost use Rattle.std.specs.Prelude.{◌≡◌};
-ghost use Rattle.mc_asm.specs.CauseWords.{asm_word, decode_word};
-
 use mc_model::{AsmCause, DecodeFault};
 use std::alloc::AllocError;
 use thiserror::Error;
@@ -46,31 +43,5 @@ impl From<AllocError> for ListRefusal {
 
     fn from(_error: AllocError) -> Self {
         ListRefusal::NoMemory
-    }
-}
-
-/// The word that is printed of the cause of a refused line.
-pub fn asm_word(cause: AsmCause) -> &'static [u8]
-    ensures { result.now ≡ asm_word cause }
-{
-    match cause {
-        AsmCause::UnknownWord => b"UnknownWord",
-        AsmCause::BadOperands => b"BadOperands",
-        AsmCause::BadNumber => b"BadNumber",
-        AsmCause::OutOfRange => b"OutOfRange",
-        AsmCause::LabelTwice => b"LabelTwice",
-        AsmCause::TooLong => b"TooLong",
-        AsmCause::UnknownLabel => b"UnknownLabel",
-        AsmCause::FarBranch => b"FarBranch",
-    }
-}
-
-/// The word that is printed where no instruction stands.
-pub fn decode_word(fault: DecodeFault) -> &'static [u8]
-    ensures { result.now ≡ decode_word fault }
-{
-    match fault {
-        DecodeFault::Undefined => b"Undefined",
-        DecodeFault::Past => b"Past",
     }
 }

@@ -23,6 +23,7 @@ pub mod Items
 pub mod Manager
 pub mod Play
 pub mod Transcript
+pub mod Words
 pub mod Family
 pub mod Given
 pub mod Solo

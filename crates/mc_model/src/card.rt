@@ -1,3 +1,6 @@
+ghost use Rattle.std.specs.Prelude.{◌≡◌};
+ghost use Rattle.mc_model.specs.Transcript.{cause_text};
+
 /// Why the words of a device are no card.
 #[derive(Clone, Copy, Debug, PartialEq, Eq)]
 pub enum Cause {
@@ -35,4 +38,19 @@ pub struct Sizes {
     pub dir: u16,
     pub fci: u16,
     pub deny: u16,
+}
+
+impl Cause {
+    /// The word that a transcript prints.
+    pub fn word(&self) -> &'static str
+        ensures { result.now ≡ cause_text self.now }
+    {
+        match self {
+            Cause::BadJournal => "BadJournal",
+            Cause::NoRoot => "NoRoot",
+            Cause::BadBlock => "BadBlock",
+            Cause::BadRecord => "BadRecord",
+            Cause::BadChain => "BadChain",
+        }
+    }
 }

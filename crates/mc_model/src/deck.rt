@@ -1,3 +1,6 @@
+ghost use Rattle.std.specs.Prelude.{◌≡◌};
+ghost use Rattle.mc_model.specs.Words.{deck_word};
+
 use crate::assembler::AsmCause;
 use crate::unit::UnitRefusal;
 
@@ -16,4 +19,26 @@ pub enum DeckCause {
     NoEnd,
     Unit(UnitRefusal),
     Asm(AsmCause),
+}
+
+impl DeckCause {
+    /// The word that a refusal prints: that of the unit's or the assembler's cause where it has one.
+    pub fn word(&self) -> &'static str
+        ensures { result.now ≡ deck_word self.now }
+    {
+        match self {
+            DeckCause::TooManyLines => "TooManyLines",
+            DeckCause::BadLine => "BadLine",
+            DeckCause::BadName => "BadName",
+            DeckCause::BadHex => "BadHex",
+            DeckCause::BadNumber => "BadNumber",
+            DeckCause::OutOfRange => "OutOfRange",
+            DeckCause::NameTwice => "NameTwice",
+            DeckCause::UnknownName => "UnknownName",
+            DeckCause::LateLine => "LateLine",
+            DeckCause::NoEnd => "NoEnd",
+            DeckCause::Unit(cause) => cause.word(),
+            DeckCause::Asm(cause) => cause.word(),
+        }
+    }
 }

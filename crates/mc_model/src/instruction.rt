@@ -1,3 +1,6 @@
+ghost use Rattle.std.specs.Prelude.{◌≡◌};
+ghost use Rattle.mc_model.specs.Words.{decode_word};
+
 /// Why no instruction stands at a place of code.
 #[derive(Clone, Copy, Debug, PartialEq, Eq)]
 pub enum DecodeFault {
@@ -59,4 +62,16 @@ pub enum Ins {
     Andn { tag: u8, off: i16, n: u8 },
     Orn { tag: u8, off: i16, n: u8 },
     Xorn { tag: u8, off: i16, n: u8 },
+}
+
+impl DecodeFault {
+    /// The word that a refusal prints.
+    pub fn word(&self) -> &'static str
+        ensures { result.now ≡ decode_word self.now }
+    {
+        match self {
+            DecodeFault::Undefined => "Undefined",
+            DecodeFault::Past => "Past",
+        }
+    }
 }

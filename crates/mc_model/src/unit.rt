@@ -1,3 +1,6 @@
+ghost use Rattle.std.specs.Prelude.{◌≡◌};
+ghost use Rattle.mc_model.specs.Words.{unit_word};
+
 /// Why bytes are no load unit. The first that holds counts, in this order.
 #[derive(Clone, Copy, Debug, PartialEq, Eq)]
 pub enum UnitRefusal {
@@ -16,4 +19,22 @@ pub enum UnitRefusal {
 pub enum AidFault {
     NoAid,
     AidLength,
+}
+
+impl UnitRefusal {
+    /// The word that a refusal prints.
+    pub fn word(&self) -> &'static str
+        ensures { result.now ≡ unit_word self.now }
+    {
+        match self {
+            UnitRefusal::Short => "Short",
+            UnitRefusal::NoCode => "NoCode",
+            UnitRefusal::TooLarge => "TooLarge",
+            UnitRefusal::Signed => "Signed",
+            UnitRefusal::Enciphered => "Enciphered",
+            UnitRefusal::Tail => "Tail",
+            UnitRefusal::NoAid => "NoAid",
+            UnitRefusal::AidLength => "AidLength",
+        }
+    }
 }
