@@ -19,3 +19,4 @@ pub use line::NumberedLine;
 pub use listing::list;
 pub use mc_model::{AsmCause, DecodeFault};
 pub use refusal::{AsmRefusal, ListRefusal};
+pub use text::{cut_blank, next_line};

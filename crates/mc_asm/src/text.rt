@@ -60,6 +60,7 @@ pub fn cut(text: &[u8], character: u8) -> (&[u8], Option<&[u8]>)
 pub fn cut_blank(text: &[u8]) -> (&[u8], Option<&[u8]>)
     ensures front { result.0.now ≡ (first_cut is_blank text.now).0 }
     ensures behind { option_map (λ rest. rest.now) result.1 ≡ (first_cut is_blank text.now).1 }
+    ensures shorter { IfSome result.1 (λ rest. length rest.now < length text.now) }
 {
     cut_at(text, blank_place(text))
 }

@@ -18,9 +18,9 @@ use crate::names::{Names, give_name, no_names};
 use crate::refusal::{DeckRefusal, Fault};
 use crate::section::{Section, ends_section, section_unit};
 use crate::statement::{Statement, keyword_named, read_statement};
-use crate::text::{fields, next_line};
+use crate::text::fields;
 use crate::unit::OwnedUnit;
-use mc_asm::NumberedLine;
+use mc_asm::{NumberedLine, next_line};
 use mc_model::DeckCause;
 use std::alloc::Global;
 
