@@ -50,10 +50,6 @@ turns_done so n x whole h w =
     let e : 4009 - n ≡ 0 = omega (arith, h) in
     sym (append-nil so) ∙ sym (ap (λ k. so ++ numbered n (turns k x)) e) ∙ w
 
--- four lines more
-pub four_more : (so s t u v : List (ℕ × DeckLine)) (a b d e : ℕ × DeckLine) → s ≡ so ++ a ∷ [] → t ≡ s ++ b ∷ [] → u ≡ t ++ d ∷ [] → v ≡ u ++ e ∷ [] → v ≡ so ++ a ∷ b ∷ d ∷ e ∷ []
-four_more so s t u v a b d e f g h i = rw (i, h, g, f) (append_assoc ((so ++ a ∷ []) ++ b ∷ []) (d ∷ []) (e ∷ []) ∙ append_assoc (so ++ a ∷ []) (b ∷ []) (d ∷ e ∷ []) ∙ append_assoc so (a ∷ []) (b ∷ d ∷ e ∷ []))
-
 -- a line behind others
 pub inside_behind : (ls ks : List (ℕ × OwnedLine)) (n : ℕ) (l : OwnedLine) → ks ≡ ls ++ (n, l) ∷ [] → Inside 3 l → AllByRecursion (λ l. Inside 3 l.1) ls → AllByRecursion (λ (l : ℕ × OwnedLine). Inside 3 l.1) ks
 inside_behind ls ks n l e h a = rw e (all_more (λ (l : ℕ × OwnedLine). Inside 3 l.1) ls (n, l) a h)

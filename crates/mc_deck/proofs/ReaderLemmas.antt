@@ -1,5 +1,5 @@
 -- What was read so far, line by line.
-use Rattle.std.proofs.Common.{◌≡◌, ℕ, zero, suc, ◌<◌, Bool, true, false, cond, List, [], ◌∷◌, ◌++◌, length, take, Bor, Option, Some, None, Result, Ok, Err, append-nil, arith, refl, sym, ap, subst, ◌∙◌}
+use Rattle.std.proofs.Common.{◌≡◌, ℕ, zero, suc, ◌<◌, Bool, true, false, cond, List, [], ◌∷◌, ◌++◌, length, take, Bor, Option, Some, None, Result, Ok, Err, arith, refl, sym, ap, subst, ◌∙◌}
 use Rattle.std.specs.Prelude.{ok_or}
 use Rattle.std.specs.BTreeMap.{BTreeMap}
 use Rattle.std.specs.List.{AllByRecursion}
@@ -14,9 +14,8 @@ use Rattle.mc_deck.specs.declared.line.OwnedLine.{OwnedLine}
 use Rattle.mc_deck.specs.Lines.{said, said_lines, unit_at, owned_parts, powered_by, Inside, GoodLine, GoodUnit, Timely, OnTime, AreDeck}
 use Rattle.mc_deck.specs.Statements.{Ranged, InRange}
 use Rattle.mc_deck.specs.Contexts.{AreNames}
-use Rattle.mc_deck.specs.Readers.{line_stated, lines_of, powered_after, Stands, StandsBy, Took}
+use Rattle.mc_deck.specs.Readers.{line_stated, powered_after, Stands, StandsBy, Took}
 use Rattle.mc_deck.specs.declared.reading.Reader.{Reader}
-use Rattle.mc_deck.specs.declared.section.Section.{Section}
 use Rattle.mc_deck.proofs.LineLemmas.{unit_front, one_longer}
 
 -- ---- fields
@@ -226,7 +225,7 @@ stands_unit m k us vs u p ls ks c n name d e g a s =
 
 -- ---- turns
 
--- a line that a statement says, a `power`, and a unit that is named
+-- a line that a statement says, and a `power`
 pub took_line : (old new : Reader) (c : Context) (n : ℕ) (l : OwnedLine) → Stands old c → Ranged l → InRange (length old.names.units.items) old.powered l
     → new.names.units.items ≡ old.names.units.items → new.names.places ≡ old.names.places → new.powered ≡ old.powered → new.lines.items ≡ old.lines.items ++ (n, l) ∷ []
     → Took old new None (turn_of n (Says (said old.names.units.items l) c))
@@ -245,19 +244,6 @@ took_power old new c n s us m p ls = record {
   stands = rw (us, m, p) (stands_power old.names.places old.names.units.items old.powered old.lines.items new.lines.items c n ls s);
   lines = rw (us, ls) (said_more old.names.units.items old.lines.items n OwnedLine.Power);
   mode = refl;
-}
-
-pub took_unit : (old new : Reader) (c : Context) (n : ℕ) (name : List ℕ) (u : OwnedUnit) → Stands new (with_unit c name (owned_parts u)) → lines_of new ≡ lines_of old ++ (n, DeckGrammar.Named) ∷ []
-    → Took old new None (turn_of n (Says DeckGrammar.Named (with_unit c name (owned_parts u))))
-took_unit old new c n name u s ls = record { context = with_unit c name (owned_parts u); stands = s; lines = ls; mode = refl }
-
-pub took_section : (old : Reader) (c : Context) (n : ℕ) (s : Section) → Stands old c → s.lines.items ≡ [] → s.first ≡ n
-    → Took old old (Some s) (turn_of n (Opens (record { first = n; name = s.name.now; aid = s.aid; lines = [] }) c))
-took_section old c n s h e f = record {
-  context = c;
-  stands = h;
-  lines = sym (append-nil (lines_of old));
-  mode = rw (e, f) refl;
 }
 
 -- a line between statements, by its statement
