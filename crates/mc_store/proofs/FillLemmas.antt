@@ -51,9 +51,6 @@ parts-step at j (y ∷ ys) some few fits least =
           ∙ ap (λ (l : List (ℕ × List ℕ)). (at, take j b) ∷ l) (words-fuel (length ys) (length (drop j b)) (at + j) (drop j b) (omega (arith, left)) (omega arith))
     ]
 
-pub no-parts : (at : ℕ) (b : List ℕ) → b ≡ [] → word_parts at b ≡ []
-no-parts at b e = ap (λ (l : List ℕ). word_parts at l) e
-
 -- the items of a piece
 abbrev pub piece_items : Site → Part → ℕ → List ℕ → List BankItem
 piece_items s p at b = map (λ c. Piece s p c.0 c.1) (word_parts at b)
@@ -79,18 +76,12 @@ pub record Leads {S : Type 0} (one : S → BankItem → Answer → S → Type 0)
   pub rest : (a : Answer) (e : S) → InOrder one now left a e → InOrder one start all a e
 
 module _ {S : Type 0} (one : S → BankItem → Answer → S → Type 0) where
-  pub leads-start : (start : S) (all : List BankItem) → Leads one start all start all
-  leads-start start all = record { rest = λ a e h. h }
-
   pub leads-on : (start now next : S) (all left rest : List BankItem) (i : BankItem) → Leads one start all now left → left ≡ i ∷ rest → one now i (Ok tt) next → Leads one start all next rest
   leads-on start now next all left rest i leads is did =
       record { rest = λ a e h. leads.rest a e (subst (λ (l : List BankItem). InOrder one now l a e) (sym is) (inl (next, did, h))) }
 
   pub leads-stop : (start now e : S) (all left rest : List BankItem) (i : BankItem) (s : Stop) → Leads one start all now left → left ≡ i ∷ rest → one now i (Err s) e → InOrder one start all (Err s) e
   leads-stop start now e all left rest i s leads is did = leads.rest (Err s) e (subst (λ (l : List BankItem). InOrder one now l (Err s) e) (sym is) (inr (s, did, refl)))
-
-  pub leads-end : (start now : S) (all left : List BankItem) → Leads one start all now left → left ≡ [] → InOrder one start all (Ok tt) now
-  leads-end start now all left leads is = leads.rest (Ok tt) now (subst (λ (l : List BankItem). InOrder one now l (Ok tt) now) (sym is) refl)
 
 -- ---- one write
 
