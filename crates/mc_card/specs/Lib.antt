@@ -1,0 +1,5 @@
+pub use Rattle.mc_model.specs.Play
+pub use Rattle.mc_store.specs.Power
+pub mod Made
+pub mod Parts
+pub mod Ends
