@@ -3,3 +3,4 @@ pub use Rattle.mc_store.specs.Power
 pub mod Made
 pub mod Parts
 pub mod Ends
+pub mod Managing

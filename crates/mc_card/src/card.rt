@@ -4,23 +4,24 @@ ghost use Rattle.mc_model.specs.Orders.{answer_of};
 ghost use Rattle.mc_model.specs.Device.{Makes};
 ghost use Rattle.mc_model.specs.Chain.{Chain as ModelChain, turn_of};
 ghost use Rattle.mc_model.specs.Manager.{empty_seat, route};
+ghost use Rattle.mc_model.specs.Play.{status};
 ghost use Rattle.mc_bank.specs.Bank.{app_of};
+ghost use Rattle.mc_machine.specs.Turns.{outcome_value};
 ghost use Rattle.mc_store.specs.Power.{power_writes, power_answer, PowersUp};
 ghost use Rattle.mc_card.specs.Parts.{device_in, card_in, seat_in, due, IsUp, IsReady, RunsChain, IsRunning};
 ghost use Rattle.mc_card.specs.Ends.{powered, device_after, Commanded, Begun, Turned, RouteSteps, BeginSteps};
 
-use mc_apdu::{Apdu, Reply, parse};
-use mc_bank::{Bank, Slot};
+use crate::managing::Directed;
+use arrayvec::ArrayVec;
+use mc_apdu::{Reply, parse};
+use mc_bank::Bank;
 use mc_base::{Aid, Steps, Stop};
 use mc_machine::{Chain, Outcome, Turn, begin, run, turn};
-use mc_manager::{Manager, Routed};
+use mc_manager::Manager;
 use mc_nvm::Nvm;
 use mc_segs::Session;
 use mc_store::{Store, Up};
 use std::sync::ledger::Ledger;
-
-/// The status of a command whose length is wrong (ISO/IEC 7816-4).
-const WRONG_LENGTH: u16 = 0x6700;
 
 /// A card that runs: its applications in the words of a device, the manager with the selection and the open load, the session bytes of
 /// the selected application, and the chain of a command that is run turn by turn.
@@ -79,13 +80,9 @@ impl<N: Nvm> Card<N> {
         let Ok(apdu) = parse(bytes) else {
             return Ok(wrong_length());
         };
-        match self.manager.command(&mut self.store, &apdu, steps)? {
-            Routed::Answer(reply) => Ok(Outcome::Reply(reply)),
-            Routed::Fresh(slot, reply) => {
-                self.open_session(slot);
-                Ok(Outcome::Reply(reply))
-            }
-            Routed::Pass(slot) => run(
+        match self.direct(&apdu, steps)? {
+            Directed::Answered(reply) => Ok(Outcome::Reply(reply)),
+            Directed::Passed(slot) => run(
                 &mut self.store,
                 slot,
                 &mut self.session,
@@ -114,13 +111,9 @@ impl<N: Nvm> Card<N> {
         let Ok(apdu) = parse(bytes) else {
             return Ok(Some(wrong_length()));
         };
-        match self.manager.command(&mut self.store, &apdu, steps)? {
-            Routed::Answer(reply) => Ok(Some(Outcome::Reply(reply))),
-            Routed::Fresh(slot, reply) => {
-                self.open_session(slot);
-                Ok(Some(Outcome::Reply(reply)))
-            }
-            Routed::Pass(slot) => {
+        match self.direct(&apdu, steps)? {
+            Directed::Answered(reply) => Ok(Some(Outcome::Reply(reply))),
+            Directed::Passed(slot) => {
                 self.chain = Some(begin(&self.store, slot, &self.session, &apdu, budget));
                 Ok(None)
             }
@@ -171,9 +164,14 @@ impl<N: Nvm> Card<N> {
     {
         self.store.into_dev()
     }
+}
 
-    // The session bytes of a new selection are zero.
-    fn open_session(&mut self, slot: Slot) {
-        self.session = Session::new(self.store.facts(slot).sizes.session);
-    }
+// The outcome of a command whose length is wrong (ISO/IEC 7816-4).
+fn wrong_length() -> Outcome
+    ensures { outcome_value result ≡ status 0x6700 }
+{
+    Outcome::Reply(Reply {
+        body: ArrayVec::new(),
+        sw: 0x6700,
+    })
 }

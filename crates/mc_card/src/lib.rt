@@ -4,6 +4,7 @@
 mod bench;
 mod card;
 mod laws;
+mod managing;
 
 pub use card::Card;
 pub use laws::within_budget;
