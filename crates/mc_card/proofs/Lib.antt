@@ -1,2 +1,5 @@
 pub mod MadeLemmas
 pub mod ManagerLemmas
+pub mod StaticLemmas
+pub mod DirectLemmas
+pub mod LentLemmas
