@@ -1,2 +1,5 @@
+pub mod RowLemmas
+pub mod ChainLemmas
+pub mod RunLemmas
 pub mod MadeLemmas
 pub mod ManagerLemmas

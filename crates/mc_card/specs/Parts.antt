@@ -14,6 +14,7 @@ use Rattle.mc_store.specs.Power.{device_of, count_of, over}
 use Rattle.mc_manager.specs.Held.{BankView, Fits, seat_of}
 use Rattle.mc_machine.specs.Chains.{Chained, Runs}
 use Rattle.mc_card.specs.declared.card.Card.{Card}
+use Rattle.mc_card.specs.Sound.{IsSound}
 
 -- the device of a card
 abbrev pub device_in : {N : Type 0} → Card N → N
@@ -66,6 +67,7 @@ module _ {N : Type 0} (state : N → DeviceState) where
     pub runs : Runs (view_in c).state (view_in c).named chained ch
     pub left : chained.left ≡ left
     pub own : option_map (λ s. s.aid) c.manager.selected ≡ Some (first_frame ch.frame ch.below).name
+    pub sound : IsSound ch
 
   -- a chain runs on the card
   abbrev pub IsRunning : Card N → Type 0
