@@ -1,5 +1,5 @@
 -- What a turn keeps of a sound chain: its frames stand on their applications, whose sizes stay, and its writes hold in them.
-use Rattle.std.proofs.Common.{◌≡◌, ℕ, zero, suc, ◌+◌, ◌-◌, ◌≤◌, Bool, true, false, cond, List, [], ◌∷◌, ◌++◌, length, take, Option, Some, None, Result, Ok, Err, refl, sym, ap, subst, ◌∙◌, arith}
+use Rattle.std.proofs.Common.{◌≡◌, ℕ, zero, suc, ◌-◌, Bool, true, false, cond, List, [], ◌∷◌, length, Option, Some, None, Result, Ok, Err, refl, sym, ap, subst, ◌∙◌, arith}
 use Rattle.std.specs.Prelude.{unwrap_or, bytes_eq, ◌||◌, nat_lt, nat_le}
 use Rattle.std.specs.List.{AllByRecursion}
 use Rattle.std.proofs.lemmas.List.{length-append, length-take, length-replicate}
@@ -10,10 +10,10 @@ use Rattle.mc_model.specs.Bytes.{lookup, insert, zeros}
 use Rattle.mc_model.specs.Pieces.{touched}
 use Rattle.mc_model.specs.Card.{App}
 use Rattle.mc_model.specs.Code.{decoded}
-use Rattle.mc_model.specs.Frame.{Frame, Effect, session_of, new_frame, la_of}
-use Rattle.mc_model.specs.Primitives.{Then, Goes, Exits, Delegates, Done}
+use Rattle.mc_model.specs.Frame.{Frame, Effect, new_frame, la_of}
+use Rattle.mc_model.specs.Primitives.{Then, Goes, Exits, Delegates}
 use Rattle.mc_model.specs.Row.{RowEnd, Abends, Does, row}
-use Rattle.mc_model.specs.Chain.{Chain, Write, Acted, Follows, Continues, Ends, code_in, around, first_frame, chain_session, with_pieces, changed_app, map_changed, write_of, settled, entered_app, called, called_app, is_active, depth_of, exited, last_exit, follows, row_turn, stepped, fetched, acted, spent, turn_of}
+use Rattle.mc_model.specs.Chain.{Chain, Write, Acted, Follows, Continues, Ends, code_in, around, first_frame, chain_session, with_pieces, changed_app, map_changed, write_of, settled, called, called_app, is_active, depth_of, exited, follows, row_turn, stepped, fetched, acted, turn_of}
 use Rattle.mc_model.specs.Items.{done}
 use Rattle.mc_model.specs.Play.{write_items}
 use Rattle.mc_bank.specs.Bank.{no_app, app_of}

@@ -1,8 +1,7 @@
 -- What a row keeps of its frame: its name and its number of session bytes, which its dynamic bytes hold; its static change and what it
 -- has pending lie in its static segment.
 use Rattle.std.proofs.Common.{◌≡◌, ℕ, ◌+◌, ◌-◌, ◌≤◌, Bool, true, false, cond, List, [], ◌∷◌, ◌++◌, take, drop, length, Option, Some, None, refl, sym, ap, subst, ◌∙◌, arith}
-use Rattle.std.specs.Prelude.{◌==◌, ◌&&◌, ◌||◌, nat_le, slice_index}
-use Rattle.std.specs.List.{AllByRecursion}
+use Rattle.std.specs.Prelude.{◌==◌, ◌||◌, nat_le, slice_index}
 use Rattle.std.proofs.lemmas.Bool.Decides.{nat_tests}
 use Rattle.std.proofs.lemmas.List.{length-append, length-take, length-drop}
 use Rattle.mc_model.specs.declared.instruction.Ins.{Ins}
@@ -10,7 +9,7 @@ use Rattle.mc_model.specs.declared.instruction.Ins.TheVariants as ins
 use Rattle.mc_model.specs.declared.machine.Abend.{Abend}
 use Rattle.mc_model.specs.Bytes.{bytes2, splice}
 use Rattle.mc_model.specs.Pieces.{laid_pieces}
-use Rattle.mc_model.specs.Frame.{Frame, static_bytes, committed, Effect, Place, Static, Dynamic, Public, where_is, dynamic_base, public_base, public_end, static_written, written_in, written, pushed, popped, top, topped, flagged, protect, come_back}
+use Rattle.mc_model.specs.Frame.{Frame, static_bytes, committed, Effect, Place, Static, Dynamic, Public, where_is, dynamic_base, static_written, written_in, written, pushed, popped, top, topped, flagged, protect, come_back}
 use Rattle.mc_model.specs.Primitives.{Around, Done, framed, effect_flagged, Primitive, CheckCase, LoadCcr, StoreCcr, Lookup, MemoryCompare, MemoryCopy, DelegateTo, DelegatorAid, Digest, CompareFixed, CopyFixed, SetProtection, Encipher, Decipher, Sign, BitByte, ShiftLeft, ShiftRight, BitWord, primitive, prim_done, prim_effect, looked_up, delegator_told}
 use Rattle.mc_model.specs.Row.{effect, holds, gone, called, target, causes, first_cause, judged, row, RowEnd, Abends, Does}
 use Rattle.mc_card.specs.Sound.{Within}

@@ -1,6 +1,5 @@
 -- A run by its turns: what it counts, that its writes hold in their applications, and how many session bytes it leaves.
-use Rattle.std.proofs.Common.{◌≡◌, ℕ, zero, suc, ◌+◌, ◌≤◌, List, [], ◌∷◌, ◌++◌, length, Some, Result, Ok, Err, refl, sym, ap, subst, ◌∙◌, arith}
-use Rattle.std.specs.Prelude.{unwrap_or}
+use Rattle.std.proofs.Common.{◌≡◌, ℕ, zero, suc, ◌≤◌, List, [], ◌∷◌, ◌++◌, length, Some, Result, Ok, Err, refl, ap, subst, ◌∙◌, arith}
 use Rattle.mc_model.specs.declared.instruction.Ins.{Ins}
 use Rattle.mc_model.specs.declared.instruction.DecodeFault.{DecodeFault}
 use Rattle.mc_model.specs.declared.instruction.DecodeFault.TheVariants.{Undefined, Past}
@@ -11,10 +10,10 @@ use Rattle.mc_model.specs.Card.{App}
 use Rattle.mc_model.specs.Apdu.{ApduParts}
 use Rattle.mc_model.specs.Items.{done}
 use Rattle.mc_model.specs.Play.{write_items}
-use Rattle.mc_model.specs.Chain.{Chain, Write, Acted, Ran, Follows, Continues, Ends, around, code_in, stepped, chain_session, row_turn, fetched, acted, spent, map_changed, ran_on, ran, start}
+use Rattle.mc_model.specs.Chain.{Chain, Write, Acted, Ran, Follows, Continues, Ends, around, code_in, stepped, chain_session, row_turn, fetched, acted, turn_of, end_of, map_changed, ran_on, ran, start}
 use Rattle.mc_bank.specs.Bank.{app_of}
 use Rattle.mc_card.specs.Sound.{IsSound}
-use Rattle.mc_card.proofs.ChainLemmas.{AreSound, GoesSound, FollowsSound, TurnSound, SameSizes, sizes_done, first_in, new_sound, session_size, turn_sound}
+use Rattle.mc_card.proofs.ChainLemmas.{AreSound, FollowsSound, TurnSound, SameSizes, sizes_done, first_in, new_sound, session_size, turn_sound}
 
 -- ---- counts
 
@@ -73,3 +72,22 @@ run_sound (suc n) ch sound =
 -- a chain before its first turn is sound
 pub start_sound : (apps : List (List ℕ × App)) (name session : List ℕ) (apdu : ApduParts) → length session ≡ (app_of apps (Some name)).session → IsSound (start apps name session apdu)
 start_sound apps name session apdu size = (new_sound apps name (app_of apps (Some name)) session refl size, tt)
+
+-- ---- the end that a turn tells
+
+row_end : (ch : Chain) (i : Ins) (r : RowEnd) → (row_turn ch i r).turn.end ≡ end_of (row_turn ch i r).follows
+row_end ch i (Abends a) = refl
+row_end ch i (Does d) = refl
+
+fetched_end : (ch : Chain) (r : Result (Ins × ℕ) DecodeFault) → (fetched ch r).turn.end ≡ end_of (fetched ch r).follows
+fetched_end ch (Err Undefined) = refl
+fetched_end ch (Err Past) = refl
+fetched_end ch (Ok i) = row_end ch i.0 (row i.0 (stepped ch.frame i.1) ch.public (around ch))
+
+acted_end : (ch : Chain) → (acted ch).turn.end ≡ end_of (acted ch).follows
+unfolding acted
+acted_end ch = fetched_end ch (decoded (code_in (lookup ch.map ch.frame.name)) ch.frame.at)
+
+pub turn_end : (n : ℕ) (ch : Chain) → (turn_of n ch).turn.end ≡ end_of (turn_of n ch).follows
+turn_end zero ch = refl
+turn_end (suc n) ch = acted_end ch

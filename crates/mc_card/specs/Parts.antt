@@ -1,6 +1,6 @@
 -- What a card is made of, and what it shows: the card in its device's words, its selection and open load, and the chain that runs on it.
 -- This project's profile.
-use Rattle.std.specs.Prelude.{◌≡◌, ℕ, List, length, option_map, Option, Some, None}
+use Rattle.std.specs.Prelude.{◌≡◌, ℕ, true, List, length, option_map, Option, Some, None}
 use Rattle.std.specs.Option.{ForSome}
 use Rattle.mc_model.specs.Device.{DeviceState}
 use Rattle.mc_model.specs.Card.{means}
@@ -23,6 +23,10 @@ device_in c = device_of c.store
 -- a card over another device
 abbrev pub with_device : {N : Type 0} → Card N → N → Card N
 with_device c d = record c { store = over c.store d }
+
+-- the selection with these session bytes
+abbrev pub with_session : List ℕ → Seat → Seat
+with_session session seat = record seat { selected = option_map {T = Selected} (λ s. record s { session = session }) seat.selected }
 
 module _ {N : Type 0} (state : N → DeviceState) where
   -- its words
@@ -60,19 +64,15 @@ module _ {N : Type 0} (state : N → DeviceState) where
     pub idle : c.chain ≡ None
 
   -- the selected application runs a command on a card: this chain of the definitions, with so much of the budget left
-  pub record RunsChain (c : Card N) (ch : Chain) (left : ℕ) : Type 0 where
+  pub record RunsChain (c : Card N) (ch : Chain) (n : ℕ) : Type 0 where
     pub up : IsUp c
     pub chained : Chained
     pub is : c.chain ≡ Some chained
     pub runs : Runs (view_in c).state (view_in c).named chained ch
-    pub left : chained.left ≡ left
+    pub left : chained.left ≡ n
     pub own : option_map (λ s. s.aid) c.manager.selected ≡ Some (first_frame ch.frame ch.below).name
     pub sound : IsSound ch
 
   -- a chain runs on the card
   abbrev pub IsRunning : Card N → Type 0
   IsRunning c = (ch : Chain) × (left : ℕ) × RunsChain c ch left
-
-  -- the selection with these session bytes
-  abbrev pub with_session : List ℕ → Seat → Seat
-  with_session session seat = record seat { selected = option_map (λ s. record s { session = session }) seat.selected }
