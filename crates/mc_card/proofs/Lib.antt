@@ -1,5 +1,11 @@
+pub mod RowLemmas
+pub mod ChainLemmas
+pub mod RunLemmas
 pub mod MadeLemmas
 pub mod ManagerLemmas
 pub mod StaticLemmas
 pub mod DirectLemmas
 pub mod LentLemmas
+pub mod WriteLemmas
+pub mod AfterLemmas
+pub mod TurnLemmas

@@ -70,8 +70,8 @@ module _ {N : Type 0} (state : N → DeviceState) where
     pub is : c.chain ≡ Some chained
     pub runs : Runs (view_in c).state (view_in c).named chained ch
     pub left : chained.left ≡ n
-    pub sound : IsSound ch
     pub own : option_map (λ s. s.aid) c.manager.selected ≡ Some (first_frame ch.frame ch.below).name
+    pub sound : IsSound ch
 
   -- a chain runs on the card
   abbrev pub IsRunning : Card N → Type 0
