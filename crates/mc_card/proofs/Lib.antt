@@ -9,3 +9,4 @@ pub mod LentLemmas
 pub mod WriteLemmas
 pub mod AfterLemmas
 pub mod TurnLemmas
+pub mod CommandLemmas
