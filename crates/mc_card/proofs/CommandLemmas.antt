@@ -41,36 +41,8 @@ use Rattle.mc_card.proofs.AfterLemmas.{card_made, still_up, seat_after}
 quiet-ticks : (a : ApduParts) (n : ℕ) → (a.cla == 0xBE) ≡ false → most_ticks a n ≡ 0
 quiet-ticks a n other = ap (λ (b : Bool). cond (b && a.ins == 0x12) n 0) other
 
-other-class : (a k : ℕ) → (a == k) ≡ true → (k == 0xBE) ≡ false → (a == 0xBE) ≡ false
-other-class a k is other = subst (λ (x : ℕ). (x == 0xBE) ≡ false) (sym (eqb-true a k is)) other
-
-no-more : (old new n k : ℕ) → n ≡ 0 → old ≤ new → new ≤ old + n → new ≡ old
-no-more old new n k none low high = omega (arith, none, low, high)
-
-select-class : (p q r : Bool) → (p && q && r) ≡ true → p ≡ true
-select-class true q r h = refl
-select-class false q r h = absurd (cc h)
-
--- the steps of a command that is answered
-pub answered-steps : (c : ModelCard) (selected : Option Selected) (budget : ℕ) (a : ApduParts) (answer : Answer) (old new : ℕ) → is_passed (routed (Some a)) selected ≡ false → old ≤ new → new ≤ old + most_ticks a (2 + length (gaps c))
-    → RouteSteps c selected budget (routed (Some a)) answer old new × BeginSteps c (routed (Some a)) old new
-answered-steps c selected budget a answer old new stays low high = by-tests (a.cla == 0xFF) (a.cla == 0 && a.ins == 0xA4 && a.p1 == 4) (a.cla == 0xBE) refl refl refl stays
-  where
-    by-tests : (p q r : Bool) → (a.cla == 0xFF) ≡ p → (a.cla == 0 && a.ins == 0xA4 && a.p1 == 4) ≡ q → (a.cla == 0xBE) ≡ r
-        → is_passed (cond p WrongClass (cond q (ToSelect a) (cond r (ToManager a) (ToApplication a)))) selected ≡ false
-        → RouteSteps c selected budget (cond p WrongClass (cond q (ToSelect a) (cond r (ToManager a) (ToApplication a)))) answer old new × BeginSteps c (cond p WrongClass (cond q (ToSelect a) (cond r (ToManager a) (ToApplication a)))) old new
-    by-tests true q r hp hq hr h =
-        let same : new ≡ old = no-more old new (most_ticks a (2 + length (gaps c))) 0 (quiet-ticks a (2 + length (gaps c)) (other-class a.cla 0xFF hp refl)) low high in (same, same)
-    by-tests false true r hp hq hr h =
-        let zero-class : (a.cla == 0) ≡ true = select-class (a.cla == 0) (a.ins == 0xA4) (a.p1 == 4) hq in
-        let same : new ≡ old = no-more old new (most_ticks a (2 + length (gaps c))) 0 (quiet-ticks a (2 + length (gaps c)) (other-class a.cla 0 zero-class refl)) low high in (same, same)
-    by-tests false false true hp hq hr h = ((low, high), (low, high))
-    by-tests false false false hp hq hr h =
-        let same : new ≡ old = no-more old new (most_ticks a (2 + length (gaps c))) 0 (quiet-ticks a (2 + length (gaps c)) hr) low high in (by-selected selected h same, same)
-      where
-        by-selected : (x : Option Selected) → is_passed (ToApplication a) x ≡ false → new ≡ old → PassedSteps c x a budget answer old new
-        by-selected None h same = same
-        by-selected (Some s) h same = absurd (cc h)
+no-more : (old new n : ℕ) → n ≡ 0 → old ≤ new → new ≤ old + n → new ≡ old
+no-more old new n none low high = omega (arith, none, low, high)
 
 -- the manager makes no steps where a command is passed on
 pub passed-quiet : (a : ApduParts) (old new n : ℕ) → routed (Some a) ≡ ToApplication a → old ≤ new → new ≤ old + most_ticks a n → new ≡ old
@@ -80,7 +52,7 @@ passed-quiet a old new n is low high = by-tests (a.cla == 0xFF) (a.cla == 0 && a
     by-tests true q r h e = absurd (cc e)
     by-tests false true r h e = absurd (cc e)
     by-tests false false true h e = absurd (cc e)
-    by-tests false false false h e = no-more old new (most_ticks a n) 0 (quiet-ticks a n h) low high
+    by-tests false false false h e = no-more old new (most_ticks a n) (quiet-ticks a n h) low high
 
 -- ---- a command by its bytes
 

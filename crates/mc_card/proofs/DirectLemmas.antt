@@ -38,8 +38,8 @@ use Rattle.mc_card.specs.Made.{Made}
 use Rattle.mc_card.specs.Parts.{card_in, seat_in, view_in, IsUp, IsReady}
 use Rattle.mc_card.specs.Ends.{is_passed, Commanded}
 use Rattle.mc_card.specs.Managing.{IsAnswered, IsPassed}
-use Rattle.mc_card.proofs.StaticLemmas.{going-apps, slot-app}
-use Rattle.mc_card.proofs.ManagerLemmas.{due-made}
+use Rattle.mc_card.proofs.StaticLemmas.{going-apps, none-is}
+use Rattle.mc_card.proofs.ManagerLemmas.{none-of, due-made}
 
 -- ---- what a command is due, and what it does
 
@@ -85,14 +85,6 @@ lookup-kept (e ∷ es) k n other = by-tests (bytes_eq e.0 k) (bytes_eq e.0 n) re
     by-tests true false p q rest = rest
     by-tests false true p q rest = ap (λ (b : Bool). cond b (Some e.1) (lookup (remove es k) n)) q
     by-tests false false p q rest = ap (λ (b : Bool). cond b (Some e.1) (lookup (remove es k) n)) q ∙ rest
-
-none-of : (b : Bool) (sw : ℕ) (rest : Option ℕ) → cond b (Some sw) rest ≡ None → (b ≡ false) × (rest ≡ None)
-none-of true sw rest h = absurd (cc h)
-none-of false sw rest h = (refl, h)
-
-none-is : {A : Type 0} (o : Option A) → is_some o ≡ false → o ≡ None
-none-is None h = refl
-none-is (Some x) h = absurd (cc h)
 
 module _ (apps : List (List ℕ × App)) (n : List ℕ) (there : is_some (lookup apps n) ≡ true) where
   -- the application of this name is the same after a command

@@ -34,6 +34,7 @@ use Rattle.mc_store.specs.Did.{store_did}
 use Rattle.mc_store.specs.Turns.{Standing, standing-of}
 use Rattle.mc_store.proofs.FoldLemmas.{IsPlain, IsQuiet, Kept, all_kept, all_stand, stands_now, before_enter, creation_is, creation_quiet}
 use Rattle.mc_card.specs.Made.{Made}
+use Rattle.mc_card.proofs.StaticLemmas.{going-apps}
 use Rattle.mc_card.proofs.MadeLemmas.{IsAs, IsAtomicAs, card-found, closed-base, made-none, made-stopped, made-append, made-fold, made-one}
 
 -- ---- lists of steps that are done in order
@@ -46,9 +47,9 @@ module _ {D I : Type 0} (one : D → I → Answer → D → Type 0) where
   in-order-parts (x ∷ xs) ys d e a h =
       elim h [
         | inl done ↦ elim (in-order-parts xs ys done.0 e a done.2) [
-            | inl all ↦ inl (all.0, inl (done.0, done.1, all.1), all.2)
-            | inr stop ↦ inr (stop.0, inl (done.0, done.1, stop.1), stop.2)
-          ]
+          | inl all ↦ inl (all.0, inl (done.0, done.1, all.1), all.2)
+          | inr stop ↦ inr (stop.0, inl (done.0, done.1, stop.1), stop.2)
+        ]
         | inr stop ↦ inr (stop.0, inr (stop.0, stop.1, refl), stop.2)
       ]
 
@@ -109,7 +110,7 @@ abbrev pub items_in : Managed → List BankItem
 items_in (Declines sw) = []
 items_in (Accepts d) = d.items
 
-none-of : (b : Bool) (sw : ℕ) (rest : Option ℕ) → cond b (Some sw) rest ≡ None → (b ≡ false) × (rest ≡ None)
+pub none-of : (b : Bool) (sw : ℕ) (rest : Option ℕ) → cond b (Some sw) rest ≡ None → (b ≡ false) × (rest ≡ None)
 none-of true sw rest h = absurd (cc h)
 none-of false sw rest h = (refl, h)
 
@@ -262,9 +263,6 @@ module _ {N : Type 0} (state : N → DeviceState) (wrote : N → ℕ → List �
 
     -- ---- a command by its route
 
-    same-apps : apps_in (state s.device).words ≡ (card_of_store s).apps
-    same-apps = let t : Standing (state s.device).words = standing-of (state s.device) s.count (going_is (state s.device) s.count going) in t.map ∙ sym t.apps
-
     select-items : (x : Managed) → items_of (due_select x) ≡ items_in x
     select-items (Declines sw) = refl
     select-items (Accepts d) = refl
@@ -281,11 +279,11 @@ module _ {N : Type 0} (state : N → DeviceState) (wrote : N → ℕ → List �
     due-made budget (ToSelect a) e b other h =
         select-made s seat_on going (card_of_store s).apps a e b
         (subst (λ (is : List BankItem). InOrder (store_did state wrote) s is b e) (select-items (select (card_of_store s).apps seat_on a))
-        (subst (λ (apps : List (List ℕ × App)). InOrder (store_did state wrote) s (items_of (due_select (select apps seat_on a))) b e) same-apps h))
+        (subst (λ (apps : List (List ℕ × App)). InOrder (store_did state wrote) s (items_of (due_select (select apps seat_on a))) b e) (going-apps (state s.device) s.count going) h))
     due-made budget (ToManager a) e b other h =
         manage-made (room_on (card_of_store s)) (card_of_store s).apps a e b
         (subst (λ (is : List BankItem). InOrder (store_did state wrote) s is b e) (manager-items (manage (room_on (card_of_store s)) (card_of_store s).apps seat_on a))
-        (subst (λ (apps : List (List ℕ × App)). InOrder (store_did state wrote) s (items_of (due_manager (manage (room_on (card_of_store s)) apps seat_on a))) b e) same-apps h))
+        (subst (λ (apps : List (List ℕ × App)). InOrder (store_did state wrote) s (items_of (due_manager (manage (room_on (card_of_store s)) apps seat_on a))) b e) (going-apps (state s.device) s.count going) h))
     due-made budget (ToApplication a) e b other h = by-selected m.selected other h
       where
         by-selected : (x : Option Selection) → (due_application (option_map (λ s. record { name = s.aid; session = session }) x) ≡ Passes → ⊥)

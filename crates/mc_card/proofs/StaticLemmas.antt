@@ -18,7 +18,7 @@ going-apps d c h = let t : Standing d.words = standing-of d c (going_is d c h) i
 pub slot-app : (d : DeviceState) (c k : ℕ) (n : List ℕ) → is_going d c ≡ true → store_named d k ≡ Some n → app_of (apps_in d.words) (store_named d k) ≡ app_of (means d.words).apps (Some n)
 slot-app d c k n going named = ap (app_of (apps_in d.words)) named ∙ ap (λ (es : List (List ℕ × App)). app_of es (Some n)) (going-apps d c going)
 
-none-is : {A : Type 0} (o : Option A) → is_some o ≡ false → o ≡ None
+pub none-is : {A : Type 0} (o : Option A) → is_some o ≡ false → o ≡ None
 none-is None h = refl
 none-is (Some x) h = absurd (cc h)
 
