@@ -5,7 +5,7 @@ pub mod MadeLemmas
 pub mod ManagerLemmas
 pub mod StaticLemmas
 pub mod DirectLemmas
-pub mod LentLemmas
+pub mod DeviceLemmas
 pub mod WriteLemmas
 pub mod AfterLemmas
 pub mod TurnLemmas

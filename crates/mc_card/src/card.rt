@@ -1,7 +1,7 @@
 ghost use Rattle.std.specs.Prelude.{◌≡◌, ◌+◌, ◌-◌, ◌≤◌, ℕ, true, length, take, drop, option_map, Ok, Some, None, IsSome, IfOk, OnOk};
 ghost use Rattle.mc_model.specs.Bytes.{lookup};
 ghost use Rattle.mc_model.specs.Orders.{answer_of};
-ghost use Rattle.mc_model.specs.Device.{Makes};
+ghost use Rattle.mc_model.specs.Device.{Makes, Ended};
 ghost use Rattle.mc_model.specs.Chain.{Chain as ModelChain, turn_of};
 ghost use Rattle.mc_model.specs.Manager.{empty_seat, route};
 ghost use Rattle.mc_model.specs.Play.{status};
@@ -75,6 +75,7 @@ impl<N: Nvm> Card<N> {
         requires budget { budget ≤ 65536 }
         ensures done { Commanded N.state N.wrote self.old (due N.state self.old bytes.now budget) result self.new }
         ensures steps { RouteSteps (card_in N.state self.old) (seat_in N.state self.old).selected budget (route bytes.now) (answer_of result) steps.old steps.new }
+        ensures ended { Ended (answer_of result) (N.state (device_in self.old)) (N.state (device_in self.new)) }
         ensures lent { N.same (device_in self.old) (device_in self.new) }
     {
         let Ok(apdu) = parse(bytes) else {
@@ -106,6 +107,7 @@ impl<N: Nvm> Card<N> {
         requires budget { budget ≤ 65536 }
         ensures done { Begun N.state N.wrote self.old bytes.now budget result self.new }
         ensures steps { BeginSteps (card_in N.state self.old) (route bytes.now) steps.old steps.new }
+        ensures ended { Ended (answer_of result) (N.state (device_in self.old)) (N.state (device_in self.new)) }
         ensures lent { N.same (device_in self.old) (device_in self.new) }
     {
         let Ok(apdu) = parse(bytes) else {
@@ -126,6 +128,7 @@ impl<N: Nvm> Card<N> {
         requires running { IsRunning N.state self.old }
         ensures done { (ch : ModelChain) (left : ℕ) → RunsChain N.state self.old ch left → Turned N.state N.wrote self.old ch left (turn_of left ch) result self.new }
         ensures steps { (ch : ModelChain) (left : ℕ) → RunsChain N.state self.old ch left → steps.new ≡ steps.old + (turn_of left ch).count }
+        ensures ended { Ended (answer_of result) (N.state (device_in self.old)) (N.state (device_in self.new)) }
         ensures lent { N.same (device_in self.old) (device_in self.new) }
     {
         let chain = self.chain.as_mut().unwrap();

@@ -9,7 +9,7 @@ use Rattle.mc_card.specs.Managing.{Directs}
 use Rattle.mc_card.specs.Parts.{due}
 use Rattle.mc_card.specs.Ends.{Commanded}
 use Rattle.mc_card.proofs.CommandLemmas.{wrong-done, answered-begun, passed-commanded, passed-session, passed-steps}
-use Rattle.mc_card.proofs.LentLemmas.{commanded-same}
+use Rattle.mc_card.proofs.DeviceLemmas.{commanded-same, commanded-ended}
 use Rattle.mc_card.proofs.card.Card.command.Goals as goal
 
 pub returns-in_default-clause-done : goal.returns-in_default-clause-done
@@ -60,3 +60,20 @@ returns-in-Passed-clause-lent g c =
     let old = c.args.self.now in
     let new = record c.direct.new.self { store = c.run.new.bank; session = c.run.new.session } in
     commanded-same g.N.Nvm.state g.N.Nvm.wrote g.N.Nvm.same g.met.N.Nvm.keeps g.met.N.Nvm.itself g.met.N.Nvm.onward (due g.N.Nvm.state old c.args.bytes.now c.args.budget) old new c.run.result (returns-in-Passed-clause-done g c)
+
+pub returns-in_default-clause-ended : goal.returns-in_default-clause-ended
+returns-in_default-clause-ended g c =
+    commanded-ended g.N.Nvm.state g.N.Nvm.wrote g.met.N.Nvm.obeys (due g.N.Nvm.state c.args.self.now c.args.bytes.now c.args.budget) c.args.self.now c.args.self.now (Ok c.wrong_length.result) c.requires.ready (returns-in_default-clause-done g c)
+
+pub returns-in_err-reply-clause-ended : goal.returns-in_err-reply-clause-ended
+returns-in_err-reply-clause-ended g c =
+    commanded-ended g.N.Nvm.state g.N.Nvm.wrote g.met.N.Nvm.obeys (due g.N.Nvm.state c.args.self.now c.args.bytes.now c.args.budget) c.args.self.now c.direct.new.self c.from_residual.result c.requires.ready (returns-in_err-reply-clause-done g c)
+
+pub returns-in-Answered-clause-ended : goal.returns-in-Answered-clause-ended
+returns-in-Answered-clause-ended g c =
+    commanded-ended g.N.Nvm.state g.N.Nvm.wrote g.met.N.Nvm.obeys (due g.N.Nvm.state c.args.self.now c.args.bytes.now c.args.budget) c.args.self.now c.direct.new.self (Ok (outcome.Reply c.in-Answered.reply)) c.requires.ready (returns-in-Answered-clause-done g c)
+
+pub returns-in-Passed-clause-ended : goal.returns-in-Passed-clause-ended
+returns-in-Passed-clause-ended g c =
+    let new = record c.direct.new.self { store = c.run.new.bank; session = c.run.new.session } in
+    commanded-ended g.N.Nvm.state g.N.Nvm.wrote g.met.N.Nvm.obeys (due g.N.Nvm.state c.args.self.now c.args.bytes.now c.args.budget) c.args.self.now new c.run.result c.requires.ready (returns-in-Passed-clause-done g c)

@@ -8,7 +8,7 @@ use Rattle.mc_card.specs.declared.card.Card.{Card}
 use Rattle.mc_card.specs.declared.managing.Directed.{Directed}
 use Rattle.mc_card.specs.Managing.{IsAnswered, IsPassed, Directs}
 use Rattle.mc_card.proofs.DirectLemmas.{DirectEnds, answered-done, stopped-done, selected-done, fresh-slot, passed-done}
-use Rattle.mc_card.proofs.LentLemmas.{answered-same}
+use Rattle.mc_card.proofs.DeviceLemmas.{answered-same}
 use Rattle.mc_card.proofs.card.Card.direct.Goals as goal
 
 pub returns-in-Answer-clause-done : goal.returns-in-Answer-clause-done
