@@ -27,9 +27,6 @@ use Rattle.mc_card.proofs.ChainLemmas.{AreSound, SameSizes, sizes_done}
 use Rattle.mc_card.proofs.MadeLemmas.{card-found}
 use Rattle.mc_card.proofs.WriteLemmas.{AsCommits, as_commits, not_false, writes_made}
 
-some_same : {A : Type 0} → (x y : A) → Some x ≡ Some y → x ≡ y
-some_same x y e = cc e
-
 -- the seat with other session bytes
 seat_with : (standing : Site → Part → List ℕ) (old new : List ℕ) (m : Held) → seat_of standing new m ≡ with_session new (seat_of standing old m)
 seat_with standing old new m = by_selected m.selected
