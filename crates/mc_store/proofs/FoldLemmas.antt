@@ -250,13 +250,22 @@ module _ {N : Type 0} (state : N → DeviceState) (wrote : N → ℕ → List �
 
   -- ---- a creation
 
-  quiet_stands : (s m : Store N) (i : BankItem) (t : Site) (o : Part) → IsQuiet t i → store_did state wrote s i (Ok tt) m → store_standing (state m.device) t o ≡ store_standing (state s.device) t o
+  pub quiet_stands : (s m : Store N) (i : BankItem) (t : Site) (o : Part) → IsQuiet t i → store_did state wrote s i (Ok tt) m → store_standing (state m.device) t o ≡ store_standing (state s.device) t o
   quiet_stands s m (Piece u p at b) t o h did = absurd h
   quiet_stands s m (Blank u at n) t o h did = blank_stands s m t at n o h.1 (subst (λ (v : Site). store_did state wrote s (Blank v at n) (Ok tt) m) h.0 did)
   quiet_stands s m (Note u n i) t o h did = note_stands s m t n i o (subst (λ (v : Site). store_did state wrote s (Note v n i) (Ok tt) m) h did)
   quiet_stands s m (Commit n ws) t o h did = absurd h
   quiet_stands s m (Enter u n) t o h did = absurd h
   quiet_stands s m (Remove n) t o h did = absurd h
+
+  -- what stands at a site after items before its creation
+  pub all_stand : (is : List BankItem) (s m : Store N) (t : Site) (o : Part) → AllByRecursion (IsQuiet t) is → InOrder (store_did state wrote) s is (Ok tt) m → store_standing (state m.device) t o ≡ store_standing (state s.device) t o
+  all_stand [] s m t o quiet h = ap (λ (x : Store N). store_standing (state x.device) t o) h
+  all_stand (i ∷ is) s m t o quiet h =
+      elim h [
+        | inl done ↦ all_stand is done.0 m t o quiet.1 done.2 ∙ quiet_stands s done.0 i t o quiet.0 done.1
+        | inr stop ↦ absurd (cc stop.2)
+      ]
 
   -- the application is there or not, and all others keep their slots
   pub record Created (s e : Store N) (t : Site) (n : List ℕ) (a : Answer) : Type 0 where

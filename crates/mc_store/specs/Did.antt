@@ -37,7 +37,7 @@ named-kind e es k n t true ht hs is rest = refl
 named-kind e es k n true false ht hs is rest = let same : e.0 ≡ n = cc in absurd (cc (sym (ap (λ (x : List ℕ). bytes_eq x n) same ∙ name_is_itself n) ∙ hs))
 named-kind e es k n false false ht hs is rest = rest is
 
-named-there : (es : List (List ℕ × App)) (k : ℕ) (n : List ℕ) → name_of_place es k ≡ Some n → IsSome (lookup es n)
+pub named-there : (es : List (List ℕ × App)) (k : ℕ) (n : List ℕ) → name_of_place es k ≡ Some n → IsSome (lookup es n)
 named-there [] k n is = absurd (cc is)
 named-there (e ∷ es) k n is = named-kind e es k n ((e.1).place == k) (bytes_eq e.0 n) refl refl is (named-there es k n)
 

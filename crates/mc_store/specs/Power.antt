@@ -130,6 +130,10 @@ device_of s = s.device
 abbrev pub count_of : {N : Type 0} → Store N → ℕ
 count_of s = s.count
 
+-- a store over another device
+abbrev pub over : {N : Type 0} → Store N → N → Store N
+over s d = record s { device = d }
+
 -- the end of a power-up without a store
 abbrev pub failed : Up → Powered
 failed (up.Stop s) = Halts s

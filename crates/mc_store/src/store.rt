@@ -1,6 +1,8 @@
 ghost use Rattle.std.specs.Prelude.{◌≡◌, true};
 ghost use Rattle.mc_model.specs.Device.{Makes};
-ghost use Rattle.mc_store.specs.Power.{power_writes, power_answer, powered, device_of, device_after, PowersUp};
+ghost use Rattle.std.specs.Borrow.{Lends, sem};
+ghost use Rattle.mc_store.specs.Power.{power_writes, power_answer, powered, device_of, device_after, over, PowersUp};
+ghost use Rattle.mc_store.specs.contracts.store.Store.{the_row};
 
 use crate::block::{facts_at, find_block};
 use crate::power::{Ready, Up, prepare};
@@ -35,6 +37,14 @@ impl<N: Nvm> Store<N> {
             Ok(Ready { writes, count }) => Ok((Store { device, count }, writes)),
             Err(up) => Err((device, up)),
         }
+    }
+
+    /// The device as a bench sees it, for its fuses alone: what changes its words or its power leaves no card that the store knows.
+    pub fn device_mut(&mut self) -> &mut N
+        ensures value { result.now ≡ device_of self.old }
+        ensures* writes_back { sem 𝓛 (Lends (the_row N.row) N.row self.entry result (λ w. over self.old w)) }
+    {
+        &mut self.device
     }
 
     /// The device, whose words are the card.

@@ -1,0 +1,94 @@
+-- What the atomic writes of a chain leave of a card.
+use Rattle.std.proofs.Common.{◌≡◌, ℕ, true, false, List, length, Option, Some, None, Ok, refl, sym, ◌∙◌, subst}
+use Rattle.std.specs.Prelude.{option_map}
+use Rattle.mc_model.specs.declared.card.Part.{Part}
+use Rattle.mc_model.specs.Orders.{Answer, InOrder}
+use Rattle.mc_model.specs.Device.{DeviceState, Wrote as DeviceWrote}
+use Rattle.mc_model.specs.Card.{Card as ModelCard, means}
+use Rattle.mc_model.specs.Items.{Site, BankItem, card_done}
+use Rattle.mc_model.specs.Manager.{Selected, Seat}
+use Rattle.mc_model.specs.Chain.{Write}
+use Rattle.mc_model.specs.Play.{write_items}
+use Rattle.mc_bank.specs.Bank.{BankState, app_of}
+use Rattle.mc_bank.proofs.Commits.{slots-in_order, sites-in_order}
+use Rattle.mc_store.specs.declared.store.Store.{Store}
+use Rattle.mc_store.specs.Store.{is_going, store_state, store_named, store_room, store_standing}
+use Rattle.mc_store.specs.Did.{store_did}
+use Rattle.mc_store.specs.Going.{going_is}
+use Rattle.mc_store.specs.Laws.{store_keeps, store_spares, store_leaves}
+use Rattle.mc_manager.specs.declared.selection.Selection.{Selection}
+use Rattle.mc_manager.specs.Held.{BankView, Held, seat_of}
+use Rattle.mc_manager.proofs.CommitLemmas.{Keeps, fits_kept, seat_kept}
+use Rattle.mc_card.specs.declared.card.Card.{Card}
+use Rattle.mc_machine.specs.Chains.{Chained, Wrote}
+use Rattle.mc_card.specs.Made.{Made}
+use Rattle.mc_card.specs.Parts.{card_in, seat_in, with_session, IsUp}
+use Rattle.mc_card.proofs.ChainLemmas.{AreSound, SameSizes, sizes_done}
+use Rattle.mc_card.proofs.MadeLemmas.{card-found}
+use Rattle.mc_card.proofs.WriteLemmas.{AsCommits, as_commits, not_false, writes_made}
+
+-- the seat with other session bytes
+seat_with : (standing : Site → Part → List ℕ) (old new : List ℕ) (m : Held) → seat_of standing new m ≡ with_session new (seat_of standing old m)
+seat_with standing old new m = by_selected m.selected
+  where
+    by_selected : (o : Option Selection)
+        → ◌≡◌ {A = Seat} (record { selected = option_map {T = Selection} (λ s. record { name = s.aid; session = new }) o; load = (seat_of standing old m).load })
+        (record { selected = option_map {T = Selected} (λ s. record s { session = new }) (option_map {T = Selection} (λ s. record { name = s.aid; session = old }) o); load = (seat_of standing old m).load })
+    by_selected None = refl
+    by_selected (Some s) = refl
+
+module _ {N : Type 0} (state : N → DeviceState) (wrote : N → ℕ → List ℕ → Answer → N → Type 0)
+    (obeys : (d : N) (at : ℕ) (w : List ℕ) (a : Answer) (e : N) → (state d).on ≡ true → wrote d at w a e → DeviceWrote (state d) at w a (state e)) where
+  abbrev bank_state : Store N → BankState
+  bank_state s = store_state (state s.device) s.count
+
+  abbrev did : Store N → BankItem → Answer → Store N → Type 0
+  did s i a e = store_did state wrote s i a e
+
+  -- what the manager sees of a store
+  abbrev view_at : Store N → BankView
+  view_at s = record { state = bank_state s; named = store_named (state s.device); room = store_room (state s.device); standing = store_standing (state s.device) }
+
+  -- the manager's slots and sites stay through the writes of a chain
+  pub view_stays : (ws : List Write) (s e : Store N) (a : Answer) → InOrder (Wrote did bank_state) s ws a e → Keeps (view_at s) (view_at e)
+  view_stays ws s e a h =
+      let c : AsCommits did bank_state s a e = as_commits did bank_state ws s e a h in
+      record {
+        slots = slots-in_order did (λ s k. store_named (state s.device) k) (λ s i a e d. store_keeps state wrote obeys s.device e.device s.count e.count i a d) c.words s a e c.commits;
+        sites = sites-in_order did bank_state (λ s. store_room (state s.device)) (λ s. store_standing (state s.device)) (λ s n ws a e d. store_spares state wrote obeys s.device e.device s.count e.count n ws a d) (λ s n ws a e d. store_leaves state wrote obeys s.device e.device s.count e.count n ws a d) c.words s a e c.commits;
+      }
+
+  -- ---- a card that runs
+
+  module _ (c : Card N) (up : IsUp state c) (ws : List Write) (sound : AreSound (card_in state c).apps ws) where
+    -- the writes, as items
+    pub card_made : (e : Store N) (a : Answer) → InOrder (Wrote did bank_state) c.store ws a e → Made state wrote (card_in state c) (write_items ws) c.store.device a e.device
+    card_made e a h = writes_made state wrote obeys ws c.store e a (going_is (state c.store.device) c.store.count up.going) sound h
+
+    module _ (e : Store N) (h : InOrder (Wrote did bank_state) c.store ws (Ok tt) e) where
+      -- the card after them
+      pub card_after : card_done (card_in state c) (write_items ws) ≡ means (state e.device).words
+      card_after = card-found (card_done (card_in state c) (write_items ws)) 0 (state e.device).words (card_made e (Ok tt) h).done
+
+      -- its applications have the sizes of before
+      pub sizes_after : SameSizes (card_in state c).apps (means (state e.device).words).apps
+      sizes_after = subst (λ (m : ModelCard). SameSizes (card_in state c).apps m.apps) card_after (sizes_done ws (card_in state c).apps sound)
+
+      -- it runs with session bytes that are as many as the selected application has
+      pub still_up : (session : List ℕ) (chain : Option Chained) → (bank_state e).stopped ≡ false
+          → ((s : Selection) → c.manager.selected ≡ Some s → length session ≡ (app_of (card_in state c).apps (Some s.aid)).session)
+          → IsUp state (record { store = e; manager = c.manager; session = session; chain = chain })
+      still_up session chain on size = record {
+        going = not_false (is_going (state e.device) e.count) on;
+        fits = fits_kept (view_at c.store) (view_at e) c.manager (view_stays ws c.store e (Ok tt) h) up.fits;
+        session = λ s is. size s is ∙ sym (sizes_after.session s.aid);
+      }
+
+      -- its seat with the session bytes that it had
+      pub same_seat : seat_of (store_standing (state e.device)) c.session c.manager ≡ seat_in state c
+      same_seat = seat_kept (view_at c.store) (view_at e) c.manager (view_stays ws c.store e (Ok tt) h) up.fits c.session
+
+      -- and with others
+      pub seat_after : (session : List ℕ) → seat_of (store_standing (state e.device)) session c.manager ≡ with_session session (seat_in state c)
+      seat_after session =
+          seat_kept (view_at c.store) (view_at e) c.manager (view_stays ws c.store e (Ok tt) h) up.fits session ∙ seat_with (store_standing (state c.store.device)) c.session session c.manager

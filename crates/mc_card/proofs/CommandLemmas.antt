@@ -1,0 +1,237 @@
+-- A command over a card: one that the manager answers, and one that the selected application runs.
+use Rattle.std.proofs.Common.{◌≡◌, ℕ, ◌+◌, ◌≤◌, Bool, true, false, cond, not, List, [], length, Option, Some, None, Result, Ok, Err, refl, sym, ◌∙◌, ap, subst, arith}
+use Rattle.std.specs.Prelude.{◌==◌, ◌&&◌, is_some, option_map, IsSome, IfOk, OnOk, OnErr}
+use Rattle.std.proofs.lemmas.Bool.{eqb-true}
+use Rattle.mc_model.specs.declared.device.Stop.{Stop}
+use Rattle.mc_model.specs.Orders.{Answer, InOrder, answer_of}
+use Rattle.mc_model.specs.Apdu.{ApduParts, apdu_read}
+use Rattle.mc_model.specs.Bytes.{lookup}
+use Rattle.mc_model.specs.Device.{DeviceState, Wrote as DeviceWrote}
+use Rattle.mc_model.specs.Card.{App, Card as ModelCard, means}
+use Rattle.mc_model.specs.Layout.{gaps}
+use Rattle.mc_model.specs.Items.{BankItem}
+use Rattle.mc_model.specs.Chain.{Chain, Ran, ran, start, run}
+use Rattle.mc_model.specs.Manager.{Selected, Seat, Route, WrongLength, WrongClass, ToSelect, ToManager, ToApplication, routed, route}
+use Rattle.mc_model.specs.Play.{Command, command, status, refused, write_items, ran_command, passed, by_route}
+use Rattle.mc_bank.specs.Bank.{BankState, app_of, name_or}
+use Rattle.mc_manager.specs.declared.selection.Selection.{Selection}
+use Rattle.mc_manager.specs.Held.{Held, seat_of}
+use Rattle.mc_manager.specs.Due.{most_ticks}
+use Rattle.mc_machine.specs.declared.outcome.Outcome.{Outcome}
+use Rattle.mc_machine.specs.Chains.{Chained, Runs, Wrote}
+use Rattle.mc_machine.specs.Turns.{outcome_value}
+use Rattle.mc_store.specs.declared.store.Store.{Store}
+use Rattle.mc_store.specs.Store.{apps_in, is_going, store_state, store_named, store_standing}
+use Rattle.mc_store.specs.Did.{store_did}
+use Rattle.mc_card.specs.declared.card.Card.{Card}
+use Rattle.mc_card.specs.Made.{Made}
+use Rattle.mc_card.specs.Sound.{IsSound}
+use Rattle.mc_card.specs.Parts.{card_in, seat_in, view_in, due, with_session, IsUp, IsReady, RunsChain}
+use Rattle.mc_card.specs.Ends.{RunSteps, PassedSteps, RouteSteps, BeginSteps, is_passed, Commanded, Passed, Answered}
+use Rattle.mc_card.specs.Managing.{IsAnswered, IsPassed}
+use Rattle.mc_card.proofs.StaticLemmas.{going-apps}
+use Rattle.mc_card.proofs.ManagerLemmas.{going-base}
+use Rattle.mc_card.proofs.MadeLemmas.{made-none}
+use Rattle.mc_card.proofs.RunLemmas.{RunSound, run_sound, start_sound}
+use Rattle.mc_card.proofs.AfterLemmas.{card_made, still_up, seat_after}
+
+-- ---- steps
+
+-- a command that is not for the manager makes no steps there
+quiet-ticks : (a : ApduParts) (n : ℕ) → (a.cla == 0xBE) ≡ false → most_ticks a n ≡ 0
+quiet-ticks a n other = ap (λ (b : Bool). cond (b && a.ins == 0x12) n 0) other
+
+no-more : (old new n : ℕ) → n ≡ 0 → old ≤ new → new ≤ old + n → new ≡ old
+no-more old new n none low high = omega (arith, none, low, high)
+
+-- the manager makes no steps where a command is passed on
+pub passed-quiet : (a : ApduParts) (old new n : ℕ) → routed (Some a) ≡ ToApplication a → old ≤ new → new ≤ old + most_ticks a n → new ≡ old
+passed-quiet a old new n is low high = by-tests (a.cla == 0xFF) (a.cla == 0 && a.ins == 0xA4 && a.p1 == 4) (a.cla == 0xBE) refl is
+  where
+    by-tests : (p q r : Bool) → (a.cla == 0xBE) ≡ r → cond p WrongClass (cond q (ToSelect a) (cond r (ToManager a) (ToApplication a))) ≡ ToApplication a → new ≡ old
+    by-tests true q r h e = absurd (cc e)
+    by-tests false true r h e = absurd (cc e)
+    by-tests false false true h e = absurd (cc e)
+    by-tests false false false h e = no-more old new (most_ticks a n) (quiet-ticks a n h) low high
+
+-- ---- a command by its bytes
+
+pub due-route : (c : ModelCard) (seat : Seat) (bytes : List ℕ) (budget : ℕ) (o : Option ApduParts) → apdu_read bytes ≡ o → command c seat bytes budget ≡ by_route c seat budget (routed o)
+unfolding command
+due-route c seat bytes budget o is = ap (λ (x : Option ApduParts). by_route c seat budget (routed x)) is
+
+module _ {N : Type 0} (state : N → DeviceState) (wrote : N → ℕ → List ℕ → Answer → N → Type 0)
+    (obeys : (d : N) (at : ℕ) (w : List ℕ) (a : Answer) (e : N) → (state d).on ≡ true → wrote d at w a e → DeviceWrote (state d) at w a (state e)) where
+  abbrev bank_state : Store N → BankState
+  bank_state s = store_state (state s.device) s.count
+
+  abbrev did : Store N → BankItem → Answer → Store N → Type 0
+  did s i a e = store_did state wrote s i a e
+
+  -- a command whose length is wrong
+  pub wrong-done : (c : Card N) (bytes : List ℕ) (budget : ℕ) (o : Outcome) → IsReady state c → apdu_read bytes ≡ None → outcome_value o ≡ status 0x6700 → Commanded state wrote c (due state c bytes budget) (Ok o) c
+  wrong-done c bytes budget o ready wrong is =
+      subst (λ (r : Command). Commanded state wrote c r (Ok o) c) (sym (due-route (card_in state c) (seat_in state c) bytes budget None wrong))
+      (record { made = made-none state wrote obeys (card_in state c) c.store.device (going-base (state c.store.device) c.store.count ready.up.going); outcome = is; seat = refl; ready = ready })
+
+  pub wrong-begun : (c : Card N) (bytes : List ℕ) (budget : ℕ) (o : Outcome) → IsReady state c → apdu_read bytes ≡ None → outcome_value o ≡ status 0x6700 → Answered state wrote c bytes budget (Ok o) c
+  wrong-begun c bytes budget o ready wrong is =
+      record { stays = ap (λ (x : Option ApduParts). is_passed (routed x) (seat_in state c).selected) wrong; commanded = wrong-done c bytes budget o ready wrong is }
+
+  -- a command that the manager answers
+  pub answered-begun : (a : ApduParts) (c d : Card N) (bytes : List ℕ) (budget : ℕ) (result : Result Outcome Stop) → apdu_read bytes ≡ Some a → IsAnswered state wrote c a result d → Answered state wrote c bytes budget result d
+  answered-begun a c d bytes budget result is h =
+      record {
+        stays = ap (λ (x : Option ApduParts). is_passed (routed x) (seat_in state c).selected) is ∙ h.stays;
+        commanded = subst (λ (r : Command). Commanded state wrote c r result d) (sym (due-route (card_in state c) (seat_in state c) bytes budget (Some a) is)) (h.commanded budget);
+      }
+
+  -- ---- a command that the selected application runs
+
+  -- what a run did to a card, with the run that it is
+  pub record RunDid (c : Card N) (r : Ran) (result : Result Outcome Stop) (e : Store N) (bytes : List ℕ) : Type 0 where
+    pub writes : InOrder (Wrote did bank_state) c.store r.writes (answer_of result) e
+    pub outcome : IfOk result (λ o. outcome_value o ≡ r.outcome)
+    pub session : OnOk result (bytes ≡ r.session)
+    pub going : OnOk result ((bank_state e).stopped ≡ false)
+
+  -- the run of the application of a slot
+  abbrev pub run_of : Card N → ℕ → ApduParts → ℕ → Ran
+  run_of c slot a budget = run (apps_in (state c.store.device).words) (name_or (store_named (state c.store.device) slot)) c.session a budget
+
+  module _ (c : Card N) (ready : IsReady state c) (t : Selection) (is : c.manager.selected ≡ Some t) where
+    named-own : store_named (state c.store.device) t.slot ≡ Some t.aid
+    named-own = ready.up.fits.selected t is
+
+    apps-own : apps_in (state c.store.device).words ≡ (card_in state c).apps
+    apps-own = going-apps (state c.store.device) c.store.count ready.up.going
+
+    -- the session bytes are as many as the application of its slot has
+    pub slot-session : (slot : ℕ) → t.slot ≡ slot → length c.session ≡ (app_of (apps_in (state c.store.device).words) (store_named (state c.store.device) slot)).session
+    slot-session slot at =
+        ready.up.session t is ∙ ap (λ (es : List (List ℕ × App)). (app_of es (Some t.aid)).session) (sym apps-own)
+        ∙ ap (λ (o : Option (List ℕ)). (app_of (apps_in (state c.store.device).words) o).session) (sym named-own ∙ ap (λ (k : ℕ). store_named (state c.store.device) k) at)
+
+    pub slot-there : (slot : ℕ) → t.slot ≡ slot → IsSome (store_named (state c.store.device) slot)
+    slot-there slot at = ap is_some (ap (λ (k : ℕ). store_named (state c.store.device) k) (sym at) ∙ named-own)
+
+    name-own : (slot : ℕ) → t.slot ≡ slot → name_or (store_named (state c.store.device) slot) ≡ t.aid
+    name-own slot at = ap name_or (ap (λ (k : ℕ). store_named (state c.store.device) k) (sym at) ∙ named-own)
+
+    seat-own : (seat_in state c).selected ≡ Some (record { name = t.aid; session = c.session })
+    seat-own = ap (λ (o : Option Selection). option_map {T = Selection} {U = Selected} (λ s. record { name = s.aid; session = c.session }) o) is
+
+    sound : (a : ApduParts) (budget : ℕ) → RunSound (start (card_in state c).apps t.aid c.session a) (run (card_in state c).apps t.aid c.session a budget)
+    sound a budget = run_sound budget (start (card_in state c).apps t.aid c.session a) (start_sound (card_in state c).apps t.aid c.session a (ready.up.session t is))
+
+    seat-with : (x : Option Selected) (s : List ℕ) → x ≡ Some (record { name = t.aid; session = c.session }) → option_map {T = Selected} (λ u. record u { session = s }) x ≡ Some (record { name = t.aid; session = s })
+    seat-with x s e = ap (λ (o : Option Selected). option_map {T = Selected} (λ u. record u { session = s }) o) e
+
+    ran-commanded : (a : ApduParts) (budget : ℕ) (result : Result Outcome Stop) (e : Store N) (session : List ℕ) → RunDid c (run (card_in state c).apps t.aid c.session a budget) result e session
+        → Commanded state wrote c (ran_command (seat_in state c) t.aid (run (card_in state c).apps t.aid c.session a budget)) result (record c { store = e; session = session })
+    ran-commanded a budget (Err s) e session h =
+        record {
+          made = card_made state wrote obeys c ready.up (run (card_in state c).apps t.aid c.session a budget).writes (sound a budget).writes e (Err s) h.writes;
+          outcome = tt;
+          seat = tt;
+          ready = tt;
+        }
+    ran-commanded a budget (Ok o) e session h =
+        let r = run (card_in state c).apps t.aid c.session a budget in
+        let ws = (sound a budget).writes in
+        record {
+          made = card_made state wrote obeys c ready.up r.writes ws e (Ok tt) h.writes;
+          outcome = h.outcome;
+          seat = seat_after state wrote obeys c ready.up r.writes ws e h.writes session
+              ∙ ap (λ (x : Option Selected). record (seat_in state c) { selected = x }) (seat-with (seat_in state c).selected session seat-own ∙ ap (λ (s : List ℕ). Some (record { name = t.aid; session = s })) h.session);
+          ready = record {
+            up = still_up state wrote obeys c ready.up r.writes ws e h.writes session c.chain h.going (λ s own.
+                let same : t ≡ s = cc (is, own) in
+                ap length h.session ∙ (sound a budget).session ∙ ap (λ (u : Selection). (app_of (card_in state c).apps (Some u.aid)).session) same);
+            idle = ready.idle;
+          };
+        }
+
+    due-ran : (a : ApduParts) (budget : ℕ) (bytes : List ℕ) → apdu_read bytes ≡ Some a → routed (Some a) ≡ ToApplication a
+        → due state c bytes budget ≡ ran_command (seat_in state c) t.aid (run (card_in state c).apps t.aid c.session a budget)
+    due-ran a budget bytes read to =
+        due-route (card_in state c) (seat_in state c) bytes budget (Some a) read ∙ ap (λ (r : Route). by_route (card_in state c) (seat_in state c) budget r) to
+        ∙ ap (λ (x : Option Selected). passed (card_in state c) (seat_in state c) x a budget) seat-own
+
+    run-same : (a : ApduParts) (budget slot : ℕ) → t.slot ≡ slot → run_of c slot a budget ≡ run (card_in state c).apps t.aid c.session a budget
+    run-same a budget slot at =
+        ap (λ (es : List (List ℕ × App)). run es (name_or (store_named (state c.store.device) slot)) c.session a budget) apps-own
+        ∙ ap (λ (n : List ℕ). run (card_in state c).apps n c.session a budget) (name-own slot at)
+
+    pub ran-done : (a : ApduParts) (budget slot : ℕ) (bytes : List ℕ) (result : Result Outcome Stop) (e : Store N) (session : List ℕ) → t.slot ≡ slot → apdu_read bytes ≡ Some a → routed (Some a) ≡ ToApplication a
+        → RunDid c (run_of c slot a budget) result e session
+        → Commanded state wrote c (due state c bytes budget) result (record c { store = e; session = session })
+    ran-done a budget slot bytes result e session at read to h =
+        subst (λ (r : Command). Commanded state wrote c r result (record c { store = e; session = session })) (sym (due-ran a budget bytes read to))
+        (ran-commanded a budget result e session (subst (λ (r : Ran). RunDid c r result e session) (run-same a budget slot at) h))
+
+    steps-by : (r : Ran) (result : Result Outcome Stop) (old new : ℕ) → OnOk result (new ≡ old + r.count) → OnErr result (new ≤ old + r.count) → RunSteps r (answer_of result) old new
+    steps-by r (Ok o) old new done most = done
+    steps-by r (Err s) old new done most = most
+
+    pub ran-steps : (a : ApduParts) (budget slot : ℕ) (bytes : List ℕ) (result : Result Outcome Stop) (old new : ℕ) → t.slot ≡ slot → apdu_read bytes ≡ Some a → routed (Some a) ≡ ToApplication a
+        → OnOk result (new ≡ old + (run_of c slot a budget).count)
+        → OnErr result (new ≤ old + (run_of c slot a budget).count)
+        → RouteSteps (card_in state c) (seat_in state c).selected budget (route bytes) (answer_of result) old new
+    ran-steps a budget slot bytes result old new at read to done most =
+        subst (λ (r : Route). RouteSteps (card_in state c) (seat_in state c).selected budget r (answer_of result) old new) (sym (ap (λ (o : Option ApduParts). routed o) read ∙ to))
+        (subst (λ (x : Option Selected). PassedSteps (card_in state c) x a budget (answer_of result) old new) (sym seat-own)
+        (subst (λ (r : Ran). RunSteps r (answer_of result) old new) (run-same a budget slot at)
+        (steps-by (run_of c slot a budget) result old new done most)))
+
+    -- ---- the beginning of such a command
+
+    pub begun-done : (a : ApduParts) (budget slot : ℕ) (bytes : List ℕ) (k : Chained) → t.slot ≡ slot → apdu_read bytes ≡ Some a → routed (Some a) ≡ ToApplication a
+        → Runs (view_in state c).state (view_in state c).named k (start (apps_in (state c.store.device).words) (name_or (store_named (state c.store.device) slot)) c.session a) → k.left ≡ budget
+        → Passed state wrote c bytes budget (record c { chain = Some k })
+    begun-done a budget slot bytes k at read to runs left =
+        record {
+          apdu = a;
+          routed = ap (λ (o : Option ApduParts). routed o) read ∙ to;
+          selected = record { name = t.aid; session = c.session };
+          is = seat-own;
+          device = refl;
+          seat = refl;
+          runs = record {
+            up = record { going = ready.up.going; fits = ready.up.fits; session = ready.up.session };
+            chained = k;
+            is = refl;
+            runs = subst (λ (ch : Chain). Runs (view_in state c).state (view_in state c).named k ch)
+                (ap (λ (es : List (List ℕ × App)). start es (name_or (store_named (state c.store.device) slot)) c.session a) apps-own ∙ ap (λ (n : List ℕ). start (card_in state c).apps n c.session a) (name-own slot at)) runs;
+            left = left;
+            own = ap (λ (o : Option Selection). option_map (λ (s : Selection). s.aid) o) is;
+            sound = start_sound (card_in state c).apps t.aid c.session a (ready.up.session t is);
+          };
+        }
+
+  -- ---- a command that was passed on
+
+  pub passed-commanded : (c d : Card N) (a : ApduParts) (slot budget : ℕ) (bytes : List ℕ) (result : Result Outcome Stop) (e : Store N) (session : List ℕ) → IsReady state c → IsPassed state wrote c a slot d → apdu_read bytes ≡ Some a
+      → RunDid d (run_of d slot a budget) result e session → Commanded state wrote c (due state c bytes budget) result (record d { store = e; session = session })
+  passed-commanded c d a slot budget bytes result e session ready p read did =
+      subst (λ (x : Card N). Commanded state wrote c (due state c bytes budget) result (record x { store = e; session = session })) (sym p.unchanged)
+      (ran-done c ready p.selected p.is a budget slot bytes result e session p.slot_is read p.route (subst (λ (x : Card N). RunDid x (run_of x slot a budget) result e session) p.unchanged did))
+
+  pub passed-session : (c d : Card N) (a : ApduParts) (slot : ℕ) → IsReady state c → IsPassed state wrote c a slot d → length d.session ≡ (app_of (apps_in (state d.store.device).words) (store_named (state d.store.device) slot)).session
+  passed-session c d a slot ready p =
+      subst (λ (x : Card N). length x.session ≡ (app_of (apps_in (state x.store.device).words) (store_named (state x.store.device) slot)).session) (sym p.unchanged) (slot-session c ready p.selected p.is slot p.slot_is)
+
+  pub passed-steps : (c d : Card N) (a : ApduParts) (slot budget : ℕ) (bytes : List ℕ) (result : Result Outcome Stop) (old mid new n : ℕ) → IsReady state c → IsPassed state wrote c a slot d → apdu_read bytes ≡ Some a → old ≤ mid → mid ≤ old + most_ticks a n
+      → OnOk result (new ≡ mid + (run_of d slot a budget).count) → OnErr result (new ≤ mid + (run_of d slot a budget).count) → RouteSteps (card_in state c) (seat_in state c).selected budget (route bytes) (answer_of result) old new
+  passed-steps c d a slot budget bytes result old mid new n ready p read low high done most =
+      let same : mid ≡ old = passed-quiet a old mid n p.route low high in
+      ran-steps c ready p.selected p.is a budget slot bytes result old new p.slot_is read p.route
+      (subst (λ (k : ℕ). OnOk result (new ≡ k + (run_of c slot a budget).count)) same (subst (λ (x : Card N). OnOk result (new ≡ mid + (run_of x slot a budget).count)) p.unchanged done))
+      (subst (λ (k : ℕ). OnErr result (new ≤ k + (run_of c slot a budget).count)) same (subst (λ (x : Card N). OnErr result (new ≤ mid + (run_of x slot a budget).count)) p.unchanged most))
+
+  pub passed-begun : (c d : Card N) (a : ApduParts) (slot budget : ℕ) (bytes : List ℕ) (k : Chained) → IsReady state c → IsPassed state wrote c a slot d → apdu_read bytes ≡ Some a
+      → Runs (view_in state d).state (view_in state d).named k (start (apps_in (state d.store.device).words) (name_or (store_named (state d.store.device) slot)) d.session a) → k.left ≡ budget → Passed state wrote c bytes budget (record d { chain = Some k })
+  passed-begun c d a slot budget bytes k ready p read runs left =
+      subst (λ (x : Card N). Passed state wrote c bytes budget (record x { chain = Some k })) (sym p.unchanged)
+      (begun-done c ready p.selected p.is a budget slot bytes k p.slot_is read p.route
+      (subst (λ (x : Card N). Runs (view_in state x).state (view_in state x).named k (start (apps_in (state x.store.device).words) (name_or (store_named (state x.store.device) slot)) x.session a)) p.unchanged runs) left)

@@ -1,0 +1,12 @@
+pub mod RowLemmas
+pub mod ChainLemmas
+pub mod RunLemmas
+pub mod MadeLemmas
+pub mod ManagerLemmas
+pub mod StaticLemmas
+pub mod DirectLemmas
+pub mod DeviceLemmas
+pub mod WriteLemmas
+pub mod AfterLemmas
+pub mod TurnLemmas
+pub mod CommandLemmas

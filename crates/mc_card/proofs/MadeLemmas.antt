@@ -1,0 +1,302 @@
+-- Items of a store as items of the definitions: one of them, and lists of them one after another, done or stopped.
+use Rattle.std.proofs.Common.{◌≡◌, ◌≢◌, ◌⊎◌, ℕ, zero, suc, ◌+◌, ◌-◌, ◌<◌, ◌≤◌, Bool, true, false, cond, List, [], ◌∷◌, ◌++◌, length, map, Option, Some, None, Ok, Err, refl, sym, ◌∙◌, ap, subst, inl, inr, arith, length-append}
+use Rattle.std.specs.Prelude.{nat_le, ◌==◌, IsSome, unwrap_or}
+use Rattle.std.specs.List.{AllByRecursion}
+use Rattle.std.proofs.lemmas.List.{length-map}
+use Rattle.std.proofs.lemmas.Bool.{cases_lt, le-leb, lt-leb, eq-eqb, leb-false}
+use Rattle.std.proofs.lemmas.Bool.Decides.{eqb_tells}
+use Rattle.mc_model.specs.declared.card.Cause.{Cause}
+use Rattle.mc_model.specs.declared.device.Stop.{Stop}
+use Rattle.mc_model.specs.Orders.{Answer, InOrder}
+use Rattle.mc_model.specs.Bytes.{up, lookup}
+use Rattle.mc_model.specs.Image.{Two, look, Closed, Look, debt, laid}
+use Rattle.mc_model.specs.Device.{DeviceState, IsImage, Wrote, Makes}
+use Rattle.mc_model.specs.Stopped.{cost, stands, owes, torn, writes, IsAtomic}
+use Rattle.mc_model.specs.Card.{App, Card, card_of, means}
+use Rattle.mc_model.specs.Layout.{words_fault, fault, step_of, IsWellLaid}
+use Rattle.mc_model.specs.Items.{Change, Item, Plain, Atomic, Stopped, with_item, in_flight, weight, moves, changed, done, card_done, at_stop, BankItem, Piece, Blank, Note, Commit, Enter, Remove}
+use Rattle.mc_model.specs.Play.{Base, OnCard, AtFault, base_of}
+use Rattle.mc_model.proofs.OrdersLemmas.{InOrder-append, InOrder-stopped}
+use Rattle.mc_model.proofs.DeviceLemmas.{DoneAll, makes-done}
+use Rattle.mc_model.proofs.StoppedLemmas.{torn-within, torn-past}
+use Rattle.mc_model.proofs.CallLemmas.{length-writes}
+use Rattle.mc_bank.specs.Bank.{no_app, app_of, CanCommit, item_done}
+use Rattle.mc_store.specs.Store.{apps_in, part_in, static_writes, card_with, card_without, item_writes, is_going, store_standing, Allows, StoreDid}
+use Rattle.mc_store.specs.Power.{found, IsBase}
+use Rattle.mc_store.specs.Going.{Going, going_is, closed_means, closed_settled, closed_fault}
+use Rattle.mc_store.specs.Stops.{card_after, IsStoppedAt}
+use Rattle.mc_store.specs.Commits.{Committed, commits}
+use Rattle.mc_store.specs.Creation.{Creates, creates-plan}
+use Rattle.mc_store.specs.Deletion.{Deletes, deletes-plan}
+use Rattle.mc_store.specs.Turns.{Turned, Turns, Standing, standing-of, some-is, turns}
+use Rattle.mc_store.proofs.StopLemmas.{item_stops}
+use Rattle.mc_card.specs.Made.{IsStopped, StopsAtEach, IsAll, IsDone, Made}
+
+-- ---- lists of items
+
+pub moves-append : (is js : List Item) → moves (is ++ js) ≡ moves is + moves js
+moves-append [] js = omega arith
+moves-append (i ∷ is) js = let rest = moves-append is js in omega (arith, rest)
+
+pub done-append : (is js : List Item) (apps : List (List ℕ × App)) → done apps (is ++ js) ≡ done (done apps is) js
+done-append [] js apps = refl
+done-append (Plain ∷ is) js apps = done-append is js apps
+done-append (Atomic w c ∷ is) js apps = done-append is js (changed c apps)
+
+pub card-append : (is js : List Item) (c : Card) → card_done c (is ++ js) ≡ card_done (card_done c is) js
+card-append is js c = ap (λ (apps : List (List ℕ × App)). record c { apps = apps }) (done-append is js c.apps)
+
+-- the items of a stop that is past some items
+abbrev pub behind : List Item → Stopped → Stopped
+behind is s = record s { whole = is ++ s.whole }
+
+-- a choice, by a test that is known on one side
+chosen : {A : Type 0} → (b : Bool) → (u v w : A) → (b ≡ false → v ≡ w) → cond b u v ≡ cond b u w
+chosen true u v w rest = refl
+chosen false u v w rest = rest refl
+
+pub stop-within : (is js : List Item) (k : ℕ) (x : List ℕ) → 1 ≤ k → k ≤ moves is → at_stop (is ++ js) k x ≡ at_stop is k x
+stop-within [] js k x low high = absurd (omega (arith, low, high))
+stop-within (Plain ∷ is) js k x low high =
+    chosen (k == 1) (record { whole = []; owed = 0 }) (with_item Plain (at_stop (is ++ js) (k - 1) x)) (with_item Plain (at_stop is (k - 1) x)) (λ e.
+    let more : k ≢ 1 = λ same. absurd (cc (sym (eq-eqb k 1 same) ∙ e)) in
+    ap (λ (s : Stopped). with_item Plain s) (stop-within is js (k - 1) x (omega (arith, low, more)) (omega (arith, high))))
+stop-within (Atomic w c ∷ is) js k x low high =
+    chosen (nat_le k (cost Two w)) (in_flight w c k x) (with_item (Atomic w c) (at_stop (is ++ js) (k - cost Two w) x)) (with_item (Atomic w c) (at_stop is (k - cost Two w) x)) (λ e.
+    let more : cost Two w < k = leb-false k (cost Two w) e in
+    ap (λ (s : Stopped). with_item (Atomic w c) s) (stop-within is js (k - cost Two w) x (omega (arith, more)) (omega (arith, high))))
+
+pub stop-past : (is js : List Item) (n k : ℕ) (x : List ℕ) → 1 ≤ k → n ≡ moves is + k → at_stop (is ++ js) n x ≡ behind is (at_stop js k x)
+stop-past [] js n k x low e = let same : n ≡ k = omega (arith, e) in ap (λ (t : ℕ). at_stop js t x) same
+stop-past (Plain ∷ is) js n k x low e =
+    let other : (n == 1) ≡ false = elim (eqb_tells n 1) [ inl own ↦ absurd (let same = own.1 in omega (arith, e, same, low)) | inr not ↦ not.0 ] in
+    ap (λ (b : Bool). cond b (record { whole = []; owed = 0 }) (with_item Plain (at_stop (is ++ js) (n - 1) x))) other
+    ∙ ap (λ (s : Stopped). with_item Plain s) (stop-past is js (n - 1) k x low (omega (arith, e)))
+stop-past (Atomic w c ∷ is) js n k x low e =
+    let more : nat_le n (cost Two w) ≡ false = lt-leb n (cost Two w) (omega (arith, e, low)) in
+    ap (λ (b : Bool). cond b (in_flight w c n x) (with_item (Atomic w c) (at_stop (is ++ js) (n - cost Two w) x))) more
+    ∙ ap (λ (s : Stopped). with_item (Atomic w c) s) (stop-past is js (n - cost Two w) k x low (omega (arith, e)))
+
+-- ---- words that are a card
+
+pub card-found : (c : Card) (n : ℕ) (m : List (List ℕ)) → IsBase (OnCard c) n Two m → c ≡ means m
+card-found c n m b = by_fault (fault m) b.base
+  where
+    by_fault : (f : Option (Cause × ℕ)) → base_of f m ≡ OnCard c → c ≡ means m
+    by_fault None e = cc (sym e)
+    by_fault (Some f) e = absurd (cc e)
+
+pub closed-base : (m : List (List ℕ)) (c : Card) → look m ≡ Closed → words_fault m ≡ None → card_of m ≡ c → IsBase (OnCard c) 0 Two m
+closed-base m c closed good is =
+    record {
+      base = ap (λ (f : Option (Cause × ℕ)). base_of f m) (closed_fault m closed ∙ good) ∙ ap (λ (k : Card). OnCard k) (closed_means m closed ∙ is);
+      owed = ap debt closed;
+      by = λ ne. absurd (ne refl);
+    }
+
+-- ---- items one after another
+
+module _ {D : Type 0} (state : D → DeviceState) (wrote : D → ℕ → List ℕ → Answer → D → Type 0)
+    (obeys : (d : D) (at : ℕ) (w : List ℕ) (a : Answer) (e : D) → (state d).on ≡ true → wrote d at w a e → Wrote (state d) at w a (state e)) where
+  -- no items
+  pub made-none : (c : Card) (d : D) → IsBase (OnCard c) 0 Two (state d).words → Made state wrote c [] d (Ok tt) d
+  made-none c d base =
+      record { writes = []; makes = refl; number = refl; stops = λ k x low high size. absurd (omega (arith, low, high)); done = base }
+
+  -- items that stopped, whatever was to come after them
+  pub made-stopped : (c : Card) (is js : List Item) (d e : D) (s : Stop) → Made state wrote c is d (Err s) e → Made state wrote c (is ++ js) d (Err s) e
+  made-stopped c is js d e s m =
+      let few : length m.writes ≤ moves is = m.number in
+      let all : moves (is ++ js) ≡ moves is + moves js = moves-append is js in
+      record {
+        writes = m.writes;
+        makes = m.makes;
+        number = omega (arith, few, all);
+        stops = λ k x low high size.
+            subst (λ (t : Stopped). IsStopped c t (torn (state d).words m.writes k x)) (sym (stop-within is js k x low (omega (arith, few, high)))) (m.stops k x low high size);
+        done = tt;
+      }
+
+  number-append : (is js : List Item) (n k : ℕ) (a : Answer) → n ≡ moves is → IsAll js a k → IsAll (is ++ js) a (n + k)
+  number-append is js n k (Ok u) first second = let all = moves-append is js in omega (arith, first, second, all)
+  number-append is js n k (Err s) first second = let all = moves-append is js in omega (arith, first, second, all)
+
+  done-behind : (c : Card) (is js : List Item) (a : Answer) (m : List (List ℕ)) → IsDone (card_done c is) js a m → IsDone c (is ++ js) a m
+  done-behind c is js (Ok u) m h = subst (λ (k : Card). IsBase (OnCard k) 0 Two m) (sym (card-append is js c)) h
+  done-behind c is js (Err s) m h = tt
+
+  -- items that were done, and others after them
+  pub made-append : (c : Card) (is js : List Item) (d m e : D) (a : Answer) → (state d).on ≡ true → Made state wrote c is d (Ok tt) m → Made state wrote (card_done c is) js m a e → Made state wrote c (is ++ js) d a e
+  made-append c is js d m e a on first second =
+      let ws = first.writes in
+      let vs = second.writes in
+      let all : DoneAll (state d) ws (state m) = makes-done state wrote obeys ws d m on first.makes in
+      let count : length ws ≡ moves is = first.number in
+      let size : length (ws ++ vs) ≡ length ws + length vs = length-append ws vs in
+      record {
+        writes = ws ++ vs;
+        makes = InOrder-append (λ d p a e. wrote d p.0 p.1 a e) ws vs d m e a first.makes second.makes;
+        number = subst (λ (n : ℕ). IsAll (is ++ js) a n) (sym size) (number-append is js (length ws) (length vs) a count second.number);
+        stops = λ k x low high long. elim (cases_lt (length ws) k) [
+          | inr in-first ↦ subst (λ (t : Stopped). IsStopped c t (torn (state d).words (ws ++ vs) k x)) (sym (stop-within is js k x low (omega (arith, in-first, count))))
+              (subst (λ (w : List (List ℕ)). IsStopped c (at_stop is k x) w) (sym (torn-within (state d).words ws vs k x low in-first)) (first.stops k x low in-first long))
+          | inl past ↦
+              let j = k - length ws in
+              let is-k : k ≡ length ws + j = omega (arith, past) in
+              let some : 1 ≤ j = omega (arith, past) in
+              let words : torn (state d).words (ws ++ vs) k x ≡ torn (state m).words vs j x =
+              torn-past (state d).words ws vs k j x some is-k ∙ ap (λ (w : List (List ℕ)). torn w vs j x) (sym all.words) in
+              let stop : at_stop (is ++ js) k x ≡ behind is (at_stop js j x) = stop-past is js k j x some (is-k ∙ ap (λ (n : ℕ). n + j) count) in
+              let there : IsStopped (card_done c is) (at_stop js j x) (torn (state m).words vs j x) = second.stops j x some (omega (arith, high, size, is-k)) long in
+              subst (λ (t : Stopped). IsStopped c t (torn (state d).words (ws ++ vs) k x)) (sym stop)
+              (subst (λ (w : List (List ℕ)). IsStopped c (behind is (at_stop js j x)) w) (sym words)
+              (subst (λ (b : Card). IsBase (OnCard b) (at_stop js j x).owed Two (torn (state m).words vs j x)) (sym (card-append is (at_stop js j x).whole c)) there))
+        ];
+        done = done-behind c is js a (state e).words second.done;
+      }
+
+  -- steps of any kind of which each makes one item
+  module _ {S X : Type 0} (device : S → D) (one : S → X → Answer → S → Type 0) (item : X → Item) (P : X → Type 0)
+      (power : (s : S) (x : X) (a : Answer) (e : S) → one s x a e → (state (device s)).on ≡ true)
+      (step : (s : S) (x : X) (a : Answer) (e : S) → P x → one s x a e → Made state wrote (means (state (device s)).words) (item x ∷ []) (device s) a (device e)) where
+    pub made-fold : (xs : List X) (s e : S) (a : Answer) → IsBase (OnCard (means (state (device s)).words)) 0 Two (state (device s)).words → AllByRecursion P xs → InOrder one s xs a e
+        → Made state wrote (means (state (device s)).words) (map item xs) (device s) a (device e)
+    made-fold [] s e (Ok u) base all h =
+        subst (λ (t : S). Made state wrote (means (state (device s)).words) [] (device s) (Ok tt) (device t)) (sym h) (made-none (means (state (device s)).words) (device s) base)
+    made-fold [] s e (Err t) base all h = absurd h
+    made-fold (x ∷ xs) s e a base all h =
+        let c = means (state (device s)).words in
+        elim h [
+          | inl done ↦
+              let m = done.0 in
+              let first : Made state wrote c (item x ∷ []) (device s) (Ok tt) (device m) = step s x (Ok tt) m all.0 done.1 in
+              let now : card_done c (item x ∷ []) ≡ means (state (device m)).words = card-found (card_done c (item x ∷ [])) 0 (state (device m)).words first.done in
+              let here : IsBase (OnCard (means (state (device m)).words)) 0 Two (state (device m)).words =
+              subst (λ (k : Card). IsBase (OnCard k) 0 Two (state (device m)).words) now first.done in
+              made-append c (item x ∷ []) (map item xs) (device s) (device m) (device e) a (power s x (Ok tt) m done.1) first
+              (subst (λ (k : Card). Made state wrote k (map item xs) (device m) a (device e)) (sym now) (made-fold xs m e a here all.1 done.2))
+          | inr stop ↦ subst (λ (b : Answer). Made state wrote c (map item (x ∷ xs)) (device s) b (device e)) (sym stop.2)
+              (made-stopped c (item x ∷ []) (map item xs) (device s) (device e) stop.0 (step s x (Err stop.0) e all.0 stop.1))
+        ]
+
+-- ---- one item of a store
+
+-- an atomic write of so many words, which changes the applications as an item of the store does
+pub record IsAtomicAs (m : List (List ℕ)) (i : BankItem) (w : ℕ) (j : Item) : Type 0 where
+  pub change : Change
+  pub is : j ≡ Atomic w change
+  pub apps : changed change (means m).apps ≡ item_done (part_in m) i (means m).apps
+
+-- an item of the store, on words with no open journal, as an item of the definitions
+abbrev pub IsAs : List (List ℕ) → BankItem → Item → Type 0
+IsAs m (Piece s p at b) j = j ≡ Plain
+IsAs m (Blank s at n) j = j ≡ Plain
+IsAs m (Note s n i) j = j ≡ Plain
+IsAs m (Commit n ws) j = IsAtomicAs m (Commit n ws) (length ws) j
+IsAs m (Enter s n) j = IsAtomicAs m (Enter s n) (length (step_of (means m) (card_with m s n))) j
+IsAs m (Remove n) j = IsAtomicAs m (Remove n) (length (step_of (means m) (card_without m n))) j
+
+-- what one item is: so many writes, the card after it, and where a stop in it falls
+record OneIs (m : List (List ℕ)) (i : BankItem) (j : Item) : Type 0 where
+  count : length (item_writes m i) ≡ weight j
+  card : card_done (means m) (j ∷ []) ≡ card_after m i
+  stops : (k : ℕ) (x : List ℕ) (n : List (List ℕ)) → 1 ≤ k → k ≤ length (item_writes m i) → IsStoppedAt m i k x n → IsStopped (means m) (at_stop (j ∷ []) k x) n
+
+plain-one : (m : List (List ℕ)) (i : BankItem) (j : Item) (n : List (List ℕ)) (k : ℕ) (x : List ℕ) → j ≡ Plain → 1 ≤ k → k ≤ 1 → IsBase (OnCard (means m)) 0 Two n → IsStopped (means m) (at_stop (j ∷ []) k x) n
+plain-one m i j n k x is low high h =
+    let one : k ≡ 1 = omega (arith, low, high) in
+    subst (λ (t : Item). IsStopped (means m) (at_stop (t ∷ []) k x) n) (sym is) (subst (λ (t : ℕ). IsStopped (means m) (at_stop (Plain ∷ []) t x) n) (sym one) h)
+
+card-chosen : (b : Bool) (c : Card) (w : ℕ) (ch : Change) → card_done c (cond b (Atomic w ch ∷ []) []) ≡ cond b (card_done c (Atomic w ch ∷ [])) c
+card-chosen true c w ch = refl
+card-chosen false c w ch = refl
+
+module _ (m : List (List ℕ)) (image : IsImage m) (closed : look m ≡ Closed) (good : words_fault m ≡ None) where
+  well : IsWellLaid m
+  well = closed_fault m closed ∙ good
+
+  -- an atomic write of a list
+  atomic-one : (i : BankItem) (j : Item) (list : List (ℕ × List ℕ)) (w : ℕ) → IsAtomic (length m) list → length list ≡ w → IsAtomicAs m i w j → item_writes m i ≡ writes Two list
+      → ((k : ℕ) (x : List ℕ) (n : List (List ℕ)) → IsStoppedAt m i k x n → IsBase (OnCard (cond (stands Two w k x) (card_after m i) (means m))) (owes Two w k x) Two n) → OneIs m i j
+  atomic-one i j list w atomic size a is torn-at =
+      let count : length (item_writes m i) ≡ cost Two w = ap (λ (l : List (ℕ × List ℕ)). length l) is ∙ length-writes Two (length m) list image.high atomic ∙ ap (λ (n : ℕ). cost Two n) size in
+      let card : card_done (means m) (Atomic w a.change ∷ []) ≡ card_after m i = ap (λ (apps : List (List ℕ × App)). record (means m) { apps = apps }) a.apps in
+      let at : weight (Atomic w a.change) ≡ cost Two w = refl in
+      subst (λ (t : Item). OneIs m i t) (sym a.is)
+      (record {
+        count = count;
+        card = card;
+        stops = λ k x n low high h.
+            let first : nat_le k (cost Two w) ≡ true = le-leb k (cost Two w) (omega (arith, high, count)) in
+            let b = stands Two w k x in
+            let same : card_done (means m) (cond b (Atomic w a.change ∷ []) []) ≡ cond b (card_after m i) (means m) =
+            card-chosen b (means m) w a.change ∙ ap (λ (c : Card). cond b c (means m)) card in
+            subst (λ (t : Bool). IsStopped (means m) (cond t (in_flight w a.change k x) (with_item (Atomic w a.change) (at_stop [] (k - cost Two w) x))) n) (sym first)
+            (subst (λ (c : Card). IsBase (OnCard c) (owes Two w k x) Two n) (sym same) (torn-at k x n h));
+      })
+
+  one-is : (i : BankItem) (j : Item) → Allows m i → IsAs m i j → OneIs m i j
+  one-is (Piece s p at b) j allowed is =
+      record {
+        count = subst (λ (t : Item). 1 ≡ weight t) (sym is) refl;
+        card = subst (λ (t : Item). card_done (means m) (t ∷ []) ≡ means m) (sym is) refl;
+        stops = λ k x n low high h. plain-one m (Piece s p at b) j n k x is low high h;
+      }
+  one-is (Blank s at c) j allowed is =
+      record {
+        count = subst (λ (t : Item). 1 ≡ weight t) (sym is) refl;
+        card = subst (λ (t : Item). card_done (means m) (t ∷ []) ≡ means m) (sym is) refl;
+        stops = λ k x n low high h. plain-one m (Blank s at c) j n k x is low high h;
+      }
+  one-is (Note s c q) j allowed is =
+      record {
+        count = subst (λ (t : Item). 1 ≡ weight t) (sym is) refl;
+        card = subst (λ (t : Item). card_done (means m) (t ∷ []) ≡ means m) (sym is) refl;
+        stops = λ k x n low high h. plain-one m (Note s c q) j n k x is low high h;
+      }
+  one-is (Commit n ws) j allowed is =
+      let found = some-is (lookup (means m).apps n) allowed.0 in
+      let a = found.0 in
+      let app : app_of (means m).apps (Some n) ≡ a = ap (λ (o : Option App). unwrap_or o no_app) found.1 in
+      let there : lookup (card_of m).apps n ≡ Some a = ap (λ (c : Card). lookup c.apps n) (sym (closed_means m closed)) ∙ found.1 in
+      let t : Committed m n a ws = commits m n a ws image good there (subst (λ (y : App). CanCommit y.fixed ws) app allowed.1) in
+      let atomic : IsAtomic (length m) (static_writes (app_of (means m).apps (Some n)) ws) = subst (λ (y : App). IsAtomic (length m) (static_writes y ws)) (sym app) t.atomic in
+      atomic-one (Commit n ws) j (static_writes (app_of (means m).apps (Some n)) ws) (length ws) atomic (length-map ws _) is refl (λ k x e h. h)
+  one-is (Enter s n) j ready is =
+      atomic-one (Enter s n) j (step_of (means m) (card_with m s n)) (length (step_of (means m) (card_with m s n))) (creates-plan m s n image closed well ready.good ready.fresh).atomic refl is refl (λ k x e h. h)
+  one-is (Remove n) j there is =
+      let found = some-is (lookup (means m).apps n) there in
+      atomic-one (Remove n) j (step_of (means m) (card_without m n)) (length (step_of (means m) (card_without m n))) (deletes-plan m n found.0 image closed well found.1).atomic refl is refl (λ k x e h. h)
+
+module _ {D : Type 0} (state : D → DeviceState) (wrote : D → ℕ → List ℕ → Answer → D → Type 0)
+    (obeys : (d : D) (at : ℕ) (w : List ℕ) (a : Answer) (e : D) → (state d).on ≡ true → wrote d at w a e → Wrote (state d) at w a (state e)) where
+  count-is : (j : Item) (n : ℕ) (a : Answer) → n ≡ weight j → IsAll (j ∷ []) a n
+  count-is j n (Ok u) is = omega (arith, is)
+  count-is j n (Err s) is = omega (arith, is)
+
+  done-is : (d e : D) (c k : ℕ) (i : BankItem) (j : Item) (a : Answer) → card_done (means (state d).words) (j ∷ []) ≡ card_after (state d).words i → StoreDid state wrote d c i a e k → IsDone (means (state d).words) (j ∷ []) a (state e).words
+  done-is d e c k i j (Err s) card did = tt
+  done-is d e c k i j (Ok tt) card did =
+      let m = (state d).words in
+      let g : Going (state d) c = going_is (state d) c did.going in
+      let s : Standing m = standing-of (state d) c g in
+      let t : Turned (state d) (item_done (store_standing (state d)) i (apps_in m)) (state e) k = turns state wrote obeys i d e c k (Ok tt) did in
+      let own : item_done (store_standing (state d)) i (apps_in m) ≡ item_done (part_in m) i (means m).apps =
+      ap (λ (w : List (List ℕ)). item_done (part_in w) i (apps_in m)) s.self ∙ ap (λ (apps : List (List ℕ × App)). item_done (part_in m) i apps) (s.map ∙ sym s.apps) in
+      closed-base (state e).words (card_done (means m) (j ∷ [])) t.closed t.good
+      (t.card ∙ ap (λ (apps : List (List ℕ × App)). record (card_of m) { apps = apps }) own
+      ∙ ap (λ (x : Card). record x { apps = item_done (part_in m) i (means m).apps }) (sym (closed_means m g.closed)) ∙ sym card)
+
+  -- one item
+  pub made-one : (d e : D) (c k : ℕ) (i : BankItem) (j : Item) (a : Answer) → IsAs (state d).words i j → StoreDid state wrote d c i a e k → Made state wrote (means (state d).words) (j ∷ []) d a e
+  made-one d e c k i j a is did =
+      let m = (state d).words in
+      let g : Going (state d) c = going_is (state d) c did.going in
+      let one : OneIs m i j = one-is m did.image g.closed g.laid i j did.allowed is in
+      record {
+        writes = item_writes m i;
+        makes = did.makes;
+        number = count-is j (length (item_writes m i)) a one.count;
+        stops = λ n x low high size. one.stops n x (torn m (item_writes m i) n x) low high (item_stops m did.image g.closed g.laid i n x did.allowed low high);
+        done = done-is d e c k i j a one.card did;
+      }

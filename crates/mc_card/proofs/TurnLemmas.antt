@@ -1,0 +1,191 @@
+-- What a turn of a chain leaves of a card.
+use Rattle.std.proofs.Common.{◌≡◌, ℕ, ◌+◌, ◌-◌, true, false, List, length, Option, Some, None, Result, Ok, Err, refl, sym, ◌∙◌, ap, subst, arith}
+use Rattle.std.specs.Prelude.{option_map, is_some}
+use Rattle.mc_model.specs.declared.device.Stop.{Stop}
+use Rattle.mc_model.specs.Orders.{Answer, answer_of, InOrder}
+use Rattle.mc_model.specs.Device.{DeviceState, Wrote as DeviceWrote}
+use Rattle.mc_model.specs.Card.{App}
+use Rattle.mc_model.specs.Items.{BankItem, done}
+use Rattle.mc_model.specs.Chain.{Chain, Turn as ModelTurn, Outcome as ModelOutcome, Acted, Follows, Continues, Ends, chain_session, end_of, turn_of}
+use Rattle.mc_model.specs.Play.{write_items}
+use Rattle.mc_bank.specs.Bank.{BankState, app_of}
+use Rattle.mc_store.specs.declared.store.Store.{Store}
+use Rattle.mc_store.specs.Store.{store_state, store_named}
+use Rattle.mc_store.specs.Did.{store_did}
+use Rattle.mc_store.specs.Going.{going_is}
+use Rattle.mc_manager.specs.declared.selection.Selection.{Selection}
+use Rattle.mc_manager.specs.Held.{Held}
+use Rattle.mc_card.specs.declared.card.Card.{Card}
+use Rattle.mc_machine.specs.declared.outcome.Outcome.{Outcome}
+use Rattle.mc_machine.specs.declared.outcome.Turn.{Turn}
+use Rattle.mc_machine.specs.Chains.{Chained, Runs, Wrote, session_in}
+use Rattle.mc_machine.specs.Turns.{Follow, Acts, TurnDone, outcome_value}
+use Rattle.mc_card.specs.Ends.{GoesOn, Turned}
+use Rattle.mc_card.specs.Made.{Made}
+use Rattle.mc_card.specs.Parts.{card_in, seat_in, with_session, RunsChain}
+use Rattle.mc_card.proofs.ChainLemmas.{AreSound, TurnSound, FollowsSound, first_in, session_size, turn_sound}
+use Rattle.mc_card.proofs.RunLemmas.{turn_end}
+use Rattle.mc_card.proofs.WriteLemmas.{own_apps}
+use Rattle.mc_card.proofs.AfterLemmas.{card_made, still_up, same_seat, seat_after}
+
+-- a card of these parts
+abbrev pub card_of : {N : Type 0} → Store N → Held → List ℕ → Option Chained → Card N
+card_of store manager session chain = record { store = store; manager = manager; session = session; chain = chain }
+
+some_same : {A : Type 0} → (x y : A) → Some x ≡ Some y → x ≡ y
+some_same x y e = cc e
+
+module _ {N : Type 0} (state : N → DeviceState) (wrote : N → ℕ → List ℕ → Answer → N → Type 0)
+    (obeys : (d : N) (at : ℕ) (w : List ℕ) (a : Answer) (e : N) → (state d).on ≡ true → wrote d at w a e → DeviceWrote (state d) at w a (state e)) where
+  abbrev bank_state : Store N → BankState
+  bank_state s = store_state (state s.device) s.count
+
+  abbrev did : Store N → BankItem → Answer → Store N → Type 0
+  did s i a e = store_did state wrote s i a e
+
+  abbrev named : Store N → ℕ → Option (List ℕ)
+  named s k = store_named (state s.device) k
+
+  module _ (c : Card N) (ch : Chain) (left : ℕ) (r : RunsChain state c ch left) where
+    abbrev t : Acted
+    t = turn_of left ch
+
+    abbrev apps : List (List ℕ × App)
+    apps = (card_in state c).apps
+
+    -- the chain stands on the card
+    own_map : ch.map ≡ apps
+    own_map = r.runs.map ∙ own_apps state wrote obeys c.store (going_is (state c.store.device) c.store.count r.up.going)
+
+    sound : TurnSound ch t
+    sound = turn_sound left ch r.sound
+
+    writes_sound : AreSound apps t.writes
+    writes_sound = subst (λ (m : List (List ℕ × App)). AreSound m t.writes) own_map sound.writes
+
+    -- the turn's writes, as items
+    pub turn_made : (e : Store N) (a : Answer) → InOrder (Wrote did bank_state) c.store t.writes a e → Made state wrote (card_in state c) (write_items t.writes) c.store.device a e.device
+    turn_made = card_made state wrote obeys c r.up t.writes writes_sound
+
+    -- the first frame has as many session bytes as the selected application
+    first_size : (s : Selection) → c.manager.selected ≡ Some s → length (chain_session ch) ≡ (app_of apps (Some s.aid)).session
+    first_size s is =
+        let name : s.aid ≡ (first_in ch).name = some_same s.aid (first_in ch).name (sym (ap (λ (o : Option Selection). option_map (λ s. s.aid) o) is) ∙ r.own) in
+        session_size ch r.sound ∙ ap (λ (m : List (List ℕ × App)). (app_of m (Some (first_in ch).name)).session) own_map ∙ ap (λ (n : List ℕ). (app_of apps (Some n)).session) (sym name)
+
+    module _ (e : Store N) (d : Chained) (acts : Acts did bank_state named c.store e r.chained d ch t) where
+      -- the chain goes on
+      goes : (next : Chain) → t.follows ≡ Continues next → GoesOn state wrote c ch (left - t.count) (Continues next) (record { store = e; manager = c.manager; session = c.session; chain = Some d })
+      goes next is =
+          let s = subst (λ (f : Follows). FollowsSound ch (done ch.map (write_items t.writes)) f) is sound.follows in
+          let all = acts.left in
+          let old = r.left in (
+            record {
+              up = still_up state wrote obeys c r.up t.writes writes_sound e acts.writes c.session (Some d) acts.going r.up.session;
+              chained = d;
+              is = refl;
+              runs = subst (λ (f : Follows). Follow (bank_state e) (store_named (state e.device)) d ch f) is acts.follows;
+              left = omega (arith, all, old);
+              own = r.own ∙ ap (λ (n : List ℕ). Some n) (sym s.first);
+              sound = s.sound;
+            },
+            same_seat state wrote obeys c r.up t.writes writes_sound e acts.writes,
+          )
+
+      -- it ended
+      ends : (o : ModelOutcome) → t.follows ≡ Ends o → GoesOn state wrote c ch (left - t.count) (Ends o) (record { store = e; manager = c.manager; session = session_in d; chain = None })
+      ends o is =
+          let bytes : session_in d ≡ chain_session ch = subst (λ (f : Follows). Follow (bank_state e) (store_named (state e.device)) d ch f) is acts.follows in (
+            record { up = still_up state wrote obeys c r.up t.writes writes_sound e acts.writes (session_in d) None acts.going (λ s sel. ap length bytes ∙ first_size s sel); idle = refl },
+            seat_after state wrote obeys c r.up t.writes writes_sound e acts.writes (session_in d) ∙ ap (λ (b : List ℕ). with_session b (seat_in state c)) bytes,
+          )
+
+      goes_by : (f : Follows) → t.follows ≡ f → end_of f ≡ None → GoesOn state wrote c ch (left - t.count) f (record { store = e; manager = c.manager; session = c.session; chain = Some d })
+      goes_by (Continues next) is none = goes next is
+      goes_by (Ends o) is none = absurd (cc none)
+
+      ends_by : (f : Follows) (o : ModelOutcome) → t.follows ≡ f → end_of f ≡ Some o → GoesOn state wrote c ch (left - t.count) f (record { store = e; manager = c.manager; session = session_in d; chain = None })
+      ends_by (Continues next) o is some = absurd (cc some)
+      ends_by (Ends p) o is some = ends p is
+
+      -- a turn that tells no end
+      pub turn_goes : t.turn.end ≡ None → GoesOn state wrote c ch (left - t.count) t.follows (record { store = e; manager = c.manager; session = c.session; chain = Some d })
+      turn_goes none = goes_by t.follows refl (sym (turn_end left ch) ∙ none)
+
+      -- a turn that tells one
+      pub turn_ends : (o : ModelOutcome) → t.turn.end ≡ Some o → GoesOn state wrote c ch (left - t.count) t.follows (record { store = e; manager = c.manager; session = session_in d; chain = None })
+      turn_ends o some = ends_by t.follows o refl (sym (turn_end left ch) ∙ some)
+
+  -- ---- the turn of the code
+
+  module _ (c : Card N) (k : Chained) (is : c.chain ≡ Some k) (e : Store N) (d : Chained) where
+    -- the card whose chain goes on, and the one whose chain has ended
+    abbrev card_on : Card N
+    card_on = card_of e c.manager c.session (Some d)
+
+    abbrev card_off : Card N
+    card_off = card_of e c.manager (session_in d) None
+
+    -- what the turn of the machine ensures
+    abbrev Does : Result Turn Stop → Type 0
+    Does result = (ch : Chain) → Runs (bank_state c.store) (named c.store) k ch → TurnDone did bank_state named c.store e k d ch (turn_of k.left ch) result
+
+    own_chain : (ch : Chain) (left : ℕ) (r : RunsChain state c ch left) → r.chained ≡ k
+    own_chain ch left r = some_same r.chained k (sym r.is ∙ is)
+
+    -- the chain that runs is the code's
+    pub runs_own : (ch : Chain) (left : ℕ) → RunsChain state c ch left → Runs (bank_state c.store) (named c.store) k ch
+    runs_own ch left r = subst (λ (x : Chained). Runs (bank_state c.store) (named c.store) x ch) (own_chain ch left r) r.runs
+
+    pub left_own : (ch : Chain) (left : ℕ) → RunsChain state c ch left → k.left ≡ left
+    left_own ch left r = ap (λ (x : Chained). x.left) (sym (own_chain ch left r)) ∙ r.left
+
+    done_own : (result : Result Turn Stop) → Does result → (ch : Chain) (left : ℕ) (r : RunsChain state c ch left) → TurnDone did bank_state named c.store e r.chained d ch (turn_of left ch) result
+    done_own result does ch left r =
+        subst (λ (x : Chained). TurnDone did bank_state named c.store e x d ch (turn_of left ch) result) (sym (own_chain ch left r))
+        (subst (λ (n : ℕ). TurnDone did bank_state named c.store e k d ch (turn_of n ch) result) (left_own ch left r) (does ch (runs_own ch left r)))
+
+    -- the device writes that were tried, however it ended
+    pub done_made : (result : Result Turn Stop) → Does result → (ch : Chain) (left : ℕ) → RunsChain state c ch left → Made state wrote (card_in state c) (write_items (turn_of left ch).writes) c.store.device (answer_of result) e.device
+    done_made result does ch left r = made_by result (done_own result does ch left r)
+      where
+        made_by : (result : Result Turn Stop) → TurnDone did bank_state named c.store e r.chained d ch (turn_of left ch) result → Made state wrote (card_in state c) (write_items (turn_of left ch).writes) c.store.device (answer_of result) e.device
+        made_by (Ok told) own = turn_made c ch left r e (Ok tt) own.0.writes
+        made_by (Err s) own = turn_made c ch left r e (Err s) own
+
+    -- it stopped
+    pub turned_stop : (s : Stop) → Does (Err s) → (ch : Chain) (left : ℕ) → RunsChain state c ch left → Turned state wrote c ch left (turn_of left ch) (Err s) card_on
+    turned_stop s does ch left r = record { made = done_made (Err s) does ch left r; turn = tt; follows = tt }
+
+    -- it told no end
+    pub turned_on : (told : Turn) → is_some told.end ≡ false → Does (Ok told) → (ch : Chain) (left : ℕ) → RunsChain state c ch left → Turned state wrote c ch left (turn_of left ch) (Ok told) card_on
+    turned_on told none does ch left r =
+        let own = done_own (Ok told) does ch left r in
+        record {
+          made = done_made (Ok told) does ch left r;
+          turn = own.1;
+          follows = turn_goes c ch left r e d own.0 (ap (λ (t : ModelTurn). t.end) own.1 ∙ no_end told.end none);
+        }
+      where
+        no_end : (o : Option Outcome) → is_some o ≡ false → option_map outcome_value o ≡ None
+        no_end None h = refl
+        no_end (Some x) h = absurd (cc h)
+
+    -- it told one
+    pub turned_off : (told : Turn) → is_some told.end ≡ true → Does (Ok told) → (ch : Chain) (left : ℕ) → RunsChain state c ch left → Turned state wrote c ch left (turn_of left ch) (Ok told) card_off
+    turned_off told some does ch left r =
+        let own = done_own (Ok told) does ch left r in
+        let end = some_end told.end some in
+        record {
+          made = done_made (Ok told) does ch left r;
+          turn = own.1;
+          follows = turn_ends c ch left r e d own.0 end.0 (ap (λ (t : ModelTurn). t.end) own.1 ∙ end.1);
+        }
+      where
+        some_end : (o : Option Outcome) → is_some o ≡ true → (x : ModelOutcome) × (option_map outcome_value o ≡ Some x)
+        some_end None h = absurd (cc h)
+        some_end (Some x) h = (outcome_value x, refl)
+
+    -- its steps
+    pub turned_steps : (old new : ℕ) → ((ch : Chain) → Runs (bank_state c.store) (named c.store) k ch → new ≡ old + (turn_of k.left ch).count) → (ch : Chain) (left : ℕ) → RunsChain state c ch left → new ≡ old + (turn_of left ch).count
+    turned_steps old new ticks ch left r = ticks ch (runs_own ch left r) ∙ ap (λ (n : ℕ). old + (turn_of n ch).count) (left_own ch left r)

@@ -1,0 +1,179 @@
+-- The atomic writes of a chain on a store, as items of the definitions and as commits of a bank.
+use Rattle.std.proofs.Common.{◌≡◌, ℕ, ◌+◌, ◌≤◌, Bool, true, false, not, List, [], ◌∷◌, ◌++◌, length, take, drop, Option, Some, Ok, Err, refl, sym, ◌∙◌, ap, subst, inl, inr, arith, append-nil}
+use Rattle.std.specs.Prelude.{unwrap_or}
+use Rattle.std.proofs.lemmas.List.{length-map, take-append-drop}
+use Rattle.mc_model.specs.Orders.{Answer, InOrder}
+use Rattle.mc_model.specs.Bytes.{lookup, insert, splice}
+use Rattle.mc_model.specs.Pieces.{laid_pieces, laid_words, with_words, with_touched, touched, HoldPieces, LieIn}
+use Rattle.mc_model.specs.Device.{DeviceState, Wrote as DeviceWrote}
+use Rattle.mc_model.specs.Card.{App, Card, means}
+use Rattle.mc_model.specs.Chain.{Write, changed_app, map_changed}
+use Rattle.mc_model.specs.Items.{Fixed, Item, Atomic, card_done, BankItem, Commit}
+use Rattle.mc_model.specs.Play.{write_items}
+use Rattle.mc_trans.proofs.Holding.{words_laid}
+use Rattle.mc_trans.proofs.Putting.{held_same}
+use Rattle.mc_bank.specs.Bank.{BankState, no_app, app_of, with_words as app_with, committed, item_done, Changes}
+use Rattle.mc_bank.proofs.Commits.{Words, commits}
+use Rattle.mc_store.specs.declared.store.Store.{Store}
+use Rattle.mc_store.specs.Store.{apps_in, is_going, store_state, store_standing}
+use Rattle.mc_store.specs.Laws.{store_obeys}
+use Rattle.mc_store.specs.Did.{store_did}
+use Rattle.mc_store.specs.Going.{Going, going_is, closed_means}
+use Rattle.mc_store.specs.Turns.{Standing, standing-of, some-is}
+use Rattle.mc_card.specs.Made.{Made}
+use Rattle.mc_card.specs.Sound.{Within}
+use Rattle.mc_machine.specs.Chains.{Wrote}
+use Rattle.mc_card.proofs.ChainLemmas.{IsSoundWrite, AreSound}
+use Rattle.mc_card.proofs.MadeLemmas.{card-found, closed-base, made-none, made-stopped, made-append, IsAtomicAs, made-one}
+
+-- ---- words that hold pieces
+
+-- pieces without those that have no bytes
+abbrev put_solid : ℕ → List ℕ → List (ℕ × List ℕ) → List (ℕ × List ℕ)
+put_solid at [] ps = ps
+put_solid at (b ∷ bs) ps = (at, b ∷ bs) ∷ ps
+
+abbrev solid : List (ℕ × List ℕ) → List (ℕ × List ℕ)
+solid [] = []
+solid (p ∷ ps) = put_solid p.0 p.1 (solid ps)
+
+-- no bytes laid over a list leave it
+none_laid : (l : List ℕ) (at : ℕ) → splice l at [] ≡ l
+none_laid l at = let same : at + 0 ≡ at = omega arith in ap (λ (x : List ℕ). x ++ drop (at + 0) l) (append-nil (take at l)) ∙ ap (λ (n : ℕ). take at l ++ drop n l) same ∙ take-append-drop at l
+
+laid_one : (l : List ℕ) (at : ℕ) (b : List ℕ) (ps : List (ℕ × List ℕ)) → laid_pieces l (put_solid at b ps) ≡ laid_pieces (splice l at b) ps
+laid_one l at [] ps = ap (λ (x : List ℕ). laid_pieces x ps) (sym (none_laid l at))
+laid_one l at (b ∷ bs) ps = refl
+
+laid_solid : (l : List ℕ) (ps : List (ℕ × List ℕ)) → laid_pieces l (solid ps) ≡ laid_pieces l ps
+laid_solid l [] = refl
+laid_solid l (p ∷ ps) = laid_one l p.0 p.1 (solid ps) ∙ laid_solid (splice l p.0 p.1) ps
+
+touched_one : (ns : List ℕ) (at : ℕ) (b : List ℕ) (ps : List (ℕ × List ℕ)) → with_touched ns (put_solid at b ps) ≡ with_touched (with_words at b ns) ps
+touched_one ns at [] ps = refl
+touched_one ns at (b ∷ bs) ps = refl
+
+touched_solid : (ns : List ℕ) (ps : List (ℕ × List ℕ)) → with_touched ns (solid ps) ≡ with_touched ns ps
+touched_solid ns [] = refl
+touched_solid ns (p ∷ ps) = touched_one ns p.0 p.1 (solid ps) ∙ touched_solid (with_words p.0 p.1 ns) ps
+
+same_touched : (ps : List (ℕ × List ℕ)) → touched ps ≡ touched (solid ps)
+unfolding touched
+same_touched ps = sym (touched_solid [] ps)
+
+lie_one : (n at : ℕ) (b : List ℕ) (ps : List (ℕ × List ℕ)) → at + length b ≤ n → LieIn n ps → LieIn n (put_solid at b ps)
+lie_one n at [] ps fits lie = lie
+lie_one n at (b ∷ bs) ps fits lie = ((omega arith, fits), lie)
+
+lie_solid : (n : ℕ) (ps : List (ℕ × List ℕ)) → Within n ps → LieIn n (solid ps)
+lie_solid n [] within = tt
+lie_solid n (p ∷ ps) within = lie_one n p.0 p.1 (solid ps) within.0 (lie_solid n ps within.1)
+
+laid_held : (l : List ℕ) (ps ws : List (ℕ × List ℕ)) → Within (length l) ps → HoldPieces l ps ws → laid_words l ws ≡ laid_pieces l ps
+laid_held l ps ws within held = words_laid l (solid ps) ws (lie_solid (length l) ps within) (held_same l ps (solid ps) ws (same_touched ps) (sym (laid_solid l ps)) held) ∙ laid_solid l ps
+
+-- words are as many as their pieces touch
+as_many : (l : List ℕ) (ps ws : List (ℕ × List ℕ)) → HoldPieces l ps ws → length ws ≡ length (touched ps)
+as_many l ps ws held = sym (length-map ws (λ w. w.0)) ∙ ap length held.touched_words
+
+-- a commit of them changes the applications as their pieces do
+committed_is : (apps : List (List ℕ × App)) (n : List ℕ) (ps ws : List (ℕ × List ℕ)) (a : App) → lookup apps n ≡ Some a → Within (length (app_of apps (Some n)).fixed) ps → HoldPieces (app_of apps (Some n)).fixed ps ws → map_changed apps n (Some ps) ≡ committed apps n ws
+committed_is apps n ps ws a there within held =
+    let own : app_of apps (Some n) ≡ a = ap (λ (o : Option App). unwrap_or o no_app) there in
+    let laid : laid_words a.fixed ws ≡ laid_pieces a.fixed ps = subst (λ (x : App). laid_words x.fixed ws ≡ laid_pieces x.fixed ps) own (laid_held (app_of apps (Some n)).fixed ps ws within held) in
+    ap (λ (o : Option App). changed_app apps n ps o) there
+    ∙ ap (λ (l : List ℕ). insert apps n (record a { fixed = l })) (sym laid)
+    ∙ ap (λ (x : App). insert apps n (app_with ws x)) (sym own)
+
+-- ---- writes as commits
+
+pub not_false : (b : Bool) → not b ≡ false → b ≡ true
+not_false true e = refl
+not_false false e = absurd (cc e)
+
+module _ {B : Type 0} (did : B → BankItem → Answer → B → Type 0) (state : B → BankState) where
+  -- the words that writes committed
+  pub record AsCommits (b : B) (a : Answer) (e : B) : Type 0 where
+    pub words : List Words
+    pub commits : InOrder did b (commits words) a e
+
+  pub as_commits : (ws : List Write) (b e : B) (a : Answer) → InOrder (Wrote did state) b ws a e → AsCommits b a e
+  as_commits [] b e (Ok u) h = record { words = []; commits = h }
+  as_commits [] b e (Err s) h = absurd h
+  as_commits (w ∷ ws) b e a h =
+      elim h [
+        | inl done ↦
+            let rest = as_commits ws done.0 e a done.2 in
+            record { words = record { name = w.name; words = (done.1).0 } ∷ rest.words; commits = inl (done.0, (done.1).2, rest.commits) }
+        | inr stop ↦ record { words = record { name = w.name; words = (stop.1).0 } ∷ []; commits = inr (stop.0, (stop.1).2, stop.2) }
+      ]
+
+-- ---- one write
+
+-- an atomic write of a chain as an item
+abbrev item_of : Write → Item
+item_of w = Atomic w.words (Fixed w.name w.pieces)
+
+module _ {N : Type 0} (state : N → DeviceState) (wrote : N → ℕ → List ℕ → Answer → N → Type 0)
+    (obeys : (d : N) (at : ℕ) (w : List ℕ) (a : Answer) (e : N) → (state d).on ≡ true → wrote d at w a e → DeviceWrote (state d) at w a (state e)) where
+  -- the store as a bank
+  abbrev bank_state : Store N → BankState
+  bank_state s = store_state (state s.device) s.count
+
+  abbrev did : Store N → BankItem → Answer → Store N → Type 0
+  did s i a e = store_did state wrote s i a e
+
+  abbrev words_of : Store N → List (List ℕ)
+  words_of s = (state s.device).words
+
+  -- the applications of a store that goes on
+  pub own_apps : (s : Store N) → Going (state s.device) s.count → apps_in (words_of s) ≡ (means (words_of s)).apps
+  own_apps s g = let t : Standing (words_of s) = standing-of (state s.device) s.count g in t.map ∙ sym t.apps
+
+  -- the commit of a write is its item
+  write_as : (s e : Store N) (w : Write) (ws : List (ℕ × List ℕ)) (a : Answer) → IsSoundWrite (means (words_of s)).apps w → HoldPieces (app_of (bank_state s).apps (Some w.name)).fixed w.pieces ws → did s (Commit w.name ws) a e
+      → IsAtomicAs (words_of s) (Commit w.name ws) (length ws) (item_of w)
+  write_as s e w ws a sound held done =
+      let m = words_of s in
+      let same : apps_in m ≡ (means m).apps = own_apps s (going_is (state s.device) s.count done.going) in
+      let here : HoldPieces (app_of (means m).apps (Some w.name)).fixed w.pieces ws = subst (λ (apps : List (List ℕ × App)). HoldPieces (app_of apps (Some w.name)).fixed w.pieces ws) same held in
+      let there = some-is (lookup (means m).apps w.name) done.allowed.0 in
+      record {
+        change = Fixed w.name w.pieces;
+        is = ap (λ (n : ℕ). Atomic n (Fixed w.name w.pieces)) (sound.words ∙ sym (as_many _ w.pieces ws here));
+        apps = committed_is (means m).apps w.name w.pieces ws there.0 there.1 sound.within here;
+      }
+
+  write_made : (s e : Store N) (w : Write) (a : Answer) → IsSoundWrite (means (words_of s)).apps w → Wrote did bank_state s w a e → Made state wrote (means (words_of s)) (item_of w ∷ []) s.device a e.device
+  write_made s e w a sound h = made-one state wrote obeys s.device e.device s.count e.count (Commit w.name h.0) (item_of w) a (write_as s e w h.0 a sound h.1 h.2) h.2
+
+  -- a store that made a write goes on
+  goes_on : (s e : Store N) (w : Write) → Wrote did bank_state s w (Ok tt) e → Going (state e.device) e.count
+  goes_on s e w h =
+      let t : Changes (bank_state s) (item_done (store_standing (state s.device)) (Commit w.name h.0) (bank_state s).apps) (Ok tt) (bank_state e) =
+      store_obeys state wrote obeys s.device e.device s.count e.count (Commit w.name h.0) (Ok tt) h.2 in
+      going_is (state e.device) e.count (not_false (is_going (state e.device) e.count) t.going)
+
+  -- ---- writes in order
+
+  -- the writes of a chain on a store that goes on
+  pub writes_made : (ws : List Write) (s e : Store N) (a : Answer) → Going (state s.device) s.count → AreSound (means (words_of s)).apps ws → InOrder (Wrote did bank_state) s ws a e
+      → Made state wrote (means (words_of s)) (write_items ws) s.device a e.device
+  writes_made [] s e (Ok u) g sound h =
+      let m = words_of s in
+      subst (λ (t : Store N). Made state wrote (means m) [] s.device (Ok tt) t.device) (sym h) (made-none state wrote obeys (means m) s.device (closed-base m (means m) g.closed g.laid (sym (closed_means m g.closed))))
+  writes_made [] s e (Err x) g sound h = absurd h
+  writes_made (w ∷ ws) s e a g sound h =
+      let c = means (words_of s) in
+      let i = item_of w ∷ [] in
+      elim h [
+        | inl done ↦
+            let m = done.0 in
+            let first : Made state wrote c i s.device (Ok tt) m.device = write_made s m w (Ok tt) sound.0 done.1 in
+            let now : card_done c i ≡ means (words_of m) = card-found (card_done c i) 0 (words_of m) first.done in
+            let rest : Made state wrote (means (words_of m)) (write_items ws) m.device a e.device =
+            writes_made ws m e a (goes_on s m w done.1) (subst (λ (k : Card). AreSound k.apps ws) now sound.1) done.2 in
+            made-append state wrote obeys c i (write_items ws) s.device m.device e.device a g.on first (subst (λ (k : Card). Made state wrote k (write_items ws) m.device a e.device) (sym now) rest)
+        | inr stop ↦ subst (λ (b : Answer). Made state wrote c (write_items (w ∷ ws)) s.device b e.device) (sym stop.2)
+            (made-stopped state wrote obeys c i (write_items ws) s.device e.device stop.0 (write_made s e w (Err stop.0) sound.0 stop.1))
+      ]

@@ -1,0 +1,110 @@
+-- How the calls of a card end: a power-up, a command that is answered or passed on, and a turn.
+-- This project's profile.
+use Rattle.std.specs.Prelude.{◌≡◌, ℕ, ◌+◌, ◌-◌, ◌≤◌, Bool, true, false, List, length, Option, Some, None, Result, Ok, Err, IfOk, OnOk}
+use Rattle.mc_model.specs.declared.device.Stop.{Stop}
+use Rattle.mc_model.specs.Orders.{Answer, answer_of}
+use Rattle.mc_model.specs.Device.{DeviceState}
+use Rattle.mc_model.specs.Apdu.{ApduParts}
+use Rattle.mc_model.specs.Card as model
+use Rattle.mc_model.specs.Layout.{gaps}
+use Rattle.mc_model.specs.Chain.{Chain, Acted, Follows, Continues, Ends, Ran, start, run, chain_session}
+use Rattle.mc_model.specs.Manager.{Selected, Seat, Route, WrongLength, WrongClass, ToSelect, ToManager, ToApplication, route}
+use Rattle.mc_model.specs.Play.{Command, write_items}
+use Rattle.mc_machine.specs.declared.outcome.Outcome.{Outcome}
+use Rattle.mc_machine.specs.declared.outcome.Turn.{Turn}
+use Rattle.mc_machine.specs.Turns.{outcome_value, turn_value}
+use Rattle.mc_manager.specs.Due.{most_ticks}
+use Rattle.mc_store.specs.declared.power.Up.{Up}
+use Rattle.mc_store.specs.Power.{Powered, Runs as Runs_with, failed, count_of}
+use Rattle.mc_card.specs.declared.card.Card.{Card}
+use Rattle.mc_card.specs.Parts.{device_in, card_in, seat_in, due, with_session, IsReady, RunsChain}
+use Rattle.mc_card.specs.Made.{Made}
+
+-- ---- steps
+
+-- the steps of a run: one for each decoded instruction, and no more where it stopped
+abbrev pub RunSteps : Ran → Answer → ℕ → ℕ → Type 0
+RunSteps r (Ok u) old new = new ≡ old + r.count
+RunSteps r (Err s) old new = new ≤ old + r.count
+
+-- the steps of a command for the selected application, where there is one
+abbrev pub PassedSteps : model.Card → Option Selected → ApduParts → ℕ → Answer → ℕ → ℕ → Type 0
+PassedSteps c None a budget answer old new = new ≡ old
+PassedSteps c (Some s) a budget answer old new = RunSteps (run c.apps s.name s.session a budget) answer old new
+
+-- the steps of a command by its route: an OPEN makes at most two more than there are gaps, and no other command of the manager makes any
+abbrev pub RouteSteps : model.Card → Option Selected → ℕ → Route → Answer → ℕ → ℕ → Type 0
+RouteSteps c selected budget WrongLength answer old new = new ≡ old
+RouteSteps c selected budget WrongClass answer old new = new ≡ old
+RouteSteps c selected budget (ToSelect a) answer old new = new ≡ old
+RouteSteps c selected budget (ToManager a) answer old new = (old ≤ new) × (new ≤ old + most_ticks a (2 + length (gaps c)))
+RouteSteps c selected budget (ToApplication a) answer old new = PassedSteps c selected a budget answer old new
+
+-- the steps of the beginning of a command: those of a command that is answered, and none where it is passed on
+abbrev pub BeginSteps : model.Card → Route → ℕ → ℕ → Type 0
+BeginSteps c WrongLength old new = new ≡ old
+BeginSteps c WrongClass old new = new ≡ old
+BeginSteps c (ToSelect a) old new = new ≡ old
+BeginSteps c (ToManager a) old new = (old ≤ new) × (new ≤ old + most_ticks a (2 + length (gaps c)))
+BeginSteps c (ToApplication a) old new = new ≡ old
+
+-- ---- a power-up
+
+-- the end of a power-up
+abbrev pub powered : {N : Type 0} → Result (Card N × ℕ) (N × Up) → Powered
+powered (Ok p) = Runs_with p.1 (count_of (p.0).store)
+powered (Err p) = failed p.1
+
+-- the device after a power-up
+abbrev pub device_after : {N : Type 0} → Result (Card N × ℕ) (N × Up) → N
+device_after (Ok p) = device_in p.0
+device_after (Err p) = p.0
+
+-- whether a command is passed to the selected application
+abbrev pub is_passed : Route → Option Selected → Bool
+is_passed (ToApplication a) (Some s) = true
+is_passed _ selected = false
+
+module _ {N : Type 0} (state : N → DeviceState) (wrote : N → ℕ → List ℕ → Answer → N → Type 0) where
+  -- ---- a command
+
+  -- what a command did: its items, and where none stopped its outcome and the seat after it
+  pub record Commanded (c : Card N) (r : Command) (result : Result Outcome Stop) (d : Card N) : Type 0 where
+    pub made : Made state wrote (card_in state c) r.items (device_in c) (answer_of result) (device_in d)
+    pub outcome : IfOk result (λ o. outcome_value o ≡ r.outcome)
+    pub seat : OnOk result (seat_in state d ≡ r.seat)
+    pub ready : OnOk result (IsReady state d)
+
+  -- a command is passed to the selected application: its chain is ready to run, and nothing else changed
+  pub record Passed (c : Card N) (bytes : List ℕ) (budget : ℕ) (d : Card N) : Type 0 where
+    pub apdu : ApduParts
+    pub routed : route bytes ≡ ToApplication apdu
+    pub selected : Selected
+    pub is : (seat_in state c).selected ≡ Some selected
+    pub device : device_in d ≡ device_in c
+    pub seat : seat_in state d ≡ seat_in state c
+    pub runs : RunsChain state d (start (card_in state c).apps selected.name selected.session apdu) budget
+
+  -- a command that is not passed on
+  pub record Answered (c : Card N) (bytes : List ℕ) (budget : ℕ) (result : Result Outcome Stop) (d : Card N) : Type 0 where
+    pub stays : is_passed (route bytes) (seat_in state c).selected ≡ false
+    pub commanded : Commanded c (due state c bytes budget) result d
+
+  -- the beginning of a command, by its result
+  abbrev pub Begun : Card N → List ℕ → ℕ → Result (Option Outcome) Stop → Card N → Type 0
+  Begun c bytes budget (Ok (Some o)) d = Answered c bytes budget (Ok o) d
+  Begun c bytes budget (Ok None) d = Passed c bytes budget d
+  Begun c bytes budget (Err s) d = Answered c bytes budget (Err s) d
+
+  -- ---- a turn
+
+  -- what follows a turn: the chain goes on with what is left of the budget, or it has ended, and its session bytes stay with the selection
+  abbrev pub GoesOn : Card N → Chain → ℕ → Follows → Card N → Type 0
+  GoesOn c ch left (Continues next) d = RunsChain state d next left × (seat_in state d ≡ seat_in state c)
+  GoesOn c ch left (Ends o) d = IsReady state d × (seat_in state d ≡ with_session (chain_session ch) (seat_in state c))
+
+  -- a turn of a chain: its items, what it tells, and what follows where none stopped
+  pub record Turned (c : Card N) (ch : Chain) (left : ℕ) (t : Acted) (result : Result Turn Stop) (d : Card N) : Type 0 where
+    pub made : Made state wrote (card_in state c) (write_items t.writes) (device_in c) (answer_of result) (device_in d)
+    pub turn : IfOk result (λ told. t.turn ≡ turn_value told t.turn.wrote)
+    pub follows : OnOk result (GoesOn c ch (left - t.count) t.follows d)

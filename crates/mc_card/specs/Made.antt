@@ -1,0 +1,38 @@
+-- The device writes of items on a card, what words they leave wherever one of them stops, and where none does.
+-- This project's profile.
+use Rattle.std.specs.Prelude.{◌≡◌, ℕ, ◌≤◌, List, length, Ok, Err}
+use Rattle.mc_model.specs.declared.device.Stop.{Stop}
+use Rattle.mc_model.specs.Orders.{Answer}
+use Rattle.mc_model.specs.Image.{Two}
+use Rattle.mc_model.specs.Device.{DeviceState, Makes}
+use Rattle.mc_model.specs.Stopped.{torn}
+use Rattle.mc_model.specs.Card.{Card}
+use Rattle.mc_model.specs.Items.{Item, Stopped, moves, card_done, at_stop}
+use Rattle.mc_model.specs.Play.{OnCard}
+use Rattle.mc_store.specs.Power.{IsBase}
+
+-- words that are a card after the whole items of a stop, and owe what it owes
+abbrev pub IsStopped : Card → Stopped → List (List ℕ) → Type 0
+IsStopped c s m = IsBase (OnCard (card_done c s.whole)) s.owed Two m
+
+-- wherever one of these writes stops, and whatever word it leaves, the words are the card after the items that are whole then
+abbrev pub StopsAtEach : Card → List Item → List (List ℕ) → List (ℕ × List ℕ) → Type 0
+StopsAtEach c is m ws = (k : ℕ) (x : List ℕ) → 1 ≤ k → k ≤ length ws → length x ≡ 8 → IsStopped c (at_stop is k x) (torn m ws k x)
+
+-- how many writes were made of items: all of them, where none stopped
+abbrev pub IsAll : List Item → Answer → ℕ → Type 0
+IsAll is (Ok u) n = n ≡ moves is
+IsAll is (Err s) n = n ≤ moves is
+
+-- what the words are: the card after all items, where none stopped
+abbrev pub IsDone : Card → List Item → Answer → List (List ℕ) → Type 0
+IsDone c is (Ok u) m = IsBase (OnCard (card_done c is)) 0 Two m
+IsDone c is (Err s) m = Unit {0}
+
+-- items on a card in the words of a device: the writes that were tried, in order
+pub record Made {D : Type 0} (state : D → DeviceState) (wrote : D → ℕ → List ℕ → Answer → D → Type 0) (c : Card) (is : List Item) (d : D) (a : Answer) (e : D) : Type 0 where
+  pub writes : List (ℕ × List ℕ)
+  pub makes : Makes wrote d writes a e
+  pub number : IsAll is a (length writes)
+  pub stops : StopsAtEach c is (state d).words writes
+  pub done : IsDone c is a (state e).words

@@ -1,0 +1,37 @@
+-- How the manager of a card deals with a command.
+-- This project's profile.
+use Rattle.std.specs.Prelude.{◌≡◌, ℕ, false, List, Some, Result, Ok, Err}
+use Rattle.mc_model.specs.declared.device.Stop.{Stop}
+use Rattle.mc_model.specs.Orders.{Answer}
+use Rattle.mc_model.specs.Device.{DeviceState}
+use Rattle.mc_model.specs.Apdu.{ApduParts}
+use Rattle.mc_model.specs.Manager.{ToApplication, routed}
+use Rattle.mc_model.specs.Play.{by_route}
+use Rattle.mc_machine.specs.declared.outcome.Outcome.{Outcome}
+use Rattle.mc_machine.specs.declared.outcome.Outcome.TheVariants as outcome
+use Rattle.mc_manager.specs.declared.selection.Selection.{Selection}
+use Rattle.mc_card.specs.declared.card.Card.{Card}
+use Rattle.mc_card.specs.declared.managing.Directed.{Directed}
+use Rattle.mc_card.specs.declared.managing.Directed.TheVariants.{Answered, Passed}
+use Rattle.mc_card.specs.Parts.{card_in, seat_in}
+use Rattle.mc_card.specs.Ends.{is_passed, Commanded}
+
+module _ {N : Type 0} (state : N → DeviceState) (wrote : N → ℕ → List ℕ → Answer → N → Type 0) where
+  -- a command that the manager answers
+  pub record IsAnswered (c : Card N) (a : ApduParts) (result : Result Outcome Stop) (d : Card N) : Type 0 where
+    pub stays : is_passed (routed (Some a)) (seat_in state c).selected ≡ false
+    pub commanded : (budget : ℕ) → Commanded state wrote c (by_route (card_in state c) (seat_in state c) budget (routed (Some a))) result d
+
+  -- a command that the application of a slot is to run; nothing changed
+  pub record IsPassed (c : Card N) (a : ApduParts) (slot : ℕ) (d : Card N) : Type 0 where
+    pub route : routed (Some a) ≡ ToApplication a
+    pub selected : Selection
+    pub is : c.manager.selected ≡ Some selected
+    pub slot_is : selected.slot ≡ slot
+    pub unchanged : d ≡ c
+
+  -- a command, by what the manager makes of it
+  abbrev pub Directs : Card N → ApduParts → Result Directed Stop → Card N → Type 0
+  Directs c a (Ok (Answered r)) d = IsAnswered c a (Ok (outcome.Reply r)) d
+  Directs c a (Ok (Passed slot)) d = IsPassed c a slot d
+  Directs c a (Err s) d = IsAnswered c a (Err s) d

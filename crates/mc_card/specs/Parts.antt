@@ -1,0 +1,78 @@
+-- What a card is made of, and what it shows: the card in its device's words, its selection and open load, and the chain that runs on it.
+-- This project's profile.
+use Rattle.std.specs.Prelude.{◌≡◌, ℕ, true, List, length, option_map, Option, Some, None}
+use Rattle.std.specs.Option.{ForSome}
+use Rattle.mc_model.specs.Device.{DeviceState}
+use Rattle.mc_model.specs.Card.{means}
+use Rattle.mc_model.specs.Card as model
+use Rattle.mc_model.specs.Chain.{Chain, first_frame}
+use Rattle.mc_model.specs.Manager.{Selected, Seat}
+use Rattle.mc_model.specs.Play.{Command, command}
+use Rattle.mc_bank.specs.Bank.{app_of}
+use Rattle.mc_store.specs.Store.{is_going, store_state, store_named, store_room, store_standing}
+use Rattle.mc_store.specs.Power.{device_of, count_of, over}
+use Rattle.mc_manager.specs.Held.{BankView, Fits, seat_of}
+use Rattle.mc_machine.specs.Chains.{Chained, Runs}
+use Rattle.mc_card.specs.declared.card.Card.{Card}
+use Rattle.mc_card.specs.Sound.{IsSound}
+
+-- the device of a card
+abbrev pub device_in : {N : Type 0} → Card N → N
+device_in c = device_of c.store
+
+-- a card over another device
+abbrev pub with_device : {N : Type 0} → Card N → N → Card N
+with_device c d = record c { store = over c.store d }
+
+-- the selection with these session bytes
+abbrev pub with_session : List ℕ → Seat → Seat
+with_session session seat = record seat { selected = option_map {T = Selected} (λ s. record s { session = session }) seat.selected }
+
+module _ {N : Type 0} (state : N → DeviceState) where
+  -- its words
+  abbrev pub words_in : Card N → List (List ℕ)
+  words_in c = (state (device_in c)).words
+
+  -- the applications and the free words
+  abbrev pub card_in : Card N → model.Card
+  card_in c = means (words_in c)
+
+  -- the bank that the manager and the applications see
+  abbrev pub view_in : Card N → BankView
+  view_in c =
+      let d = state (device_in c) in
+      record { state = store_state d (count_of c.store); named = store_named d; room = store_room d; standing = store_standing d }
+
+  -- the selection with its session bytes, and the open load
+  abbrev pub seat_in : Card N → Seat
+  seat_in c = seat_of (store_standing (state (device_in c))) c.session c.manager
+
+  -- what a command is due
+  abbrev pub due : Card N → List ℕ → ℕ → Command
+  due c bytes budget = command (card_in c) (seat_in c) bytes budget
+
+  -- A card runs: its device has power, owes nothing and holds a card of layout 2, the manager fits it, and the session bytes are as
+  -- many as the selected application has.
+  pub record IsUp (c : Card N) : Type 0 where
+    pub going : is_going (state (device_in c)) (count_of c.store) ≡ true
+    pub fits : Fits (view_in c) c.manager
+    pub session : ForSome c.manager.selected (λ s. length c.session ≡ (app_of (card_in c).apps (Some s.aid)).session)
+
+  -- a card runs, and no command does
+  pub record IsReady (c : Card N) : Type 0 where
+    pub up : IsUp c
+    pub idle : c.chain ≡ None
+
+  -- the selected application runs a command on a card: this chain of the definitions, with so much of the budget left
+  pub record RunsChain (c : Card N) (ch : Chain) (n : ℕ) : Type 0 where
+    pub up : IsUp c
+    pub chained : Chained
+    pub is : c.chain ≡ Some chained
+    pub runs : Runs (view_in c).state (view_in c).named chained ch
+    pub left : chained.left ≡ n
+    pub own : option_map (λ s. s.aid) c.manager.selected ≡ Some (first_frame ch.frame ch.below).name
+    pub sound : IsSound ch
+
+  -- a chain runs on the card
+  abbrev pub IsRunning : Card N → Type 0
+  IsRunning c = (ch : Chain) × (left : ℕ) × RunsChain c ch left

@@ -1,0 +1,180 @@
+ghost use Rattle.std.specs.Prelude.{◌≡◌, ◌+◌, ◌-◌, ◌≤◌, ℕ, true, length, take, drop, option_map, Ok, Some, None, IsSome, IfOk, OnOk};
+ghost use Rattle.mc_model.specs.Bytes.{lookup};
+ghost use Rattle.mc_model.specs.Orders.{answer_of};
+ghost use Rattle.mc_model.specs.Device.{Makes, Ended};
+ghost use Rattle.mc_model.specs.Chain.{Chain as ModelChain, turn_of};
+ghost use Rattle.mc_model.specs.Manager.{empty_seat, route};
+ghost use Rattle.mc_model.specs.Play.{status};
+ghost use Rattle.mc_bank.specs.Bank.{app_of};
+ghost use Rattle.mc_machine.specs.Turns.{outcome_value};
+ghost use Rattle.mc_store.specs.Power.{power_writes, power_answer, PowersUp};
+ghost use Rattle.mc_card.specs.Parts.{device_in, card_in, seat_in, due, IsUp, IsReady, RunsChain, IsRunning};
+ghost use Rattle.mc_card.specs.Ends.{powered, device_after, Commanded, Begun, Turned, RouteSteps, BeginSteps};
+
+use crate::managing::Directed;
+use arrayvec::ArrayVec;
+use mc_apdu::{Reply, parse};
+use mc_bank::Bank;
+use mc_base::{Aid, Steps, Stop};
+use mc_machine::{Chain, Outcome, Turn, begin, run, turn};
+use mc_manager::Manager;
+use mc_nvm::Nvm;
+use mc_segs::Session;
+use mc_store::{Store, Up};
+use std::sync::ledger::Ledger;
+
+/// A card that runs: its applications in the words of a device, the manager with the selection and the open load, the session bytes of
+/// the selected application, and the chain of a command that is run turn by turn.
+#[derive(Drop)]
+pub struct Card<N: Nvm> {
+    pub(crate) store: Store<N>,
+    pub(crate) manager: Manager,
+    pub(crate) session: Session,
+    pub(crate) chain: Option<Chain>,
+}
+
+impl<N: Nvm> Card<N> {
+    /// The card in a device whose power is on, and the number of device writes that it took: those that are owed, a journal that is open
+    /// being replayed, and the six of a migration where the card has layout 1. Nothing is selected and no load is open. It gives the
+    /// device back where a write stops, and with the first fault and its place where the words are no card.
+    pub fn power_up(dev: N) -> Result<(Card<N>, u16), (N, Up)>
+        requires power { (N.state dev).on ≡ true }
+        ensures makes { Makes N.wrote dev (power_writes (N.state dev).words) (power_answer (powered result)) (device_after result) }
+        ensures ends { PowersUp (N.state dev) (powered result) (N.state (device_after result)) }
+        ensures ready { IfOk result (λ p. IsReady N.state p.0) }
+        ensures seat { IfOk result (λ p. seat_in N.state p.0 ≡ empty_seat) }
+        ensures lent { N.same dev (device_after result) }
+    {
+        match Store::power_up(dev) {
+            Err(failed) => Err(failed),
+            Ok((store, writes)) => Ok((
+                Card {
+                    store,
+                    manager: Manager::new(),
+                    session: Session::new(0),
+                    chain: None,
+                },
+                writes,
+            )),
+        }
+    }
+
+    /// One command, as its bytes come (ISO/IEC 7816-4), with a budget of 1 to 65,536 instructions for an application that runs it. A
+    /// wrong length answers 6700. The outcome is a reply, or the abend of the application.
+    ///
+    /// A `Stop` comes only where a count of cuts or faults of the device rose; after it the card is good for `into_dev` alone. Each
+    /// instruction of an application is one step, and each word that an OPEN reads in its search for room.
+    pub fn command<L: Ledger>(
+        &mut self,
+        bytes: &[u8],
+        budget: u32,
+        steps: &mut Steps<L>,
+    ) -> Result<Outcome, Stop>
+        requires ready { IsReady N.state self.old }
+        requires some { 1 ≤ budget }
+        requires budget { budget ≤ 65536 }
+        ensures done { Commanded N.state N.wrote self.old (due N.state self.old bytes.now budget) result self.new }
+        ensures steps { RouteSteps (card_in N.state self.old) (seat_in N.state self.old).selected budget (route bytes.now) (answer_of result) steps.old steps.new }
+        ensures ended { Ended (answer_of result) (N.state (device_in self.old)) (N.state (device_in self.new)) }
+        ensures lent { N.same (device_in self.old) (device_in self.new) }
+    {
+        let Ok(apdu) = parse(bytes) else {
+            return Ok(wrong_length());
+        };
+        match self.direct(&apdu, steps)? {
+            Directed::Answered(reply) => Ok(Outcome::Reply(reply)),
+            Directed::Passed(slot) => run(
+                &mut self.store,
+                slot,
+                &mut self.session,
+                &apdu,
+                budget,
+                steps,
+            ),
+        }
+    }
+
+    /// The beginning of the same command: its outcome, or `None` exactly where it is passed to the selected application. Then `turn` runs
+    /// it, and nothing but `turn` may be called until an end came.
+    pub fn begin<L: Ledger>(
+        &mut self,
+        bytes: &[u8],
+        budget: u32,
+        steps: &mut Steps<L>,
+    ) -> Result<Option<Outcome>, Stop>
+        requires ready { IsReady N.state self.old }
+        requires some { 1 ≤ budget }
+        requires budget { budget ≤ 65536 }
+        ensures done { Begun N.state N.wrote self.old bytes.now budget result self.new }
+        ensures steps { BeginSteps (card_in N.state self.old) (route bytes.now) steps.old steps.new }
+        ensures ended { Ended (answer_of result) (N.state (device_in self.old)) (N.state (device_in self.new)) }
+        ensures lent { N.same (device_in self.old) (device_in self.new) }
+    {
+        let Ok(apdu) = parse(bytes) else {
+            return Ok(Some(wrong_length()));
+        };
+        match self.direct(&apdu, steps)? {
+            Directed::Answered(reply) => Ok(Some(Outcome::Reply(reply))),
+            Directed::Passed(slot) => {
+                self.chain = Some(begin(&self.store, slot, &self.session, &apdu, budget));
+                Ok(None)
+            }
+        }
+    }
+
+    /// The next turn of a command that `begin` passed on and that has not ended: one executed instruction, and one step, or a fetch that
+    /// ends it. With the last turn the session bytes stay with the selection.
+    pub fn turn<L: Ledger>(&mut self, steps: &mut Steps<L>) -> Result<Turn, Stop>
+        requires running { IsRunning N.state self.old }
+        ensures done { (ch : ModelChain) (left : ℕ) → RunsChain N.state self.old ch left → Turned N.state N.wrote self.old ch left (turn_of left ch) result self.new }
+        ensures steps { (ch : ModelChain) (left : ℕ) → RunsChain N.state self.old ch left → steps.new ≡ steps.old + (turn_of left ch).count }
+        ensures ended { Ended (answer_of result) (N.state (device_in self.old)) (N.state (device_in self.new)) }
+        ensures lent { N.same (device_in self.old) (device_in self.new) }
+    {
+        let chain = self.chain.as_mut().unwrap();
+        let told = turn(chain, &mut self.store, steps)?;
+        if told.end.is_some() {
+            self.session = chain.session();
+            self.chain = None;
+        }
+        Ok(told)
+    }
+
+    /// The length in bytes of the static segment of an application, or `None` exactly where the name is not on the card.
+    pub fn static_len(&self, aid: &Aid) -> Option<u16>
+        requires { IsUp N.state self.now }
+        ensures { result ≡ option_map (λ a. length a.fixed) (lookup (card_in N.state self.now).apps aid.now) }
+    {
+        let slot = self.store.find(aid)?;
+        Some(self.store.facts(slot).sizes.fixed)
+    }
+
+    /// Copies static bytes of an application that is on the card, from a place on; they lie in its segment.
+    pub fn static_of(&self, aid: &Aid, at: u16, into: &mut [u8])
+        requires up { IsUp N.state self.now }
+        requires there { IsSome (lookup (card_in N.state self.now).apps aid.now) }
+        requires range { at + length into.old ≤ length (app_of (card_in N.state self.now).apps (Some aid.now)).fixed }
+        ensures { into.new ≡ take (length into.old) (drop at (app_of (card_in N.state self.now).apps (Some aid.now)).fixed) }
+    {
+        if let Some(slot) = self.store.find(aid) {
+            self.store.fixed(slot, at, into);
+        }
+    }
+
+    /// The device, whose words are the card.
+    pub fn into_dev(self) -> N
+        ensures { result ≡ device_in self }
+    {
+        self.store.into_dev()
+    }
+}
+
+// The outcome of a command whose length is wrong (ISO/IEC 7816-4).
+fn wrong_length() -> Outcome
+    ensures { outcome_value result ≡ status 0x6700 }
+{
+    Outcome::Reply(Reply {
+        body: ArrayVec::new(),
+        sw: 0x6700,
+    })
+}

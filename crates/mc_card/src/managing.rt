@@ -1,0 +1,62 @@
+// A command as the manager of a card deals with it, with the session bytes of a selection.
+ghost use Rattle.std.specs.Prelude.{◌≡◌, ◌+◌, ◌≤◌, true, IsSome, length};
+ghost use Rattle.mc_model.specs.Bytes.{zeros};
+ghost use Rattle.mc_model.specs.Layout.{gaps};
+ghost use Rattle.mc_apdu.specs.Command.{parts_of};
+ghost use Rattle.mc_bank.specs.Bank.{app_of};
+ghost use Rattle.mc_manager.specs.Due.{most_ticks};
+ghost use Rattle.mc_store.specs.Store.{apps_in, is_going, store_named};
+ghost use Rattle.mc_store.specs.Power.{device_of, count_of};
+ghost use Rattle.mc_card.specs.Parts.{device_in, card_in, IsReady};
+ghost use Rattle.mc_card.specs.Managing.{Directs};
+
+use crate::card::Card;
+use mc_apdu::{Apdu, Reply};
+use mc_bank::{Bank, Slot};
+use mc_base::{Steps, Stop};
+use mc_manager::Routed;
+use mc_nvm::Nvm;
+use mc_segs::Session;
+use mc_store::Store;
+use std::sync::ledger::Ledger;
+
+/// How the manager deals with a command: by a reply, or the application of a slot is to run it.
+#[derive(Drop)]
+pub enum Directed {
+    Answered(Reply),
+    Passed(Slot),
+}
+
+impl<N: Nvm> Card<N> {
+    /// One command by the manager. A new selection begins with session bytes of zero. Where an application is to run the command, nothing
+    /// changed.
+    pub(crate) fn direct<L: Ledger>(
+        &mut self,
+        apdu: &Apdu,
+        steps: &mut Steps<L>,
+    ) -> Result<Directed, Stop>
+        requires ready { IsReady N.state self.old }
+        ensures done { Directs N.state N.wrote self.old (parts_of apdu.now) result self.new }
+        ensures rises { steps.old ≤ steps.new }
+        ensures ticks { steps.new ≤ steps.old + most_ticks (parts_of apdu.now) (2 + length (gaps (card_in N.state self.old))) }
+        ensures lent { N.same (device_in self.old) (device_in self.new) }
+    {
+        match self.manager.command(&mut self.store, apdu, steps)? {
+            Routed::Answer(reply) => Ok(Directed::Answered(reply)),
+            Routed::Fresh(slot, reply) => {
+                self.session = session_of(&self.store, slot);
+                Ok(Directed::Answered(reply))
+            }
+            Routed::Pass(slot) => Ok(Directed::Passed(slot)),
+        }
+    }
+}
+
+// The session bytes with which a selection of the application of a slot begins.
+fn session_of<N: Nvm>(store: &Store<N>, slot: Slot) -> Session
+    requires going { is_going (N.state (device_of store.now)) (count_of store.now) ≡ true }
+    requires there { IsSome (store_named (N.state (device_of store.now)) slot) }
+    ensures { result ≡ zeros (app_of (apps_in (N.state (device_of store.now)).words) (store_named (N.state (device_of store.now)) slot)).session }
+{
+    Session::new(store.facts(slot).sizes.session)
+}

@@ -1,0 +1,11 @@
+#![tactic(auto)]
+
+// The lines of a trace: one for each executed instruction.
+mod line;
+mod worked;
+
+pub use line::line_of;
+pub use worked::lines;
+
+#[cfg(test)]
+mod tests;

@@ -1,0 +1,91 @@
+// The line of one turn.
+ghost use Rattle.std.specs.Prelude.{◌≡◌, ◌+◌, ◌≤◌, ◌++◌, ◌∷◌, [], ℕ, length, codes, Option, IfSome};
+ghost use Rattle.arrayvec.specs.ArrayVec.{array_vec_len};
+ghost use Rattle.mc_model.specs.Bytes.{bytes2};
+ghost use Rattle.mc_model.specs.Code.{Shaped};
+ghost use Rattle.mc_model.specs.Listing.{hex_digit};
+ghost use Rattle.mc_model.specs.Transcript.{hex_text};
+ghost use Rattle.mc_model.specs.TraceText.{bit_text, ins_text, turn_line};
+ghost use Rattle.mc_machine.specs.Turns.{turn_value};
+
+use arrayvec::ArrayVec;
+use mc_isa::{Ins, text_of};
+use mc_machine::Turn;
+
+type Line = ArrayVec<u8, 96>;
+
+// Text behind what the line has.
+fn put(line: &mut Line, text: &[u8])
+    requires { array_vec_len line.old + length text.now ≤ 96 }
+    ensures { line.new.items ≡ line.old.items ++ text.now }
+{
+    line.try_extend_from_slice(text).unwrap()
+}
+
+// A blank, and a field behind it.
+fn put_field(line: &mut Line, text: &[u8])
+    requires { array_vec_len line.old + length text.now ≤ 95 }
+    ensures { line.new.items ≡ line.old.items ++ codes " " ++ text.now }
+{
+    put(line, b" ");
+    put(line, text);
+}
+
+// One hexadecimal digit.
+fn digit(d: u16) -> u8
+    requires { d ≤ 15 }
+    ensures { result ≡ hex_digit d }
+{
+    if d < 10 { 48 + d as u8 } else { 55 + d as u8 }
+}
+
+// A word in four hexadecimal digits.
+fn hexadecimal(word: u16) -> [u8; 4]
+    ensures { result ≡ hex_text (bytes2 word) }
+{
+    [
+        digit(word / 4096 % 16),
+        digit(word / 256 % 16),
+        digit(word / 16 % 16),
+        digit(word % 16),
+    ]
+}
+
+// The field of an instruction: as a listing has it, or `?` where there is none.
+fn put_instruction(line: &mut Line, ins: &Option<Ins>)
+    requires room { array_vec_len line.old ≤ 50 }
+    requires shaped { IfSome ins.now Shaped }
+    ensures text { line.new.items ≡ line.old.items ++ codes " " ++ ins_text ins.now }
+    ensures short { array_vec_len line.new ≤ array_vec_len line.old + 41 }
+{
+    match ins {
+        Some(ins) => put_field(line, text_of(ins).as_slice()),
+        None => put_field(line, b"?"),
+    }
+}
+
+// A flag as a digit.
+fn bit(flag: bool) -> u8
+    ensures { result ∷ [] ≡ bit_text flag }
+{
+    if flag { b'1' } else { b'0' }
+}
+
+/// The line of a turn in a trace, with its line feed: the depth of its frame from 1 to 4, the place, the instruction as a listing has it
+/// or `?` where there is none, DT, and the flags C and Z. Place and DT have four hexadecimal digits.
+#[tactic(auto, unfolding(mc_model::specs::TraceText::turn_line))]
+pub fn line_of(turn: &Turn) -> ArrayVec<u8, 96>
+    requires shaped { IfSome turn.now.ins Shaped }
+    requires low { 1 ≤ turn.now.depth }
+    requires high { turn.now.depth ≤ 4 }
+    ensures { (wrote : Option ℕ) → result.items ≡ turn_line (turn_value turn.now wrote) }
+{
+    let mut line = ArrayVec::new();
+    put(&mut line, &[b'>', b' ', b'0' + turn.depth]);
+    put_field(&mut line, &hexadecimal(turn.at));
+    put_instruction(&mut line, &turn.ins);
+    put_field(&mut line, &hexadecimal(turn.dt));
+    put_field(&mut line, &[bit(turn.flags.c), bit(turn.flags.z)]);
+    put(&mut line, b"\n");
+    line
+}
