@@ -76,7 +76,6 @@ fn formatted(alloc: Global) -> Result<SimNvm, NoMemory> {
             device.poke(at as u32, word);
         }
     }
-    device.power();
     Ok(device)
 }
 
@@ -92,7 +91,8 @@ fn played<L: Ledger>(alloc: Global, blank: Blank) -> Result<Session, NoMemory>
     requires parts { blank.parts ≡ L.parts }
     requires some { 0 < blank.parts }
 {
-    let device = formatted(alloc)?;
+    let mut device = formatted(alloc)?;
+    device.power();
     let Ok((mut store, _)) = Store::power_up(device) else {
         return Ok(Session::NoCard);
     };
