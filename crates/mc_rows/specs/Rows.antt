@@ -23,11 +23,6 @@ Placed (Err A04) under place = under ≡ true
 Placed (Err A03) under place = (under ≡ false) × (place ≡ None)
 Placed (Err _) under place = ⊥
 
--- a value, or this abend exactly where it is due
-abbrev pub Gives : Result ℕ Abend → Bool → Abend → ℕ → Type 0
-Gives (Ok v) due a w = (due ≡ false) × (v ≡ w)
-Gives (Err b) due a w = (due ≡ true) × (b ≡ a)
-
 -- a return: 04 where there is none to return from, 02 where it leads to no place
 abbrev pub Returns : Result (Unit {0}) Abend → Bool → Bool → Type 0
 Returns (Ok u) none past = (none ≡ false) × (past ≡ false)
@@ -48,13 +43,13 @@ AddressUnder (Err A04) f public tag off n = is_under f (on_stack tag (n + 2) n) 
 AddressUnder (Err A03) f public tag off n = (is_under f (on_stack tag (n + 2) n) ≡ false) × (no_access f (operand f tag off (n + 2)) 2 ≡ true)
 AddressUnder (Err _) f public tag off n = ⊥
 
--- a pair of operands: 04 where the stack is too short, 03 where the first lies in no segment, else its address and both values
-abbrev pub PairRead : Result ℕ Abend → Frame → List ℕ → ℕ → ℤ → ℕ → List ℕ → List ℕ → Type 0
-PairRead (Ok a) f public tag off n first second =
-    (is_under f (on_stack tag (2 * n) n) ≡ false) × (operand f tag off (2 * n) ≡ Some a) × (is_outside f a n ≡ false) × (first ≡ bytes_at f public a n) × (second ≡ top f n)
-PairRead (Err A04) f public tag off n first second = is_under f (on_stack tag (2 * n) n) ≡ true
-PairRead (Err A03) f public tag off n first second = (is_under f (on_stack tag (2 * n) n) ≡ false) × (no_access f (operand f tag off (2 * n)) n ≡ true)
-PairRead (Err _) f public tag off n first second = ⊥
+-- the first of a pair of operands: 04 where the stack is too short, 03 where it lies in no segment, else its address and its value
+abbrev pub FirstRead : Result ℕ Abend → Frame → List ℕ → ℕ → ℤ → ℕ → List ℕ → Type 0
+FirstRead (Ok a) f public tag off n value =
+    (is_under f (on_stack tag (2 * n) n) ≡ false) × (operand f tag off (2 * n) ≡ Some a) × (is_outside f a n ≡ false) × (value ≡ bytes_at f public a n)
+FirstRead (Err A04) f public tag off n value = is_under f (on_stack tag (2 * n) n) ≡ true
+FirstRead (Err A03) f public tag off n value = (is_under f (on_stack tag (2 * n) n) ≡ false) × (no_access f (operand f tag off (2 * n)) n ≡ true)
+FirstRead (Err _) f public tag off n value = ⊥
 
 -- a row by its causes and its effect
 abbrev pub ended : List (Abend × Bool) → Done → RowEnd
@@ -124,14 +119,26 @@ combine_end w f public tag off b =
     ended (immediate_writes f tag off (length b))
     (becomes f public (place_of f tag off (length b)) (combined_by w f.c (value_of f public tag off (length b)) b))
 
+-- what a change of n bytes at a place makes
+abbrev pub change_done : Unary → Frame → List ℕ → ℕ → ℤ → ℕ → Done
+change_done w f public tag off n = becomes f public (place_of f tag off n) (changed_by w f.c (value_of f public tag off n))
+
+-- n bytes at a place are changed, where n is right
+abbrev pub changed_end : Unary → Frame → List ℕ → ℕ → ℤ → ℕ → RowEnd
+changed_end w f public tag off n = ended (immediate_writes f tag off n) (change_done w f public tag off n)
+
 -- n bytes at a place are changed
 abbrev pub change_end : Unary → Frame → List ℕ → ℕ → ℤ → ℕ → RowEnd
-change_end w f public tag off n =
-    ended ((A06, bad_unary w n) ∷ immediate_writes f tag off n)
-    (becomes f public (place_of f tag off n) (changed_by w f.c (value_of f public tag off n)))
+change_end w f public tag off n = ended ((A06, bad_unary w n) ∷ immediate_writes f tag off n) (change_done w f public tag off n)
+
+-- what a result with the top n bytes makes of n bytes at a place
+abbrev pub pair_done : Binary → Frame → List ℕ → ℕ → ℤ → ℕ → Done
+pair_done w f public tag off n = becomes f public (place_of f tag off (2 * n)) (combined_by w f.c (first_of f public tag off n) (top f n))
+
+-- n bytes at a place become the result with the top n bytes, where n is right
+abbrev pub paired_end : Binary → Frame → List ℕ → ℕ → ℤ → ℕ → RowEnd
+paired_end w f public tag off n = ended (pair_writes f tag off n) (pair_done w f public tag off n)
 
 -- n bytes at a place become the result with the top n bytes
 abbrev pub pair_end : Binary → Frame → List ℕ → ℕ → ℤ → ℕ → RowEnd
-pair_end w f public tag off n =
-    ended ((A06, bad_binary w n) ∷ pair_writes f tag off n)
-    (becomes f public (place_of f tag off (2 * n)) (combined_by w f.c (first_of f public tag off n) (top f n)))
+pair_end w f public tag off n = ended ((A06, bad_binary w n) ∷ pair_writes f tag off n) (pair_done w f public tag off n)

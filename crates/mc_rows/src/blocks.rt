@@ -1,9 +1,9 @@
 // Rows of a block of n bytes at a place.
-ghost use Rattle.std.specs.Prelude.{◌≡◌, ◌≤◌, false};
+ghost use Rattle.std.specs.Prelude.{◌≡◌, ◌≤◌, false, length};
 ghost use Rattle.mc_model.specs.declared.instruction.Ins.TheVariants.{Clearn, Testn};
 ghost use Rattle.mc_segs.specs.Held.{Fits, shown};
 ghost use Rattle.mc_segs.specs.Ends.{scene, Acts, RowActs};
-ghost use Rattle.mc_rows.specs.Rows.{alone, change_end};
+ghost use Rattle.mc_rows.specs.Rows.{alone, change_end, changed_end, most_unary};
 
 use crate::bytes::{is_zero, zeros};
 use crate::operand::place;
@@ -27,9 +27,33 @@ pub fn change_block<B: Bank>(
     ensures { Acts B.did B.state B.named (scene bank.old bank.new frame.old frame.new public.old public.new) (change_end kind (shown (B.state bank.old) (B.named bank.old) frame.old) public.old tag off n) result }
 {
     check_unary(kind, n)?;
-    let mut buffer = [0; 255];
-    let value = &mut buffer[..n as usize];
-    let at = place(frame, tag, off, n as u16)?;
+    let count = n as usize;
+    match kind {
+        Unary::Inc | Unary::Dec => {
+            change_in(&mut [0; 16][..count], kind, tag, off, frame, public, bank)
+        }
+        Unary::Not => change_in(&mut [0; 255][..count], kind, tag, off, frame, public, bank),
+    }
+}
+
+// The same in a buffer of the operand's length, which is right.
+fn change_in<B: Bank>(
+    value: &mut [u8],
+    kind: Unary,
+    tag: u8,
+    off: i16,
+    frame: &mut Frame,
+    public: &mut Public,
+    bank: &mut B,
+) -> Result<Next, Halt>
+    requires low { 1 ≤ length value.old }
+    requires high { length value.old ≤ most_unary kind }
+    requires going { (B.state bank.old).stopped ≡ false }
+    requires fits { Fits (B.state bank.old) (B.named bank.old) frame.old }
+    requires tag { tag ≤ 7 }
+    ensures { Acts B.did B.state B.named (scene bank.old bank.new frame.old frame.new public.old public.new) (changed_end kind (shown (B.state bank.old) (B.named bank.old) frame.old) public.old tag off (length value.old)) result }
+{
+    let at = place(frame, tag, off, value.len() as u16)?;
     load(bank, frame, public, at, value)?;
     let flags = change(kind, frame.c(), value);
     store(bank, frame, public, at, value)?;

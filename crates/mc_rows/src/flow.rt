@@ -4,12 +4,12 @@ ghost use Rattle.mc_model.specs.declared.instruction.Ins.TheVariants.{Branch, Ju
 ghost use Rattle.mc_model.specs.Frame.{come_back, is_under, moved, no_return, saved};
 ghost use Rattle.mc_model.specs.Row.{holds, no_place, target, without_target};
 ghost use Rattle.mc_segs.specs.Held.{Fits};
-ghost use Rattle.mc_segs.specs.Ends.{scene, IfDue, RowActs};
-ghost use Rattle.mc_rows.specs.Rows.{alone, Gives, Led, Returns};
+ghost use Rattle.mc_segs.specs.Ends.{scene, Gives, IfDue, RowActs};
+ghost use Rattle.mc_rows.specs.Rows.{alone, Led, Returns};
 
 use crate::bytes::number;
 use mc_bank::Bank;
-use mc_segs::{Abend, Frame, Halt, Next, Public, come_back, enter, pop, push};
+use mc_segs::{Abend, Frame, Halt, Next, Public, come_back, enter, pop, return_address};
 
 /// BRANCH: where the condition holds, to a place relative to the next instruction.
 #[tactic(auto, unfolding(mc_model::specs::Row::row, mc_model::specs::Row::causes, mc_model::specs::Row::effect))]
@@ -142,20 +142,13 @@ fn target(frame: &mut Frame, cond: u8, to: u16) -> Result<u16, Abend>
 }
 
 // Leaves a call: its top `o` bytes stay, and the `i` bytes below it go. Abend 04 where no such call lies on the stack,
-// 02 where it returns to no place; no byte moves then.
-#[tactic(auto, using(crate::proofs::StackLemmas::results_put, crate::proofs::StackLemmas::room_after))]
+// 02 where it returns to no place, and then nothing changes.
 fn leave(frame: &mut Frame, i: u8, o: u8) -> Result<(), Abend>
     ensures due { Returns result (no_return frame.old.frame i o) (no_place frame.old.frame (Some (saved frame.old.frame 2))) }
     ensures back { OnOk result (frame.new ≡ record frame.old { frame = come_back frame.old.frame i o }) }
-    ensures dynamic { OnErr result (frame.new.frame.dyn ≡ frame.old.frame.dyn) }
-    ensures session { frame.new.frame.session ≡ frame.old.frame.session }
+    ensures unchanged { OnErr result (frame.new ≡ frame.old) }
 {
-    // DT is within the stack, and the results go no higher than they lay.
-    let _dt = frame.dt();
-    let mut buffer = [0; 255];
-    let results = &mut buffer[..o as usize];
-    pop(frame, results)?;
-    come_back(frame, i, 0)?;
-    check_place(frame, frame.at())?;
-    push(frame, results)
+    let to = return_address(frame, i, o)?;
+    check_place(frame, to)?;
+    come_back(frame, i, o)
 }

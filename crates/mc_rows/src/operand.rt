@@ -1,15 +1,15 @@
 // Where the operands of a row lie.
 ghost use Rattle.std.specs.Prelude.{◌≡◌, ◌+◌, ◌*◌, ◌≤◌, ◌==◌, ◌&&◌, OnOk, length, false};
 ghost use Rattle.mc_model.specs.Bytes.{num};
-ghost use Rattle.mc_model.specs.Frame.{address_at, in_two_bytes, is_outside, is_under, popped, top};
+ghost use Rattle.mc_model.specs.Frame.{address_at, in_two_bytes, is_outside, is_under, popped};
 ghost use Rattle.mc_model.specs.Row.{indexed, on_stack, operand};
 ghost use Rattle.mc_segs.specs.Held.{Fits, shown};
-ghost use Rattle.mc_segs.specs.Ends.{addressed, IfDue};
-ghost use Rattle.mc_rows.specs.Rows.{Gives, PairRead, Placed};
+ghost use Rattle.mc_segs.specs.Ends.{addressed, Gives, IfDue};
+ghost use Rattle.mc_rows.specs.Rows.{FirstRead, Placed};
 
 use crate::bytes::number;
 use mc_bank::Bank;
-use mc_segs::{Abend, Frame, Public, load, pop, push, resolve};
+use mc_segs::{Abend, Frame, Public, load, pop, resolve};
 
 /// Abend 04 where fewer than so many bytes are on the stack.
 pub fn need(frame: &Frame, count: u16) -> Result<(), Abend>
@@ -54,19 +54,6 @@ pub fn place(frame: &Frame, tag: u8, off: i16, count: u16) -> Result<u16, Abend>
     operand(frame, tag, off, count)
 }
 
-/// Reads the top bytes of the stack, which keeps them. Abend 04 where it has fewer.
-#[tactic(auto, using(crate::proofs::StackLemmas::put_back, crate::proofs::StackLemmas::room_again))]
-pub fn top(frame: &mut Frame, into: &mut [u8]) -> Result<(), Abend>
-    ensures due { IfDue result (is_under frame.old.frame (length into.old)) Abend.A04 }
-    ensures bytes { OnOk result (into.new ≡ top frame.old.frame (length into.old)) }
-    ensures same { frame.new ≡ frame.old }
-{
-    // DT is within the stack, so there is room for what was just taken.
-    let _dt = frame.dt();
-    pop(frame, into)?;
-    push(frame, into)
-}
-
 /// Reads the address in the two bytes at another one. Abend 03 where those lie in no segment.
 pub fn read_address<B: Bank>(
     at: u16,
@@ -83,31 +70,28 @@ pub fn read_address<B: Bank>(
     Ok(number(address))
 }
 
-/// Reads a pair of operands of one length: the first from its place, the second from the top of the stack, which keeps it.
-/// The first one's address; abend 04 where the stack has too few bytes, 03 where the first lies in no segment.
-pub fn read_pair<B: Bank>(
+/// Reads the first of a pair of operands of one length; the second lies on top of the stack. The first one's address;
+/// abend 04 where the stack has too few bytes, 03 where the first lies in no segment.
+pub fn read_first<B: Bank>(
     tag: u8,
     off: i16,
-    first: &mut [u8],
-    second: &mut [u8],
-    frame: &mut Frame,
+    into: &mut [u8],
+    frame: &Frame,
     public: &Public,
     bank: &B,
 ) -> Result<u16, Abend>
     requires going { (B.state bank.now).stopped ≡ false }
-    requires fits { Fits (B.state bank.now) (B.named bank.now) frame.old }
+    requires fits { Fits (B.state bank.now) (B.named bank.now) frame.now }
     requires tag { tag ≤ 7 }
-    requires same { length first.old ≡ length second.old }
-    requires low { 1 ≤ length first.old }
-    requires high { length first.old ≤ 255 }
-    ensures pair { PairRead result (shown (B.state bank.now) (B.named bank.now) frame.old) public.now tag off (length first.old) first.new second.new }
-    ensures same { frame.new ≡ frame.old }
+    requires low { 1 ≤ length into.old }
+    requires high { length into.old ≤ 255 }
+    ensures first { FirstRead result (shown (B.state bank.now) (B.named bank.now) frame.now) public.now tag off (length into.old) into.new }
+    ensures second { OnOk result (is_under frame.now.frame (length into.old) ≡ false) }
 {
-    let count = first.len() as u16;
+    let count = into.len() as u16;
     need(frame, on_stack(tag, 2 * count, count))?;
     let at = operand(frame, tag, off, 2 * count)?;
-    load(bank, frame, public, at, first)?;
-    top(frame, second)?;
+    load(bank, frame, public, at, into)?;
     Ok(at)
 }
 

@@ -1,15 +1,15 @@
 // Rows of n bytes at a place and the top n bytes of the stack.
-ghost use Rattle.std.specs.Prelude.{◌≡◌, ◌≤◌, false};
+ghost use Rattle.std.specs.Prelude.{◌≡◌, ◌≤◌, false, length};
 ghost use Rattle.mc_model.specs.declared.instruction.Ins.TheVariants.{Cmpn};
 ghost use Rattle.mc_segs.specs.Held.{Fits, shown};
 ghost use Rattle.mc_segs.specs.Ends.{scene, Acts, RowActs};
-ghost use Rattle.mc_rows.specs.Rows.{alone, pair_end};
+ghost use Rattle.mc_rows.specs.Rows.{alone, most_binary, pair_end, paired_end};
 
-use crate::operand::read_pair;
+use crate::operand::read_first;
 use crate::operations::{Binary, check_binary, check_block, combine};
 use mc_arith::compare;
 use mc_bank::Bank;
-use mc_segs::{Frame, Halt, Next, Public, store};
+use mc_segs::{Frame, Halt, Next, Public, store, top};
 
 /// ADDN, SUBN, ANDN, ORN and XORN: the first operand becomes the result with the second, which stays on the stack.
 pub fn combine_pair<B: Bank>(
@@ -27,10 +27,36 @@ pub fn combine_pair<B: Bank>(
     ensures { Acts B.did B.state B.named (scene bank.old bank.new frame.old frame.new public.old public.new) (pair_end kind (shown (B.state bank.old) (B.named bank.old) frame.old) public.old tag off n) result }
 {
     check_binary(kind, n)?;
-    let mut buffers = ([0; 255], [0; 255]);
-    let first = &mut buffers.0[..n as usize];
-    let second = &mut buffers.1[..n as usize];
-    let at = read_pair(tag, off, first, second, frame, public, bank)?;
+    let count = n as usize;
+    match kind {
+        Binary::Add | Binary::Sub => {
+            combine_in(&mut [0; 16][..count], kind, tag, off, frame, public, bank)
+        }
+        Binary::And | Binary::Or | Binary::Xor => {
+            combine_in(&mut [0; 255][..count], kind, tag, off, frame, public, bank)
+        }
+    }
+}
+
+// The same in a buffer of the operands' length, which is right.
+fn combine_in<B: Bank>(
+    first: &mut [u8],
+    kind: Binary,
+    tag: u8,
+    off: i16,
+    frame: &mut Frame,
+    public: &mut Public,
+    bank: &mut B,
+) -> Result<Next, Halt>
+    requires low { 1 ≤ length first.old }
+    requires high { length first.old ≤ most_binary kind }
+    requires going { (B.state bank.old).stopped ≡ false }
+    requires fits { Fits (B.state bank.old) (B.named bank.old) frame.old }
+    requires tag { tag ≤ 7 }
+    ensures { Acts B.did B.state B.named (scene bank.old bank.new frame.old frame.new public.old public.new) (paired_end kind (shown (B.state bank.old) (B.named bank.old) frame.old) public.old tag off (length first.old)) result }
+{
+    let at = read_first(tag, off, first, frame, public, bank)?;
+    let second = top(frame, first.len() as u8);
     let flags = combine(kind, frame.c(), first, second);
     store(bank, frame, public, at, first)?;
     frame.set_flags(flags.c, flags.z);
@@ -53,11 +79,10 @@ pub fn compare_pair<B: Bank>(
     ensures { RowActs B.did B.state B.named (scene bank.old bank.new frame.old frame.new public.old public.new) (Cmpn tag off n) alone result }
 {
     check_block(n)?;
-    let mut buffers = ([0; 255], [0; 255]);
-    let first = &mut buffers.0[..n as usize];
-    let second = &mut buffers.1[..n as usize];
-    read_pair(tag, off, first, second, frame, public, bank)?;
-    let flags = compare(first, second);
+    let mut buffer = [0; 255];
+    let first = &mut buffer[..n as usize];
+    read_first(tag, off, first, frame, public, bank)?;
+    let flags = compare(first, top(frame, n));
     frame.set_flags(flags.c, flags.z);
     Ok(Next::Go)
 }

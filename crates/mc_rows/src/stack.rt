@@ -8,7 +8,7 @@ ghost use Rattle.mc_rows.specs.Rows.{alone};
 use crate::bytes::{word, zeros};
 use crate::operations::check_block;
 use mc_bank::Bank;
-use mc_segs::{Frame, Halt, Next, Public, pop, push};
+use mc_segs::{Frame, Halt, Next, Public, discard, push};
 
 /// PUSHZ: n zero bytes.
 #[tactic(auto, unfolding(mc_model::specs::Row::row, mc_model::specs::Row::causes, mc_model::specs::Row::effect))]
@@ -72,8 +72,7 @@ pub fn pop_bytes<B: Bank>(
     ensures { RowActs B.did B.state B.named (scene bank.old bank.new frame.old frame.new public.old public.new) (Popn n) alone result }
 {
     check_block(n)?;
-    let mut buffer = [0; 255];
-    pop(frame, &mut buffer[..n as usize])?;
+    discard(frame, n)?;
     Ok(Next::Go)
 }
 
@@ -84,7 +83,7 @@ pub fn pop_byte<B: Bank>(frame: &mut Frame, public: &mut Public, bank: &mut B) -
     requires fits { Fits (B.state bank.old) (B.named bank.old) frame.old }
     ensures { RowActs B.did B.state B.named (scene bank.old bank.new frame.old frame.new public.old public.new) Popb alone result }
 {
-    pop(frame, &mut [0])?;
+    discard(frame, 1)?;
     Ok(Next::Go)
 }
 
@@ -95,6 +94,6 @@ pub fn pop_word<B: Bank>(frame: &mut Frame, public: &mut Public, bank: &mut B) -
     requires fits { Fits (B.state bank.old) (B.named bank.old) frame.old }
     ensures { RowActs B.did B.state B.named (scene bank.old bank.new frame.old frame.new public.old public.new) Popw alone result }
 {
-    pop(frame, &mut [0, 0])?;
+    discard(frame, 2)?;
     Ok(Next::Go)
 }

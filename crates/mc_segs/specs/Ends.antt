@@ -23,6 +23,11 @@ abbrev pub IfDue : Result (Unit {0}) Abend → Bool → Abend → Type 0
 IfDue (Ok u) due a = due ≡ false
 IfDue (Err b) due a = (due ≡ true) × (b ≡ a)
 
+-- a value, or this abend exactly where it is due
+abbrev pub Gives : Result ℕ Abend → Bool → Abend → ℕ → Type 0
+Gives (Ok v) due a w = (due ≡ false) × (v ≡ w)
+Gives (Err b) due a w = (due ≡ true) × (b ≡ a)
+
 -- an address where there is one, else abend 03
 abbrev pub addressed : Option ℕ → Result ℕ Abend
 addressed (Some a) = Ok a

@@ -17,4 +17,4 @@ pub use mc_model::Abend;
 pub use protection::protect;
 pub use public::Public;
 pub use session::Session;
-pub use stack::{come_back, enter, pop, push};
+pub use stack::{come_back, discard, enter, pop, push, return_address, top};

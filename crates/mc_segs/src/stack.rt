@@ -1,7 +1,7 @@
 // The stack of a frame: bytes on its top, and the saved registers of calls.
-ghost use Rattle.std.specs.Prelude.{◌≡◌, ◌-◌, ◌+◌, ◌≤◌, length, not, OnOk, OnErr};
+ghost use Rattle.std.specs.Prelude.{◌≡◌, ◌-◌, ◌+◌, ◌≤◌, false, length, not, OnOk, OnErr};
 ghost use Rattle.mc_model.specs.Frame as model;
-ghost use Rattle.mc_segs.specs.Ends.{IfDue};
+ghost use Rattle.mc_segs.specs.Ends.{Gives, IfDue};
 
 use crate::bytes::{move_bytes, read, word_at, words, write};
 use crate::frame::{DYNAMIC, Frame};
@@ -19,6 +19,30 @@ pub fn push(frame: &mut Frame, bytes: &[u8]) -> Result<(), Abend>
     }
     write(&mut frame.dynamic, from, bytes);
     frame.dt += bytes.len() as u16;
+    Ok(())
+}
+
+/// The bytes on top of the stack, so many, which are above the floor.
+pub fn top(frame: &Frame, count: u8) -> &[u8]
+    requires { model.is_under frame.now.frame count ≡ false }
+    ensures bytes { result.now ≡ model.top frame.now.frame count }
+    ensures length { length result.now ≡ count }
+{
+    let to = (frame.dt - DYNAMIC) as usize;
+    &frame.dynamic[to - count as usize..to]
+}
+
+/// Takes so many bytes from the top of the stack, unread. Abend 04 where fewer are above the floor, and then nothing changes.
+pub fn discard(frame: &mut Frame, count: u8) -> Result<(), Abend>
+    ensures abend { IfDue result (model.is_under frame.old.frame count) Abend.A04 }
+    ensures popped { OnOk result (frame.new ≡ record frame.old { frame = model.popped frame.old.frame count }) }
+    ensures unchanged { OnErr result (frame.new ≡ frame.old) }
+{
+    let count = count as u16;
+    if count > frame.dt - frame.floor() {
+        return Err(Abend::A04);
+    }
+    frame.dt -= count;
     Ok(())
 }
 
@@ -50,6 +74,17 @@ pub fn enter(frame: &mut Frame, to: u16) -> Result<(), Abend>
     frame.lb = frame.dt;
     frame.at = to;
     Ok(())
+}
+
+/// The code address to which a call with `i` bytes below it returns, with `o` bytes above LB. Abend 04 where no such call
+/// lies on the stack.
+pub fn return_address(frame: &Frame, i: u8, o: u8) -> Result<u16, Abend>
+    ensures { Gives result (model.no_return frame.now.frame i o) Abend.A04 (model.saved frame.now.frame 2) }
+{
+    if !returns(frame, i as u16, o as u16) {
+        return Err(Abend::A04);
+    }
+    Ok(word_at(&frame.dynamic, (frame.lb - DYNAMIC) as usize - 2))
 }
 
 /// Returns from a routine: the top `o` bytes move over the saved registers and the `i` bytes below them, LB and the code
