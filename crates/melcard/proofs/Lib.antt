@@ -2,6 +2,7 @@ pub mod IncrementLemmas
 pub mod RunLemmas
 pub mod ReadLemmas
 pub mod TextLemmas
+pub mod CodeLemmas
 pub mod AppsLemmas
 pub mod IsolationLemmas
 pub mod Isolation

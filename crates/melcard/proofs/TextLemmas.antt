@@ -1,7 +1,10 @@
 -- Texts, part by part.
-use Rattle.std.proofs.Common.{◌≡◌, ℕ, suc, ◌+◌, ◌<◌, List, [], ◌∷◌, ◌++◌, length, drop, get_or, ap, refl, sym, ◌∙◌, append_assoc, drop-cons, ◌/◌, ◌%◌, slice_index, add-one}
+use Rattle.std.proofs.Common.{◌≡◌, ℕ, suc, ◌+◌, ◌<◌, List, [], ◌∷◌, ◌++◌, length, drop, get_or, ap, refl, sym, ◌∙◌, append_assoc, drop-cons, ◌/◌, ◌%◌, slice_index, add-one, arith}
 use Rattle.std.proofs.lemmas.List.{append-nil}
+use Rattle.std.specs.List.{AllByRecursion}
 use Rattle.hex.specs.Hex.{encode_upper, encode_with, upper_digits}
+use Rattle.mc_model.specs.Listing.{hex_digit}
+use Rattle.mc_model.specs.Transcript.{hex_text}
 use Rattle.melcard.specs.declared.deck.Line.{Line}
 use Rattle.std.proofs.Common.{Option}
 use Rattle.melcard.specs.declared.play.Answer.{Answer}
@@ -57,3 +60,17 @@ text-go out now whole card after lines i e a lt here steps is so =
 
 pub text-end : (out whole : List ℕ) (card : CardValue) (lines : List (ℕ × Line)) (i : ℕ) → drop i lines ≡ [] → out ++ transcript (plays card (drop i lines)) ≡ whole → out ≡ whole
 text-end out whole card lines i none so = sym (ap (λ t. out ++ transcript (plays card t)) none ∙ ap (λ t. out ++ t) (transcript_none card) ∙ append-nil out) ∙ so
+
+-- a digit as the crate has it, and as the definition does
+digit_same : (d : ℕ) → d < 16 → slice_index upper_digits d ≡ hex_digit d
+digit_same d lt = grind (arith, lt)
+
+-- bytes as the crate writes them, and as the definition does
+pub hex_same : (bs : List ℕ) → AllByRecursion (λ b. b < 256) bs → encode_upper bs ≡ hex_text bs
+unfolding encode_with
+hex_same [] all = refl
+hex_same (b ∷ bs) all =
+    let below = all.0 in
+    let less : b / 16 < 16 = omega (arith, below) in
+    let same : b / 16 % 16 ≡ b / 16 = omega (arith, below) in
+    rw (same, digit_same (b / 16) less, digit_same (b % 16) (omega arith), hex_same bs all.1) refl

@@ -8,5 +8,7 @@ pub mod Cards
 pub mod Play
 pub mod Apps
 pub mod Family
+pub mod Verdicts
+pub mod Judging
 pub mod Job
 pub mod Computed

@@ -1,13 +1,19 @@
 #![tactic(auto)]
 
 mod bytes;
+mod code;
 mod deck;
 mod job;
+mod judging;
 mod machine;
 mod play;
 mod rows;
 #[cfg(test)]
+mod samples;
+#[cfg(test)]
 mod tests;
+mod text;
+mod verdict;
 
 ghost use Rattle.std.specs.Prelude.{◌≡◌, ◌<◌};
 

@@ -1,11 +1,12 @@
 ghost use Rattle.std.specs.Prelude.{◌≡◌, ◌<◌};
 
 use crate::job::melcard;
+use crate::samples::SAMPLES;
 use mc_base::{
     MemSink, MemSource, NoMemory, ReadAll, StdSink, StdSource, Steps, put_all, read_all,
 };
 use mc_nvm::SimNvm;
-use std::alloc::Global;
+use std::alloc::{AllocError, Global};
 use std::marker::Brand;
 use std::sync::ledger::{Blank, Ledger};
 use std::test::Fail;
@@ -76,18 +77,27 @@ fn ended(
     counted::<Brand>(alloc, Blank::new(1), words, input, room, fail_at)
 }
 
+// The words of a command line.
+fn words(alloc: Global, texts: &[&str]) -> Result<Vec<String>, AllocError> {
+    let mut words = Vec::new(alloc);
+    for text in texts {
+        words.push(String::from_str(alloc, text)?)?;
+    }
+    Ok(words)
+}
+
 // Whether these words give the usage line, and leave the source as it was.
-fn is_no_form(alloc: Global, words: &[String]) -> Result<bool, NoMemory> {
-    let end = ended(alloc, words, COUNTER, 20, &[])?;
-    Ok(end.is(2, b"usage: melcard play\n") && end.left == COUNTER.len())
+fn is_no_form(alloc: Global, texts: &[&str]) -> Result<bool, NoMemory> {
+    let words = words(alloc, texts)?;
+    let end = ended(alloc, words.as_slice(), COUNTER, 33, &[])?;
+    Ok(end.is(2, b"usage: melcard play | asm | list\n") && end.left == COUNTER.len())
 }
 
 // Each status of a play over streams in memory.
 #[test]
 fn statuses(rt: HostRuntime) -> Result<(), Fail> {
     let alloc = rt.alloc();
-    let mut play = Vec::new(alloc);
-    play.push(String::from_str(alloc, "play")?)?;
+    let play = words(alloc, &["play"])?;
     let words = play.as_slice();
 
     for room in 0..58 {
@@ -105,24 +115,67 @@ fn statuses(rt: HostRuntime) -> Result<(), Fail> {
     Ok(())
 }
 
-// An input above the limit, and words that are no form.
+// What is written of assembly texts and codes, over a sink with room, over one with a byte too little, and over a source
+// that fails.
 #[test]
-fn refusals(rt: HostRuntime) -> Result<(), Fail> {
+fn samples(rt: HostRuntime) -> Result<(), Fail> {
     let alloc = rt.alloc();
-    let mut play = Vec::new(alloc);
-    play.push(String::from_str(alloc, "play")?)?;
-    let mut two = Vec::new(alloc);
-    two.push(String::from_str(alloc, "play")?)?;
-    two.push(String::from_str(alloc, "play")?)?;
-    let mut version = Vec::new(alloc);
-    version.push(String::from_str(alloc, "--version")?)?;
+    for (i, sample) in SAMPLES.iter().enumerate() {
+        let words = words(alloc, &[sample.word])?;
+        let words = words.as_slice();
+        let room = sample.text.len();
+        let end = ended(alloc, words, sample.input, room, &[])?;
+        assert!(rt; end.is(sample.status, sample.text), "at {i}");
+        let end = ended(alloc, words, sample.input, room, &[1])?;
+        assert!(rt; end.is(3, b""), "at {i}");
+        if room > 0 {
+            let end = ended(alloc, words, sample.input, room - 1, &[])?;
+            assert!(rt; end.is(4, &sample.text[..room - 1]), "at {i}");
+        }
+    }
+    Ok(())
+}
 
-    let blanks = vec![in alloc; b'\n'; 1_048_577]?;
-    let end = ended(alloc, play.as_slice(), blanks.as_slice(), 58, &[])?;
+// An input above the limit, in every job.
+#[test]
+fn long_inputs(rt: HostRuntime) -> Result<(), Fail> {
+    let alloc = rt.alloc();
+    let feeds = vec![in alloc; b'\n'; 1_048_577]?;
+    for word in ["play", "asm", "list"] {
+        let words = words(alloc, &[word])?;
+        let end = ended(alloc, words.as_slice(), feeds.as_slice(), 58, &[])?;
+        assert!(rt; end.is(1, b"line 0 TooLong\n"), "{word}");
+    }
+    Ok(())
+}
+
+// Listed code of 8,192 bytes and of one byte more, and an odd number of digits.
+#[test]
+fn long_codes(rt: HostRuntime) -> Result<(), Fail> {
+    let alloc = rt.alloc();
+    let words = words(alloc, &["list"])?;
+    let words = words.as_slice();
+    let digits = vec![in alloc; b'0'; 16_386]?;
+    let end = ended(alloc, words, &digits.as_slice()[..16_384], 32_768, &[])?;
+    assert!(rt; end.status == 0 && end.text.len() == 32_768);
+    let end = ended(alloc, words, digits.as_slice(), 58, &[])?;
     assert!(rt; end.is(1, b"line 0 TooLong\n"));
+    let end = ended(alloc, words, &digits.as_slice()[..16_385], 58, &[])?;
+    assert!(rt; end.is(1, b"line 1 BadHex\n"));
+    let end = ended(alloc, words, b"00\n0\n\n", 58, &[])?;
+    assert!(rt; end.is(1, b"line 3 BadHex\n"));
+    Ok(())
+}
+
+// Words that name no job.
+#[test]
+fn usage(rt: HostRuntime) -> Result<(), Fail> {
+    let alloc = rt.alloc();
     assert!(rt; is_no_form(alloc, &[])?);
-    assert!(rt; is_no_form(alloc, two.as_slice())?);
-    assert!(rt; is_no_form(alloc, version.as_slice())?);
+    assert!(rt; is_no_form(alloc, &["play", "play"])?);
+    assert!(rt; is_no_form(alloc, &["asm", "list"])?);
+    assert!(rt; is_no_form(alloc, &["--version"])?);
+    assert!(rt; is_no_form(alloc, &["--help"])?);
     Ok(())
 }
 
