@@ -1,33 +1,27 @@
 -- A command over a card: one that the manager answers, and one that the selected application runs.
-use Rattle.std.proofs.Common.{◌≡◌, ℕ, ◌+◌, ◌≤◌, Bool, true, false, cond, not, List, [], length, Option, Some, None, Result, Ok, Err, refl, sym, ◌∙◌, ap, subst, arith}
+use Rattle.std.proofs.Common.{◌≡◌, ℕ, ◌+◌, ◌≤◌, Bool, true, false, cond, List, length, Option, Some, None, Result, Ok, Err, refl, sym, ◌∙◌, ap, subst, arith}
 use Rattle.std.specs.Prelude.{◌==◌, ◌&&◌, is_some, option_map, IsSome, IfOk, OnOk, OnErr}
-use Rattle.std.proofs.lemmas.Bool.{eqb-true}
 use Rattle.mc_model.specs.declared.device.Stop.{Stop}
 use Rattle.mc_model.specs.Orders.{Answer, InOrder, answer_of}
 use Rattle.mc_model.specs.Apdu.{ApduParts, apdu_read}
-use Rattle.mc_model.specs.Bytes.{lookup}
 use Rattle.mc_model.specs.Device.{DeviceState, Wrote as DeviceWrote}
-use Rattle.mc_model.specs.Card.{App, Card as ModelCard, means}
-use Rattle.mc_model.specs.Layout.{gaps}
+use Rattle.mc_model.specs.Card.{App, Card as ModelCard}
 use Rattle.mc_model.specs.Items.{BankItem}
-use Rattle.mc_model.specs.Chain.{Chain, Ran, ran, start, run}
-use Rattle.mc_model.specs.Manager.{Selected, Seat, Route, WrongLength, WrongClass, ToSelect, ToManager, ToApplication, routed, route}
-use Rattle.mc_model.specs.Play.{Command, command, status, refused, write_items, ran_command, passed, by_route}
+use Rattle.mc_model.specs.Chain.{Chain, Ran, start, run}
+use Rattle.mc_model.specs.Manager.{Selected, Seat, Route, WrongClass, ToSelect, ToManager, ToApplication, routed, route}
+use Rattle.mc_model.specs.Play.{Command, command, status, ran_command, passed, by_route}
 use Rattle.mc_bank.specs.Bank.{BankState, app_of, name_or}
 use Rattle.mc_manager.specs.declared.selection.Selection.{Selection}
-use Rattle.mc_manager.specs.Held.{Held, seat_of}
 use Rattle.mc_manager.specs.Due.{most_ticks}
 use Rattle.mc_machine.specs.declared.outcome.Outcome.{Outcome}
 use Rattle.mc_machine.specs.Chains.{Chained, Runs, Wrote}
 use Rattle.mc_machine.specs.Turns.{outcome_value}
 use Rattle.mc_store.specs.declared.store.Store.{Store}
-use Rattle.mc_store.specs.Store.{apps_in, is_going, store_state, store_named, store_standing}
+use Rattle.mc_store.specs.Store.{apps_in, store_state, store_named}
 use Rattle.mc_store.specs.Did.{store_did}
 use Rattle.mc_card.specs.declared.card.Card.{Card}
-use Rattle.mc_card.specs.Made.{Made}
-use Rattle.mc_card.specs.Sound.{IsSound}
-use Rattle.mc_card.specs.Parts.{card_in, seat_in, view_in, due, with_session, IsUp, IsReady, RunsChain}
-use Rattle.mc_card.specs.Ends.{RunSteps, PassedSteps, RouteSteps, BeginSteps, is_passed, Commanded, Passed, Answered}
+use Rattle.mc_card.specs.Parts.{card_in, seat_in, view_in, due, IsReady}
+use Rattle.mc_card.specs.Ends.{RunSteps, PassedSteps, RouteSteps, is_passed, Commanded, Passed, Answered}
 use Rattle.mc_card.specs.Managing.{IsAnswered, IsPassed}
 use Rattle.mc_card.proofs.StaticLemmas.{going-apps}
 use Rattle.mc_card.proofs.ManagerLemmas.{going-base}

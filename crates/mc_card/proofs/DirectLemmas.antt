@@ -1,31 +1,30 @@
 -- A command as the manager of a card deals with it: what it makes, what it answers, and that the card is ready again.
-use Rattle.std.proofs.Common.{◌≡◌, ℕ, ◌+◌, Bool, true, false, cond, not, List, [], ◌∷◌, length, Option, Some, None, Ok, Err, refl, sym, ◌∙◌, ap, subst}
+use Rattle.std.proofs.Common.{◌≡◌, ℕ, Bool, true, false, cond, List, [], ◌∷◌, length, Option, Some, None, Ok, Err, refl, sym, ◌∙◌, ap, subst}
 use Rattle.std.specs.Prelude.{◌==◌, ◌&&◌, Result, bytes_eq, is_some, option_map, unwrap_or, IsSome}
-use Rattle.std.specs.Option.{ForSome}
 use Rattle.std.proofs.lemmas.List.{length-replicate}
 use Rattle.mc_model.specs.declared.card.Part.{Part}
 use Rattle.mc_model.specs.declared.card.Part.TheVariants as part
 use Rattle.mc_model.specs.declared.card.Sizes.{Sizes}
 use Rattle.mc_model.specs.declared.unit.AidFault.{AidFault}
 use Rattle.mc_model.specs.declared.device.Stop.{Stop}
-use Rattle.mc_model.specs.Orders.{Answer, InOrder, answer_of}
+use Rattle.mc_model.specs.Orders.{Answer, InOrder}
 use Rattle.mc_model.specs.Apdu.{ApduParts}
 use Rattle.mc_model.specs.Bytes.{zeros, lookup, insert, remove}
 use Rattle.mc_model.specs.Device.{DeviceState, Wrote}
-use Rattle.mc_model.specs.Card.{App, Card as ModelCard, means}
+use Rattle.mc_model.specs.Card.{App, Card as ModelCard}
 use Rattle.mc_model.specs.Units.{name_of}
-use Rattle.mc_model.specs.Items.{Site, BankItem}
-use Rattle.mc_model.specs.Manager.{Selected, Seat, Open, Managed, Declines, Accepts, Accepted, Route, WrongLength, WrongClass, ToSelect, ToManager, ToApplication, routed, fresh, first_status, answered, select_refusals, select_done, select, open_refusals, open_done, open_load, load_refusals, load_done, load_part, create_refusals, create_done, create, dir_in, is_taken, delete_refusals, delete_done, delete, is_selected, manage, room_on}
-use Rattle.mc_model.specs.Chain.{Outcome, Reply}
-use Rattle.mc_model.specs.Play.{Command, status, managed, passed, by_route}
-use Rattle.mc_bank.specs.Bank.{no_app, app_of, Changes}
+use Rattle.mc_model.specs.Items.{BankItem}
+use Rattle.mc_model.specs.Manager.{Selected, Seat, Open, Managed, Declines, Accepts, Accepted, Route, WrongLength, WrongClass, ToSelect, ToManager, ToApplication, routed, fresh, first_status, answered, select_refusals, select_done, select, open_refusals, open_done, load_refusals, load_done, load_part, create_refusals, create_done, create, dir_in, is_taken, delete_refusals, delete_done, delete, is_selected, manage, room_on}
+use Rattle.mc_model.specs.Chain.{Reply}
+use Rattle.mc_model.specs.Play.{Command, managed, passed, by_route}
+use Rattle.mc_bank.specs.Bank.{no_app, app_of}
 use Rattle.mc_bank.specs.Names.{name_is_itself, same_name, lookup-beside}
 use Rattle.mc_apdu.specs.declared.reply.Reply.{Reply as CardReply}
 use Rattle.mc_manager.specs.declared.selection.Selection.{Selection}
 use Rattle.mc_manager.specs.declared.routed.Routed.{Routed}
 use Rattle.mc_manager.specs.declared.routed.Routed.TheVariants.{Answer as Answers, Fresh, Pass}
 use Rattle.mc_manager.specs.Held.{BankView, Held, seat_of, Fits}
-use Rattle.mc_manager.specs.Due.{Due, Refuses, Selects, Does, Passes, due_select, due_manager, due_application, due_on, due, items_of, apps_after, with_change, Says, Refused, Chosen, Done, Passed, Leaves}
+use Rattle.mc_manager.specs.Due.{Due, Refuses, Selects, Does, Passes, due_select, due_manager, due_application, due_on, due, items_of, apps_after, Leaves}
 use Rattle.mc_manager.specs.Ends.{Ends}
 use Rattle.mc_machine.specs.declared.outcome.Outcome.TheVariants as outcome
 use Rattle.mc_machine.specs.Turns.{outcome_value}
@@ -34,9 +33,8 @@ use Rattle.mc_store.specs.Store.{apps_in, is_going, store_named, store_standing}
 use Rattle.mc_store.specs.Did.{store_did, named-there}
 use Rattle.mc_store.proofs.BankLemmas.{running}
 use Rattle.mc_card.specs.declared.card.Card.{Card}
-use Rattle.mc_card.specs.Made.{Made}
-use Rattle.mc_card.specs.Parts.{card_in, seat_in, view_in, IsUp, IsReady}
-use Rattle.mc_card.specs.Ends.{is_passed, Commanded}
+use Rattle.mc_card.specs.Parts.{card_in, seat_in, view_in, IsReady}
+use Rattle.mc_card.specs.Ends.{is_passed}
 use Rattle.mc_card.specs.Managing.{IsAnswered, IsPassed}
 use Rattle.mc_card.proofs.StaticLemmas.{going-apps, none-is}
 use Rattle.mc_card.proofs.ManagerLemmas.{none-of, due-made}

@@ -1,6 +1,6 @@
 -- Items of a store as items of the definitions: one of them, and lists of them one after another, done or stopped.
-use Rattle.std.proofs.Common.{◌≡◌, ◌≢◌, ◌⊎◌, ℕ, zero, suc, ◌+◌, ◌-◌, ◌<◌, ◌≤◌, Bool, true, false, cond, List, [], ◌∷◌, ◌++◌, length, map, Option, Some, None, Ok, Err, refl, sym, ◌∙◌, ap, subst, inl, inr, arith, length-append}
-use Rattle.std.specs.Prelude.{nat_le, ◌==◌, IsSome, unwrap_or}
+use Rattle.std.proofs.Common.{◌≡◌, ◌≢◌, ℕ, ◌+◌, ◌-◌, ◌<◌, ◌≤◌, Bool, true, false, cond, List, [], ◌∷◌, ◌++◌, length, map, Option, Some, None, Ok, Err, refl, sym, ◌∙◌, ap, subst, inl, inr, arith, length-append}
+use Rattle.std.specs.Prelude.{nat_le, ◌==◌, unwrap_or}
 use Rattle.std.specs.List.{AllByRecursion}
 use Rattle.std.proofs.lemmas.List.{length-map}
 use Rattle.std.proofs.lemmas.Bool.{cases_lt, le-leb, lt-leb, eq-eqb, leb-false}
@@ -8,29 +8,29 @@ use Rattle.std.proofs.lemmas.Bool.Decides.{eqb_tells}
 use Rattle.mc_model.specs.declared.card.Cause.{Cause}
 use Rattle.mc_model.specs.declared.device.Stop.{Stop}
 use Rattle.mc_model.specs.Orders.{Answer, InOrder}
-use Rattle.mc_model.specs.Bytes.{up, lookup}
-use Rattle.mc_model.specs.Image.{Two, look, Closed, Look, debt, laid}
-use Rattle.mc_model.specs.Device.{DeviceState, IsImage, Wrote, Makes}
+use Rattle.mc_model.specs.Bytes.{lookup}
+use Rattle.mc_model.specs.Image.{Two, look, Closed, debt}
+use Rattle.mc_model.specs.Device.{DeviceState, IsImage, Wrote}
 use Rattle.mc_model.specs.Stopped.{cost, stands, owes, torn, writes, IsAtomic}
 use Rattle.mc_model.specs.Card.{App, Card, card_of, means}
 use Rattle.mc_model.specs.Layout.{words_fault, fault, step_of, IsWellLaid}
 use Rattle.mc_model.specs.Items.{Change, Item, Plain, Atomic, Stopped, with_item, in_flight, weight, moves, changed, done, card_done, at_stop, BankItem, Piece, Blank, Note, Commit, Enter, Remove}
-use Rattle.mc_model.specs.Play.{Base, OnCard, AtFault, base_of}
-use Rattle.mc_model.proofs.OrdersLemmas.{InOrder-append, InOrder-stopped}
+use Rattle.mc_model.specs.Play.{OnCard, base_of}
+use Rattle.mc_model.proofs.OrdersLemmas.{InOrder-append}
 use Rattle.mc_model.proofs.DeviceLemmas.{DoneAll, makes-done}
 use Rattle.mc_model.proofs.StoppedLemmas.{torn-within, torn-past}
 use Rattle.mc_model.proofs.CallLemmas.{length-writes}
 use Rattle.mc_bank.specs.Bank.{no_app, app_of, CanCommit, item_done}
-use Rattle.mc_store.specs.Store.{apps_in, part_in, static_writes, card_with, card_without, item_writes, is_going, store_standing, Allows, StoreDid}
-use Rattle.mc_store.specs.Power.{found, IsBase}
-use Rattle.mc_store.specs.Going.{Going, going_is, closed_means, closed_settled, closed_fault}
+use Rattle.mc_store.specs.Store.{apps_in, part_in, static_writes, card_with, card_without, item_writes, store_standing, Allows, StoreDid}
+use Rattle.mc_store.specs.Power.{IsBase}
+use Rattle.mc_store.specs.Going.{Going, going_is, closed_means, closed_fault}
 use Rattle.mc_store.specs.Stops.{card_after, IsStoppedAt}
 use Rattle.mc_store.specs.Commits.{Committed, commits}
-use Rattle.mc_store.specs.Creation.{Creates, creates-plan}
-use Rattle.mc_store.specs.Deletion.{Deletes, deletes-plan}
-use Rattle.mc_store.specs.Turns.{Turned, Turns, Standing, standing-of, some-is, turns}
+use Rattle.mc_store.specs.Creation.{creates-plan}
+use Rattle.mc_store.specs.Deletion.{deletes-plan}
+use Rattle.mc_store.specs.Turns.{Turned, Standing, standing-of, some-is, turns}
 use Rattle.mc_store.proofs.StopLemmas.{item_stops}
-use Rattle.mc_card.specs.Made.{IsStopped, StopsAtEach, IsAll, IsDone, Made}
+use Rattle.mc_card.specs.Made.{IsStopped, IsAll, IsDone, Made}
 
 -- ---- lists of items
 

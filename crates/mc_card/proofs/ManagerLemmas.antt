@@ -1,6 +1,6 @@
 -- What the items of a manager's command make of a card in the words of a device.
 use Rattle.std.proofs.Common.{◌≡◌, ◌⊎◌, ℕ, ◌-◌, Bool, true, false, cond, not, List, [], ◌∷◌, ◌++◌, length, map, Option, Some, None, Ok, Err, refl, sym, ◌∙◌, ap, subst, inl, inr}
-use Rattle.std.specs.Prelude.{◌==◌, ◌&&◌, Result, option_map}
+use Rattle.std.specs.Prelude.{◌==◌, Result, option_map}
 use Rattle.std.specs.Option.{ForSome}
 use Rattle.std.specs.List.{AllByRecursion}
 use Rattle.std.proofs.lemmas.List.{map-append}
@@ -17,25 +17,24 @@ use Rattle.mc_model.specs.Device.{DeviceState, Wrote}
 use Rattle.mc_model.specs.Card.{App, Card, means}
 use Rattle.mc_model.specs.Layout.{step_of}
 use Rattle.mc_model.specs.Units.{name_of}
-use Rattle.mc_model.specs.Items.{Change, Created, Deleted, Item, Plain, Atomic, card_done, Site, BankItem, Piece, Blank, Note, Commit, Enter, Remove}
-use Rattle.mc_model.specs.Manager.{Selected, Seat, Open, got_of, select_body, Managed, Declines, Accepts, Accepted, Route, WrongLength, WrongClass, ToSelect, ToManager, ToApplication, is_complete, can_create, first_status, answered, select_refusals, select_done, select, open_refusals, open_done, open_load, load_refusals, load_done, load_part, create_refusals, create_done, create_items, create, dir_in, fresh, delete_refusals, delete_done, delete, manage, word_parts, room_on}
+use Rattle.mc_model.specs.Items.{Created, Deleted, Item, Plain, Atomic, card_done, Site, BankItem, Piece, Blank, Note, Commit, Enter, Remove}
+use Rattle.mc_model.specs.Manager.{Seat, Open, got_of, select_body, Managed, Declines, Accepts, Accepted, Route, WrongLength, WrongClass, ToSelect, ToManager, ToApplication, can_create, first_status, answered, select_refusals, select_done, select, open_refusals, open_done, open_load, load_refusals, load_done, load_part, create_refusals, create_done, create_items, create, dir_in, fresh, delete_refusals, delete_done, delete, manage, word_parts, room_on}
 use Rattle.mc_model.specs.Play.{OnCard, item_of, atomic_of, managed, passed, by_route}
 use Rattle.mc_bank.specs.Bank.{entered}
-use Rattle.mc_manager.specs.Held.{BankView, Loaded, Held, open_of, load_of, seat_of, Fits, FitsLoad}
+use Rattle.mc_manager.specs.Held.{BankView, Loaded, Held, open_of, seat_of, Fits, FitsLoad}
 use Rattle.mc_manager.specs.declared.selection.Selection.{Selection}
 use Rattle.mc_manager.specs.Load.{is_full}
-use Rattle.mc_manager.specs.Due.{Due, Refuses, Selects, Does, Passes, due_select, due_manager, due_application, due_on, items_of}
+use Rattle.mc_manager.specs.Due.{Passes, due_select, due_manager, due_application, due_on, items_of}
 use Rattle.mc_manager.proofs.LoadLemmas.{complete_full, fresh_entered}
 use Rattle.mc_store.specs.declared.store.Store.{Store}
-use Rattle.mc_store.specs.Store.{apps_in, part_in, is_going, card_with, store_state, store_named, store_room, store_standing}
+use Rattle.mc_store.specs.Store.{part_in, is_going, store_state, store_named, store_room, store_standing}
 use Rattle.mc_store.specs.Power.{IsBase, device_of, count_of}
 use Rattle.mc_store.specs.Going.{Going, going_is, closed_means}
 use Rattle.mc_store.specs.Did.{store_did}
-use Rattle.mc_store.specs.Turns.{Standing, standing-of}
 use Rattle.mc_store.proofs.FoldLemmas.{IsPlain, IsQuiet, Kept, all_kept, all_stand, stands_now, before_enter, creation_is, creation_quiet}
 use Rattle.mc_card.specs.Made.{Made}
 use Rattle.mc_card.proofs.StaticLemmas.{going-apps}
-use Rattle.mc_card.proofs.MadeLemmas.{IsAs, IsAtomicAs, card-found, closed-base, made-none, made-stopped, made-append, made-fold, made-one}
+use Rattle.mc_card.proofs.MadeLemmas.{IsAs, card-found, closed-base, made-stopped, made-append, made-fold, made-one}
 
 -- ---- lists of steps that are done in order
 

@@ -1,5 +1,5 @@
 -- The static segment of an application of a card, as its bank shows it.
-use Rattle.std.proofs.Common.{◌≡◌, ℕ, true, false, List, length, Option, Some, None, refl, sym, ◌∙◌, ap, subst}
+use Rattle.std.proofs.Common.{◌≡◌, ℕ, true, false, List, length, Option, Some, None, refl, sym, ◌∙◌, ap}
 use Rattle.std.specs.Prelude.{is_some, option_map, unwrap_or, IsSome}
 use Rattle.mc_model.specs.Bytes.{lookup}
 use Rattle.mc_model.specs.Device.{DeviceState}

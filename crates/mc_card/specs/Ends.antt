@@ -8,7 +8,7 @@ use Rattle.mc_model.specs.Apdu.{ApduParts}
 use Rattle.mc_model.specs.Card as model
 use Rattle.mc_model.specs.Layout.{gaps}
 use Rattle.mc_model.specs.Chain.{Chain, Acted, Follows, Continues, Ends, Ran, start, run, chain_session}
-use Rattle.mc_model.specs.Manager.{Selected, Seat, Route, WrongLength, WrongClass, ToSelect, ToManager, ToApplication, route}
+use Rattle.mc_model.specs.Manager.{Selected, Route, WrongLength, WrongClass, ToSelect, ToManager, ToApplication, route}
 use Rattle.mc_model.specs.Play.{Command, write_items}
 use Rattle.mc_machine.specs.declared.outcome.Outcome.{Outcome}
 use Rattle.mc_machine.specs.declared.outcome.Turn.{Turn}

@@ -1,4 +1,4 @@
-use Rattle.std.proofs.Common.{◌≡◌, Result, refl, sym, ◌∙◌, ap, subst, Some, None, Ok, Err}
+use Rattle.std.proofs.Common.{Result, sym, ◌∙◌, ap, subst, Ok, Err}
 use Rattle.std.proofs.lemmas.Result.{err_from_is_err_and}
 use Rattle.mc_model.specs.declared.device.Stop.{Stop}
 use Rattle.mc_apdu.specs.Command.{parts_of}

@@ -1,12 +1,11 @@
-use Rattle.std.proofs.Common.{◌≡◌, Result, refl, sym, ◌∙◌, ap, subst, Ok, Err}
+use Rattle.std.proofs.Common.{Result, refl, sym, ◌∙◌, ap, subst, Ok, Err}
 use Rattle.std.proofs.lemmas.Result.{err_from_is_err_and}
 use Rattle.mc_model.specs.declared.device.Stop.{Stop}
-use Rattle.mc_model.specs.Manager.{routed}
 use Rattle.mc_apdu.specs.Command.{parts_of}
 use Rattle.mc_manager.specs.declared.routed.Routed.{Routed}
 use Rattle.mc_card.specs.declared.card.Card.{Card}
 use Rattle.mc_card.specs.declared.managing.Directed.{Directed}
-use Rattle.mc_card.specs.Managing.{IsAnswered, IsPassed, Directs}
+use Rattle.mc_card.specs.Managing.{Directs}
 use Rattle.mc_card.proofs.DirectLemmas.{DirectEnds, answered-done, stopped-done, selected-done, fresh-slot, passed-done}
 use Rattle.mc_card.proofs.DeviceLemmas.{answered-same}
 use Rattle.mc_card.proofs.card.Card.direct.Goals as goal
