@@ -23,9 +23,10 @@ use Rattle.mc_card.specs.declared.card.Card.{Card}
 use Rattle.mc_machine.specs.Chains.{Chained, Wrote}
 use Rattle.mc_card.specs.Made.{Made}
 use Rattle.mc_card.specs.Parts.{card_in, seat_in, with_session, IsUp}
-use Rattle.mc_card.proofs.ChainLemmas.{AreSound, SameSizes, sizes_done}
+use Rattle.mc_machine.proofs.SoundChains.{AreSound, SameSizes, sizes_done}
 use Rattle.mc_card.proofs.MadeLemmas.{card-found}
-use Rattle.mc_card.proofs.WriteLemmas.{AsCommits, as_commits, not_false, writes_made}
+use Rattle.mc_card.proofs.WriteLemmas.{AsCommits, as_commits, writes_made}
+use Rattle.mc_card.proofs.ManagerLemmas.{not-false}
 
 -- the seat with other session bytes
 seat_with : (standing : Site → Part → List ℕ) (old new : List ℕ) (m : Held) → seat_of standing new m ≡ with_session new (seat_of standing old m)
@@ -79,7 +80,7 @@ module _ {N : Type 0} (state : N → DeviceState) (wrote : N → ℕ → List �
           → ((s : Selection) → c.manager.selected ≡ Some s → length session ≡ (app_of (card_in state c).apps (Some s.aid)).session)
           → IsUp state (record { store = e; manager = c.manager; session = session; chain = chain })
       still_up session chain on size = record {
-        going = not_false (is_going (state e.device) e.count) on;
+        going = not-false (is_going (state e.device) e.count) on;
         fits = fits_kept (view_at c.store) (view_at e) c.manager (view_stays ws c.store e (Ok tt) h) up.fits;
         session = λ s is. size s is ∙ sym (sizes_after.session s.aid);
       }

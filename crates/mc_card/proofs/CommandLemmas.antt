@@ -26,7 +26,7 @@ use Rattle.mc_card.specs.Managing.{IsAnswered, IsPassed}
 use Rattle.mc_card.proofs.StaticLemmas.{going-apps}
 use Rattle.mc_card.proofs.ManagerLemmas.{going-base}
 use Rattle.mc_card.proofs.MadeLemmas.{made-none}
-use Rattle.mc_card.proofs.RunLemmas.{RunSound, run_sound, start_sound}
+use Rattle.mc_machine.proofs.SoundRuns.{RunSound, run_sound, start_sound}
 use Rattle.mc_card.proofs.AfterLemmas.{card_made, still_up, seat_after}
 
 -- ---- steps

@@ -1,6 +1,3 @@
-pub mod RowLemmas
-pub mod ChainLemmas
-pub mod RunLemmas
 pub mod MadeLemmas
 pub mod ManagerLemmas
 pub mod StaticLemmas

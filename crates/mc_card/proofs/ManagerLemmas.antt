@@ -113,7 +113,7 @@ pub none-of : (b : Bool) (sw : ℕ) (rest : Option ℕ) → cond b (Some sw) res
 none-of true sw rest h = absurd (cc h)
 none-of false sw rest h = (refl, h)
 
-not-false : (b : Bool) → not b ≡ false → b ≡ true
+pub not-false : (b : Bool) → not b ≡ false → b ≡ true
 not-false true h = refl
 not-false false h = absurd (cc h)
 

@@ -12,7 +12,6 @@ use Rattle.mc_bank.specs.Bank.{BankState, app_of}
 use Rattle.mc_store.specs.declared.store.Store.{Store}
 use Rattle.mc_store.specs.Store.{store_state, store_named}
 use Rattle.mc_store.specs.Did.{store_did}
-use Rattle.mc_store.specs.Going.{going_is}
 use Rattle.mc_manager.specs.declared.selection.Selection.{Selection}
 use Rattle.mc_manager.specs.Held.{Held}
 use Rattle.mc_card.specs.declared.card.Card.{Card}
@@ -23,9 +22,9 @@ use Rattle.mc_machine.specs.Turns.{Follow, Acts, TurnDone, outcome_value}
 use Rattle.mc_card.specs.Ends.{GoesOn, Turned}
 use Rattle.mc_card.specs.Made.{Made}
 use Rattle.mc_card.specs.Parts.{card_in, seat_in, with_session, RunsChain}
-use Rattle.mc_card.proofs.ChainLemmas.{AreSound, TurnSound, FollowsSound, first_in, session_size, turn_sound}
-use Rattle.mc_card.proofs.RunLemmas.{turn_end}
-use Rattle.mc_card.proofs.WriteLemmas.{own_apps}
+use Rattle.mc_machine.proofs.SoundChains.{AreSound, TurnSound, FollowsSound, first_in, session_size, turn_sound}
+use Rattle.mc_machine.proofs.SoundRuns.{turn_end}
+use Rattle.mc_card.proofs.StaticLemmas.{going-apps}
 use Rattle.mc_card.proofs.AfterLemmas.{card_made, still_up, same_seat, seat_after}
 
 -- a card of these parts
@@ -55,7 +54,7 @@ module _ {N : Type 0} (state : N → DeviceState) (wrote : N → ℕ → List �
 
     -- the chain stands on the card
     own_map : ch.map ≡ apps
-    own_map = r.runs.map ∙ own_apps state wrote obeys c.store (going_is (state c.store.device) c.store.count r.up.going)
+    own_map = r.runs.map ∙ going-apps (state c.store.device) c.store.count r.up.going
 
     sound : TurnSound ch t
     sound = turn_sound left ch r.sound

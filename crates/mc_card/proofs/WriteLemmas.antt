@@ -1,5 +1,5 @@
 -- The atomic writes of a chain on a store, as items of the definitions and as commits of a bank.
-use Rattle.std.proofs.Common.{◌≡◌, ℕ, ◌+◌, ◌≤◌, Bool, true, false, not, List, [], ◌∷◌, ◌++◌, length, take, drop, Option, Some, Ok, Err, refl, sym, ◌∙◌, ap, subst, inl, inr, arith, append-nil}
+use Rattle.std.proofs.Common.{◌≡◌, ℕ, ◌+◌, ◌≤◌, true, false, List, [], ◌∷◌, ◌++◌, length, take, drop, Option, Some, Ok, Err, refl, sym, ◌∙◌, ap, subst, inl, inr, arith, append-nil}
 use Rattle.std.specs.Prelude.{unwrap_or}
 use Rattle.std.proofs.lemmas.List.{length-map, take-append-drop}
 use Rattle.mc_model.specs.Orders.{Answer, InOrder}
@@ -19,11 +19,13 @@ use Rattle.mc_store.specs.Store.{apps_in, is_going, store_state, store_standing}
 use Rattle.mc_store.specs.Laws.{store_obeys}
 use Rattle.mc_store.specs.Did.{store_did}
 use Rattle.mc_store.specs.Going.{Going, going_is, closed_means}
-use Rattle.mc_store.specs.Turns.{Standing, standing-of, some-is}
+use Rattle.mc_card.proofs.StaticLemmas.{going-apps}
+use Rattle.mc_card.proofs.ManagerLemmas.{not-false}
+use Rattle.mc_store.specs.Turns.{some-is}
 use Rattle.mc_card.specs.Made.{Made}
-use Rattle.mc_card.specs.Sound.{Within}
+use Rattle.mc_machine.specs.Sound.{Within}
 use Rattle.mc_machine.specs.Chains.{Wrote}
-use Rattle.mc_card.proofs.ChainLemmas.{IsSoundWrite, AreSound}
+use Rattle.mc_machine.proofs.SoundChains.{IsSoundWrite, AreSound}
 use Rattle.mc_card.proofs.MadeLemmas.{card-found, closed-base, made-none, made-stopped, made-append, IsAtomicAs, made-one}
 
 -- ---- words that hold pieces
@@ -87,10 +89,6 @@ committed_is apps n ps ws a there within held =
 
 -- ---- writes as commits
 
-pub not_false : (b : Bool) → not b ≡ false → b ≡ true
-not_false true e = refl
-not_false false e = absurd (cc e)
-
 module _ {B : Type 0} (did : B → BankItem → Answer → B → Type 0) (state : B → BankState) where
   -- the words that writes committed
   pub record AsCommits (b : B) (a : Answer) (e : B) : Type 0 where
@@ -126,16 +124,12 @@ module _ {N : Type 0} (state : N → DeviceState) (wrote : N → ℕ → List �
   abbrev words_of : Store N → List (List ℕ)
   words_of s = (state s.device).words
 
-  -- the applications of a store that goes on
-  pub own_apps : (s : Store N) → Going (state s.device) s.count → apps_in (words_of s) ≡ (means (words_of s)).apps
-  own_apps s g = let t : Standing (words_of s) = standing-of (state s.device) s.count g in t.map ∙ sym t.apps
-
   -- the commit of a write is its item
   write_as : (s e : Store N) (w : Write) (ws : List (ℕ × List ℕ)) (a : Answer) → IsSoundWrite (means (words_of s)).apps w → HoldPieces (app_of (bank_state s).apps (Some w.name)).fixed w.pieces ws → did s (Commit w.name ws) a e
       → IsAtomicAs (words_of s) (Commit w.name ws) (length ws) (item_of w)
   write_as s e w ws a sound held done =
       let m = words_of s in
-      let same : apps_in m ≡ (means m).apps = own_apps s (going_is (state s.device) s.count done.going) in
+      let same : apps_in m ≡ (means m).apps = going-apps (state s.device) s.count done.going in
       let here : HoldPieces (app_of (means m).apps (Some w.name)).fixed w.pieces ws = subst (λ (apps : List (List ℕ × App)). HoldPieces (app_of apps (Some w.name)).fixed w.pieces ws) same held in
       let there = some-is (lookup (means m).apps w.name) done.allowed.0 in
       record {
@@ -152,7 +146,7 @@ module _ {N : Type 0} (state : N → DeviceState) (wrote : N → ℕ → List �
   goes_on s e w h =
       let t : Changes (bank_state s) (item_done (store_standing (state s.device)) (Commit w.name h.0) (bank_state s).apps) (Ok tt) (bank_state e) =
       store_obeys state wrote obeys s.device e.device s.count e.count (Commit w.name h.0) (Ok tt) h.2 in
-      going_is (state e.device) e.count (not_false (is_going (state e.device) e.count) t.going)
+      going_is (state e.device) e.count (not-false (is_going (state e.device) e.count) t.going)
 
   -- ---- writes in order
 

@@ -14,7 +14,7 @@ use Rattle.mc_store.specs.Power.{device_of, count_of, over}
 use Rattle.mc_manager.specs.Held.{BankView, Fits, seat_of}
 use Rattle.mc_machine.specs.Chains.{Chained, Runs}
 use Rattle.mc_card.specs.declared.card.Card.{Card}
-use Rattle.mc_card.specs.Sound.{IsSound}
+use Rattle.mc_machine.specs.Sound.{IsSound}
 
 -- the device of a card
 abbrev pub device_in : {N : Type 0} → Card N → N

@@ -1,9 +1,10 @@
-ghost use Rattle.std.specs.Prelude.{◌≡◌, ◌+◌, ◌-◌, ◌≤◌, ℕ, true, length, take, drop, option_map, Ok, Some, None, IsSome, IfOk, OnOk};
+ghost use Rattle.std.specs.Prelude.{◌≡◌, ◌+◌, ◌-◌, ◌≤◌, ℕ, true, length, take, drop, option_map, Ok, Some, None, IsSome, IfSome, IfOk, OnOk};
 ghost use Rattle.mc_model.specs.Bytes.{lookup};
 ghost use Rattle.mc_model.specs.Orders.{answer_of};
 ghost use Rattle.mc_model.specs.Device.{Makes, Ended};
 ghost use Rattle.mc_model.specs.Chain.{Chain as ModelChain, turn_of};
 ghost use Rattle.mc_model.specs.Manager.{empty_seat, route};
+ghost use Rattle.mc_model.specs.Code.{Shaped};
 ghost use Rattle.mc_model.specs.Play.{status};
 ghost use Rattle.mc_bank.specs.Bank.{app_of};
 ghost use Rattle.mc_machine.specs.Turns.{outcome_value};
@@ -128,6 +129,9 @@ impl<N: Nvm> Card<N> {
         requires running { IsRunning N.state self.old }
         ensures done { (ch : ModelChain) (left : ℕ) → RunsChain N.state self.old ch left → Turned N.state N.wrote self.old ch left (turn_of left ch) result self.new }
         ensures steps { (ch : ModelChain) (left : ℕ) → RunsChain N.state self.old ch left → steps.new ≡ steps.old + (turn_of left ch).count }
+        ensures shaped { IfOk result (λ turn. IfSome turn.ins Shaped) }
+        ensures low { IfOk result (λ turn. 1 ≤ turn.depth) }
+        ensures high { IfOk result (λ turn. turn.depth ≤ 4) }
         ensures ended { Ended (answer_of result) (N.state (device_in self.old)) (N.state (device_in self.new)) }
         ensures lent { N.same (device_in self.old) (device_in self.new) }
     {
@@ -143,7 +147,8 @@ impl<N: Nvm> Card<N> {
     /// The length in bytes of the static segment of an application, or `None` exactly where the name is not on the card.
     pub fn static_len(&self, aid: &Aid) -> Option<u16>
         requires { IsUp N.state self.now }
-        ensures { result ≡ option_map (λ a. length a.fixed) (lookup (card_in N.state self.now).apps aid.now) }
+        ensures value { result ≡ option_map (λ a. length a.fixed) (lookup (card_in N.state self.now).apps aid.now) }
+        ensures most { IfSome result (λ n. n ≤ 4096) }
     {
         let slot = self.store.find(aid)?;
         Some(self.store.facts(slot).sizes.fixed)

@@ -3,10 +3,8 @@
 // A card in the words of a device: power-up, commands, and the turns of a command one by one.
 mod bench;
 mod card;
-mod laws;
 mod managing;
 
 pub use card::Card;
-pub use laws::within_budget;
 pub use mc_machine::{Outcome, Turn};
 pub use mc_store::{Unusable, Up};

@@ -1,4 +1,5 @@
 pub mod Alike
 pub mod Chains
 pub mod Frames
+pub mod Sound
 pub mod Turns

@@ -1,5 +1,5 @@
 // One turn of a chain: an executed instruction, or a fetch that abends.
-ghost use Rattle.std.specs.Prelude.{◌≡◌, ◌≢◌, ◌+◌, ◌<◌, ◌∷◌, ◌||◌, false, bytes_eq, length, nat_le, option_map, ℕ, List, IfOk, IfSome};
+ghost use Rattle.std.specs.Prelude.{◌≡◌, ◌≢◌, ◌+◌, ◌<◌, ◌≤◌, ◌∷◌, ◌||◌, false, bytes_eq, length, nat_le, option_map, ℕ, List, IfOk, IfSome};
 ghost use Rattle.mc_bank.specs.Bank.{name_or};
 ghost use Rattle.mc_model.specs.Bytes.{lookup};
 ghost use Rattle.mc_model.specs.Code.{Shaped};
@@ -43,6 +43,9 @@ pub fn turn<B: Bank, L: Ledger>(
     requires fits { FitsChain (B.state bank.old) (B.named bank.old) chain.old }
     ensures done { (ch : ModelChain) → Runs (B.state bank.old) (B.named bank.old) chain.old ch → TurnDone B.did B.state B.named bank.old bank.new chain.old chain.new ch (turn_of chain.old.left ch) result }
     ensures ticks { (ch : ModelChain) → Runs (B.state bank.old) (B.named bank.old) chain.old ch → steps.new ≡ steps.old + (turn_of chain.old.left ch).count }
+    ensures shaped { IfOk result (λ turn. IfSome turn.ins Shaped) }
+    ensures low { IfOk result (λ turn. 1 ≤ turn.depth) }
+    ensures high { IfOk result (λ turn. turn.depth ≤ 4) }
 {
     let depth = chain.waiting.count() + 1;
     let at = chain.running.at();
@@ -74,6 +77,7 @@ pub fn act<B: Bank, L: Ledger>(
     ensures done { (ch : ModelChain) → Runs (B.state bank.old) (B.named bank.old) chain.old ch → ActDone B.did B.state B.named bank.old bank.new chain.old chain.new ch (turn_of chain.old.left ch) result }
     ensures ticks { (ch : ModelChain) → Runs (B.state bank.old) (B.named bank.old) chain.old ch → steps.new ≡ steps.old + (turn_of chain.old.left ch).count }
     ensures ends { IfOk result (λ step. IfSome step.end (λ end. EndFits chain.new.public end)) }
+    ensures shaped { IfOk result (λ step. IfSome step.ins Shaped) }
 {
     let before = told(&chain.running, None, None);
     if chain.left == 0 {
@@ -101,6 +105,7 @@ impl Step {
     fn halts(self, halt: Halt) -> Result<Step, Stop>
         ensures value { result ≡ halted self halt }
         ensures ends { (public : List ℕ) → IfOk result (λ step. IfSome step.end (λ end. EndFits public end)) }
+        ensures ins { IfOk result (λ step. step.ins ≡ self.ins) }
     {
         match halt {
             Halt::Abend(abend) => Ok(self.abends(abend)),
@@ -147,6 +152,7 @@ fn follow<B: Bank>(next: Next, ins: Ins, before: Step, chain: &mut Chain, bank: 
     ensures left { chain.new.left ≡ chain.old.left }
     ensures le { chain.new.le ≡ chain.old.le }
     ensures ends { IfSome result.end (λ end. EndFits chain.new.public end) }
+    ensures shaped { Shaped ins → IfSome before.ins Shaped → IfSome result.ins Shaped }
 {
     let after = told(&chain.running, Some(ins), None);
     match next {

@@ -86,6 +86,8 @@ pub record Sound (s : Sim) : Type 0 where
 
 -- one write of a device in memory, which refuses none by itself
 pub record SimWrote (s : Sim) (at : ℕ) (w : List ℕ) (a : Answer) (e : Sim) : Type 0 where
+  pub place : at < length s.words
+  pub size : length w ≡ 8
   pub sound : Sound s
   pub answer : a ≡ answer_to (next_due false s)
   pub after : e ≡ after_write s at w (next_due false s)

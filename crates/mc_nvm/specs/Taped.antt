@@ -1,6 +1,6 @@
 -- A device in memory that tells its tape, and refuses the writes of a list besides.
 -- This project's profile.
-use Rattle.std.specs.Prelude.{◌≡◌, ℕ, Bool, true, false, ◌||◌, ◌==◌, nat_le, List, [], ◌∷◌, ◌++◌, length, slice_set, Option, Some, None, refl}
+use Rattle.std.specs.Prelude.{◌≡◌, ◌<◌, ℕ, Bool, true, false, ◌||◌, ◌==◌, nat_le, List, [], ◌∷◌, ◌++◌, length, slice_set, Option, Some, None, refl}
 use Rattle.std.proofs.Common.{subst, sym, inl}
 use Rattle.mc_model.specs.declared.device.Stop.{Stop}
 use Rattle.mc_model.specs.declared.device.Stop.TheVariants.{Off, Worn}
@@ -63,6 +63,8 @@ after_taped t at w d =
 
 -- one write
 pub record TapedWrote (t : Taped) (at : ℕ) (w : List ℕ) (a : Answer) (e : Taped) : Type 0 where
+  pub place : at < length t.device.words
+  pub size : length w ≡ 8
   pub sound : Sound t.device
   pub answer : a ≡ answer_to (taped_due t)
   pub after : e ≡ after_taped t at w (taped_due t)

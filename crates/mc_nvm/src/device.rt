@@ -39,6 +39,9 @@ pub trait Nvm {
     /// A write by the relation keeps the rules of devices.
     ghost obeys: { (d : Self) (at : ℕ) (w : List ℕ) (a : Answer) (e : Self) → (state d).on ≡ true → wrote d at w a e → Wrote (state d) at w a (state e) };
 
+    /// A write by the relation has its place in the device and a word of eight bytes.
+    ghost fits: { (d : Self) (at : ℕ) (w : List ℕ) (a : Answer) (e : Self) → wrote d at w a e → (at < length (state d).words) × (length w ≡ 8) };
+
     /// A write keeps which device is lent.
     ghost keeps: { (d : Self) (at : ℕ) (w : List ℕ) (a : Answer) (e : Self) → wrote d at w a e → same d e };
 
@@ -100,6 +103,8 @@ impl<N: Nvm> Nvm for &mut N {
     ghost same = { λ d e. N.same d.now e.now × (e.ghost_name ≡ d.ghost_name) };
 
     ghost obeys = { λ d at w a e on r. N.obeys d.now at w a e.now on r.0 };
+
+    ghost fits = { λ d at w a e r. N.fits d.now at w a e.now r.0 };
 
     ghost keeps = { λ d at w a e r. (N.keeps d.now at w a e.now r.0, r.1) };
 

@@ -98,6 +98,8 @@ impl Nvm for SimNvm {
 
     ghost obeys = { sim_obeys };
 
+    ghost fits = { λ d at w a e r. (r.place, r.size) };
+
     ghost keeps = { λ d at w a e r. tt };
 
     ghost itself = { λ d. tt };

@@ -85,6 +85,8 @@ impl Nvm for TapeNvm {
 
     ghost obeys = { taped_obeys };
 
+    ghost fits = { λ d at w a e r. (r.place, r.size) };
+
     ghost keeps = { λ d at w a e r. tt };
 
     ghost itself = { λ d. tt };

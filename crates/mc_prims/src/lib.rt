@@ -13,3 +13,4 @@ mod stack;
 mod table;
 
 pub use dispatch::{Around, prim};
+pub use table::{Cipher, Primitive};

@@ -21,6 +21,8 @@ impl<'a> Nvm for Counting<'a> {
 
     ghost obeys = { λ d at w a e on r. sim_obeys d.device at w a e.device on r };
 
+    ghost fits = { λ d at w a e r. (r.place, r.size) };
+
     ghost keeps = { λ d at w a e r. tt };
 
     ghost itself = { λ d. tt };

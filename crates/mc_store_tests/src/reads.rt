@@ -54,8 +54,8 @@ fn loads(last: u8) -> (Change, Came) {
     (Change::Load(chained(last, 2)), Came::Done)
 }
 
-// Twenty applications of twelve words each.
-fn twenty() -> [(Change, Came); 20] {
+// Thirty-two applications of twelve words each, as many as a card has.
+fn all_loads() -> [(Change, Came); 32] {
     [
         loads(1),
         loads(2),
@@ -77,6 +77,18 @@ fn twenty() -> [(Change, Came); 20] {
         loads(18),
         loads(19),
         loads(20),
+        loads(21),
+        loads(22),
+        loads(23),
+        loads(24),
+        loads(25),
+        loads(26),
+        loads(27),
+        loads(28),
+        loads(29),
+        loads(30),
+        loads(31),
+        loads(32),
     ]
 }
 
@@ -122,10 +134,11 @@ fn empty_card(alloc: Global) -> Result<SimNvm, NoMemory>
     Ok(device)
 }
 
-// The reads on a card with the twenty, and where some of them are deleted.
+// The reads on a card with so many applications, and where some of them are deleted.
 fn reads_over<L: Ledger>(
     alloc: Global,
     blank: Blank,
+    count: usize,
     deleted: &[(Change, Came)],
 ) -> Result<Option<Reads>, NoMemory>
     requires name { blank.name ≡ L.name }
@@ -141,26 +154,28 @@ fn reads_over<L: Ledger>(
     let Ok((mut store, _)) = Store::power_up(device) else {
         return Ok(None);
     };
-    let seen = reads_of(&mut store, deleted, &reads, &mut steps);
+    let seen = reads_of(&mut store, count, deleted, &reads, &mut steps);
     let _device = store.into_dev();
     Ok(seen)
 }
 
 fn reads_of<B: Bank, L: Ledger>(
     bank: &mut B,
+    count: usize,
     deleted: &[(Change, Came)],
     reads: &Cell<u32>,
     steps: &mut Steps<L>,
 ) -> Option<Reads>
     requires going { (B.state bank.old).stopped ≡ false }
 {
-    let _last = last_slot(bank, deleted, steps)?;
-    count_reads(bank, &chained(21, 2), &chained(20, 2), reads, steps)
+    let _last = slot_of_twentieth(bank, count, deleted, steps)?;
+    count_reads(bank, &chained(33, 2), &chained(20, 2), reads, steps)
 }
 
-// Loads the twenty and deletes some of them; the slot of the last one.
-fn last_slot<B: Bank, L: Ledger>(
+// Loads so many and deletes some of them; the slot of the twentieth.
+fn slot_of_twentieth<B: Bank, L: Ledger>(
     bank: &mut B,
+    count: usize,
     deleted: &[(Change, Came)],
     steps: &mut Steps<L>,
 ) -> Option<Slot>
@@ -168,7 +183,8 @@ fn last_slot<B: Bank, L: Ledger>(
     ensures going { IfSome result (λ slot. (B.state bank.new).stopped ≡ false) }
     ensures there { IfSome result (λ slot. IsSome (B.named bank.new slot)) }
 {
-    if make_all(bank, &twenty(), steps) != Went::Through {
+    let loads = all_loads();
+    if make_all(bank, loads.get(..count)?, steps) != Went::Through {
         return None;
     }
     if make_all(bank, deleted, steps) != Went::Through {
@@ -196,7 +212,7 @@ fn plans_over<L: Ledger>(
     let Ok((mut store, _)) = Store::power_up(device) else {
         return Ok(None);
     };
-    match last_slot(&mut store, deleted, &mut steps) {
+    match slot_of_twentieth(&mut store, 20, deleted, &mut steps) {
         Some(slot) => Ok(count_plans(store, slot, &reads, &mut steps)),
         None => {
             let _device = store.into_dev();
@@ -253,8 +269,12 @@ fn deletes(last: u8) -> (Change, Came) {
 }
 
 // Both with steps of their own.
-fn store_reads(alloc: Global, deleted: &[(Change, Came)]) -> Result<Option<Reads>, NoMemory> {
-    reads_over::<Brand>(alloc, Blank::new(1), deleted)
+fn store_reads(
+    alloc: Global,
+    count: usize,
+    deleted: &[(Change, Came)],
+) -> Result<Option<Reads>, NoMemory> {
+    reads_over::<Brand>(alloc, Blank::new(1), count, deleted)
 }
 
 fn plan_reads(alloc: Global, deleted: &[(Change, Came)]) -> Result<Option<Plans>, NoMemory> {
@@ -262,17 +282,20 @@ fn plan_reads(alloc: Global, deleted: &[(Change, Came)]) -> Result<Option<Plans>
 }
 
 // Along the chain of holes alone: at most two more reads than there are holes to find room, and eight more to create
-// or to delete.
+// or to delete, on a card that is full then as on one with twenty.
 #[test]
 fn reads_of_a_store(rt: HostRuntime) -> Result<(), Fail> {
-    for (deleted, holes) in [
-        (&[] as &[(Change, Came)], 1),
-        (&[deletes(2), deletes(4)], 3),
-        (&[deletes(2), deletes(4), deletes(3)], 2),
-        (&[deletes(2), deletes(4), deletes(6), deletes(8)], 5),
+    for (count, deleted, holes) in [
+        (20, &[] as &[(Change, Came)], 1),
+        (20, &[deletes(2), deletes(4)], 3),
+        (20, &[deletes(2), deletes(4), deletes(3)], 2),
+        (20, &[deletes(2), deletes(4), deletes(6), deletes(8)], 5),
+        (31, &[], 1),
+        (32, &[deletes(2)], 2),
+        (32, &[deletes(2), deletes(4)], 3),
     ] {
-        let reads = store_reads(rt.alloc(), deleted)?;
-        assert!(rt; reads.is_some(), "{holes} holes");
+        let reads = store_reads(rt.alloc(), count, deleted)?;
+        assert!(rt; reads.is_some(), "{count} applications, {holes} holes");
         if let Some(
             Reads {
                 open,

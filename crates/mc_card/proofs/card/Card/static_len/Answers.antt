@@ -4,12 +4,12 @@ use Rattle.mc_model.specs.Card.{App}
 use Rattle.mc_card.proofs.StaticLemmas.{not-there, found-length}
 use Rattle.mc_card.proofs.card.Card.static_len.Goals as goal
 
-pub returns-in_err-slot : goal.returns-in_err-slot
-returns-in_err-slot g c =
+pub returns-in_err-slot-clause-value : goal.returns-in_err-slot-clause-value
+returns-in_err-slot-clause-value g c =
     c.from_residual.ensures
     ∙ sym (ap (λ (o : Option App). option_map (λ (a : App). length a.fixed) o) (not-there (g.N.Nvm.state c.args.self.now.store.device) c.args.self.now.store.count c.args.aid.now c.requires.going (sym c.in_err-slot.ensures.there)))
 
-pub returns : goal.returns
-returns g c =
+pub returns-clause-value : goal.returns-clause-value
+returns-clause-value g c =
     let d = g.N.Nvm.state c.args.self.now.store.device in
     found-length d c.args.self.now.store.count c.in_ok-slot.slot c.args.aid.now c.facts.result.sizes c.requires.going (sym c.in_ok-slot.ensures.there) c.in_ok-slot.ensures.slot c.facts.ensures.sizes

@@ -1,0 +1,220 @@
+-- What a turn keeps of a sound chain: its frames stand on their applications, whose sizes stay, and its writes hold in them.
+use Rattle.std.proofs.Common.{◌≡◌, ℕ, zero, suc, ◌-◌, Bool, true, false, cond, List, [], ◌∷◌, length, Option, Some, None, Result, Ok, Err, refl, sym, ap, subst, ◌∙◌, arith}
+use Rattle.std.specs.Prelude.{unwrap_or, bytes_eq, ◌||◌, nat_lt, nat_le}
+use Rattle.std.specs.List.{AllByRecursion}
+use Rattle.std.proofs.lemmas.List.{length-append, length-take, length-replicate}
+use Rattle.mc_model.specs.declared.instruction.Ins.{Ins}
+use Rattle.mc_model.specs.declared.instruction.DecodeFault.{DecodeFault}
+use Rattle.mc_model.specs.declared.instruction.DecodeFault.TheVariants.{Undefined, Past}
+use Rattle.mc_model.specs.Bytes.{lookup, insert, zeros}
+use Rattle.mc_model.specs.Pieces.{touched}
+use Rattle.mc_model.specs.Card.{App}
+use Rattle.mc_model.specs.Code.{decoded}
+use Rattle.mc_model.specs.Frame.{Frame, Effect, new_frame, la_of}
+use Rattle.mc_model.specs.Primitives.{Then, Goes, Exits, Delegates}
+use Rattle.mc_model.specs.Row.{RowEnd, Abends, Does, row}
+use Rattle.mc_model.specs.Chain.{Chain, Write, Acted, Follows, Continues, Ends, code_in, around, first_frame, chain_session, with_pieces, changed_app, map_changed, write_of, settled, called, called_app, is_active, depth_of, exited, follows, row_turn, stepped, fetched, acted, turn_of}
+use Rattle.mc_model.specs.Items.{done}
+use Rattle.mc_model.specs.Play.{write_items}
+use Rattle.mc_bank.specs.Bank.{no_app, app_of}
+use Rattle.mc_bank.specs.Names.{same_name, lookup-inserted, lookup-beside}
+use Rattle.mc_machine.specs.Sound.{Within, IsSoundFrame, IsSound}
+use Rattle.mc_machine.proofs.SoundRows.{ChangesWithin, Keeps, RowKeeps, row_keeps, length-pieces}
+
+-- ---- applications whose sizes stay
+
+-- each name has as many static and session bytes as before
+pub record SameSizes (apps now : List (List ℕ × App)) : Type 0 where
+  pub fixed : (n : List ℕ) → length (app_of now (Some n)).fixed ≡ length (app_of apps (Some n)).fixed
+  pub session : (n : List ℕ) → (app_of now (Some n)).session ≡ (app_of apps (Some n)).session
+
+pub same_sizes : (apps : List (List ℕ × App)) → SameSizes apps apps
+same_sizes apps = record { fixed = λ n. refl; session = λ n. refl }
+
+pub sizes_onward : (a b c : List (List ℕ × App)) → SameSizes a b → SameSizes b c → SameSizes a c
+sizes_onward a b c first second = record { fixed = λ n. second.fixed n ∙ first.fixed n; session = λ n. second.session n ∙ first.session n }
+
+-- an application in the place of one with the same sizes
+module _ (apps : List (List ℕ × App)) (n : List ℕ) (old new : App) (there : lookup apps n ≡ Some old) (fixed : length new.fixed ≡ length old.fixed) (session : new.session ≡ old.session) where
+  inserted_at : (m : List ℕ) (b : Bool) → bytes_eq n m ≡ b → (length (app_of (insert apps n new) (Some m)).fixed ≡ length (app_of apps (Some m)).fixed) × ((app_of (insert apps n new) (Some m)).session ≡ (app_of apps (Some m)).session)
+  inserted_at m false other =
+      let same : app_of (insert apps n new) (Some m) ≡ app_of apps (Some m) = ap (λ (o : Option App). unwrap_or o no_app) (lookup-beside apps n new m other) in
+      (ap (λ (a : App). length a.fixed) same, ap (λ (a : App). a.session) same)
+  inserted_at m true own =
+      let name : n ≡ m = same_name n m own in
+      let now : app_of (insert apps n new) (Some m) ≡ new = ap (λ (k : List ℕ). app_of (insert apps n new) (Some k)) (sym name) ∙ ap (λ (o : Option App). unwrap_or o no_app) (lookup-inserted apps n new) in
+      let then : app_of apps (Some m) ≡ old = ap (λ (k : List ℕ). app_of apps (Some k)) (sym name) ∙ ap (λ (o : Option App). unwrap_or o no_app) there in
+      (ap (λ (a : App). length a.fixed) now ∙ fixed ∙ ap (λ (a : App). length a.fixed) (sym then), ap (λ (a : App). a.session) now ∙ session ∙ ap (λ (a : App). a.session) (sym then))
+
+  sizes_inserted : SameSizes apps (insert apps n new)
+  sizes_inserted = record { fixed = λ m. (inserted_at m (bytes_eq n m) refl).0; session = λ m. (inserted_at m (bytes_eq n m) refl).1 }
+
+sizes_by : (apps : List (List ℕ × App)) (n : List ℕ) (ps : List (ℕ × List ℕ)) (o : Option App) → lookup apps n ≡ o → Within (length (app_of apps (Some n)).fixed) ps → SameSizes apps (map_changed apps n (Some ps))
+sizes_by apps n ps None is within = subst (λ (now : List (List ℕ × App)). SameSizes apps now) (sym (ap (λ (o : Option App). changed_app apps n ps o) is)) (same_sizes apps)
+sizes_by apps n ps (Some a) is within =
+    let app : app_of apps (Some n) ≡ a = ap (λ (o : Option App). unwrap_or o no_app) is in
+    let long = length-pieces a.fixed ps (subst (λ (x : App). Within (length x.fixed) ps) app within) in
+    subst (λ (now : List (List ℕ × App)). SameSizes apps now) (sym (ap (λ (o : Option App). changed_app apps n ps o) is)) (sizes_inserted apps n a (with_pieces ps a) is long refl)
+
+pub sizes_changed : (apps : List (List ℕ × App)) (n : List ℕ) (changes : Option (List (ℕ × List ℕ))) → ChangesWithin (length (app_of apps (Some n)).fixed) changes → SameSizes apps (map_changed apps n changes)
+sizes_changed apps n None within = same_sizes apps
+sizes_changed apps n (Some ps) within = sizes_by apps n ps (lookup apps n) refl within
+
+-- ---- atomic writes
+
+-- a write of as many words as its pieces touch, which lie in the static segment
+pub record IsSoundWrite (apps : List (List ℕ × App)) (w : Write) : Type 0 where
+  pub words : w.words ≡ length (touched w.pieces)
+  pub within : Within (length (app_of apps (Some w.name)).fixed) w.pieces
+
+-- each of some writes is one, on the applications after those before it
+abbrev pub AreSound : List (List ℕ × App) → List Write → Type 0
+AreSound apps [] = Unit {0}
+AreSound apps (w ∷ ws) = IsSoundWrite apps w × AreSound (map_changed apps w.name (Some w.pieces)) ws
+
+write_sound : (apps : List (List ℕ × App)) (n : List ℕ) (changes : Option (List (ℕ × List ℕ))) → ChangesWithin (length (app_of apps (Some n)).fixed) changes → AreSound apps (write_of n changes)
+write_sound apps n None within = tt
+write_sound apps n (Some ps) within = (record { words = refl; within = within }, tt)
+
+-- the applications after the write of a change
+pub write_done : (apps : List (List ℕ × App)) (n : List ℕ) (changes : Option (List (ℕ × List ℕ))) → done apps (write_items (write_of n changes)) ≡ map_changed apps n changes
+write_done apps n None = refl
+write_done apps n (Some ps) = refl
+
+-- the applications have the sizes of before
+pub sizes_done : (ws : List Write) (apps : List (List ℕ × App)) → AreSound apps ws → SameSizes apps (done apps (write_items ws))
+sizes_done [] apps sound = same_sizes apps
+sizes_done (w ∷ ws) apps sound =
+    let now = map_changed apps w.name (Some w.pieces) in
+    sizes_onward apps now (done now (write_items ws)) (sizes_changed apps w.name (Some w.pieces) sound.0.within) (sizes_done ws now sound.1)
+
+-- ---- frames
+
+frame_stays : (apps now : List (List ℕ × App)) (f : Frame) → SameSizes apps now → IsSoundFrame apps f → IsSoundFrame now f
+frame_stays apps now f same s = record { fixed = s.fixed ∙ sym (same.fixed f.name); pieces = s.pieces; session = s.session ∙ sym (same.session f.name); held = s.held }
+
+frames_stay : (apps now : List (List ℕ × App)) (fs : List Frame) → SameSizes apps now → AllByRecursion (IsSoundFrame apps) fs → AllByRecursion (IsSoundFrame now) fs
+frames_stay apps now [] same all = tt
+frames_stay apps now (f ∷ fs) same all = (frame_stays apps now f same all.0, frames_stay apps now fs same all.1)
+
+-- the frame after an effect, on the applications after its change
+frame_kept : (apps now : List (List ℕ × App)) (f : Frame) (e : Effect) → SameSizes apps now → IsSoundFrame apps f → Keeps f e → IsSoundFrame now e.frame
+frame_kept apps now f e same s k =
+    let long = k.fixed s.pieces in
+    let name : app_of now (Some e.frame.name) ≡ app_of now (Some f.name) = ap (λ (n : List ℕ). app_of now (Some n)) k.name in
+    let held = s.held in
+    let dyn = k.dyn in
+    let size = k.session in
+    record {
+      fixed = long ∙ s.fixed ∙ sym (same.fixed f.name) ∙ ap (λ (a : App). length a.fixed) (sym name);
+      pieces = subst (λ (n : ℕ). Within n e.frame.pieces) (sym long) (k.pieces s.pieces);
+      session = k.session ∙ s.session ∙ sym (same.session f.name) ∙ ap (λ (a : App). a.session) (sym name);
+      held = omega (arith, held, dyn, size);
+    }
+
+pub new_sound : (apps : List (List ℕ × App)) (n : List ℕ) (a : App) (session : List ℕ) → app_of apps (Some n) ≡ a → length session ≡ a.session → IsSoundFrame apps (new_frame n (length a.code) a.deny a.fixed session)
+new_sound apps n a session is size =
+    let long = length-append session (zeros (512 - length session)) in
+    record { fixed = ap (λ (x : App). length x.fixed) (sym is); pieces = tt; session = size ∙ ap (λ (x : App). x.session) (sym is); held = omega (arith, long) }
+
+-- ---- the first frame
+
+abbrev pub first_in : Chain → Frame
+first_in ch = first_frame ch.frame ch.below
+
+first_all : (apps : List (List ℕ × App)) (f : Frame) (fs : List Frame) → AllByRecursion (IsSoundFrame apps) (f ∷ fs) → IsSoundFrame apps (first_frame f fs)
+first_all apps f [] all = all.0
+first_all apps f (g ∷ fs) all = first_all apps g fs all.1
+
+-- a chain has as many session bytes as its first application
+pub session_size : (ch : Chain) → IsSound ch → length (chain_session ch) ≡ (app_of ch.map (Some (first_in ch).name)).session
+session_size ch sound =
+    let first : IsSoundFrame ch.map (first_in ch) = first_all ch.map ch.frame ch.below sound in
+    let held = first.held in
+    let size : length (chain_session ch) ≡ (first_in ch).session = omega (arith, length-take (first_in ch).session (first_in ch).dyn) in
+    size ∙ first.session
+
+first_name : (f g : Frame) (fs : List Frame) → g.name ≡ f.name → (first_frame g fs).name ≡ (first_frame f fs).name
+first_name f g [] same = same
+first_name f g (h ∷ fs) same = refl
+
+-- ---- what follows
+
+-- a chain that goes on is sound, stands on the applications after the writes, and its first frame has its name
+pub record GoesSound (ch : Chain) (apps : List (List ℕ × App)) (next : Chain) : Type 0 where
+  pub sound : IsSound next
+  pub map : next.map ≡ apps
+  pub first : (first_in next).name ≡ (first_in ch).name
+
+abbrev pub FollowsSound : Chain → List (List ℕ × App) → Follows → Type 0
+FollowsSound ch apps (Continues next) = GoesSound ch apps next
+FollowsSound ch apps (Ends o) = Unit {0}
+
+last_sound : (ch : Chain) (b : Bool) (o p : Follows) → FollowsSound ch ch.map o → FollowsSound ch ch.map p → FollowsSound ch ch.map (cond b o p)
+last_sound ch true o p s t = s
+last_sound ch false o p s t = t
+
+exited_sound : (ch : Chain) (below : List Frame) → ch.below ≡ below → IsSound ch → FollowsSound ch ch.map (exited ch below)
+exited_sound ch [] is sound = last_sound ch (nat_lt 1024 (la_of ch.public)) _ _ tt tt
+exited_sound ch (f ∷ fs) is sound =
+    record {
+      sound = subst (λ (fs : List Frame). AllByRecursion (IsSoundFrame ch.map) fs) is sound.1;
+      map = refl;
+      first = ap (λ (fs : List Frame). (first_frame ch.frame fs).name) (sym is);
+    }
+
+called_app_sound : (b : Bool) (ch : Chain) (n : List ℕ) (a : App) → app_of ch.map (Some n) ≡ a → IsSound ch → GoesSound ch ch.map (called_app b ch n a)
+called_app_sound true ch n a is sound = record { sound = sound; map = refl; first = refl }
+called_app_sound false ch n a is sound = record { sound = (new_sound ch.map n a (zeros a.session) is (length-replicate a.session 0), sound); map = refl; first = refl }
+
+called_sound : (ch : Chain) (n : List ℕ) (o : Option App) → lookup ch.map n ≡ o → IsSound ch → GoesSound ch ch.map (called ch n o)
+called_sound ch n None is sound = record { sound = sound; map = refl; first = refl }
+called_sound ch n (Some a) is sound = called_app_sound (is_active n ch.frame ch.below || nat_le 4 (depth_of ch)) ch n a (ap (λ (o : Option App). unwrap_or o no_app) is) sound
+
+follows_sound : (ch : Chain) (t : Then) → IsSound ch → FollowsSound ch ch.map (follows ch t)
+follows_sound ch Goes sound = record { sound = sound; map = refl; first = refl }
+follows_sound ch Exits sound = exited_sound ch ch.below refl sound
+follows_sound ch (Delegates n) sound = called_sound ch n (lookup ch.map n) refl sound
+
+-- ---- turns
+
+-- what a turn of a chain makes
+pub record TurnSound (ch : Chain) (t : Acted) : Type 0 where
+  pub writes : AreSound ch.map t.writes
+  pub follows : FollowsSound ch (done ch.map (write_items t.writes)) t.follows
+
+onward : (ch now : Chain) (apps : List (List ℕ × App)) (r : Follows) → now.map ≡ apps → (first_in now).name ≡ (first_in ch).name → FollowsSound now now.map r → FollowsSound ch apps r
+onward ch now apps (Ends o) map first s = tt
+onward ch now apps (Continues next) map first s = record { sound = s.sound; map = s.map ∙ map; first = s.first ∙ first }
+
+row_sound : (ch : Chain) (i : Ins) (f : Frame) (r : RowEnd) → IsSound ch → IsSoundFrame ch.map f → f.name ≡ ch.frame.name → RowKeeps f r → TurnSound ch (row_turn ch i r)
+row_sound ch i f (Abends a) sound stands name keeps = record { writes = tt; follows = tt }
+row_sound ch i f (Does d) sound stands name keeps =
+    let e = d.effect in
+    let own : length f.fixed ≡ length (app_of ch.map (Some ch.frame.name)).fixed = stands.fixed ∙ ap (λ (n : List ℕ). length (app_of ch.map (Some n)).fixed) name in
+    let within : ChangesWithin (length (app_of ch.map (Some ch.frame.name)).fixed) e.changes = subst (λ (n : ℕ). ChangesWithin n e.changes) own (keeps.change stands.pieces) in
+    let same : SameSizes ch.map (map_changed ch.map ch.frame.name e.changes) = sizes_changed ch.map ch.frame.name e.changes within in
+    let now = settled ch e in
+    let stays : IsSound now = (frame_kept ch.map now.map f e same stands keeps, frames_stay ch.map now.map ch.below same sound.1) in
+    record {
+      writes = write_sound ch.map ch.frame.name e.changes within;
+      follows = onward ch now (done ch.map (write_items (write_of ch.frame.name e.changes))) (follows now d.next) (sym (write_done ch.map ch.frame.name e.changes)) (first_name ch.frame e.frame ch.below (keeps.name ∙ name)) (follows_sound now d.next stays);
+    }
+
+stepped_sound : (apps : List (List ℕ × App)) (f : Frame) (next : ℕ) → IsSoundFrame apps f → IsSoundFrame apps (stepped f next)
+stepped_sound apps f next s = record { fixed = s.fixed; pieces = s.pieces; session = s.session; held = s.held }
+
+fetched_sound : (ch : Chain) (r : Result (Ins × ℕ) DecodeFault) → IsSound ch → TurnSound ch (fetched ch r)
+fetched_sound ch (Err Undefined) sound = record { writes = tt; follows = tt }
+fetched_sound ch (Err Past) sound = record { writes = tt; follows = tt }
+fetched_sound ch (Ok i) sound =
+    let f = stepped ch.frame i.1 in
+    row_sound ch i.0 f (row i.0 f ch.public (around ch)) sound (stepped_sound ch.map ch.frame i.1 sound.0) refl (row_keeps i.0 f ch.public (around ch))
+
+pub acted_sound : (ch : Chain) → IsSound ch → TurnSound ch (acted ch)
+unfolding acted
+acted_sound ch sound = fetched_sound ch (decoded (code_in (lookup ch.map ch.frame.name)) ch.frame.at) sound
+
+pub turn_sound : (n : ℕ) (ch : Chain) → IsSound ch → TurnSound ch (turn_of n ch)
+turn_sound zero ch sound = record { writes = tt; follows = tt }
+turn_sound (suc n) ch sound = acted_sound ch sound

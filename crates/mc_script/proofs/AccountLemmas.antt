@@ -1,0 +1,67 @@
+-- The entries of a line account for it: after each the words stand for the play that was stopped there.
+use Rattle.std.proofs.Common.{◌≡◌, ℕ, zero, suc, ◌+◌, ◌≤◌, List, [], ◌∷◌, length, Option, Some, None, refl, ◌∙◌, ap, subst, arith}
+use Rattle.std.specs.Prelude.{slice_set}
+use Rattle.std.specs.List.{AllByRecursion}
+use Rattle.mc_model.specs.declared.card.Cause.{Cause}
+use Rattle.mc_model.specs.declared.device.Stop.{Stop}
+use Rattle.mc_model.specs.Image.{owed}
+use Rattle.mc_model.specs.Device.{done_entries, torn_entries}
+use Rattle.mc_model.specs.DeckGrammar.{DeckLine}
+use Rattle.mc_model.specs.Card.{Card, means}
+use Rattle.mc_model.specs.Layout.{fault}
+use Rattle.mc_model.specs.Stopped.{torn}
+use Rattle.mc_model.specs.Play.{Base, OnCard, AtFault, base_of, owing, Warm, State, Hot, Stands, StandsForBase, StandsAtEach, stopped}
+use Rattle.mc_store.specs.Power.{found, IsBase}
+
+-- ---- words that stand for a state
+
+pub base_card : (f : Option (Cause × ℕ)) (m : List (List ℕ)) (c : Card) → base_of f m ≡ OnCard c → (f ≡ None) × (means m ≡ c)
+base_card None m c h = (refl, cc)
+base_card (Some f) m c h = absurd (cc h)
+
+pub base_fault : (f : Option (Cause × ℕ)) (m : List (List ℕ)) (cause : Cause) (p : ℕ) → base_of f m ≡ AtFault cause p → f ≡ Some (cause, p)
+base_fault None m cause p h = absurd (cc h)
+base_fault (Some f) m cause p h =
+    let first : f.0 ≡ cause = cc in
+    let second : f.1 ≡ p = cc in
+    ap (λ (x : Cause). Some (x, f.1)) first ∙ ap (λ (x : ℕ). Some (cause, x)) second
+
+base_stands : (b : Base) (m : List (List ℕ)) (w : Warm) → found m ≡ b → owed m ≡ w.owed → StandsForBase m b w
+base_stands (OnCard c) m w is n = let r = base_card (fault m) m c is in record { sound = r.0; meaning = r.1; owed = n }
+base_stands (AtFault cause p) m w is n = record { unsound = base_fault (fault m) m cause p is; owed = n }
+
+pub stands_hot : (m : List (List ℕ)) (w : Warm) → IsBase w.base w.owed w.by m → Stands m (Hot w)
+stands_hot m w r = (base_stands w.base m w r.base r.owed, λ some. ap owing (r.by some))
+
+-- ---- the entries of a list
+
+-- wherever one of some writes stops, and whatever word it leaves, the words stand for the play that was stopped there
+abbrev pub StopsStand : List (List ℕ) → State → ℕ × DeckLine → ℕ → List (ℕ × List ℕ) → Type 0
+StopsStand m s l j ws = (k : ℕ) (x : List ℕ) → 1 ≤ k → k ≤ length ws → length x ≡ 8 → Stands (torn m ws k x) (stopped s l (j + k) x)
+
+stands_behind : (m : List (List ℕ)) (s : State) (l : ℕ × DeckLine) (j : ℕ) (p : ℕ × List ℕ) (ws : List (ℕ × List ℕ)) → StopsStand m s l j (p ∷ ws) → StopsStand (slice_set m p.0 p.1) s l (j + 1) ws
+stands_behind m s l j p ws h zero x low high size = absurd (omega arith)
+stands_behind m s l j p ws h (suc k) x low high size =
+    let e : j + suc (suc k) ≡ j + 1 + suc k = omega arith in
+    let r : Stands (torn m (p ∷ ws) (suc (suc k)) x) (stopped s l (j + suc (suc k)) x) = h (suc (suc k)) x (omega arith) (omega (arith, high)) size in
+    subst (λ (i : ℕ). Stands (torn (slice_set m p.0 p.1) ws (suc k) x) (stopped s l i x)) e r
+
+first_stands : (m : List (List ℕ)) (s : State) (l : ℕ × DeckLine) (j : ℕ) (p : ℕ × List ℕ) (ws : List (ℕ × List ℕ)) (x : List ℕ) → StopsStand m s l j (p ∷ ws) → length x ≡ 8 → Stands (slice_set m p.0 x) (stopped s l (j + 1) x)
+first_stands m s l j p ws x h size = h 1 x (omega arith) (omega arith) size
+
+pub each_done : (m : List (List ℕ)) (s : State) (l : ℕ × DeckLine) (j : ℕ) (ws : List (ℕ × List ℕ)) → StopsStand m s l j ws → AllByRecursion (λ p. length p.1 ≡ 8) ws → StandsAtEach m s l j (done_entries ws)
+each_done m s l j [] h sizes = tt
+each_done m s l j (p ∷ ws) h sizes = (first_stands m s l j p ws p.1 h sizes.0, each_done (slice_set m p.0 p.1) s l (j + 1) ws (stands_behind m s l j p ws h) sizes.1)
+
+-- the words before the write that stopped have eight bytes
+abbrev pub SizesTo : ℕ → List (ℕ × List ℕ) → Type 0
+SizesTo n [] = Unit {0}
+SizesTo zero (p ∷ ws) = Unit {0}
+SizesTo (suc n) (p ∷ ws) = (length p.1 ≡ 8) × SizesTo n ws
+
+pub each_torn : (m : List (List ℕ)) (s : State) (l : ℕ × DeckLine) (j : ℕ) (ws : List (ℕ × List ℕ)) (n : ℕ) (x : List ℕ) (how : Stop) → StopsStand m s l j ws → SizesTo n ws → length x ≡ 8
+    → StandsAtEach m s l j (torn_entries ws (suc n) x how)
+each_torn m s l j [] n x how h sizes size = tt
+each_torn m s l j (p ∷ ws) zero x how h sizes size = (first_stands m s l j p ws x h size, tt)
+each_torn m s l j (p ∷ ws) (suc n) x how h sizes size =
+    (first_stands m s l j p ws p.1 h sizes.0, each_torn (slice_set m p.0 p.1) s l (j + 1) ws n x how (stands_behind m s l j p ws h) sizes.1 size)

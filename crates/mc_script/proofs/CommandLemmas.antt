@@ -1,0 +1,171 @@
+-- Commands on a card: answered, run and told, and one behind the other.
+use Rattle.std.proofs.Common.{◌≡◌, ℕ, suc, true, false, List, [], ◌∷◌, ◌++◌, Option, Some, None, Result, Ok, Err, refl, sym, ap, subst, ◌∙◌}
+use Rattle.std.specs.Prelude.{option_map, OnOk, IsSome}
+use Rattle.mc_model.specs.declared.device.Stop.{Stop}
+use Rattle.mc_model.specs.Orders.{Answer, answer_of}
+use Rattle.mc_model.specs.Device.{DeviceState, Wrote}
+use Rattle.mc_model.specs.Apdu.{ApduParts}
+use Rattle.mc_model.specs.Card as model
+use Rattle.mc_model.specs.Card.{means}
+use Rattle.mc_model.specs.Chain.{Chain, Turn, Ran as ModelRan, turn_of, ran, run, start}
+use Rattle.mc_model.specs.Manager.{Selected, Seat, Managed, Declines, Accepts, Route, WrongLength, WrongClass, ToSelect, ToManager, ToApplication, route, select, manage, room_on}
+use Rattle.mc_model.specs.Play.{Command, command, managed, passed, by_route, ran_command, write_items}
+use Rattle.mc_model.specs.TraceText.{before_stop}
+use Rattle.mc_machine.specs.declared.outcome.Outcome.{Outcome}
+use Rattle.mc_machine.specs.declared.outcome.Turn.{Turn as CodeTurn}
+use Rattle.mc_machine.specs.Turns.{turn_value}
+use Rattle.mc_card.specs.declared.card.Card.{Card}
+use Rattle.mc_card.specs.Parts.{device_in, card_in, seat_in, due, with_session, RunsChain}
+use Rattle.mc_card.specs.Ends.{is_passed, Commanded, Passed, Answered, Turned}
+use Rattle.mc_script.specs.Runs.{StoppedAt, Tells, Ran}
+use Rattle.mc_script.proofs.StopLemmas.{stopped_in, at_number}
+use Rattle.mc_script.proofs.RanLemmas.{MadeBy, RunOf, run_ends, run_stops, run_goes, run_on}
+use Rattle.mc_script.proofs.UpLemmas.{up_on}
+
+-- ---- commands without turns
+
+managed_turns : (c : model.Card) (seat : Seat) (m : Managed) → (managed c seat m).turns ≡ []
+managed_turns c seat (Declines sw) = refl
+managed_turns c seat (Accepts a) = refl
+
+passed_turns : (c : model.Card) (seat : Seat) (s : Option Selected) (a : ApduParts) (budget : ℕ) → is_passed (ToApplication a) s ≡ false → (passed c seat s a budget).turns ≡ []
+passed_turns c seat None a budget e = refl
+passed_turns c seat (Some s) a budget e = absurd (cc e)
+
+route_turns : (c : model.Card) (seat : Seat) (budget : ℕ) (r : Route) → is_passed r seat.selected ≡ false → (by_route c seat budget r).turns ≡ []
+route_turns c seat budget WrongLength e = refl
+route_turns c seat budget WrongClass e = refl
+route_turns c seat budget (ToSelect a) e = managed_turns c seat (select c.apps seat a)
+route_turns c seat budget (ToManager a) e = managed_turns c seat (manage (room_on c) c.apps seat a)
+route_turns c seat budget (ToApplication a) e = passed_turns c seat seat.selected a budget e
+
+-- a command that is not passed on has no turns
+pub command_turns : (c : model.Card) (seat : Seat) (bytes : List ℕ) (budget : ℕ) → is_passed (route bytes) seat.selected ≡ false → (command c seat bytes budget).turns ≡ []
+unfolding command
+command_turns c seat bytes budget e = route_turns c seat budget (route bytes) e
+
+-- a command that is passed on is a run
+passed_is : (c : model.Card) (seat : Seat) (budget : ℕ) (r : Route) (a : ApduParts) (s : Selected) → r ≡ ToApplication a → seat.selected ≡ Some s → by_route c seat budget r ≡ ran_command seat s.name (run c.apps s.name s.session a budget)
+passed_is c seat budget r a s routed is = ap (λ (r : Route). by_route c seat budget r) routed ∙ ap (λ (o : Option Selected). passed c seat o a budget) is
+
+pub command_is : (c : model.Card) (seat : Seat) (bytes : List ℕ) (budget : ℕ) (a : ApduParts) (s : Selected) → route bytes ≡ ToApplication a → seat.selected ≡ Some s → command c seat bytes budget ≡ ran_command seat s.name (run c.apps s.name s.session a budget)
+unfolding command
+command_is c seat bytes budget a s routed is = passed_is c seat budget (route bytes) a s routed is
+
+-- the session bytes of a run stay with the selection
+session_stays : (seat : Seat) (s : Selected) (session : List ℕ) → seat.selected ≡ Some s → with_session session seat ≡ record seat { selected = Some (record { name = s.name; session = session }) }
+session_stays seat s session is = ap (λ (o : Option Selected). record seat { selected = option_map {T = Selected} (λ s. record s { session = session }) o }) is
+
+module _ {N R : Type 0} (state : N → DeviceState) (wrote : N → ℕ → List ℕ → Answer → N → Type 0)
+    (obeys : (d : N) (at : ℕ) (w : List ℕ) (a : Answer) (e : N) → (state d).on ≡ true → wrote d at w a e → Wrote (state d) at w a (state e))
+    (told : R → List Turn → R → Type 0) (silent : (r : R) → told r [] r)
+    (onward : (q r s : R) (ts us : List Turn) → told q ts r → told r us s → told q (ts ++ us) s) where
+  -- what is told of a command without turns
+  quiet_tells : (result : Result Outcome Stop) (c d : Card N) (r : Command) (h : Commanded state wrote c r result d) (q : R) → Tells state wrote told c h.made.writes [] result d q q
+  quiet_tells (Ok o) c d r h q = silent q
+  quiet_tells (Err s) c d r h q =
+      let at = stopped_in wrote h.made.writes (device_in c) (device_in d) s h.made.makes in
+      (suc at.0, at_number wrote h.made.writes (device_in c) (device_in d) at.0 s at.1, silent q)
+
+  -- a command without turns
+  pub quiet_ran : (result : Result Outcome Stop) (c d : Card N) (r : Command) (q : R) → r.turns ≡ [] → Commanded state wrote c r result d → Ran state wrote told c r result d q q
+  quiet_ran result c d r q none h =
+      record { commanded = h; tells = subst (λ (ts : List Turn). Tells state wrote told c h.made.writes ts result d q q) (sym none) (quiet_tells result c d r h q) }
+
+  -- a command that is answered
+  pub answered_ran : (result : Result Outcome Stop) (c d : Card N) (bytes : List ℕ) (budget : ℕ) (q : R) → Answered state wrote c bytes budget result d → Ran state wrote told c (due state c bytes budget) result d q q
+  answered_ran result c d bytes budget q h =
+      quiet_ran result c d (due state c bytes budget) q (command_turns (card_in state c) (seat_in state c) bytes budget h.stays) h.commanded
+
+  seat_stays : (result : Result Outcome Stop) (c m d : Card N) (s : Selected) (run : ModelRan) → seat_in state m ≡ seat_in state c → (seat_in state c).selected ≡ Some s
+      → OnOk result (seat_in state d ≡ with_session run.session (seat_in state m)) → OnOk result (seat_in state d ≡ (ran_command (seat_in state c) s.name run).seat)
+  seat_stays (Ok o) c m d s run same is h = h ∙ ap (λ (seat : Seat). with_session run.session seat) same ∙ session_stays (seat_in state c) s run.session is
+  seat_stays (Err t) c m d s run same is h = tt
+
+  tells_as : (result : Result Outcome Stop) (c m d : Card N) (ws : List (ℕ × List ℕ)) (ts : List Turn) (q r : R) → device_in m ≡ device_in c → Tells state wrote told m ws ts result d q r → Tells state wrote told c ws ts result d q r
+  tells_as (Ok o) c m d ws ts q r same h = h
+  tells_as (Err s) c m d ws ts q r same h = (h.0, subst (λ (x : N). StoppedAt wrote x ws h.0 s (device_in d)) same h.1, h.2)
+
+  -- a run, as the command that began it
+  begun_by : (result : Result Outcome Stop) (c m d : Card N) (s : Selected) (run : ModelRan) (q r : R) → device_in m ≡ device_in c → seat_in state m ≡ seat_in state c → (seat_in state c).selected ≡ Some s
+      → RunOf state wrote obeys told silent onward run m result d q r → Ran state wrote told c (ran_command (seat_in state c) s.name run) result d q r
+  begun_by result c m d s run q r device same is h =
+      let made : MadeBy state wrote obeys (card_in state c) (write_items run.writes) (device_in c) (answer_of result) (device_in d) h.writes =
+      subst (λ (x : N). MadeBy state wrote obeys (means (state x).words) (write_items run.writes) x (answer_of result) (device_in d) h.writes) device h.made
+      in
+      record {
+        commanded =
+            record {
+              made = record { writes = h.writes; makes = made.makes; number = made.number; stops = made.stops; done = made.done };
+              outcome = h.outcome;
+              seat = seat_stays result c m d s run same is h.seat;
+              ready = h.ready;
+            };
+        tells = tells_as result c m d h.writes run.turns q r device h.tells;
+      }
+
+  -- a command that was passed on, and run to its end
+  pub passed_ran : (result : Result Outcome Stop) (c m d : Card N) (bytes : List ℕ) (budget : ℕ) (q r : R) (h : Passed state wrote c bytes budget m)
+      → RunOf state wrote obeys told silent onward (run (card_in state c).apps (h.selected).name (h.selected).session h.apdu budget) m result d q r → Ran state wrote told c (due state c bytes budget) result d q r
+  passed_ran result c m d bytes budget q r h ran =
+      subst (λ (k : Command). Ran state wrote told c k result d q r) (sym (command_is (card_in state c) (seat_in state c) bytes budget h.apdu h.selected h.routed h.is))
+      (begun_by result c m d h.selected (run (card_in state c).apps (h.selected).name (h.selected).session h.apdu budget) q r h.device h.seat h.is ran)
+
+  -- what the rest of a run does and tells, the whole command does and tells
+  pub record Leads (c : Card N) (bytes : List ℕ) (budget : ℕ) (q : R) (n : ℕ) (m : Card N) (p : R) : Type 0 where
+    pub chain : Chain
+    pub runs : RunsChain state m chain n
+    pub rest : (result : Result Outcome Stop) (d : Card N) (r : R) → RunOf state wrote obeys told silent onward (ran n chain) m result d p r → Ran state wrote told c (due state c bytes budget) result d q r
+
+  -- what a turn does, whatever chain it is
+  abbrev pub Turns : Card N → Result CodeTurn Stop → Card N → Type 0
+  Turns m result d = (ch : Chain) (left : ℕ) → RunsChain state m ch left → Turned state wrote m ch left (turn_of left ch) result d
+
+  -- what is told of a turn, whatever words it wrote
+  abbrev pub TellsTurn : R → CodeTurn → R → Type 0
+  TellsTurn p turn r = (wrote : Option ℕ) → told p (turn_value turn wrote ∷ []) r
+
+  -- the beginning of a command that is passed on
+  pub leads_begin : (c m : Card N) (bytes : List ℕ) (budget : ℕ) (q : R) → Passed state wrote c bytes budget m → Leads c bytes budget q budget m q
+  leads_begin c m bytes budget q h =
+      record {
+        chain = start (card_in state c).apps (h.selected).name (h.selected).session h.apdu;
+        runs = h.runs;
+        rest = λ result d r ran. passed_ran result c m d bytes budget q r h ran;
+      }
+
+  -- a turn whose write stopped
+  pub leads_stop : (c m d : Card N) (bytes : List ℕ) (budget n : ℕ) (q p : R) (s : Stop) → Leads c bytes budget q n m p → Turns m (Err s) d → Ran state wrote told c (due state c bytes budget) (Err s) d q p
+  leads_stop c m d bytes budget n q p s h turns = h.rest (Err s) d p (run_stops state wrote obeys told silent onward m d h.chain n s p (turns h.chain n h.runs))
+
+  -- a turn that ends its chain
+  pub leads_end : (c m d : Card N) (bytes : List ℕ) (budget n : ℕ) (q p r : R) (turn : CodeTurn) (o : Outcome) → Leads c bytes budget q n m p → Turns m (Ok turn) d → TellsTurn p turn r → turn.end ≡ Some o → Ran state wrote told c (due state c bytes budget) (Ok o) d q r
+  leads_end c m d bytes budget n q p r turn o h turns tells end =
+      h.rest (Ok o) d r (run_ends state wrote obeys told silent onward m d h.chain n turn o p r (turns h.chain n h.runs) end (tells (turn_of n h.chain).turn.wrote))
+
+  -- a turn that goes on
+  pub leads_on : (c m d : Card N) (bytes : List ℕ) (budget n : ℕ) (q p r : R) (turn : CodeTurn) → Leads c bytes budget q n m p → Turns m (Ok turn) d → TellsTurn p turn r → turn.end ≡ None → (left : ℕ) × (n ≡ suc left) × Leads c bytes budget q left d r
+  leads_on c m d bytes budget n q p r turn h turns tells end =
+      let turned = turns h.chain n h.runs in
+      let goes = run_goes state wrote obeys told silent onward m d h.chain n turn turned end in (
+        goes.left,
+        goes.is,
+        record {
+          chain = goes.next;
+          runs = goes.runs;
+          rest = λ result e s ran.
+              h.rest result e s (run_on state wrote obeys told silent onward m d e h.chain n turn result p r s goes (up_on state m h.runs.up) turned (tells (turn_of n h.chain).turn.wrote) ran);
+        },
+      )
+
+-- a value that is not missing
+pub some_is : {A : Type 0} (o : Option A) → (o ≡ None → ⊥) → IsSome o
+some_is None h = absurd (h refl)
+some_is (Some x) h = refl
+
+-- a command whose turns may all be told
+pub untold_ran : {N R : Type 0} (state : N → DeviceState) (wrote : N → ℕ → List ℕ → Answer → N → Type 0) (told : R → List Turn → R → Type 0) (result : Result Outcome Stop) (c d : Card N) (k : Command) (q r : R) → ((ts : List Turn) → told q ts r) → Commanded state wrote c k result d → Ran state wrote told c k result d q r
+untold_ran state wrote told (Ok o) c d k q r any h = record { commanded = h; tells = any k.turns }
+untold_ran state wrote told (Err s) c d k q r any h =
+    let at = stopped_in wrote h.made.writes (device_in c) (device_in d) s h.made.makes in
+    record { commanded = h; tells = (suc at.0, at_number wrote h.made.writes (device_in c) (device_in d) at.0 s at.1, any (before_stop k.turns (suc at.0))) }

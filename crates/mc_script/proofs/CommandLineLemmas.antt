@@ -1,0 +1,194 @@
+-- A line of commands to a card that runs: its writes were all made, or one of them stopped.
+use Rattle.std.proofs.Common.{◌≡◌, ℕ, ◌+◌, ◌<◌, ◌≤◌, true, List, length, Option, Some, None, Ok, Err, refl, sym, ◌∙◌, ap, subst, arith}
+use Rattle.mc_model.specs.declared.device.Stop.{Stop}
+use Rattle.mc_model.specs.declared.device.Stop.TheVariants.{Worn}
+use Rattle.mc_model.specs.Orders.{Answer as Ended}
+use Rattle.mc_model.specs.Device.{DeviceState, BenchState, Wrote, BenchWrote}
+use Rattle.mc_model.specs.Image.{owed}
+use Rattle.mc_model.specs.Stopped.{torn}
+use Rattle.mc_model.specs.Card.{means}
+use Rattle.mc_model.specs.Card as model
+use Rattle.mc_model.specs.Layout.{fault}
+use Rattle.mc_model.specs.Manager.{Seat}
+use Rattle.mc_model.specs.Items.{Item, StopAt, moves, card_done, at_stop}
+use Rattle.mc_model.specs.Chain.{Turn}
+use Rattle.mc_model.specs.Play as play
+use Rattle.mc_model.specs.Play.{Live, Running, Base, OnCard, Warm, State, Cold, Hot, Answered, WornAt, Step, step, line_command, card_line, command_step, line_after, stopped_line, result_of_stop, hit_of, worn_entry, moves_of, Stands, stopped}
+use Rattle.mc_machine.specs.declared.outcome.Outcome.{Outcome}
+use Rattle.mc_card.specs.declared.card.Card.{Card}
+use Rattle.mc_card.specs.Made.{StopsAtEach, IsDone}
+use Rattle.mc_card.specs.Parts.{device_in, card_in, seat_in, with_device, IsReady}
+use Rattle.mc_store.specs.Power.{found, IsBase}
+use Rattle.mc_script.specs.declared.answer.Answer.{Answer}
+use Rattle.mc_script.specs.declared.answer.Answer.TheVariants as answer
+use Rattle.mc_script.specs.declared.armed.Armed.{Armed}
+use Rattle.mc_script.specs.declared.armed.Armed.TheVariants as armed
+use Rattle.mc_script.specs.declared.commands.Command.{Command}
+use Rattle.mc_script.specs.declared.player.Power.{Power}
+use Rattle.mc_script.specs.declared.player.Power.TheVariants as power
+use Rattle.mc_script.specs.declared.player.Player.{Player}
+use Rattle.mc_script.specs.Players.{answer_value, device_by, IsCard, LiveIs, IsAt}
+use Rattle.mc_script.specs.Arming.{armed_bench, power_after_stop, answer_after_stop}
+use Rattle.mc_script.specs.Commands.{command_line}
+use Rattle.mc_script.specs.Lines.{CardDone}
+use Rattle.mc_script.specs.Runs.{Ran}
+use Rattle.mc_script.proofs.AccountLemmas.{base_card, stands_hot, StopsStand}
+use Rattle.mc_script.proofs.HitLemmas.{HitBy}
+use Rattle.mc_script.proofs.CardLemmas.{ready_on, ready_owes, seat_over, ready_over}
+use Rattle.mc_script.proofs.CommandStepLemmas.{hot_is, moves_hot, is_card, no_powers, no_pokes, no_cuts, no_fails}
+use Rattle.mc_script.proofs.LinedLemmas.{lined}
+use Rattle.mc_script.proofs.TriedLemmas.{Handed, Worth, Went, went, went_stepped, Hit, hit, hit_stepped}
+use Rattle.mc_script.proofs.PowerLineLemmas.{live_stopped, answer_stopped}
+
+worth : (c : Command) (s : State) → Worth s (command_line c) 0
+worth c s = record { card = is_card c; powers = no_powers c; pokes = no_pokes c s; cuts = no_cuts c; fails = no_fails c }
+
+module _ {N R : Type 0} (state : N → DeviceState) (bench : N → BenchState) (wrote : N → ℕ → List ℕ → Ended → N → Type 0)
+    (obeys : (d : N) (at : ℕ) (w : List ℕ) (a : Ended) (e : N) → (state d).on ≡ true → wrote d at w a e → Wrote (state d) at w a (state e))
+    (burns : (d : N) (at : ℕ) (w : List ℕ) (a : Ended) (e : N) → (state d).on ≡ true → wrote d at w a e → BenchWrote (state d) (bench d) at a (state e) (bench e))
+    (fits : (d : N) (at : ℕ) (w : List ℕ) (a : Ended) (e : N) → wrote d at w a e → (at < length (state d).words) × (length w ≡ 8)) (told : R → List Turn → R → Type 0) where
+  -- what a line asks of a card in a play
+  asked : Card N → Warm → Command → play.Command
+  asked c w cmd = line_command (card_in state c) (seat_in state c) w.budget (command_line cmd)
+
+  -- the step of the line
+  step_is : (c : Card N) (w : Warm) (n : ℕ) (cmd : Command) (x : Option WornAt) → IsCard state bench c w.base w.live
+      → step (Hot w) (n, command_line cmd) x ≡ command_step n (command_line cmd) w (card_in state c) (asked c w cmd) (hit_of w.armed (moves (asked c w cmd).items) x)
+  unfolding asked
+  step_is c w n cmd x on =
+      hot_is cmd w n x ∙ ap (λ (v : Live). card_line n (command_line cmd) w v w.base x) on.live ∙ ap (λ (b : Base). card_line n (command_line cmd) w (Running (seat_in state c)) b x) on.base
+
+  moves_are : (c : Card N) (w : Warm) (n : ℕ) (cmd : Command) → IsCard state bench c w.base w.live → moves_of (Hot w) (n, command_line cmd) ≡ moves (asked c w cmd).items
+  unfolding asked
+  moves_are c w n cmd on =
+      moves_hot cmd w n ∙ ap (λ (v : Live). moves (card_line n (command_line cmd) w v w.base None).items) on.live
+      ∙ ap (λ (b : Base). moves (card_line n (command_line cmd) w (Running (seat_in state c)) b None).items) on.base
+
+  -- wherever a write of the line stops, the words stand for the play
+  command_stands : (c : Card N) (w : Warm) (n : ℕ) (cmd : Command) (ws : List (ℕ × List ℕ)) → IsCard state bench c w.base w.live → StopsAtEach (card_in state c) (asked c w cmd).items (state (device_in c)).words ws
+      → StopsStand (state (device_in c)).words (Hot w) (n, command_line cmd) 0 ws
+  command_stands c w n cmd ws on stops k x low high size =
+      let m = torn (state (device_in c)).words ws k x in
+      let t : StopAt = record { kind = Worn; at = k; left = x } in
+      let v : Warm = stopped_line w (card_in state c) t (at_stop (asked c w cmd).items k x) in
+      let base : IsBase v.base v.owed v.by m = stops k x low high size in
+      let here : Stands m (Hot v) = stands_hot m v base in
+      let zero_on : 0 + k ≡ k = omega arith in
+      subst (λ (i : ℕ). Stands m (stopped (Hot w) (n, command_line cmd) i x)) (sym zero_on)
+      (subst (λ (u : Step). Stands m u.after) (sym (step_is c w n cmd (Some (record { at = k; left = x })) on)) here)
+
+  -- the card that is armed is asked the same
+  asked_over : (c u : Card N) (k : ℕ) (w : Warm) (cmd : Command) (result : _) (e : Card N) (before after : R) → u ≡ with_device c (device_in u) → state (device_in u) ≡ state (device_in c) → k ≡ w.budget
+      → Ran state wrote told u (line_command (card_in state u) (seat_in state u) k (command_line cmd)) result e before after → Ran state wrote told u (asked c w cmd) result e before after
+  unfolding asked
+  asked_over c u k w cmd result e before after rest same budget ran =
+      let f : model.Card → Seat → ℕ → Type 0 = λ x y z. Ran state wrote told u (line_command x y z (command_line cmd)) result e before after in
+      subst (λ (x : model.Card). f x (seat_in state c) w.budget) (ap (λ (x : DeviceState). means x.words) same)
+      (subst (λ (y : Seat). f (card_in state u) y w.budget) (seat_over state c u rest same) (subst (λ (z : ℕ). f (card_in state u) (seat_in state u) z) budget ran))
+
+  handed : (c u : Card N) (a : Armed) → IsReady state c → state (device_in u) ≡ state (device_in c) → bench (device_in u) ≡ armed_bench a (bench (device_in c))
+      → Handed (state (device_in c)) (bench (device_in c)) 0 a (state (device_in u)) (bench (device_in u))
+  handed c u a ready same is =
+      record {
+        words = ap (λ (x : DeviceState). x.words) same;
+        tape = ap (λ (x : DeviceState). x.tape) same;
+        cuts = ap (λ (x : DeviceState). x.cuts) same;
+        faults = ap (λ (x : DeviceState). x.faults) same;
+        on = ap (λ (x : DeviceState). x.on) same ∙ ready_on state c ready;
+        bench = is;
+      }
+
+  stops_over : (c u : Card N) (is : List Item) (ws : List (ℕ × List ℕ)) → state (device_in u) ≡ state (device_in c) → StopsAtEach (card_in state u) is (state (device_in u)).words ws
+      → StopsAtEach (card_in state c) is (state (device_in c)).words ws
+  stops_over c u is ws same h = subst (λ (x : DeviceState). StopsAtEach (means x.words) is x.words ws) same h
+
+  -- ---- a command that was answered
+
+  pub command_done : (c u e f : Card N) (k : ℕ) (a : Armed) (cmd : Command) (o : Outcome) (before after : R) → IsReady state c → state (device_in u) ≡ state (device_in c)
+      → bench (device_in u) ≡ armed_bench a (bench (device_in c)) → u ≡ with_device c (device_in u)
+      → Ran state wrote told u (line_command (card_in state u) (seat_in state u) k (command_line cmd)) (Ok o) e before after
+      → state (device_in f) ≡ state (device_in e) → bench (device_in f) ≡ record (bench (device_in e)) { cut = None; worn = None } → f ≡ with_device e (device_in f)
+      → CardDone state bench told (power.On c) k a (command_line cmd) before after (power.On f) (answer.Outcome o)
+  command_done c u e f k a cmd o before after ready same is rest ran kept free over (Cold m b r) n at = absurd at.stands.0
+  command_done c u e f k a cmd o before after ready same is rest ran kept free over (Hot w) n at =
+      let p : Player N = record { power = power.On c; budget = k; armed = a } in
+      let q : Player N = record { power = power.On f; budget = k; armed = armed.Not } in
+      let l = command_line cmd in
+      let on = at.stands.0 in
+      let r = asked c w cmd in
+      let card = card_in state c in
+      let done : Ran state wrote told u r (Ok o) e before after = asked_over c u k w cmd (Ok o) e before after rest same at.budget ran in
+      let made = done.commanded.made in
+      let ws = made.writes in
+      let m = moves r.items in
+      let did : Went state bench wrote obeys burns fits (device_in c) (device_in f) a 0 ws =
+      went state bench wrote obeys burns fits (device_in c) (device_in u) (device_in e) (device_in f) a 0 ws at.can_arm (handed c u a ready same is) made.makes (record { state = kept; bench = free }) in
+      let v : Warm = line_after w card r None in
+      let new : model.Card = card_done card r.items in
+      let whole : IsDone card r.items (Ok tt) (state (device_in e)).words = subst (λ (x : DeviceState). IsDone (means x.words) r.items (Ok tt) (state (device_in e)).words) same made.done in
+      let words : (state (device_in f)).words ≡ (state (device_in e)).words = ap (λ (x : DeviceState). x.words) kept in
+      let means_new : means (state (device_in e)).words ≡ new = (base_card (fault (state (device_in e)).words) (state (device_in e)).words new whole.base).1 in
+      let none : w.owed ≡ 0 = sym at.stands.1.owed ∙ ready_owes state c ready in
+      let seat : seat_in state f ≡ r.seat = seat_over state e f over kept ∙ done.commanded.seat in
+      let base : IsBase (OnCard new) w.owed w.by (state (device_in f)).words = record { base = ap found words ∙ whole.base; owed = ap owed words ∙ whole.owed ∙ sym none; by = λ some. absurd (some none) } in
+      let then : IsAt state bench q (Hot v) = record {
+        stands = (record { ready = ready_over state e f over kept done.commanded.ready; base = ap OnCard (sym means_new ∙ ap means (sym words)); live = ap Running (sym seat) }, base);
+        budget = at.budget;
+        armed = refl;
+        some = at.some;
+        most = at.most;
+        can_arm = tt;
+        unfused = did.unfused;
+      } in
+      let stands : StopsStand (state (device_in c)).words (Hot w) (n, l) 0 ws = command_stands c w n cmd ws on (stops_over c u r.items ws same made.stops) in
+      let stepped = went_stepped state bench wrote obeys burns fits p q (Hot w) n 0 l (Answered r.outcome) r.items r.items r.pairs r.turns v (answer.Outcome o) ws m at (worth cmd (Hot w)) refl did made.number (moves_are c w n cmd on) then
+      (ap Answered done.commanded.outcome) stands in
+      let misses : hit_of w.armed m None ≡ None = subst (λ (i : ℕ). hit_of w.armed i None ≡ None) made.number (subst (λ (y : play.Armed). hit_of y (length ws) None ≡ None) at.armed did.missed.hit) in
+      let step_on : step (Hot w) (n, l) None ≡ command_step n l w card r None = step_is c w n cmd None on ∙ ap (λ (y : Option StopAt). command_step n l w card r y) misses in
+      (None, lined state bench told p q (Hot w) (n, l) None (command_step n l w card r None) (Some (answer.Outcome o)) before after step_on stepped done.tells)
+
+  -- ---- a command that was stopped
+
+  pub command_stopped : (c u e : Card N) (k : ℕ) (a : Armed) (cmd : Command) (how : Stop) (pw : Power N) (ans : Answer) (before after : R) → IsReady state c → state (device_in u) ≡ state (device_in c)
+      → bench (device_in u) ≡ armed_bench a (bench (device_in c)) → u ≡ with_device c (device_in u)
+      → Ran state wrote told u (line_command (card_in state u) (seat_in state u) k (command_line cmd)) (Err how) e before after
+      → pw ≡ power_after_stop how (device_by pw) → ans ≡ answer_after_stop how a → state (device_by pw) ≡ state (device_in e) → bench (device_by pw) ≡ record (bench (device_in e)) { cut = None; worn = None }
+      → CardDone state bench told (power.On c) k a (command_line cmd) before after pw ans
+  command_stopped c u e k a cmd how pw ans before after ready same is rest ran gone says kept free (Cold m b r) n at = absurd at.stands.0
+  command_stopped c u e k a cmd how pw ans before after ready same is rest ran gone says kept free (Hot w) n at =
+      let p : Player N = record { power = power.On c; budget = k; armed = a } in
+      let q : Player N = record { power = pw; budget = k; armed = armed.Not } in
+      let l = command_line cmd in
+      let on = at.stands.0 in
+      let r = asked c w cmd in
+      let card = card_in state c in
+      let f = device_by pw in
+      let done : Ran state wrote told u r (Err how) e before after = asked_over c u k w cmd (Err how) e before after rest same at.budget ran in
+      let made = done.commanded.made in
+      let ws = made.writes in
+      let m = moves r.items in
+      let tells = done.tells in
+      let i : ℕ = tells.0 in
+      let found_stop = hit state bench wrote obeys burns fits (device_in c) (device_in u) (device_in e) f a 0 ws i how at.can_arm at.unfused (handed c u a ready same is) tells.1 (record { state = kept; bench = free }) in
+      let x : List ℕ = found_stop.0 in
+      let did : Hit state bench wrote obeys burns fits (device_in c) f a 0 ws i how x = found_stop.1 in
+      let t : StopAt = record { kind = how; at = i; left = x } in
+      let high : i ≤ m = let h = did.high in let j : length ws ≤ m = made.number in omega (arith, h, j) in
+      let by : HitBy w.armed m (bench (device_in c)).steady how i x (worn_entry i x (Some how)) = subst (λ (y : play.Armed). HitBy y m (bench (device_in c)).steady how i x (worn_entry i x (Some how))) at.armed (did.by m high) in
+      let stops : StopsAtEach card r.items (state (device_in c)).words ws = stops_over c u r.items ws same made.stops in
+      let v : Warm = stopped_line w card t (at_stop r.items i x) in
+      let base : IsBase v.base v.owed v.by (state f).words = subst (λ (y : List (List ℕ)). IsBase v.base v.owed v.by y) (sym did.words) (stops i x did.low did.high did.size) in
+      let then : IsAt state bench q (Hot v) = record {
+        stands = (subst (λ (y : Power N). LiveIs state bench y v.base v.live) (sym gone) (live_stopped state bench wrote obeys burns fits how f v.base v.live refl), base);
+        budget = at.budget;
+        armed = refl;
+        some = at.some;
+        most = at.most;
+        can_arm = tt;
+        unfused = did.unfused;
+      } in
+      let answers : answer_value ans ≡ result_of_stop t how = ap answer_value says ∙ answer_stopped state bench wrote obeys burns fits how p t refl did.place in
+      let stepped = hit_stepped state bench wrote obeys burns fits p q (Hot w) n 0 l (result_of_stop t how) r.items (at_stop r.items i x).whole r.pairs r.turns v ans ws m i how x at (worth cmd (Hot w)) refl did made.number (moves_are c w n cmd on) then answers
+      (command_stands c w n cmd ws on stops) in
+      let step_on : step (Hot w) (n, l) (worn_entry i x (Some how)) ≡ command_step n l w card r (Some t) = step_is c w n cmd (worn_entry i x (Some how)) on ∙ ap (λ (y : Option StopAt). command_step n l w card r y) by.hit in
+      (worn_entry i x (Some how), lined state bench told p q (Hot w) (n, l) (worn_entry i x (Some how)) (command_step n l w card r (Some t)) (Some ans) before after step_on stepped tells.2)

@@ -1,0 +1,102 @@
+-- The loop over the lines of a deck.
+use Rattle.std.proofs.Common.{◌≡◌, ℕ, zero, suc, ◌+◌, ◌≤◌, true, false, arith, List, [], ◌∷◌, ◌++◌, length, drop, Option, Some, None, Result, Ok, Err, refl, sym, ap, subst, ◌∙◌}
+use Rattle.std.specs.Prelude.{option_map, slice_get, is_err}
+use Rattle.std.proofs.Math.ListN.{drop_of_length-le}
+use Rattle.mc_model.specs.Device.{DeviceState, BenchState}
+use Rattle.mc_model.specs.Chain.{Turn}
+use Rattle.mc_model.specs.DeckGrammar.{DeckLine}
+use Rattle.mc_model.specs.Play.{State, WornAt, Step, step}
+use Rattle.mc_model.specs.Transcript.{line_text}
+use Rattle.mc_model.specs.TraceText.{shown_turns}
+use Rattle.mc_base.specs.declared.refusals.WriteFault.{WriteFault}
+use Rattle.mc_text.specs.Texts.{Sunk, Puts}
+use Rattle.mc_script.specs.declared.answer.Answer.{Answer}
+use Rattle.mc_script.specs.declared.player.Player.{Player}
+use Rattle.mc_script.specs.Players.{answer_value, IsAt}
+use Rattle.mc_script.specs.Lines.{Lined, LineDone}
+use Rattle.mc_script.specs.Scripts.{ended, text_by}
+use Rattle.mc_script.specs.Plays.{Bench, PlaysFrom}
+use Rattle.mc_script.proofs.PlayLemmas.{step_number, from_on, from_cut, from_none}
+use Rattle.mc_script.proofs.LineLemmas.{player_stands, bench_of, line_did}
+
+module _ {N : Type 0} (state : N → DeviceState) (bench : N → BenchState) where
+  -- a player at a state of a play, with these lines left: whatever they play from there, all lines play from the start
+  pub record Reached (f : Step → List ℕ) (s : State) (ls : List (ℕ × DeckLine)) (a : Bench) (x : Sunk) (left : List (ℕ × DeckLine)) (p : Player N) (y : Sunk) : Type 0 where
+    pub here : State
+    pub at : IsAt state bench p here
+    pub rest : (r : Result (Unit {0}) WriteFault) (c : Bench) (z : Sunk) → PlaysFrom f here left (bench_of state bench p) y r c z → PlaysFrom f s ls a x r c z
+
+  -- no line was played
+  pub reached_start : (f : Step → List ℕ) (s : State) (ls : List (ℕ × DeckLine)) (p : Player N) (x : Sunk) → IsAt state bench p s → Reached f s ls (bench_of state bench p) x ls p x
+  reached_start f s ls p x at = record { here = s; at = at; rest = λ r c z h. h }
+
+  -- all lines were played
+  pub reached_end : (f : Step → List ℕ) (s : State) (ls : List (ℕ × DeckLine)) (a : Bench) (x y : Sunk) (p : Player N) → Reached f s ls a x [] p y → PlaysFrom f s ls a x (Ok tt) (bench_of state bench p) y
+  reached_end f s ls a x y p h = h.rest (Ok tt) (bench_of state bench p) y (from_none f h.here (bench_of state bench p) y (player_stands state bench p h.here h.at))
+
+  module _ {R : Type 0} (told : R → List Turn → R → Type 0) (text : List Turn → List ℕ) where
+    -- what is written of a line, whatever turns were told in it
+    abbrev pub TellsLine : R → R → ℕ → Option Answer → Sunk → Result (Unit {0}) WriteFault → Sunk → Type 0
+    TellsLine before after n answer y r z = (ts : List Turn) → told before ts after → Puts y (text ts ++ line_text n (option_map answer_value answer)) r z
+
+    -- the text of a line is that of its step
+    line_puts : (p q : Player N) (s : State) (l : ℕ × DeckLine) (w : Option WornAt) (before after : R) (answer : Option Answer) (y z : Sunk) (r : Result (Unit {0}) WriteFault)
+        → Lined state bench told p s l w before after answer q → TellsLine before after l.0 answer y r z → Puts y (text_by text (step s l w)) r z
+    line_puts p q s l w before after answer y z r lined tells =
+        let t = step s l w in
+        let is : line_text l.0 (option_map answer_value answer) ≡ line_text t.number t.result = ap (λ o. line_text l.0 o) lined.answers ∙ ap (λ n. line_text n t.result) (sym (step_number s l w)) in
+        subst (λ (bs : List ℕ). Puts y (text (shown_turns t.turns t.stop) ++ bs) r z) is (tells (shown_turns t.turns t.stop) lined.tells)
+
+    -- a line whose text was written
+    pub reached_on : (s : State) (ls : List (ℕ × DeckLine)) (a : Bench) (x y z : Sunk) (left : List (ℕ × DeckLine)) (n : ℕ) (l : DeckLine) (p q : Player N) (before after : R) (answer : Option Answer)
+        → Reached (text_by text) s ls a x ((n, l) ∷ left) p y → LineDone state bench told p l before after answer q → TellsLine before after n answer y (Ok tt) z → Reached (text_by text) s ls a x left q z
+    reached_on s ls a x y z left n l p q before after answer h done tells =
+        let line = done h.here n h.at in
+        let puts = line_puts p q h.here (n, l) line.0 before after answer y z (Ok tt) line.1 tells in
+        record {
+          here = (step h.here (n, l) line.0).after;
+          at = line.1.at;
+          rest = λ r c u rest.
+              h.rest r c u (from_on (text_by text) h.here (n, l) line.0 left (bench_of state bench p) (bench_of state bench q) c y z u r (line_did state bench told p q h.here (n, l) line.0 before after answer line.1) puts rest);
+        }
+
+    -- a line whose text failed
+    pub reached_cut : (s : State) (ls : List (ℕ × DeckLine)) (a : Bench) (x y z : Sunk) (left : List (ℕ × DeckLine)) (n : ℕ) (l : DeckLine) (p q : Player N) (before after : R) (answer : Option Answer) (e : WriteFault)
+        → Reached (text_by text) s ls a x ((n, l) ∷ left) p y → LineDone state bench told p l before after answer q → TellsLine before after n answer y (Err e) z → PlaysFrom (text_by text) s ls a x (Err e) (bench_of state bench q) z
+    reached_cut s ls a x y z left n l p q before after answer e h done tells =
+        let line = done h.here n h.at in
+        let puts = line_puts p q h.here (n, l) line.0 before after answer y z (Err e) line.1 tells in
+        let did = line_did state bench told p q h.here (n, l) line.0 before after answer line.1 in
+        h.rest (Err e) (bench_of state bench q) z
+        (from_cut (text_by text) h.here (n, l) line.0 left (bench_of state bench p) (bench_of state bench q) y z e did (player_stands state bench q (step h.here (n, l) line.0).after line.1.at) puts)
+
+    -- a line whose text failed, by what the script says
+    pub reached_failed : (s : State) (ls : List (ℕ × DeckLine)) (a : Bench) (x y z : Sunk) (left : List (ℕ × DeckLine)) (n : ℕ) (l : DeckLine) (p q : Player N) (before after : R) (answer : Option Answer) (r : Result (Unit {0}) WriteFault)
+        → is_err r ≡ true → Reached (text_by text) s ls a x ((n, l) ∷ left) p y → LineDone state bench told p l before after answer q → TellsLine before after n answer y r z → PlaysFrom (text_by text) s ls a x r (bench_of state bench q) z
+    reached_failed s ls a x y z left n l p q before after answer (Ok u) failed h done tells = absurd (cc failed)
+    reached_failed s ls a x y z left n l p q before after answer (Err e) failed h done tells = reached_cut s ls a x y z left n l p q before after answer e h done tells
+
+    -- a line whose text was written, by what the script says
+    pub reached_written : (s : State) (ls : List (ℕ × DeckLine)) (a : Bench) (x y z : Sunk) (left : List (ℕ × DeckLine)) (n : ℕ) (l : DeckLine) (p q : Player N) (before after : R) (answer : Option Answer) (r : Result (Unit {0}) WriteFault)
+        → is_err r ≡ false → Reached (text_by text) s ls a x ((n, l) ∷ left) p y → LineDone state bench told p l before after answer q → TellsLine before after n answer y r z → Reached (text_by text) s ls a x left q z
+    reached_written s ls a x y z left n l p q before after answer (Ok u) written h done tells = reached_on s ls a x y z left n l p q before after answer h done tells
+    reached_written s ls a x y z left n l p q before after answer (Err e) written h done tells = absurd (cc written)
+
+-- ---- places of a deck
+
+-- the line at a place, and those behind it
+pub next_line : (ls : List (ℕ × DeckLine)) (i n : ℕ) (l : DeckLine) → slice_get ls i ≡ Some (n, l) → drop i ls ≡ (n, l) ∷ drop (i + 1) ls
+next_line [] i n l e = absurd (cc e)
+next_line (k ∷ ls) zero n l e = let same : k ≡ (n, l) = cc e in ap (λ (k : ℕ × DeckLine). k ∷ ls) same
+next_line (k ∷ ls) (suc i) n l e =
+    let one : suc i + 1 ≡ suc (i + 1) = omega arith in
+    next_line ls i n l e ∙ ap (λ j. (n, l) ∷ drop j (k ∷ ls)) (sym one)
+
+-- behind the last line there is none
+pub no_line : (ls : List (ℕ × DeckLine)) (i : ℕ) → length ls ≤ i → drop i ls ≡ []
+no_line ls i h = drop_of_length-le ls h
+
+-- a script that ended well had no fault
+pub no_fault : (f : Option WriteFault) → is_err (ended f) ≡ false → f ≡ None
+no_fault None h = refl
+no_fault (Some f) h = absurd (cc h)

@@ -1,0 +1,95 @@
+-- How writes spend a fuse, and what the fuses of a bench make of the next write.
+use Rattle.std.proofs.Common.{◌≡◌, ℕ, zero, suc, ◌+◌, ◌<◌, ◌≤◌, Bool, true, false, List, Option, Some, None, Ok, Err, refl, ◌∙◌, ap, arith}
+use Rattle.std.specs.Prelude.{slice_set}
+use Rattle.mc_model.specs.declared.device.Stop.TheVariants.{Off, Worn}
+use Rattle.mc_model.specs.Device.{DeviceState, Fuse, nearer, counted, fill_at, falling, due, Ends}
+
+-- a fuse after so many writes
+abbrev pub after_writes : ℕ → Option Fuse → Option Fuse
+after_writes zero f = f
+after_writes (suc n) f = after_writes n (counted f)
+
+-- the write of a fuse lies behind so many writes
+abbrev pub Past : ℕ → Option Fuse → Type 0
+Past n None = Unit {0}
+Past n (Some f) = 1 ≤ f.writes → n < f.writes
+
+-- ---- one fuse
+
+pub spent_none : (n : ℕ) → after_writes n None ≡ None
+spent_none zero = refl
+spent_none (suc n) = spent_none n
+
+none_falls : (n : ℕ) (y : List ℕ) → falling (after_writes n None) ≡ Some y → ⊥
+none_falls n y h = let e : after_writes n None ≡ None = spent_none n in absurd (cc (rw e at h))
+
+-- a fuse that falls after n writes had the number n + 1, and leaves its own fill
+falls_here : (n k : ℕ) (x y : List ℕ) → falling (after_writes n (Some (record { writes = k; fill = x }))) ≡ Some y → (k ≡ n + 1) × (x ≡ y)
+falls_here zero zero x y h = absurd (cc h)
+falls_here zero (suc zero) x y h = (refl, cc)
+falls_here zero (suc (suc k)) x y h = absurd (cc h)
+falls_here (suc n) zero x y h = absurd (none_falls n y h)
+falls_here (suc n) (suc zero) x y h = absurd (none_falls n y h)
+falls_here (suc n) (suc (suc k)) x y h = let r = falls_here n (suc k) x y h in (omega (arith, r.0), r.1)
+
+fuse_falls : (n : ℕ) (f : Fuse) (y : List ℕ) → falling (after_writes n (Some f)) ≡ Some y → f ≡ record { writes = n + 1; fill = y }
+fuse_falls n f y h =
+    let r = falls_here n f.writes f.fill y h in
+    ap (λ (k : ℕ). record f { writes = k }) r.0 ∙ ap (λ (x : List ℕ). record f { writes = n + 1; fill = x }) r.1
+
+pub falls_at : (n : ℕ) (f : Option Fuse) (y : List ℕ) → falling (after_writes n f) ≡ Some y → f ≡ Some (record { writes = n + 1; fill = y })
+falls_at n None y h = absurd (none_falls n y h)
+falls_at n (Some f) y h = let e : f ≡ record { writes = n + 1; fill = y } = fuse_falls n f y h in cc
+
+-- a fuse that does not fall after n writes lies behind one more
+lies_on : (n k : ℕ) (x : List ℕ) → falling (after_writes n (Some (record { writes = k; fill = x }))) ≡ None → n < k → n + 1 < k
+lies_on zero zero x h low = absurd (omega arith)
+lies_on zero (suc zero) x h low = absurd (cc h)
+lies_on zero (suc (suc k)) x h low = omega arith
+lies_on (suc n) zero x h low = absurd (omega arith)
+lies_on (suc n) (suc zero) x h low = absurd (omega arith)
+lies_on (suc n) (suc (suc k)) x h low = let r = lies_on n (suc k) x h (omega (arith, low)) in omega (arith, r)
+
+pub past_on : (n : ℕ) (f : Option Fuse) → falling (after_writes n f) ≡ None → Past n f → Past (n + 1) f
+past_on n None h past = tt
+past_on n (Some f) h past = λ low. lies_on n f.writes f.fill h (past low)
+
+-- a fuse that does not fall on the first of some writes
+past_next : (n k : ℕ) (x : List ℕ) → fill_at k x ≡ None → Past n (nearer k x) → 1 ≤ k → suc n < k
+past_next n zero x h past low = absurd (omega arith)
+past_next n (suc zero) x h past low = absurd (cc h)
+past_next n (suc (suc k)) x h past low = let r : n < suc k = past (omega arith) in omega (arith, r)
+
+pub past_first : (n : ℕ) (f : Option Fuse) → falling f ≡ None → Past n (counted f) → Past (suc n) f
+past_first n None h past = tt
+past_first n (Some f) h past = λ low. past_next n f.writes f.fill h past low
+
+pub past_none : (f : Option Fuse) → Past 0 f
+past_none None = tt
+past_none (Some f) = λ low. omega (arith, low)
+
+-- ---- both fuses
+
+-- a write that was done was due to no fuse
+pub none_due : (c w : Option (List ℕ)) (steady : Bool) (d : DeviceState) (at : ℕ) (e : DeviceState) → Ends (due c w) steady d at (Ok tt) e → (c ≡ None) × (w ≡ None)
+none_due (Some x) w steady d at e h = absurd (cc h.0)
+none_due None (Some x) true d at e h = absurd (cc h.0)
+none_due None (Some x) false d at e h = absurd (cc h)
+none_due None None steady d at e h = (refl, refl)
+
+-- a write that was cut was due to the cut fuse
+pub cut_due : (c w : Option (List ℕ)) (steady : Bool) (d : DeviceState) (at : ℕ) (e : DeviceState) → Ends (due c w) steady d at (Err Off) e → (x : List ℕ) × (c ≡ Some x) × (e.words ≡ slice_set d.words at x)
+cut_due (Some x) w steady d at e h = (x, refl, h.1)
+cut_due None (Some x) true d at e h = absurd (cc h.0)
+cut_due None (Some x) false d at e h = absurd (cc h)
+cut_due None None true d at e h = absurd (cc h)
+cut_due None None false d at e h = absurd (h refl)
+
+-- a write that was refused was not due to the cut fuse, and on a steady bench it was due to the other
+pub worn_due : (c w : Option (List ℕ)) (steady : Bool) (d : DeviceState) (at : ℕ) (e : DeviceState) → Ends (due c w) steady d at (Err Worn) e
+    → (c ≡ None) × (steady ≡ true → (x : List ℕ) × (w ≡ Some x) × (e.words ≡ slice_set d.words at x))
+worn_due (Some x) w steady d at e h = absurd (cc h.0)
+worn_due None (Some x) true d at e h = (refl, λ s. (x, refl, h.1))
+worn_due None (Some x) false d at e h = (refl, λ s. absurd (cc s))
+worn_due None None true d at e h = absurd (cc h)
+worn_due None None false d at e h = (refl, λ s. absurd (cc s))

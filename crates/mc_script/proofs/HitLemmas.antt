@@ -1,0 +1,145 @@
+-- The stop that hits a line, by the fuse that was handed to the bench.
+use Rattle.std.proofs.Common.{◌≡◌, ℕ, ◌<◌, ◌≤◌, ◌+◌, Bool, true, false, cond, ◌&&◌, List, Option, Some, None, refl, sym, ◌∙◌, ap, subst, arith}
+use Rattle.std.specs.Prelude.{nat_le}
+use Rattle.std.proofs.lemmas.Bool.{le-leb, lt-leb}
+use Rattle.mc_model.specs.declared.device.Stop.{Stop}
+use Rattle.mc_model.specs.declared.device.Stop.TheVariants.{Off, Worn}
+use Rattle.mc_model.specs.Bytes.{zeros}
+use Rattle.mc_model.specs.Device.{BenchState, Fuse, next_count}
+use Rattle.mc_model.specs.DeckGrammar.{DeckLine}
+use Rattle.mc_model.specs.Items.{StopAt}
+use Rattle.mc_model.specs.Play as play
+use Rattle.mc_model.specs.Play.{ArmedCut, ArmedFail, WornAt, hit_of, steady_at, is_card_line, worn_entry, IsBeforeCut}
+use Rattle.mc_script.specs.declared.armed.Armed.{Armed}
+use Rattle.mc_script.specs.declared.armed.Armed.TheVariants as armed
+use Rattle.mc_script.specs.Players.{armed_value, cut_place, CanArm, IsUnfused}
+use Rattle.mc_script.specs.Counting.{raised, cuts_due, fails_due}
+use Rattle.mc_script.specs.Arming.{armed_bench}
+use Rattle.mc_script.proofs.FuseLemmas.{Past}
+use Rattle.mc_script.proofs.BenchLemmas.{FusedAt, SameCalls}
+
+-- ---- no stop
+
+-- so many device writes reach no armed stop
+pub record NotHit (a : play.Armed) (m : ℕ) : Type 0 where
+  pub hit : hit_of a m None ≡ None
+  pub steady : (l : DeckLine) → None ≡ steady_at a l m
+
+none_past : (k m : ℕ) (x : StopAt) → m < k → cond (nat_le k m) (Some x) None ≡ None
+none_past k m x h = ap (λ (b : Bool). cond b (Some x) None) (lt-leb k m h)
+
+worn_past : (b c : Bool) (x : WornAt) → c ≡ false → None ≡ cond (b && c) (Some x) None
+worn_past true c x h = ap (λ (t : Bool). cond t (Some x) None) (sym h)
+worn_past false c x h = refl
+
+pub not_hit : (a : Armed) (b : BenchState) (m : ℕ) → CanArm a → Past m (armed_bench a b).cut → Past m (armed_bench a b).worn → NotHit (armed_value a) m
+not_hit armed.Not b m can cut worn = record { hit = refl; steady = λ l. refl }
+not_hit (armed.Cut k fill) b m can cut worn = record { hit = none_past k m (record { kind = Off; at = k; left = fill }) (cut can.0); steady = λ l. refl }
+not_hit (armed.Fail k) b m can cut worn =
+    record { hit = refl; steady = λ l. worn_past (is_card_line l) (nat_le k m) (record { at = k; left = zeros 8 }) (lt-leb k m (worn can)) }
+
+-- ---- a stop
+
+-- a stop at write k, which left x, is the stop that hits a card line of so many device writes
+pub record HitBy (a : play.Armed) (m : ℕ) (t : Bool) (s : Stop) (k : ℕ) (x : List ℕ) (w : Option WornAt) : Type 0 where
+  pub hit : hit_of a m w ≡ Some (record { kind = s; at = k; left = x })
+  pub first : s ≡ Worn → IsBeforeCut a k
+  pub steady : (l : DeckLine) → is_card_line l ≡ true → t ≡ true → w ≡ steady_at a l m
+
+none_some : (X : Type 0) (x : X) → None ≡ Some x → ⊥
+none_some X x h = cc h
+
+uncut : (b : BenchState) (f : Fuse) → IsUnfused b → b.cut ≡ Some f → ⊥
+uncut b f free h = none_some Fuse f (sym free.cut ∙ h)
+
+unworn : (b : BenchState) (f : Fuse) → IsUnfused b → b.worn ≡ Some f → ⊥
+unworn b f free h = none_some Fuse f (sym free.worn ∙ h)
+
+cut_hits : (k m : ℕ) (x : StopAt) → k ≤ m → cond (nat_le k m) (Some x) None ≡ Some x
+cut_hits k m x h = ap (λ (b : Bool). cond b (Some x) None) (le-leb k m h)
+
+worn_hits : (b c : Bool) (x : WornAt) → b ≡ true → c ≡ true → Some x ≡ cond (b && c) (Some x) None
+worn_hits true true x h g = refl
+worn_hits true false x h g = absurd (cc g)
+worn_hits false c x h g = absurd (cc h)
+
+some_injective : (X : Type 0) (x y : X) → Some x ≡ Some y → x ≡ y
+some_injective X x y h = cc
+
+same_fuse : (k j : ℕ) (x y : List ℕ) → ◌≡◌ {A = Option Fuse} (Some (record { writes = j; fill = y })) (Some (record { writes = k; fill = x })) → (j ≡ k) × (y ≡ x)
+same_fuse k j x y h =
+    let e : ◌≡◌ {A = Fuse} (record { writes = j; fill = y }) (record { writes = k; fill = x }) = some_injective Fuse _ _ h in
+    (ap (λ (f : Fuse). f.writes) e, ap (λ (f : Fuse). f.fill) e)
+
+pub hit_by : (a : Armed) (b : BenchState) (m : ℕ) (s : Stop) (k : ℕ) (x : List ℕ) → CanArm a → IsUnfused b → FusedAt s (armed_bench a b) k x → k ≤ m
+    → HitBy (armed_value a) m b.steady s k x (worn_entry k x (Some s))
+hit_by armed.Not b m Off k x can free fused high = absurd (uncut b (record { writes = k; fill = x }) free fused)
+hit_by (armed.Cut j fill) b m Off k x can free fused high =
+    let same = same_fuse k j x fill fused in
+    record {
+      hit = subst (λ (i : ℕ). hit_of (ArmedCut i fill) m None ≡ Some (record { kind = Off; at = k; left = x })) (sym same.0)
+          (subst (λ (y : List ℕ). hit_of (ArmedCut k y) m None ≡ Some (record { kind = Off; at = k; left = x })) (sym same.1) (cut_hits k m (record { kind = Off; at = k; left = x }) high));
+      first = λ e. absurd (cc e);
+      steady = λ l card steady. refl;
+    }
+hit_by (armed.Fail j) b m Off k x can free fused high = absurd (uncut b (record { writes = k; fill = x }) free fused)
+hit_by armed.Not b m Worn k x can free fused high =
+    record { hit = refl; first = λ e. tt; steady = λ l card steady. absurd (unworn b (record { writes = k; fill = x }) free (fused.1 steady)) }
+hit_by (armed.Cut j fill) b m Worn k x can free fused high =
+    record { hit = refl; first = λ e. fused.0 can.0; steady = λ l card steady. absurd (unworn b (record { writes = k; fill = x }) free (fused.1 steady)) }
+hit_by (armed.Fail j) b m Worn k x can free fused high =
+    record {
+      hit = refl;
+      first = λ e. tt;
+      steady = λ l card steady.
+          let same = same_fuse k j x (zeros 8) (fused.1 steady) in
+          let here : WornAt = record { at = k; left = x } in
+          subst (λ (i : ℕ). Some here ≡ steady_at (ArmedFail i) l m) (sym same.0)
+          (subst (λ (y : List ℕ). let there : WornAt = record { at = k; left = y } in Some here ≡ cond (is_card_line l && nat_le k m) (Some there) None) (sym same.1)
+          (worn_hits (is_card_line l) (nat_le k m) here card (le-leb k m high)));
+    }
+
+-- a cut at write k is told by its number
+pub place_is : (a : Armed) (b : BenchState) (k : ℕ) (x : List ℕ) → IsUnfused b → (armed_bench a b).cut ≡ Some (record { writes = k; fill = x }) → cut_place a ≡ k
+place_is armed.Not b k x free h = absurd (uncut b (record { writes = k; fill = x }) free h)
+place_is (armed.Cut j fill) b k x free h = (same_fuse k j x fill h).0
+place_is (armed.Fail j) b k x free h = absurd (uncut b (record { writes = k; fill = x }) free h)
+
+-- ---- calls
+
+-- the calls of a line: so many of `power`, and the fuse of the armed stop
+pub record CallsOf (b : BenchState) (n : ℕ) (a : play.Armed) (c : BenchState) : Type 0 where
+  pub powers : c.powers ≡ raised b.powers n
+  pub pokes : c.pokes ≡ b.pokes
+  pub arms : c.arms ≤ b.arms + cuts_due a
+  pub wears : c.wears ≤ b.wears + fails_due a
+  pub steady : c.steady ≡ b.steady
+
+next_bound : (n : ℕ) → next_count n ≤ n + 1
+next_bound n = omega arith
+
+pub armed_calls : (a : Armed) (b c e : BenchState) → SameCalls (armed_bench a b) c → e ≡ record c { cut = None; worn = None } → CallsOf b 0 (armed_value a) e
+armed_calls armed.Not b c e same is =
+    record {
+      powers = ap (λ (x : BenchState). x.powers) is ∙ same.powers;
+      pokes = ap (λ (x : BenchState). x.pokes) is ∙ same.pokes;
+      arms = let h : e.arms ≡ b.arms = ap (λ (x : BenchState). x.arms) is ∙ same.arms in omega (arith, h);
+      wears = let h : e.wears ≡ b.wears = ap (λ (x : BenchState). x.wears) is ∙ same.wears in omega (arith, h);
+      steady = ap (λ (x : BenchState). x.steady) is ∙ same.steady;
+    }
+armed_calls (armed.Cut k fill) b c e same is =
+    record {
+      powers = ap (λ (x : BenchState). x.powers) is ∙ same.powers;
+      pokes = ap (λ (x : BenchState). x.pokes) is ∙ same.pokes;
+      arms = let h : e.arms ≡ next_count b.arms = ap (λ (x : BenchState). x.arms) is ∙ same.arms in let n = next_bound b.arms in omega (arith, h, n);
+      wears = let h : e.wears ≡ b.wears = ap (λ (x : BenchState). x.wears) is ∙ same.wears in omega (arith, h);
+      steady = ap (λ (x : BenchState). x.steady) is ∙ same.steady;
+    }
+armed_calls (armed.Fail k) b c e same is =
+    record {
+      powers = ap (λ (x : BenchState). x.powers) is ∙ same.powers;
+      pokes = ap (λ (x : BenchState). x.pokes) is ∙ same.pokes;
+      arms = let h : e.arms ≡ b.arms = ap (λ (x : BenchState). x.arms) is ∙ same.arms in omega (arith, h);
+      wears = let h : e.wears ≡ next_count b.wears = ap (λ (x : BenchState). x.wears) is ∙ same.wears in let n = next_bound b.wears in omega (arith, h, n);
+      steady = ap (λ (x : BenchState). x.steady) is ∙ same.steady;
+    }

@@ -1,0 +1,264 @@
+-- A play of one line and a play of the lines behind it are one play.
+use Rattle.std.proofs.Common.{◌≡◌, ℕ, zero, suc, ◌+◌, true, List, [], ◌∷◌, ◌++◌, Option, Some, None, Result, Ok, Err, refl, arith, sym, ap, subst, ◌∙◌, append_assoc}
+use Rattle.std.proofs.lemmas.List.{append-nil}
+use Rattle.mc_model.specs.Device.{DeviceState, BenchState, Entry, GrowsBy, next_count}
+use Rattle.mc_model.specs.DeckGrammar.{DeckLine}
+use Rattle.mc_model.specs.DeckGrammar as line
+use Rattle.mc_model.specs.Play.{Armed, Live, Running, Unpowered, Muted, Base, OnCard, AtFault, Warm, State, Cold, Hot, WornAt, Step, plays, step, card_line, armed_in, last_state, MayHit, Stands, moves_of, steady_at, steady_worn, tape_worn, AccountsForLine, words_left, worn_in}
+use Rattle.mc_base.specs.Streams.{Grew}
+use Rattle.mc_base.specs.declared.refusals.WriteFault.{WriteFault}
+use Rattle.mc_base.proofs.StreamsLemmas.{Grew-append, Grew-none, Rose-later}
+use Rattle.mc_script.specs.Counting.{raised, Counts, LineCounts, PlayCounts}
+use Rattle.mc_script.specs.Plays.{Bench, TapeTells, TapeIs, Played, texts, Ends, PlaysFrom}
+use Rattle.mc_text.specs.Texts.{Sunk, Writes, Fails}
+use Rattle.mc_script.proofs.TapeLemmas.{tape_on}
+
+-- ---- counts
+
+-- a count that rose twice
+pub raised_add : (n a b : ℕ) → raised n (a + b) ≡ raised (raised n a) b
+raised_add n zero b = let e : 0 + b ≡ b = omega arith in ap (λ k. raised n k) e
+raised_add n (suc a) b = let e : suc a + b ≡ suc (a + b) = omega arith in ap (λ k. raised n k) e ∙ raised_add (next_count n) a b
+
+-- the counts of lines, and of those behind them
+pub counts_on : (b c e : BenchState) (d f g : DeviceState) (p q k m p' q' k' m' : ℕ) → Counts b d p q k m c f → Counts c f p' q' k' m' e g → Counts b d (p + p') (q + q') (k + k') (m + m') e g
+counts_on b c e d f g p q k m p' q' k' m' one rest =
+    record {
+      powers = rest.powers ∙ ap (λ n. raised n p') one.powers ∙ sym (raised_add b.powers p p');
+      pokes = rest.pokes ∙ ap (λ n. raised n q') one.pokes ∙ sym (raised_add b.pokes q q');
+      cuts = rest.cuts ∙ ap (λ n. raised n k') one.cuts ∙ sym (raised_add d.cuts k k');
+      faults = rest.faults ∙ ap (λ n. raised n m') one.faults ∙ sym (raised_add d.faults m m');
+      steady = rest.steady ∙ one.steady;
+    }
+
+-- the counts of a line, and of the lines behind it
+pub play_counts_on : (a b c : Bench) (t : Step) (ts : List Step) → LineCounts a.bench a.device t b.bench b.device → PlayCounts b.bench b.device (armed_in t.after) ts c.bench c.device → PlayCounts a.bench a.device (armed_in t.before) (t ∷ ts) c.bench c.device
+play_counts_on a b c t ts one rest =
+    record {
+      counts = counts_on a.bench b.bench c.bench a.device b.device c.device _ _ _ _ _ _ _ _ one.counts rest.counts;
+      arms = omega (arith, one.arms.arms, rest.arms);
+      wears = omega (arith, one.arms.wears, rest.wears);
+    }
+
+-- the counts of no line
+counts_none : (a : Bench) (due : Armed) → PlayCounts a.bench a.device due [] a.bench a.device
+counts_none a due =
+    record {
+      counts = record { powers = refl; pokes = refl; cuts = refl; faults = refl; steady = refl };
+      arms = omega arith;
+      wears = omega arith;
+    }
+
+-- ---- a line, and the lines behind it
+
+-- what one line did to a bench, as far as a play speaks of it
+pub record Did (s : State) (l : ℕ × DeckLine) (w : Option WornAt) (a b : Bench) : Type 0 where
+  pub may : MayHit s l w
+  pub counts : LineCounts a.bench a.device (step s l w) b.bench b.device
+  pub steady : a.bench.steady ≡ true → w ≡ steady_at (armed_in s) l.1 (moves_of s l)
+  pub entries : List Entry
+  pub grows : GrowsBy a.device.tape entries b.device.tape
+  pub accounts : AccountsForLine a.device.words s l (step s l w) entries
+  pub worn : worn_in 0 entries ≡ w
+  pub left : words_left a.device.words entries (step s l w).after ≡ b.device.words
+
+-- the state before a line of a card
+card_before : (n : ℕ) (l : DeckLine) (s : Warm) (live : Live) (base : Base) (w : Option WornAt) → (card_line n l s live base w).before ≡ Hot s
+card_before n l s (Running seat) (OnCard c) w = refl
+card_before n l s (Running seat) (AtFault cause p) w = refl
+card_before n l s Unpowered base w = refl
+card_before n l s Muted base w = refl
+
+-- the state before a line
+pub step_before : (s : State) (l : ℕ × DeckLine) (w : Option WornAt) → (step s l w).before ≡ s
+unfolding step
+step_before (Cold m b a) (n, line.Format) w = refl
+step_before (Cold m b a) (n, line.Named) w = refl
+step_before (Cold m b a) (n, line.Power) w = refl
+step_before (Cold m b a) (n, line.Poke at x) w = refl
+step_before (Cold m b a) (n, line.Budget c) w = refl
+step_before (Cold m b a) (n, line.Cut k x) w = refl
+step_before (Cold m b a) (n, line.Fail k) w = refl
+step_before (Cold m b a) (n, line.Dump x) w = refl
+step_before (Cold m b a) (n, line.Load u fixed session) w = refl
+step_before (Cold m b a) (n, line.Select x) w = refl
+step_before (Cold m b a) (n, line.Delete x) w = refl
+step_before (Cold m b a) (n, line.Apdu x) w = refl
+step_before (Hot s) (n, line.Format) w = refl
+step_before (Hot s) (n, line.Named) w = refl
+step_before (Hot s) (n, line.Power) w = refl
+step_before (Hot s) (n, line.Poke at x) w = refl
+step_before (Hot s) (n, line.Budget c) w = refl
+step_before (Hot s) (n, line.Cut k x) w = refl
+step_before (Hot s) (n, line.Fail k) w = refl
+step_before (Hot s) (n, line.Dump x) w = refl
+step_before (Hot s) (n, line.Load u fixed session) w = card_before n (line.Load u fixed session) s s.live s.base w
+step_before (Hot s) (n, line.Select x) w = card_before n (line.Select x) s s.live s.base w
+step_before (Hot s) (n, line.Delete x) w = card_before n (line.Delete x) s s.live s.base w
+step_before (Hot s) (n, line.Apdu x) w = card_before n (line.Apdu x) s s.live s.base w
+
+-- the number of a line of a card
+card_number : (n : ℕ) (l : DeckLine) (s : Warm) (live : Live) (base : Base) (w : Option WornAt) → (card_line n l s live base w).number ≡ n
+card_number n l s (Running seat) (OnCard c) w = refl
+card_number n l s (Running seat) (AtFault cause p) w = refl
+card_number n l s Unpowered base w = refl
+card_number n l s Muted base w = refl
+
+-- the number of a line
+pub step_number : (s : State) (l : ℕ × DeckLine) (w : Option WornAt) → (step s l w).number ≡ l.0
+unfolding step
+step_number (Cold m b a) (n, line.Format) w = refl
+step_number (Cold m b a) (n, line.Named) w = refl
+step_number (Cold m b a) (n, line.Power) w = refl
+step_number (Cold m b a) (n, line.Poke at x) w = refl
+step_number (Cold m b a) (n, line.Budget c) w = refl
+step_number (Cold m b a) (n, line.Cut k x) w = refl
+step_number (Cold m b a) (n, line.Fail k) w = refl
+step_number (Cold m b a) (n, line.Dump x) w = refl
+step_number (Cold m b a) (n, line.Load u fixed session) w = refl
+step_number (Cold m b a) (n, line.Select x) w = refl
+step_number (Cold m b a) (n, line.Delete x) w = refl
+step_number (Cold m b a) (n, line.Apdu x) w = refl
+step_number (Hot s) (n, line.Format) w = refl
+step_number (Hot s) (n, line.Named) w = refl
+step_number (Hot s) (n, line.Power) w = refl
+step_number (Hot s) (n, line.Poke at x) w = refl
+step_number (Hot s) (n, line.Budget c) w = refl
+step_number (Hot s) (n, line.Cut k x) w = refl
+step_number (Hot s) (n, line.Fail k) w = refl
+step_number (Hot s) (n, line.Dump x) w = refl
+step_number (Hot s) (n, line.Load u fixed session) w = card_number n (line.Load u fixed session) s s.live s.base w
+step_number (Hot s) (n, line.Select x) w = card_number n (line.Select x) s s.live s.base w
+step_number (Hot s) (n, line.Delete x) w = card_number n (line.Delete x) s s.live s.base w
+step_number (Hot s) (n, line.Apdu x) w = card_number n (line.Apdu x) s s.live s.base w
+
+-- a play begins with its first line
+pub plays_on : (s : State) (l : ℕ × DeckLine) (w : Option WornAt) (ls : List (ℕ × DeckLine)) (ws : List (Option WornAt)) → plays s (l ∷ ls) (w ∷ ws) ≡ step s l w ∷ plays (step s l w).after ls ws
+unfolding plays
+plays_on s l w ls ws = refl
+
+-- no line
+pub plays_none : (s : State) → plays s [] [] ≡ []
+unfolding plays
+plays_none s = refl
+
+-- the worn stops of a steady bench
+steady_on : (s : State) (l : ℕ × DeckLine) (w : Option WornAt) (ls : List (ℕ × DeckLine)) (ws : List (Option WornAt)) → w ≡ steady_at (armed_in s) l.1 (moves_of s l) → ws ≡ steady_worn (step s l w).after ls → w ∷ ws ≡ steady_worn s (l ∷ ls)
+unfolding steady_worn
+steady_on s l w ls ws first rest = rw (← first, rest) refl
+
+-- the counts of a play that begins with a line
+counts_from : (s : State) (l : ℕ × DeckLine) (w : Option WornAt) (ts : List Step) (a b c : Bench) → LineCounts a.bench a.device (step s l w) b.bench b.device → PlayCounts b.bench b.device (armed_in (step s l w).after) ts c.bench c.device → PlayCounts a.bench a.device (armed_in s) (step s l w ∷ ts) c.bench c.device
+counts_from s l w ts a b c one rest =
+    subst (λ (u : State). PlayCounts a.bench a.device (armed_in u) (step s l w ∷ ts) c.bench c.device) (step_before s l w) (play_counts_on a b c (step s l w) ts one rest)
+
+-- a play of a line and of the lines behind it
+pub played_on : (s : State) (l : ℕ × DeckLine) (w : Option WornAt) (ls : List (ℕ × DeckLine)) (ws : List (Option WornAt)) (a b c : Bench) → Did s l w a b → Played (step s l w).after ls ws b c → Played s (l ∷ ls) (w ∷ ws) a c
+played_on s l w ls ws a b c did rest =
+    let e = plays_on s l w ls ws in
+    record {
+      possible = (did.may, rest.possible);
+      words = subst (λ (ts : List Step). Stands c.device.words (last_state s ts)) (sym e) rest.words;
+      counts = subst (λ (ts : List Step). PlayCounts a.bench a.device (armed_in s) ts c.bench c.device) (sym e) (counts_from s l w _ a b c did.counts rest.counts);
+      steady = λ steady. steady_on s l w ls ws (did.steady steady) (rest.steady (did.counts.counts.steady ∙ steady));
+      tape = tape_on a.device.words b.device.words s l ls w ws did.entries a.device.tape b.device.tape c.device.tape did.may did.accounts did.worn did.left did.grows rest.tape;
+    }
+
+-- the worn stops of no line
+steady_none : (s : State) → [] ≡ steady_worn s []
+unfolding steady_worn
+steady_none s = refl
+
+tells_none : (m : List (List ℕ)) (s : State) → TapeTells m s [] [] []
+unfolding tape_worn
+tells_none m s = record { worn = refl; accounts = refl }
+
+-- the tape of no line
+tape_none : (m : List (List ℕ)) (s : State) (a : Option (List Entry)) → TapeIs m s [] [] a a
+tape_none m s None = tt
+tape_none m s (Some t) = ([], sym (append-nil t), tells_none m s)
+
+-- a play of no line
+pub played_none : (s : State) (a : Bench) → Stands a.device.words s → Played s [] [] a a
+played_none s a stands =
+    record {
+      possible = tt;
+      words = subst (λ (ts : List Step). Stands a.device.words (last_state s ts)) (sym (plays_none s)) stands;
+      counts = subst (λ (ts : List Step). PlayCounts a.bench a.device (armed_in s) ts a.bench a.device) (sym (plays_none s)) (counts_none a (armed_in s));
+      steady = λ steady. steady_none s;
+      tape = tape_none a.device.words s a.device.tape;
+    }
+
+-- ---- texts
+
+-- the texts of a line that was written, and of a play behind it
+pub ends_on : (f : Step → List ℕ) (x y z : Sunk) (rest : List (ℕ × DeckLine)) (t : Step) (ts : List Step) (r : Result (Unit {0}) WriteFault) → Writes x (f t) y → Ends f y rest ts r z → Ends f x rest (t ∷ ts) r z
+ends_on f x y z rest t ts (Ok u) first h = (h.0, Grew-append x.taken y.taken z.taken (f t) (texts f ts) first.whole h.1)
+ends_on f x y z rest t ts (Err e) first h =
+    record {
+      before = t ∷ h.before;
+      last = h.last;
+      are = ap (λ (us : List Step). t ∷ us) h.are;
+      front = h.front;
+      back = h.back;
+      parts = h.parts;
+      some_left = h.some_left;
+      written =
+          subst (λ (bs : List ℕ). Grew x.taken z.taken bs) (sym (append_assoc (f t) (texts f h.before) h.front))
+          (Grew-append x.taken y.taken z.taken (f t) (texts f h.before ++ h.front) first.whole h.written);
+      cause = Rose-later x.faults y.faults z.faults first.counted h.cause;
+    }
+
+-- the text of a line that failed
+pub ends_cut : (f : Step → List ℕ) (x y : Sunk) (rest : List (ℕ × DeckLine)) (t : Step) (e : WriteFault) → Fails x (f t) y → Ends f x rest (t ∷ []) (Err e) y
+ends_cut f x y rest t e h =
+    record {
+      before = [];
+      last = t;
+      are = refl;
+      front = h.part.front;
+      back = h.part.rest;
+      parts = h.part.parts;
+      some_left = h.part.some_left;
+      written = h.part.grew;
+      cause = h.cause;
+    }
+
+-- ---- plays
+
+-- a line that was played and written, and the play of the lines behind it
+pub from_on : (f : Step → List ℕ) (s : State) (l : ℕ × DeckLine) (w : Option WornAt) (ls : List (ℕ × DeckLine)) (a b c : Bench) (x y z : Sunk) (r : Result (Unit {0}) WriteFault) → Did s l w a b → Writes x (f (step s l w)) y → PlaysFrom f (step s l w).after ls b y r c z → PlaysFrom f s (l ∷ ls) a x r c z
+from_on f s l w ls a b c x y z r did wrote h =
+    record {
+      lines = l ∷ h.lines;
+      rest = h.rest;
+      are = ap (λ (ks : List (ℕ × DeckLine)). l ∷ ks) h.are;
+      worn = w ∷ h.worn;
+      played = played_on s l w h.lines h.worn a b c did h.played;
+      text = subst (λ (ts : List Step). Ends f x h.rest ts r z) (sym (plays_on s l w h.lines h.worn)) (ends_on f x y z h.rest (step s l w) _ r wrote h.text);
+    }
+
+-- a line that was played, and whose text failed
+pub from_cut : (f : Step → List ℕ) (s : State) (l : ℕ × DeckLine) (w : Option WornAt) (ls : List (ℕ × DeckLine)) (a b : Bench) (x y : Sunk) (e : WriteFault) → Did s l w a b → Stands b.device.words (step s l w).after → Fails x (f (step s l w)) y → PlaysFrom f s (l ∷ ls) a x (Err e) b y
+from_cut f s l w ls a b x y e did stands failed =
+    let steps = plays_on s l w [] [] ∙ ap (λ (ts : List Step). step s l w ∷ ts) (plays_none (step s l w).after) in
+    record {
+      lines = l ∷ [];
+      rest = ls;
+      are = refl;
+      worn = w ∷ [];
+      played = played_on s l w [] [] a b b did (played_none (step s l w).after b stands);
+      text = subst (λ (ts : List Step). Ends f x ls ts (Err e) y) (sym steps) (ends_cut f x y ls (step s l w) e failed);
+    }
+
+-- no line is left
+pub from_none : (f : Step → List ℕ) (s : State) (a : Bench) (x : Sunk) → Stands a.device.words s → PlaysFrom f s [] a x (Ok tt) a x
+from_none f s a x stands =
+    record {
+      lines = [];
+      rest = [];
+      are = refl;
+      worn = [];
+      played = played_none s a stands;
+      text = (refl, subst (λ (ts : List Step). Grew x.taken x.taken (texts f ts)) (sym (plays_none s)) (Grew-none x.taken));
+    }

@@ -1,0 +1,276 @@
+-- Lines that make no device write.
+use Rattle.std.proofs.Common.{◌≡◌, ℕ, ◌≤◌, false, List, [], Option, Some, None, refl, sym, ◌∙◌, ap, subst, arith, append-nil}
+use Rattle.std.specs.Prelude.{option_map, length}
+use Rattle.mc_model.specs.Bytes.{lookup}
+use Rattle.mc_model.specs.Device.{DeviceState, BenchState, Entry, GrowsBy}
+use Rattle.mc_model.specs.DeckGrammar.{DeckLine}
+use Rattle.mc_model.specs.DeckGrammar as line
+use Rattle.mc_model.specs.Items.{moves}
+use Rattle.mc_model.specs.Play as play
+use Rattle.mc_model.specs.Play.{WornAt, Unarmed, ArmedCut, ArmedFail, Live, Running, Unpowered, Muted, Base, LineResult, NoCard, Silenced, Warm, State, Cold, Hot, Step, step, quiet, card_line, dumped, static_of, is_card_line, armed_in, moves_of, steady_at, words_left}
+use Rattle.mc_model.specs.TraceText.{shown_turns}
+use Rattle.mc_card.specs.declared.card.Card.{Card}
+use Rattle.mc_card.specs.Parts.{card_in, seat_in}
+use Rattle.mc_script.specs.declared.answer.Answer.{Answer}
+use Rattle.mc_script.specs.declared.answer.Answer.TheVariants as answer
+use Rattle.mc_script.specs.declared.armed.Armed.{Armed}
+use Rattle.mc_script.specs.declared.armed.Armed.TheVariants as armed
+use Rattle.mc_script.specs.declared.commands.Command.{Command}
+use Rattle.mc_script.specs.declared.player.Power.{Power}
+use Rattle.mc_script.specs.declared.player.Power.TheVariants as power
+use Rattle.mc_script.specs.declared.player.Player.{Player}
+use Rattle.mc_script.specs.Players.{answer_value, armed_value, device_of, CanArm, IsAt}
+use Rattle.mc_script.specs.Counting.{raised, line_powers, line_pokes, line_cuts, line_fails, Arms, LineCounts}
+use Rattle.mc_script.specs.Arming.{armed_bench}
+use Rattle.mc_script.specs.Commands.{command_line}
+use Rattle.mc_script.specs.Lines.{StepTape, Stepped, Silent, SilentDone}
+use Rattle.mc_script.proofs.FuseLemmas.{past_none}
+use Rattle.mc_script.proofs.HitLemmas.{NotHit, not_hit}
+use Rattle.mc_script.proofs.CommandStepLemmas.{hot_is, cold_is, no_powers, no_pokes, no_cuts, no_fails, moves_hot, moves_cold}
+
+-- ---- stops that are handed to no device
+
+pub arms_same : (b : BenchState) (a : play.Armed) → Arms b a 0 0 b a
+arms_same b a = record { arms = omega arith; wears = omega arith }
+
+arms_cut : (b : BenchState) (a : play.Armed) (k : ℕ) (x : List ℕ) → Arms b a 1 0 b (ArmedCut k x)
+arms_cut b a k x = record { arms = omega arith; wears = omega arith }
+
+arms_fail : (b : BenchState) (a : play.Armed) (k : ℕ) → Arms b a 0 1 b (ArmedFail k)
+arms_fail b a k = record { arms = omega arith; wears = omega arith }
+
+pub arms_dropped : (b : BenchState) (a : play.Armed) → Arms b a 0 0 b Unarmed
+arms_dropped b a = record { arms = omega arith; wears = omega arith }
+
+pub steady_none : (a : play.Armed) (l : DeckLine) (m : ℕ) → is_card_line l ≡ false → None ≡ steady_at a l m
+steady_none Unarmed l m h = refl
+steady_none (ArmedCut k x) l m h = refl
+steady_none (ArmedFail k) l m h = rw h refl
+
+pub grows_none : (t : Option (List Entry)) → GrowsBy t [] t
+grows_none None = tt
+grows_none (Some t) = simp append-nil refl
+
+module _ {N : Type 0} (state : N → DeviceState) (bench : N → BenchState) where
+  -- ---- any line that makes no write
+
+  -- the counts of a line that calls nothing
+  counts_same : (b : BenchState) (d : DeviceState) (s : State) (n : ℕ) (l : DeckLine) (result : Option LineResult) (after : State) → line_powers l ≡ 0 → line_pokes s l ≡ 0
+      → Arms b (armed_in s) (line_cuts l) (line_fails l) b (armed_in after) → LineCounts b d (quiet n l s result after) b d
+  counts_same b d s n l result after powers pokes arms =
+      record {
+        counts = record { powers = ap (λ (k : ℕ). raised b.powers k) (sym powers); pokes = ap (λ (k : ℕ). raised b.pokes k) (sym pokes); cuts = refl; faults = refl; steady = refl };
+        arms = arms;
+      }
+
+  -- a line that leaves its device as it is
+  pub quietly : (p q : Player N) (s : State) (n : ℕ) (l : DeckLine) (result : Option LineResult) (after : State) (r : Option Answer) → device_of q ≡ device_of p → IsAt state bench q after
+      → option_map answer_value r ≡ result → line_powers l ≡ 0 → line_pokes s l ≡ 0 → Arms (bench (device_of p)) (armed_in s) (line_cuts l) (line_fails l) (bench (device_of p)) (armed_in after)
+      → None ≡ steady_at (armed_in s) l (moves_of s (n, l)) → (state (device_of p)).words ≡ words_left (state (device_of p)).words [] after
+      → Stepped state bench p s (n, l) None (quiet n l s result after) r q
+  quietly p q s n l result after r same at answers powers pokes arms steady words =
+      let t = quiet n l s result after in
+      let d = device_of p in
+      record {
+        may = tt;
+        at = at;
+        answers = answers;
+        counts = subst (λ (e : N). LineCounts (bench d) (state d) t (bench e) (state e)) (sym same) (counts_same (bench d) (state d) s n l result after powers pokes arms);
+        steady = λ h. steady;
+        tape = subst (λ (e : N). StepTape s (n, l) None t (state d) (state e)) (sym same)
+            (record { entries = []; grows = grows_none (state d).tape; accounts = record { count = refl; each = tt; ends = refl }; worn = refl; left = sym words });
+      }
+
+  -- ---- lines of a play's own state
+
+  pub budget_done : (p : Player N) (k : ℕ) → 1 ≤ k → k ≤ 65536 → SilentDone state bench p (line.Budget k) None (record p { budget = k })
+  unfolding step
+  budget_done p k some most (Cold m b a) n at =
+      let q : Player N = record p { budget = k } in
+      let then : IsAt state bench q (Cold m k a) = record { stands = at.stands; budget = refl; armed = at.armed; some = some; most = most; can_arm = at.can_arm; unfused = at.unfused } in (
+        None,
+        record {
+          stepped = quietly p q (Cold m b a) n (line.Budget k) None (Cold m k a) None refl then refl refl refl (arms_same (bench (device_of p)) a) (steady_none a (line.Budget k) (moves_of (Cold m b a) (n, line.Budget k)) refl) at.stands.1;
+          silent = refl;
+        },
+      )
+  budget_done p k some most (Hot w) n at =
+      let q : Player N = record p { budget = k } in
+      let then : IsAt state bench q (Hot (record w { budget = k })) = record { stands = at.stands; budget = refl; armed = at.armed; some = some; most = most; can_arm = at.can_arm; unfused = at.unfused } in (
+        None,
+        record {
+          stepped = quietly p q (Hot w) n (line.Budget k) None (Hot (record w { budget = k })) None refl then refl refl refl (arms_same (bench (device_of p)) w.armed) (steady_none w.armed (line.Budget k) (moves_of (Hot w) (n, line.Budget k)) refl) refl;
+          silent = refl;
+        },
+      )
+
+  pub cut_done : (p : Player N) (k : ℕ) (x : List ℕ) → 1 ≤ k → length x ≡ 8 → SilentDone state bench p (line.Cut k x) None (record p { armed = armed.Cut k x })
+  unfolding step
+  cut_done p k x some size (Cold m b a) n at =
+      let q : Player N = record p { armed = armed.Cut k x } in
+      let then : IsAt state bench q (Cold m b (ArmedCut k x)) = record { stands = at.stands; budget = at.budget; armed = refl; some = at.some; most = at.most; can_arm = (some, size); unfused = at.unfused } in (
+        None,
+        record {
+          stepped = quietly p q (Cold m b a) n (line.Cut k x) None (Cold m b (ArmedCut k x)) None refl then refl refl refl (arms_cut (bench (device_of p)) a k x) (steady_none a (line.Cut k x) (moves_of (Cold m b a) (n, line.Cut k x)) refl) at.stands.1;
+          silent = refl;
+        },
+      )
+  cut_done p k x some size (Hot w) n at =
+      let q : Player N = record p { armed = armed.Cut k x } in
+      let then : IsAt state bench q (Hot (record w { armed = ArmedCut k x })) = record { stands = at.stands; budget = at.budget; armed = refl; some = at.some; most = at.most; can_arm = (some, size); unfused = at.unfused } in (
+        None,
+        record {
+          stepped = quietly p q (Hot w) n (line.Cut k x) None (Hot (record w { armed = ArmedCut k x })) None refl then refl refl refl (arms_cut (bench (device_of p)) w.armed k x) (steady_none w.armed (line.Cut k x) (moves_of (Hot w) (n, line.Cut k x)) refl) refl;
+          silent = refl;
+        },
+      )
+
+  pub fail_done : (p : Player N) (k : ℕ) → 1 ≤ k → SilentDone state bench p (line.Fail k) None (record p { armed = armed.Fail k })
+  unfolding step
+  fail_done p k some (Cold m b a) n at =
+      let q : Player N = record p { armed = armed.Fail k } in
+      let then : IsAt state bench q (Cold m b (ArmedFail k)) = record { stands = at.stands; budget = at.budget; armed = refl; some = at.some; most = at.most; can_arm = some; unfused = at.unfused } in (
+        None,
+        record {
+          stepped = quietly p q (Cold m b a) n (line.Fail k) None (Cold m b (ArmedFail k)) None refl then refl refl refl (arms_fail (bench (device_of p)) a k) (steady_none a (line.Fail k) (moves_of (Cold m b a) (n, line.Fail k)) refl) at.stands.1;
+          silent = refl;
+        },
+      )
+  fail_done p k some (Hot w) n at =
+      let q : Player N = record p { armed = armed.Fail k } in
+      let then : IsAt state bench q (Hot (record w { armed = ArmedFail k })) = record { stands = at.stands; budget = at.budget; armed = refl; some = at.some; most = at.most; can_arm = some; unfused = at.unfused } in (
+        None,
+        record {
+          stepped = quietly p q (Hot w) n (line.Fail k) None (Hot (record w { armed = ArmedFail k })) None refl then refl refl refl (arms_fail (bench (device_of p)) w.armed k) (steady_none w.armed (line.Fail k) (moves_of (Hot w) (n, line.Fail k)) refl) refl;
+          silent = refl;
+        },
+      )
+
+  pub named_done : (p : Player N) → SilentDone state bench p line.Named None p
+  unfolding step
+  named_done p (Cold m b a) n at =
+      (None, record { stepped = quietly p p (Cold m b a) n line.Named None (Cold m b a) None refl at refl refl refl (arms_same (bench (device_of p)) a) (steady_none a line.Named (moves_of (Cold m b a) (n, line.Named)) refl) at.stands.1; silent = refl })
+  named_done p (Hot w) n at =
+      (None, record { stepped = quietly p p (Hot w) n line.Named None (Hot w) None refl at refl refl refl (arms_same (bench (device_of p)) w.armed) (steady_none w.armed line.Named (moves_of (Hot w) (n, line.Named)) refl) refl; silent = refl })
+
+  -- ---- lines from the first power line on, which leave their player as it is
+
+  -- a line that is quiet in a play that has begun
+  pub still : (p : Player N) (w : Warm) (n : ℕ) (l : DeckLine) (result : Option LineResult) (r : Option Answer) → IsAt state bench p (Hot w) → option_map answer_value r ≡ result → line_powers l ≡ 0
+      → line_pokes (Hot w) l ≡ 0 → line_cuts l ≡ 0 → line_fails l ≡ 0 → is_card_line l ≡ false → Stepped state bench p (Hot w) (n, l) None (quiet n l (Hot w) result (Hot w)) r p
+  still p w n l result r at answers powers pokes cuts fails card =
+      let b = bench (device_of p) in
+      quietly p p (Hot w) n l result (Hot w) r refl at answers powers pokes
+      (subst (λ (i : ℕ). Arms b w.armed i (line_fails l) b w.armed) (sym cuts) (subst (λ (i : ℕ). Arms b w.armed 0 i b w.armed) (sym fails) (arms_same b w.armed)))
+      (steady_none w.armed l (moves_of (Hot w) (n, l)) card) refl
+
+  -- ---- dumps
+
+  pub dump_cold : (d : N) (k : ℕ) (a : Armed) (aid : List ℕ) → let p : Player N = record { power = power.Cold d; budget = k; armed = a } in SilentDone state bench p (line.Dump aid) (Some answer.NoCard) p
+  unfolding step
+  dump_cold d k a aid (Cold m b r) n at =
+      let p : Player N = record { power = power.Cold d; budget = k; armed = a } in
+      (None, record { stepped = quietly p p (Cold m b r) n (line.Dump aid) (Some NoCard) (Cold m b r) (Some answer.NoCard) refl at refl refl refl (arms_same (bench d) r) (steady_none r (line.Dump aid) (moves_of (Cold m b r) (n, line.Dump aid)) refl) at.stands.1; silent = refl })
+  dump_cold d k a aid (Hot w) n at = absurd at.stands.0
+
+  -- a dump from the first power line on
+  dump_hot : (p : Player N) (w : Warm) (n : ℕ) (aid : List ℕ) (r : Answer) → IsAt state bench p (Hot w) → answer_value r ≡ dumped w.live w.base aid → Silent state bench p (Hot w) (n, line.Dump aid) None (Some r) p
+  unfolding step
+  dump_hot p w n aid r at is = record { stepped = still p w n (line.Dump aid) (Some (dumped w.live w.base aid)) (Some r) at (ap (λ (x : LineResult). Some x) is) refl refl refl refl refl; silent = refl }
+
+  pub dump_off : (d : N) (k : ℕ) (a : Armed) (aid : List ℕ) → let p : Player N = record { power = power.Off d; budget = k; armed = a } in SilentDone state bench p (line.Dump aid) (Some answer.NoCard) p
+  dump_off d k a aid (Cold m b r) n at = absurd at.stands.0
+  dump_off d k a aid (Hot w) n at =
+      let p : Player N = record { power = power.Off d; budget = k; armed = a } in
+      (None, dump_hot p w n aid answer.NoCard at (ap (λ (v : Live). dumped v w.base aid) (sym at.stands.0)))
+
+  pub dump_mute : (d : N) (k : ℕ) (a : Armed) (aid : List ℕ) → let p : Player N = record { power = power.Mute d; budget = k; armed = a } in SilentDone state bench p (line.Dump aid) (Some answer.Mute) p
+  dump_mute d k a aid (Cold m b r) n at = absurd at.stands.0
+  dump_mute d k a aid (Hot w) n at =
+      let p : Player N = record { power = power.Mute d; budget = k; armed = a } in
+      (None, dump_hot p w n aid answer.Mute at (ap (λ (v : Live). dumped v w.base aid) (sym at.stands.0)))
+
+  pub dump_on : (c : Card N) (k : ℕ) (a : Armed) (aid : List ℕ) (r : Answer) → answer_value r ≡ static_of (lookup (card_in state c).apps aid)
+      → let p : Player N = record { power = power.On c; budget = k; armed = a } in SilentDone state bench p (line.Dump aid) (Some r) p
+  dump_on c k a aid r is (Cold m b v) n at = absurd at.stands.0
+  dump_on c k a aid r is (Hot w) n at =
+      let p : Player N = record { power = power.On c; budget = k; armed = a } in
+      let on = at.stands.0 in
+      (None, dump_hot p w n aid r at (is ∙ ap (λ (b : Base). dumped (Running (seat_in state c)) b aid) (sym on.base) ∙ ap (λ (v : Live). dumped v w.base aid) (sym on.live)))
+
+  -- what a dump answers, whatever worn stop is given
+  same_dump : (s : State) (n : ℕ) (aid : List ℕ) (w : Option WornAt) → (step s (n, line.Dump aid) None).result ≡ (step s (n, line.Dump aid) w).result
+  unfolding step
+  same_dump (Cold m b r) n aid w = refl
+  same_dump (Hot v) n aid w = refl
+
+  pub dump_answer : (p : Player N) (aid : List ℕ) (r : Answer) → SilentDone state bench p (line.Dump aid) (Some r) p
+      → (s : State) (n : ℕ) → IsAt state bench p s → (step s (n, line.Dump aid) None).result ≡ Some (answer_value r)
+  dump_answer p aid r done s n at = let h = done s n at in same_dump s n aid h.0 ∙ sym (h.1).stepped.answers
+
+  -- a line of a player with this power is one of the player
+  pub by_power : (p : Player N) (pw : Power N) (l : DeckLine) (r : Option Answer) → p.power ≡ pw
+      → (let q : Player N = record { power = pw; budget = p.budget; armed = p.armed } in SilentDone state bench q l r q) → SilentDone state bench p l r p
+  by_power p pw l r is h =
+      let same : ◌≡◌ {A = Player N} (record p { power = pw }) p = ap (λ (x : Power N). record p { power = x }) (sym is) in
+      subst (λ (q : Player N). SilentDone state bench q l r q) same h
+
+  -- ---- lines of commands without a card
+
+  no_arms : (c : Command) (b : BenchState) (a : play.Armed) → Arms b a (line_cuts (command_line c)) (line_fails (command_line c)) b Unarmed
+  no_arms c b a = subst (λ (i : ℕ). Arms b a i (line_fails (command_line c)) b Unarmed) (sym (no_cuts c)) (subst (λ (i : ℕ). Arms b a 0 i b Unarmed) (sym (no_fails c)) (arms_dropped b a))
+
+  no_steady : (a : Armed) (b : BenchState) (v : play.Armed) (l : DeckLine) (m : ℕ) → CanArm a → armed_value a ≡ v → m ≡ 0 → None ≡ steady_at v l m
+  no_steady a b v l m can is none =
+      let missed : NotHit (armed_value a) 0 = not_hit a b 0 can (past_none (armed_bench a b).cut) (past_none (armed_bench a b).worn) in
+      subst (λ (x : play.Armed). None ≡ steady_at x l m) is (subst (λ (i : ℕ). None ≡ steady_at (armed_value a) l i) (sym none) (missed.steady l))
+
+  -- a quiet step is silent
+  quiet_silent : (p q : Player N) (s : State) (n : ℕ) (l : DeckLine) (result : Option LineResult) (after : State) (r : Option Answer) → step s (n, l) None ≡ quiet n l s result after
+      → Stepped state bench p s (n, l) None (quiet n l s result after) r q → Silent state bench p s (n, l) None r q
+  quiet_silent p q s n l result after r is stepped =
+      record { stepped = subst (λ (t : Step). Stepped state bench p s (n, l) None t r q) (sym is) stepped; silent = subst (λ (t : Step). shown_turns t.turns t.stop ≡ []) (sym is) refl }
+
+  pub none_cold : (d : N) (k : ℕ) (a : Armed) (c : Command)
+      → SilentDone state bench (record { power = power.Cold d; budget = k; armed = a }) (command_line c) (Some answer.NoCard) (record { power = power.Cold d; budget = k; armed = armed.Not })
+  none_cold d k a c (Hot w) n at = absurd at.stands.0
+  none_cold d k a c (Cold m b r) n at =
+      let p : Player N = record { power = power.Cold d; budget = k; armed = a } in
+      let q : Player N = record { power = power.Cold d; budget = k; armed = armed.Not } in
+      let l = command_line c in
+      let then : IsAt state bench q (Cold m b Unarmed) = record { stands = at.stands; budget = at.budget; armed = refl; some = at.some; most = at.most; can_arm = tt; unfused = at.unfused } in (
+        None,
+        quiet_silent p q (Cold m b r) n l (Some NoCard) (Cold m b Unarmed) (Some answer.NoCard) (cold_is c m b r n None)
+            (quietly p q (Cold m b r) n l (Some NoCard) (Cold m b Unarmed) (Some answer.NoCard) refl then refl (no_powers c) (no_pokes c (Cold m b r)) (no_arms c (bench d) r)
+            (no_steady a (bench d) r l (moves_of (Cold m b r) (n, l)) at.can_arm at.armed (moves_cold c m b r n)) at.stands.1),
+      )
+
+  -- a line of commands in a play that has begun, where no card runs
+  none_hot : (p q : Player N) (w : Warm) (n : ℕ) (c : Command) (v : Live) (result : LineResult) (r : Answer) → device_of q ≡ device_of p → IsAt state bench p (Hot w) → IsAt state bench q (Hot (record w { armed = Unarmed }))
+      → w.live ≡ v → card_line n (command_line c) w v w.base None ≡ quiet n (command_line c) (Hot w) (Some result) (Hot (record w { armed = Unarmed })) → answer_value r ≡ result
+      → Silent state bench p (Hot w) (n, command_line c) None (Some r) q
+  none_hot p q w n c v result r same at then live quiet_is answers =
+      let l = command_line c in
+      let line_is : card_line n l w w.live w.base None ≡ quiet n l (Hot w) (Some result) (Hot (record w { armed = Unarmed })) = ap (λ (x : Live). card_line n l w x w.base None) live ∙ quiet_is in
+      let none : moves_of (Hot w) (n, l) ≡ 0 = moves_hot c w n ∙ ap (λ (t : Step). moves t.items) line_is in
+      quiet_silent p q (Hot w) n l (Some result) (Hot (record w { armed = Unarmed })) (Some r) (hot_is c w n None ∙ line_is)
+      (quietly p q (Hot w) n l (Some result) (Hot (record w { armed = Unarmed })) (Some r) same then (ap (λ (x : LineResult). Some x) answers) (no_powers c) (no_pokes c (Hot w)) (no_arms c (bench (device_of p)) w.armed)
+      (no_steady p.armed (bench (device_of p)) w.armed l (moves_of (Hot w) (n, l)) at.can_arm at.armed none) refl)
+
+  pub none_off : (d : N) (k : ℕ) (a : Armed) (c : Command)
+      → SilentDone state bench (record { power = power.Off d; budget = k; armed = a }) (command_line c) (Some answer.NoCard) (record { power = power.Off d; budget = k; armed = armed.Not })
+  none_off d k a c (Cold m b r) n at = absurd at.stands.0
+  none_off d k a c (Hot w) n at =
+      let p : Player N = record { power = power.Off d; budget = k; armed = a } in
+      let q : Player N = record { power = power.Off d; budget = k; armed = armed.Not } in
+      let then : IsAt state bench q (Hot (record w { armed = Unarmed })) = record { stands = at.stands; budget = at.budget; armed = refl; some = at.some; most = at.most; can_arm = tt; unfused = at.unfused } in
+      (None, none_hot p q w n c Unpowered NoCard answer.NoCard refl at then at.stands.0 refl refl)
+
+  pub none_mute : (d : N) (k : ℕ) (a : Armed) (c : Command)
+      → SilentDone state bench (record { power = power.Mute d; budget = k; armed = a }) (command_line c) (Some answer.Mute) (record { power = power.Mute d; budget = k; armed = armed.Not })
+  none_mute d k a c (Cold m b r) n at = absurd at.stands.0
+  none_mute d k a c (Hot w) n at =
+      let p : Player N = record { power = power.Mute d; budget = k; armed = a } in
+      let q : Player N = record { power = power.Mute d; budget = k; armed = armed.Not } in
+      let then : IsAt state bench q (Hot (record w { armed = Unarmed })) = record { stands = at.stands; budget = at.budget; armed = refl; some = at.some; most = at.most; can_arm = tt; unfused = at.unfused } in
+      (None, none_hot p q w n c Muted Silenced answer.Mute refl at then at.stands.0 refl refl)

@@ -1,0 +1,267 @@
+-- A command by the turns of its run: its items, where its writes stop, and what is told of it.
+use Rattle.std.proofs.Common.{◌≡◌, ℕ, zero, suc, ◌+◌, ◌-◌, ◌≤◌, true, List, [], ◌∷◌, ◌++◌, length, Option, Some, None, Result, Ok, Err, refl, arith, sym, ap, subst, ◌∙◌, inl, inr, length-append}
+use Rattle.std.specs.Prelude.{option_map, IfOk, OnOk}
+use Rattle.std.proofs.lemmas.List.{append-nil, map-append}
+use Rattle.std.proofs.lemmas.Bool.{cases_lt}
+use Rattle.mc_model.specs.declared.device.Stop.{Stop}
+use Rattle.mc_model.specs.declared.machine.Abend.TheVariants.{A07}
+use Rattle.mc_model.specs.Orders.{Answer, answer_of}
+use Rattle.mc_model.specs.Image.{Two}
+use Rattle.mc_model.specs.Device.{DeviceState, Wrote, Makes}
+use Rattle.mc_model.specs.Stopped.{torn}
+use Rattle.mc_model.specs.Card.{Card}
+use Rattle.mc_model.specs.Items.{Item, Atomic, Fixed, Stopped, moves, card_done, at_stop}
+use Rattle.mc_model.specs.Chain.{Chain, Turn, Write, Acted, Ran, Follows, Continues, Ends, Abended, Outcome as ModelOutcome, spent, acted, turn_of, end_of, chain_session, ends_with, goes_on, ran_on, ran}
+use Rattle.mc_model.specs.Play.{OnCard, write_items}
+use Rattle.mc_model.specs.TraceText.{before_stop}
+use Rattle.mc_model.proofs.OrdersLemmas.{InOrder-append}
+use Rattle.mc_model.proofs.DeviceLemmas.{DoneAll, makes-done}
+use Rattle.mc_model.proofs.StoppedLemmas.{torn-within, torn-past}
+use Rattle.mc_store.specs.Power.{IsBase}
+use Rattle.mc_machine.specs.declared.outcome.Outcome.{Outcome}
+use Rattle.mc_machine.specs.declared.outcome.Turn.{Turn as CodeTurn}
+use Rattle.mc_machine.specs.Turns.{outcome_value, turn_value}
+use Rattle.mc_card.specs.declared.card.Card.{Card as CardOf}
+use Rattle.mc_card.specs.Made.{IsStopped, StopsAtEach, IsAll, IsDone, Made}
+use Rattle.mc_card.specs.Parts.{device_in, card_in, seat_in, with_session, IsReady, RunsChain}
+use Rattle.mc_card.specs.Ends.{GoesOn, Turned}
+use Rattle.mc_card.proofs.MadeLemmas.{moves-append, card-append, behind, stop-within, stop-past, card-found}
+use Rattle.mc_script.specs.Runs.{Tells}
+use Rattle.mc_script.proofs.StopLemmas.{stopped_in, at_number, number_done}
+use Rattle.mc_script.proofs.TurnLemmas.{turn_moves, is_told, acted_counts, before_first, before_later}
+
+-- ---- a run by its first turn
+
+ran_ends : (n : ℕ) (ch : Chain) (o : ModelOutcome) → (turn_of n ch).follows ≡ Ends o → ran n ch ≡ ends_with (turn_of n ch) (chain_session ch) o
+unfolding ran
+ran_ends zero ch o e = let same : Abended A07 ≡ o = cc e in ap (λ (o : ModelOutcome). ends_with (spent ch) (chain_session ch) o) same
+ran_ends (suc n) ch o e = ap (λ (f : Follows). ran_on (acted ch) (chain_session ch) f (λ c. ran n c)) e
+
+ran_goes : (n : ℕ) (ch next : Chain) → (acted ch).follows ≡ Continues next → ran (suc n) ch ≡ goes_on (acted ch) (ran n next)
+unfolding ran
+ran_goes n ch next e = ap (λ (f : Follows). ran_on (acted ch) (chain_session ch) f (λ c. ran n c)) e
+
+-- a run begins with the writes and the turn of its first turn
+record Begins (n : ℕ) (ch : Chain) : Type 0 where
+  writes : List Write
+  turns : List Turn
+  all_writes : (ran n ch).writes ≡ (turn_of n ch).writes ++ writes
+  all_turns : (ran n ch).turns ≡ (turn_of n ch).turn ∷ turns
+
+begins_ends : (n : ℕ) (ch : Chain) (o : ModelOutcome) → (turn_of n ch).follows ≡ Ends o → Begins n ch
+begins_ends n ch o e =
+    let is = ran_ends n ch o e in
+    record {
+      writes = [];
+      turns = [];
+      all_writes = ap (λ (r : Ran). r.writes) is ∙ sym (append-nil (turn_of n ch).writes);
+      all_turns = ap (λ (r : Ran). r.turns) is;
+    }
+
+begins_by : (n : ℕ) (ch : Chain) (f : Follows) → (acted ch).follows ≡ f → Begins (suc n) ch
+begins_by n ch (Ends o) e = begins_ends (suc n) ch o e
+begins_by n ch (Continues next) e =
+    let is = ran_goes n ch next e in
+    record {
+      writes = (ran n next).writes;
+      turns = (ran n next).turns;
+      all_writes = ap (λ (r : Ran). r.writes) is;
+      all_turns = ap (λ (r : Ran). r.turns) is;
+    }
+
+begins : (n : ℕ) (ch : Chain) → Begins n ch
+begins zero ch = begins_ends zero ch (Abended A07) refl
+begins (suc n) ch = begins_by n ch (acted ch).follows refl
+
+-- the items of writes behind writes
+items_append : (ws vs : List Write) → write_items (ws ++ vs) ≡ write_items ws ++ write_items vs
+items_append ws vs = map-append (λ (w : Write). Atomic w.words (Fixed w.name w.pieces)) ws vs
+
+-- what a turn's end says of what follows it
+end_ends : (f : Follows) (o : ModelOutcome) → end_of f ≡ Some o → f ≡ Ends o
+end_ends (Continues ch) o e = absurd (cc e)
+end_ends (Ends p) o e = let same : p ≡ o = cc e in ap (λ (o : ModelOutcome). Ends o) same
+
+end_goes : (f : Follows) → end_of f ≡ None → (ch : Chain) × (f ≡ Continues ch)
+end_goes (Continues ch) e = (ch, refl)
+end_goes (Ends p) e = absurd (cc e)
+
+-- ---- the writes of items
+
+module _ {N : Type 0} (state : N → DeviceState) (wrote : N → ℕ → List ℕ → Answer → N → Type 0)
+    (obeys : (d : N) (at : ℕ) (w : List ℕ) (a : Answer) (e : N) → (state d).on ≡ true → wrote d at w a e → Wrote (state d) at w a (state e)) where
+  -- items made by these writes
+  pub record MadeBy (c : Card) (is : List Item) (d : N) (a : Answer) (e : N) (ws : List (ℕ × List ℕ)) : Type 0 where
+    pub makes : Makes wrote d ws a e
+    pub number : IsAll is a (length ws)
+    pub stops : StopsAtEach c is (state d).words ws
+    pub done : IsDone c is a (state e).words
+
+  pub by_made : (c : Card) (is : List Item) (d e : N) (a : Answer) (m : Made state wrote c is d a e) → MadeBy c is d a e m.writes
+  by_made c is d e a m = record { makes = m.makes; number = m.number; stops = m.stops; done = m.done }
+
+  -- items that stopped, whatever was to come after them
+  pub made_before : (c : Card) (is js : List Item) (d e : N) (s : Stop) (ws : List (ℕ × List ℕ)) → MadeBy c is d (Err s) e ws → MadeBy c (is ++ js) d (Err s) e ws
+  made_before c is js d e s ws m =
+      let few : length ws ≤ moves is = m.number in
+      let all : moves (is ++ js) ≡ moves is + moves js = moves-append is js in
+      record {
+        makes = m.makes;
+        number = omega (arith, few, all);
+        stops = λ k x low high size.
+            subst (λ (t : Stopped). IsStopped c t (torn (state d).words ws k x)) (sym (stop-within is js k x low (omega (arith, few, high)))) (m.stops k x low high size);
+        done = tt;
+      }
+
+  number_on : (is js : List Item) (n k : ℕ) (a : Answer) → n ≡ moves is → IsAll js a k → IsAll (is ++ js) a (n + k)
+  number_on is js n k (Ok u) first second = let all = moves-append is js in omega (arith, first, second, all)
+  number_on is js n k (Err s) first second = let all = moves-append is js in omega (arith, first, second, all)
+
+  done_on : (c : Card) (is js : List Item) (a : Answer) (m : List (List ℕ)) → IsDone (card_done c is) js a m → IsDone c (is ++ js) a m
+  done_on c is js (Ok u) m h = subst (λ (k : Card). IsBase (OnCard k) 0 Two m) (sym (card-append is js c)) h
+  done_on c is js (Err s) m h = tt
+
+  -- items behind items that were done
+  pub made_on : (c : Card) (is js : List Item) (d m e : N) (a : Answer) (ws vs : List (ℕ × List ℕ)) → (state d).on ≡ true → MadeBy c is d (Ok tt) m ws → MadeBy (card_done c is) js m a e vs → MadeBy c (is ++ js) d a e (ws ++ vs)
+  made_on c is js d m e a ws vs on first second =
+      let all : DoneAll (state d) ws (state m) = makes-done state wrote obeys ws d m on first.makes in
+      let count : length ws ≡ moves is = first.number in
+      let size : length (ws ++ vs) ≡ length ws + length vs = length-append ws vs in
+      record {
+        makes = InOrder-append (λ d p a e. wrote d p.0 p.1 a e) ws vs d m e a first.makes second.makes;
+        number = subst (λ (n : ℕ). IsAll (is ++ js) a n) (sym size) (number_on is js (length ws) (length vs) a count second.number);
+        stops = λ k x low high long. elim (cases_lt (length ws) k) [
+          | inr in-first ↦ subst (λ (t : Stopped). IsStopped c t (torn (state d).words (ws ++ vs) k x)) (sym (stop-within is js k x low (omega (arith, in-first, count))))
+              (subst (λ (w : List (List ℕ)). IsStopped c (at_stop is k x) w) (sym (torn-within (state d).words ws vs k x low in-first)) (first.stops k x low in-first long))
+          | inl past ↦
+              let j = k - length ws in
+              let is-k : k ≡ length ws + j = omega (arith, past) in
+              let some : 1 ≤ j = omega (arith, past) in
+              let words : torn (state d).words (ws ++ vs) k x ≡ torn (state m).words vs j x =
+              torn-past (state d).words ws vs k j x some is-k ∙ ap (λ (w : List (List ℕ)). torn w vs j x) (sym all.words) in
+              let stop : at_stop (is ++ js) k x ≡ behind is (at_stop js j x) = stop-past is js k j x some (is-k ∙ ap (λ (n : ℕ). n + j) count) in
+              let there : IsStopped (card_done c is) (at_stop js j x) (torn (state m).words vs j x) = second.stops j x some (omega (arith, high, size, is-k)) long in
+              subst (λ (t : Stopped). IsStopped c t (torn (state d).words (ws ++ vs) k x)) (sym stop)
+              (subst (λ (w : List (List ℕ)). IsStopped c (behind is (at_stop js j x)) w) (sym words)
+              (subst (λ (b : Card). IsBase (OnCard b) (at_stop js j x).owed Two (torn (state m).words vs j x)) (sym (card-append is (at_stop js j x).whole c)) there))
+        ];
+        done = done_on c is js a (state e).words second.done;
+      }
+
+  -- ---- runs
+
+  module _ {R : Type 0} (told : R → List Turn → R → Type 0) (silent : (r : R) → told r [] r)
+      (onward : (q r s : R) (ts us : List Turn) → told q ts r → told r us s → told q (ts ++ us) s) where
+    -- a run on a card, and what was told of it
+    pub record RunOf (run : Ran) (c : CardOf N) (result : Result Outcome Stop) (d : CardOf N) (q r : R) : Type 0 where
+      pub writes : List (ℕ × List ℕ)
+      pub made : MadeBy (card_in state c) (write_items run.writes) (device_in c) (answer_of result) (device_in d) writes
+      pub outcome : IfOk result (λ o. outcome_value o ≡ run.outcome)
+      pub seat : OnOk result (seat_in state d ≡ with_session run.session (seat_in state c))
+      pub ready : OnOk result (IsReady state d)
+      pub tells : Tells state wrote told c writes run.turns result d q r
+
+    -- the end of a turn, in the definition's words
+    end_told : (t : Acted) (turn : CodeTurn) → t.turn ≡ turn_value turn t.turn.wrote → t.turn.end ≡ end_of t.follows → end_of t.follows ≡ option_map outcome_value turn.end
+    end_told t turn is end = sym end ∙ ap (λ (u : Turn). u.end) is
+
+    -- a turn that ends its chain
+    pub run_ends : (c d : CardOf N) (ch : Chain) (n : ℕ) (turn : CodeTurn) (o : Outcome) (q r : R) → Turned state wrote c ch n (turn_of n ch) (Ok turn) d → turn.end ≡ Some o
+        → told q (turn_value turn (turn_of n ch).turn.wrote ∷ []) r → RunOf (ran n ch) c (Ok o) d q r
+    run_ends c d ch n turn o q r turned end tells =
+        let t = turn_of n ch in
+        let follows : t.follows ≡ Ends (outcome_value o) = end_ends t.follows (outcome_value o) (end_told t turn turned.turn (is_told n ch).end ∙ ap (λ (e : Option Outcome). option_map outcome_value e) end) in
+        let ended : GoesOn state wrote c ch (n - t.count) (Ends (outcome_value o)) d = subst (λ (f : Follows). GoesOn state wrote c ch (n - t.count) f d) follows turned.follows in
+        subst (λ (run : Ran). RunOf run c (Ok o) d q r) (sym (ran_ends n ch (outcome_value o) follows))
+        (record {
+          writes = turned.made.writes;
+          made = by_made (card_in state c) (write_items t.writes) (device_in c) (device_in d) (Ok tt) turned.made;
+          outcome = refl;
+          seat = ended.1;
+          ready = ended.0;
+          tells = subst (λ (u : Turn). told q (u ∷ []) r) (sym turned.turn) tells;
+        })
+
+    -- a turn whose write stopped
+    pub run_stops : (c d : CardOf N) (ch : Chain) (n : ℕ) (s : Stop) (q : R) → Turned state wrote c ch n (turn_of n ch) (Err s) d → RunOf (ran n ch) c (Err s) d q q
+    run_stops c d ch n s q turned =
+        let t = turn_of n ch in
+        let all = begins n ch in
+        let made = by_made (card_in state c) (write_items t.writes) (device_in c) (device_in d) (Err s) turned.made in
+        let ws = turned.made.writes in
+        let at = stopped_in wrote ws (device_in c) (device_in d) s made.makes in
+        let few : length ws ≤ moves (write_items t.writes) = made.number in
+        let here : suc at.0 ≤ turn_moves t.turn.wrote = let told = (is_told n ch).moves in let low = at.1.low in omega (arith, few, told, low) in
+        let none : before_stop (ran n ch).turns (suc at.0) ≡ [] = ap (λ (ts : List Turn). before_stop ts (suc at.0)) all.all_turns ∙ before_first t.turn all.turns (suc at.0) (omega arith) here in
+        record {
+          writes = ws;
+          made =
+              subst (λ (is : List Item). MadeBy (card_in state c) is (device_in c) (Err s) (device_in d) ws)
+              (sym (ap write_items all.all_writes ∙ items_append t.writes all.writes))
+              (made_before (card_in state c) (write_items t.writes) (write_items all.writes) (device_in c) (device_in d) s ws made);
+          outcome = tt;
+          seat = tt;
+          ready = tt;
+          tells = (suc at.0, at_number wrote ws (device_in c) (device_in d) at.0 s at.1, subst (λ (ts : List Turn). told q ts q) (sym none) (silent q));
+        }
+
+    -- what follows a turn that does not end its chain
+    pub record Goes (c : CardOf N) (ch : Chain) (n : ℕ) (d : CardOf N) : Type 0 where
+      pub left : ℕ
+      pub is : n ≡ suc left
+      pub next : Chain
+      pub follows : (acted ch).follows ≡ Continues next
+      pub runs : RunsChain state d next left
+      pub seat : seat_in state d ≡ seat_in state c
+
+    pub run_goes : (c d : CardOf N) (ch : Chain) (n : ℕ) (turn : CodeTurn) → Turned state wrote c ch n (turn_of n ch) (Ok turn) d → turn.end ≡ None → Goes c ch n d
+    run_goes c d ch zero turn turned end =
+        absurd (cc (end_told (turn_of zero ch) turn turned.turn (is_told zero ch).end ∙ ap (λ (e : Option Outcome). option_map outcome_value e) end))
+    run_goes c d ch (suc n) turn turned end =
+        let t = acted ch in
+        let next = end_goes t.follows (end_told t turn turned.turn (is_told (suc n) ch).end ∙ ap (λ (e : Option Outcome). option_map outcome_value e) end) in
+        let on : GoesOn state wrote c ch (suc n - t.count) (Continues next.0) d = subst (λ (f : Follows). GoesOn state wrote c ch (suc n - t.count) f d) next.1 turned.follows in
+        let left : suc n - t.count ≡ n = let one = acted_counts ch next.0 next.1 in omega (arith, one) in
+        record { left = n; is = refl; next = next.0; follows = next.1; runs = subst (λ (k : ℕ). RunsChain state d next.0 k) left on.0; seat = on.1 }
+
+    seat_on : (result : Result Outcome Stop) (c m d : CardOf N) (session : List ℕ) → seat_in state m ≡ seat_in state c → OnOk result (seat_in state d ≡ with_session session (seat_in state m)) → OnOk result (seat_in state d ≡ with_session session (seat_in state c))
+    seat_on (Ok o) c m d session same h = h ∙ ap (λ seat. with_session session seat) same
+    seat_on (Err s) c m d session same h = tt
+
+    -- what is told of turns behind a turn
+    tells_on : (result : Result Outcome Stop) (c m d : CardOf N) (t : Turn) (ts : List Turn) (ws vs : List (ℕ × List ℕ)) (p q r : R) → Makes wrote (device_in c) ws (Ok tt) (device_in m) → length ws ≡ turn_moves t.wrote
+        → told p (t ∷ []) q → Tells state wrote told m vs ts result d q r → Tells state wrote told c (ws ++ vs) (t ∷ ts) result d p r
+    tells_on (Ok o) c m d t ts ws vs p q r makes size first rest = onward p q r (t ∷ []) ts first rest
+    tells_on (Err s) c m d t ts ws vs p q r makes size first rest =
+        let k = rest.0 in
+        let is : before_stop (t ∷ ts) (length ws + k) ≡ t ∷ before_stop ts k = before_later t ts (length ws + k) k rest.1.low (omega (arith, size)) in
+        (length ws + k, number_done wrote ws vs (device_in c) (device_in m) (device_in d) k s makes rest.1, subst (λ (us : List Turn). told p us r) (sym is) (onward p q r (t ∷ []) (before_stop ts k) first rest.2))
+
+    -- a turn, and the run behind it
+    pub run_on : (c m d : CardOf N) (ch : Chain) (n : ℕ) (turn : CodeTurn) (result : Result Outcome Stop) (p q r : R) (goes : Goes c ch n m) → (state (device_in c)).on ≡ true → Turned state wrote c ch n (turn_of n ch) (Ok turn) m
+        → told p (turn_value turn (turn_of n ch).turn.wrote ∷ []) q → RunOf (ran goes.left goes.next) m result d q r → RunOf (ran n ch) c result d p r
+    run_on c m d ch n turn result p q r goes on turned tells rest =
+        let one : ran (suc goes.left) ch ≡ goes_on (acted ch) (ran goes.left goes.next) = ran_goes goes.left ch goes.next goes.follows in
+        subst (λ (k : ℕ). RunOf (ran k ch) c result d p r) (sym goes.is)
+        (subst (λ (run : Ran). RunOf run c result d p r) (sym one)
+        (turn_and_run c m d ch goes.left turn result p q r (ran goes.left goes.next) goes.seat on (subst (λ (k : ℕ). Turned state wrote c ch k (turn_of k ch) (Ok turn) m) goes.is turned) (subst (λ (k : ℕ). told p (turn_value turn (turn_of k ch).turn.wrote ∷ []) q) goes.is tells) rest))
+      where
+        turn_and_run : (c m d : CardOf N) (ch : Chain) (n : ℕ) (turn : CodeTurn) (result : Result Outcome Stop) (p q r : R) (run : Ran) → seat_in state m ≡ seat_in state c → (state (device_in c)).on ≡ true
+            → Turned state wrote c ch (suc n) (acted ch) (Ok turn) m → told p (turn_value turn (acted ch).turn.wrote ∷ []) q → RunOf run m result d q r → RunOf (goes_on (acted ch) run) c result d p r
+        turn_and_run c m d ch n turn result p q r run seat on turned tells rest =
+            let t = acted ch in
+            let ws = turned.made.writes in
+            let first = by_made (card_in state c) (write_items t.writes) (device_in c) (device_in m) (Ok tt) turned.made in
+            let now : card_done (card_in state c) (write_items t.writes) ≡ card_in state m = card-found (card_done (card_in state c) (write_items t.writes)) 0 (state (device_in m)).words first.done in
+            let second = subst (λ (k : Card). MadeBy k (write_items run.writes) (device_in m) (answer_of result) (device_in d) rest.writes) (sym now) rest.made in
+            let size : length ws ≡ turn_moves t.turn.wrote = first.number ∙ (is_told (suc n) ch).moves in
+            record {
+              writes = ws ++ rest.writes;
+              made =
+                  subst (λ (is : List Item). MadeBy (card_in state c) is (device_in c) (answer_of result) (device_in d) (ws ++ rest.writes)) (sym (items_append t.writes run.writes))
+                  (made_on (card_in state c) (write_items t.writes) (write_items run.writes) (device_in c) (device_in m) (device_in d) (answer_of result) ws rest.writes on first second);
+              outcome = rest.outcome;
+              seat = seat_on result c m d run.session seat rest.seat;
+              ready = rest.ready;
+              tells = tells_on result c m d t.turn run.turns ws rest.writes p q r first.makes size (subst (λ (u : Turn). told p (u ∷ []) q) (sym turned.turn) tells) rest.tells;
+            }

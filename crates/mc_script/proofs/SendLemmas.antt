@@ -1,0 +1,215 @@
+-- Commands for the card manager, one behind the other.
+use Rattle.std.proofs.Common.{◌≡◌, ℕ, zero, suc, ◌+◌, Bool, true, false, cond, ◌==◌, List, [], ◌∷◌, ◌++◌, length, take, drop, Option, Some, None, Result, Ok, Err, refl, arith, sym, ap, subst, ◌∙◌}
+use Rattle.std.specs.Prelude.{option_map}
+use Rattle.std.specs.List.{AllByRecursion}
+use Rattle.mc_model.specs.declared.device.Stop.{Stop}
+use Rattle.mc_model.specs.Orders.{Answer, answer_of}
+use Rattle.mc_model.specs.Device.{DeviceState, Wrote, Makes}
+use Rattle.mc_model.specs.Bytes.{bytes2}
+use Rattle.mc_model.specs.Apdu.{ApduParts, apdu_read, rest_read, Rest}
+use Rattle.mc_model.specs.Units.{UnitParts}
+use Rattle.mc_model.specs.Card as model
+use Rattle.mc_model.specs.Items.{card_done}
+use Rattle.mc_model.specs.Chain.{Turn}
+use Rattle.mc_model.specs.Manager.{Seat, route, routed}
+use Rattle.mc_model.specs.Play.{Command, command, refused, status, is_done, with_items, sent_on, send, piece_commands, section_commands, load_commands}
+use Rattle.mc_model.specs.TraceText.{before_stop}
+use Rattle.mc_machine.specs.declared.outcome.Outcome.{Outcome}
+use Rattle.mc_machine.specs.Turns.{outcome_value}
+use Rattle.mc_card.specs.declared.card.Card.{Card}
+use Rattle.mc_card.specs.Parts.{device_in, card_in, seat_in, due, IsReady}
+use Rattle.mc_card.specs.Ends.{is_passed}
+use Rattle.mc_card.proofs.MadeLemmas.{card-found}
+use Rattle.mc_script.specs.Classes.{IsManaged}
+use Rattle.mc_script.specs.Runs.{Tells, Ran}
+use Rattle.mc_script.proofs.StopLemmas.{number_done}
+use Rattle.mc_script.proofs.RanLemmas.{MadeBy, by_made, made_on, made_before}
+use Rattle.mc_script.proofs.CommandLemmas.{command_turns}
+use Rattle.mc_script.proofs.UpLemmas.{up_on, up_base}
+
+-- ---- commands of class BE have no turns
+
+-- a command that was taken apart, by its class
+route_by : (a : ApduParts) (seat : Seat) → a.cla ≡ 0xBE → is_passed (routed (Some a)) seat.selected ≡ false
+route_by a seat e = rw e refl
+
+read_by : (ins p1 p2 : ℕ) (r : Option Rest) (seat : Seat) → is_passed (routed (option_map (λ r. record { cla = 0xBE; ins = ins; p1 = p1; p2 = p2; p3 = r.p3; body = r.body; le = r.le }) r)) seat.selected ≡ false
+read_by ins p1 p2 None seat = refl
+read_by ins p1 p2 (Some r) seat = refl
+
+not_passed : (b : List ℕ) (seat : Seat) → IsManaged b → is_passed (route b) seat.selected ≡ false
+unfolding apdu_read
+not_passed [] seat h = refl
+not_passed (c ∷ []) seat h = refl
+not_passed (c ∷ i ∷ []) seat h = refl
+not_passed (c ∷ i ∷ p ∷ []) seat h = refl
+not_passed (c ∷ i ∷ p ∷ q ∷ b) seat h = subst (λ (k : ℕ). is_passed (route (k ∷ i ∷ p ∷ q ∷ b)) seat.selected ≡ false) (sym h) (read_by i p q (rest_read b) seat)
+
+pub managed_turns : (c : model.Card) (seat : Seat) (b : List ℕ) (budget : ℕ) → IsManaged b → (command c seat b budget).turns ≡ []
+managed_turns c seat b budget h = command_turns c seat b budget (not_passed b seat h)
+
+sent_turns : (k : Bool) (first rest : Command) → first.turns ≡ [] → rest.turns ≡ [] → (sent_on k first rest).turns ≡ []
+sent_turns true first rest e f = ap (λ ts. ts ++ rest.turns) e ∙ f
+sent_turns false first rest e f = e
+
+pub send_turns : (c : model.Card) (seat : Seat) (budget : ℕ) (bs : List (List ℕ)) → AllByRecursion IsManaged bs → (send c seat budget bs).turns ≡ []
+unfolding send
+send_turns c seat budget [] all = refl
+send_turns c seat budget (b ∷ bs) all =
+    let r = command c seat b budget in
+    sent_turns (is_done r.outcome) r (send (card_done c r.items) r.seat budget bs) (managed_turns c seat b budget all.0) (send_turns (card_done c r.items) r.seat budget bs all.1)
+
+-- ---- one command, and those behind it
+
+pub send_first : (c : model.Card) (seat : Seat) (budget : ℕ) (b : List ℕ) (bs : List (List ℕ)) → send c seat budget (b ∷ bs) ≡ sent_on (is_done (command c seat b budget).outcome) (command c seat b budget) (send (card_done c (command c seat b budget).items) (command c seat b budget).seat budget bs)
+unfolding send
+send_first c seat budget b bs = refl
+
+pub send_none : (c : model.Card) (seat : Seat) (budget : ℕ) → send c seat budget [] ≡ refused seat 0x9000
+unfolding send
+send_none c seat budget = refl
+
+module _ {N R : Type 0} (state : N → DeviceState) (wrote : N → ℕ → List ℕ → Answer → N → Type 0)
+    (obeys : (d : N) (at : ℕ) (w : List ℕ) (a : Answer) (e : N) → (state d).on ≡ true → wrote d at w a e → Wrote (state d) at w a (state e))
+    (told : R → List Turn → R → Type 0) (silent : (r : R) → told r [] r)
+    (onward : (q r s : R) (ts us : List Turn) → told q ts r → told r us s → told q (ts ++ us) s) where
+  -- nothing is told of commands without turns
+  untold : (result : Result Outcome Stop) (c d : Card N) (ws : List (ℕ × List ℕ)) (ts : List Turn) (q r : R) → ts ≡ [] → Tells state wrote told c ws ts result d q r → told q [] r
+  untold (Ok o) c d ws ts q r none h = subst (λ (us : List Turn). told q us r) none h
+  untold (Err s) c d ws ts q r none h = subst (λ (us : List Turn). told q (before_stop us h.0) r) none h.2
+
+  -- what is told of commands without turns behind such a command
+  tells_behind : (result : Result Outcome Stop) (c m d : Card N) (ws vs : List (ℕ × List ℕ)) (ts us : List Turn) (p q r : R) → Makes wrote (device_in c) ws (Ok tt) (device_in m) → ts ≡ [] → us ≡ [] → told p [] q
+      → Tells state wrote told m vs us result d q r → Tells state wrote told c (ws ++ vs) ts result d p r
+  tells_behind (Ok o) c m d ws vs ts us p q r makes none also first rest =
+      subst (λ (ts : List Turn). told p ts r) (sym none) (onward p q r [] [] first (subst (λ (us : List Turn). told q us r) also rest))
+  tells_behind (Err s) c m d ws vs ts us p q r makes none also first rest = (
+    length ws + rest.0,
+    number_done wrote ws vs (device_in c) (device_in m) (device_in d) rest.0 s makes rest.1,
+    subst (λ (ts : List Turn). told p (before_stop ts (length ws + rest.0)) r) (sym none) (onward p q r [] [] first (subst (λ (us : List Turn). told q (before_stop us rest.0) r) also rest.2)),
+  )
+
+  -- a command that was done, and those behind it
+  both_ran : (c m d : Card N) (k l : Command) (o : Outcome) (result : Result Outcome Stop) (p q r : R) → (state (device_in c)).on ≡ true → k.turns ≡ [] → l.turns ≡ []
+      → Ran state wrote told c k (Ok o) m p q → Ran state wrote told m l result d q r → Ran state wrote told c (with_items k l) result d p r
+  both_ran c m d k l o result p q r on none also first rest =
+      let ws = first.commanded.made.writes in
+      let vs = rest.commanded.made.writes in
+      let one = by_made state wrote obeys (card_in state c) k.items (device_in c) (device_in m) (Ok tt) first.commanded.made in
+      let now : card_done (card_in state c) k.items ≡ card_in state m = card-found (card_done (card_in state c) k.items) 0 (state (device_in m)).words one.done in
+      let two = subst (λ (x : model.Card). MadeBy state wrote obeys x l.items (device_in m) (answer_of result) (device_in d) vs) (sym now) (by_made state wrote obeys (card_in state m) l.items (device_in m) (device_in d) (answer_of result) rest.commanded.made) in
+      let made = made_on state wrote obeys (card_in state c) k.items l.items (device_in c) (device_in m) (device_in d) (answer_of result) ws vs on one two in
+      record {
+        commanded =
+            record {
+              made = record { writes = ws ++ vs; makes = made.makes; number = made.number; stops = made.stops; done = made.done };
+              outcome = rest.commanded.outcome;
+              seat = rest.commanded.seat;
+              ready = rest.commanded.ready;
+            };
+        tells = tells_behind result c m d ws vs (k.turns ++ l.turns) l.turns p q r one.makes (ap (λ ts. ts ++ l.turns) none ∙ also) also (untold (Ok o) c m ws k.turns p q none first.tells) rest.tells;
+      }
+
+  -- a command that was stopped, whatever was to come behind it
+  first_ran : (b : Bool) (c d : Card N) (k l : Command) (s : Stop) (p r : R) → k.turns ≡ [] → l.turns ≡ [] → Ran state wrote told c k (Err s) d p r → Ran state wrote told c (sent_on b k l) (Err s) d p r
+  first_ran false c d k l s p r none also h = h
+  first_ran true c d k l s p r none also h =
+      let ws = h.commanded.made.writes in
+      let made = made_before state wrote obeys (card_in state c) k.items l.items (device_in c) (device_in d) s ws (by_made state wrote obeys (card_in state c) k.items (device_in c) (device_in d) (Err s) h.commanded.made) in
+      let turns : k.turns ≡ k.turns ++ l.turns = none ∙ sym (ap (λ ts. ts ++ l.turns) none ∙ also) in
+      record {
+        commanded = record { made = record { writes = ws; makes = made.makes; number = made.number; stops = made.stops; done = made.done }; outcome = tt; seat = tt; ready = tt };
+        tells = (h.tells.0, h.tells.1, subst (λ (ts : List Turn). told p (before_stop ts h.tells.0) r) turns h.tells.2);
+      }
+
+  -- commands that are still to be sent: what they do and tell from here, all do and tell from the start
+  pub record Sends (c : Card N) (budget : ℕ) (all : List (List ℕ)) (q : R) (left : List (List ℕ)) (m : Card N) (p : R) : Type 0 where
+    pub ready : IsReady state m
+    pub managed : AllByRecursion IsManaged left
+    pub rest : (result : Result Outcome Stop) (d : Card N) (r : R) → Ran state wrote told m (send (card_in state m) (seat_in state m) budget left) result d p r → Ran state wrote told c (send (card_in state c) (seat_in state c) budget all) result d q r
+
+  pub sends_start : (c : Card N) (budget : ℕ) (all : List (List ℕ)) (q : R) → IsReady state c → AllByRecursion IsManaged all → Sends c budget all q all c q
+  sends_start c budget all q ready managed = record { ready = ready; managed = managed; rest = λ result d r h. h }
+
+  -- a command that was answered by 9000 alone
+  pub sends_on : (c m d : Card N) (budget : ℕ) (all : List (List ℕ)) (q p r : R) (b : List ℕ) (left : List (List ℕ)) (o : Outcome) → Sends c budget all q (b ∷ left) m p → Ran state wrote told m (due state m b budget) (Ok o) d p r → is_done (outcome_value o) ≡ true → Sends c budget all q left d r
+  sends_on c m d budget all q p r b left o h ran done =
+      let k = command (card_in state m) (seat_in state m) b budget in
+      let one = by_made state wrote obeys (card_in state m) k.items (device_in m) (device_in d) (Ok tt) ran.commanded.made in
+      let now : card_in state d ≡ card_done (card_in state m) k.items = sym (card-found (card_done (card_in state m) k.items) 0 (state (device_in d)).words one.done) in
+      let behind = send (card_done (card_in state m) k.items) k.seat budget left in
+      let same : send (card_in state d) (seat_in state d) budget left ≡ behind = ap (λ (x : model.Card). send x (seat_in state d) budget left) now ∙ ap (λ (x : Seat). send (card_done (card_in state m) k.items) x budget left) ran.commanded.seat in
+      let good : is_done k.outcome ≡ true = ap is_done (sym ran.commanded.outcome) ∙ done in
+      let all-of : with_items k behind ≡ send (card_in state m) (seat_in state m) budget (b ∷ left) = sym (send_first (card_in state m) (seat_in state m) budget b left ∙ ap (λ (x : Bool). sent_on x k behind) good) in
+      record {
+        ready = ran.commanded.ready;
+        managed = h.managed.1;
+        rest = λ result e s rest.
+            h.rest result e s
+            (subst (λ (x : Command). Ran state wrote told m x result e p s) all-of
+            (both_ran m d e k behind o result p r s (up_on state m h.ready.up) (managed_turns (card_in state m) (seat_in state m) b budget h.managed.0) (send_turns (card_done (card_in state m) k.items) k.seat budget left h.managed.1) ran
+            (subst (λ (x : Command). Ran state wrote told d x result e r s) same rest)));
+      }
+
+  -- a command that was answered otherwise
+  pub sends_end : (c m d : Card N) (budget : ℕ) (all : List (List ℕ)) (q p r : R) (b : List ℕ) (left : List (List ℕ)) (o : Outcome) → Sends c budget all q (b ∷ left) m p → Ran state wrote told m (due state m b budget) (Ok o) d p r → is_done (outcome_value o) ≡ false
+      → Ran state wrote told c (send (card_in state c) (seat_in state c) budget all) (Ok o) d q r
+  sends_end c m d budget all q p r b left o h ran done =
+      let k = command (card_in state m) (seat_in state m) b budget in
+      let behind = send (card_done (card_in state m) k.items) k.seat budget left in
+      let bad : is_done k.outcome ≡ false = ap is_done (sym ran.commanded.outcome) ∙ done in
+      let all-of : k ≡ send (card_in state m) (seat_in state m) budget (b ∷ left) = sym (send_first (card_in state m) (seat_in state m) budget b left ∙ ap (λ (x : Bool). sent_on x k behind) bad) in
+      h.rest (Ok o) d r (subst (λ (x : Command). Ran state wrote told m x (Ok o) d p r) all-of ran)
+
+  -- a command that was stopped
+  pub sends_stop : (c m d : Card N) (budget : ℕ) (all : List (List ℕ)) (q p r : R) (b : List ℕ) (left : List (List ℕ)) (s : Stop) → Sends c budget all q (b ∷ left) m p → Ran state wrote told m (due state m b budget) (Err s) d p r
+      → Ran state wrote told c (send (card_in state c) (seat_in state c) budget all) (Err s) d q r
+  sends_stop c m d budget all q p r b left s h ran =
+      let k = command (card_in state m) (seat_in state m) b budget in
+      let behind = send (card_done (card_in state m) k.items) k.seat budget left in
+      h.rest (Err s) d r
+      (subst (λ (x : Command). Ran state wrote told m x (Err s) d p r) (sym (send_first (card_in state m) (seat_in state m) budget b left))
+      (first_ran (is_done k.outcome) m d k behind s p r (managed_turns (card_in state m) (seat_in state m) b budget h.managed.0) (send_turns (card_done (card_in state m) k.items) k.seat budget left h.managed.1) ran))
+
+  -- no command is left
+  pub sends_none : (c m : Card N) (budget : ℕ) (all : List (List ℕ)) (q p : R) (o : Outcome) → Sends c budget all q [] m p → outcome_value o ≡ status 0x9000 → Ran state wrote told c (send (card_in state c) (seat_in state c) budget all) (Ok o) m q p
+  sends_none c m budget all q p o h is =
+      h.rest (Ok o) m p
+      (subst (λ (x : Command). Ran state wrote told m x (Ok o) m p p) (sym (send_none (card_in state m) (seat_in state m) budget))
+      (record {
+        commanded =
+            record {
+              made = record { writes = []; makes = refl; number = refl; stops = λ k x low high size. absurd (omega (arith, low, high)); done = up_base state m h.ready.up };
+              outcome = is;
+              seat = refl;
+              ready = h.ready;
+            };
+        tells = silent p;
+      }))
+
+-- ---- the commands of a load
+
+both_managed : (xs ys : List (List ℕ)) → AllByRecursion IsManaged xs → AllByRecursion IsManaged ys → AllByRecursion IsManaged (xs ++ ys)
+both_managed [] ys h k = k
+both_managed (x ∷ xs) ys h k = (h.0, both_managed xs ys h.1 k)
+
+chosen_managed : (b : Bool) (xs : List (List ℕ)) → AllByRecursion IsManaged xs → AllByRecursion IsManaged (cond b [] xs)
+chosen_managed true xs h = tt
+chosen_managed false xs h = h
+
+pieces_managed : (n ins at : ℕ) (b : List ℕ) → AllByRecursion IsManaged (piece_commands n ins at b)
+pieces_managed zero ins at b = tt
+pieces_managed (suc n) ins at b =
+    chosen_managed (length b == 0) ((0xBE ∷ ins ∷ (bytes2 at ++ length (take 248 b) ∷ take 248 b)) ∷ piece_commands n ins (at + 248) (drop 248 b)) (refl, pieces_managed n ins (at + 248) (drop 248 b))
+
+pub load_managed : (u : UnitParts) (fixed session : ℕ) → AllByRecursion IsManaged (load_commands u fixed session)
+load_managed u fixed session =
+    let section = λ (ins : ℕ) (b : List ℕ). pieces_managed (length b) ins 0 b in
+    let code = section_commands 0x24 u.code in
+    let init = section_commands 0x26 u.init in
+    let dir = section_commands 0x20 u.dir in
+    let fci = section_commands 0x22 u.fci in (
+      refl,
+      both_managed (code ++ init ++ dir ++ fci) ((0xBE ∷ 0x16 ∷ 0x00 ∷ 0x00 ∷ []) ∷ [])
+          (both_managed (code ++ init ++ dir) fci (both_managed (code ++ init) dir (both_managed code init (section 0x24 u.code) (section 0x26 u.init)) (section 0x20 u.dir)) (section 0x22 u.fci)) (refl, tt),
+    )

@@ -1,0 +1,245 @@
+-- The summary of a play: its counts, and its dump lines.
+use Rattle.std.proofs.Common.{◌≡◌, ℕ, suc, ◌+◌, ◌≤◌, Bool, true, false, cond, List, [], ◌∷◌, ◌++◌, length, drop, Option, Some, None, refl, arith, sym, ap, subst, ◌∙◌, append_assoc, length-append, codes}
+use Rattle.std.specs.Prelude.{option_map, filter, flat_map}
+use Rattle.std.specs.List.{AllByRecursion}
+use Rattle.std.proofs.lemmas.List.{append-nil}
+use Rattle.mc_model.specs.Device.{DeviceState, BenchState}
+use Rattle.mc_model.specs.Chain.{Turn}
+use Rattle.mc_model.specs.DeckGrammar.{DeckLine}
+use Rattle.mc_model.specs.DeckGrammar as line
+use Rattle.mc_model.specs.Play.{Live, Running, Unpowered, Muted, Base, OnCard, AtFault, Warm, State, Cold, Hot, WornAt, LineResult, Step, plays, step, card_line, first_worn, last_state}
+use Rattle.mc_model.specs.Transcript.{shown}
+use Rattle.mc_model.specs.Generator.{is_dump, results, count, dump_lines, count_line, summary}
+use Rattle.mc_script.specs.declared.answer.Answer.{Answer}
+use Rattle.mc_script.specs.declared.player.Player.{Player}
+use Rattle.mc_script.specs.declared.summary.Counts.{Counts}
+use Rattle.mc_script.specs.Players.{answer_value, IsAt}
+use Rattle.mc_script.specs.Lines.{LineDone}
+use Rattle.mc_script.specs.Plays.{Bench, Played}
+use Rattle.mc_script.specs.Sums.{Counted, listed, DumpsLast, result_line, dump_text, dumps_text, Tallied}
+use Rattle.mc_script.proofs.PlayLemmas.{plays_on, plays_none, played_on, played_none}
+use Rattle.mc_script.proofs.LineLemmas.{player_stands, bench_of, line_did}
+
+-- ---- counts
+
+-- one more result passes a test, or it does not
+count_by : (test : LineResult → Bool) (rs : List LineResult) (r : LineResult) → count test (rs ++ r ∷ []) ≡ count test rs + cond (test r) 1 0
+count_by test [] r = last (test r)
+  where
+    last : (b : Bool) → length (cond b (r ∷ []) []) ≡ 0 + cond b 1 0
+    last true = refl
+    last false = refl
+count_by test (q ∷ rs) r = more (test q) (count_by test rs r)
+  where
+    more : (b : Bool) → count test (rs ++ r ∷ []) ≡ count test rs + cond (test r) 1 0 → length (cond b (q ∷ filter test (rs ++ r ∷ [])) (filter test (rs ++ r ∷ []))) ≡ length (cond b (q ∷ filter test rs) (filter test rs)) + cond (test r) 1 0
+    more true h = omega (arith, h)
+    more false h = h
+
+-- no more results pass a test than there are
+pub count_most : (test : LineResult → Bool) (rs : List LineResult) → count test rs ≤ length rs
+count_most test [] = omega arith
+count_most test (q ∷ rs) = more (test q) (count_most test rs)
+  where
+    more : (b : Bool) → count test rs ≤ length rs → length (cond b (q ∷ filter test rs) (filter test rs)) ≤ suc (length rs)
+    more true h = omega (arith, h)
+    more false h = omega (arith, h)
+
+-- ---- the results of a play
+
+results_by : (t : Step) (ts : List Step) (o : Option LineResult) → t.result ≡ o → results (t ∷ ts) ≡ listed o ++ results ts
+results_by t ts None e = rw e refl
+results_by t ts (Some r) e = rw e refl
+
+pub results_cons : (t : Step) (ts : List Step) → results (t ∷ ts) ≡ listed t.result ++ results ts
+results_cons t ts = results_by t ts t.result refl
+
+-- ---- dump lines
+
+-- a result on its own line, before those of others
+lines_by : (o : Option LineResult) (rs : List LineResult) → flat_map (λ r. shown r ++ codes "\n") (listed o ++ rs) ≡ result_line o ++ flat_map (λ r. shown r ++ codes "\n") rs
+lines_by None rs = refl
+lines_by (Some r) rs = refl
+
+dump_by : (t : Step) (ts : List Step) (b : Bool) → is_dump t.line ≡ b → dump_lines (t ∷ ts) ≡ cond b (result_line t.result) [] ++ dump_lines ts
+dump_by t ts true e =
+    rw e (ap (λ (rs : List LineResult). flat_map (λ r. shown r ++ codes "\n") rs) (results_cons t (filter (λ t. is_dump t.line) ts)) ∙ lines_by t.result (results (filter (λ t. is_dump t.line) ts)))
+dump_by t ts false e = rw e refl
+
+-- the line of a step
+card_line_line : (n : ℕ) (l : DeckLine) (s : Warm) (live : Live) (base : Base) (w : Option WornAt) → (card_line n l s live base w).line ≡ l
+card_line_line n l s (Running seat) (OnCard c) w = refl
+card_line_line n l s (Running seat) (AtFault cause p) w = refl
+card_line_line n l s Unpowered base w = refl
+card_line_line n l s Muted base w = refl
+
+step_line : (s : State) (l : ℕ × DeckLine) (w : Option WornAt) → (step s l w).line ≡ l.1
+unfolding step
+step_line (Cold m b a) (n, line.Format) w = refl
+step_line (Cold m b a) (n, line.Named) w = refl
+step_line (Cold m b a) (n, line.Power) w = refl
+step_line (Cold m b a) (n, line.Poke at x) w = refl
+step_line (Cold m b a) (n, line.Budget c) w = refl
+step_line (Cold m b a) (n, line.Cut k x) w = refl
+step_line (Cold m b a) (n, line.Fail k) w = refl
+step_line (Cold m b a) (n, line.Dump x) w = refl
+step_line (Cold m b a) (n, line.Load u fixed session) w = refl
+step_line (Cold m b a) (n, line.Select x) w = refl
+step_line (Cold m b a) (n, line.Delete x) w = refl
+step_line (Cold m b a) (n, line.Apdu x) w = refl
+step_line (Hot s) (n, line.Format) w = refl
+step_line (Hot s) (n, line.Named) w = refl
+step_line (Hot s) (n, line.Power) w = refl
+step_line (Hot s) (n, line.Poke at x) w = refl
+step_line (Hot s) (n, line.Budget c) w = refl
+step_line (Hot s) (n, line.Cut k x) w = refl
+step_line (Hot s) (n, line.Fail k) w = refl
+step_line (Hot s) (n, line.Dump x) w = refl
+step_line (Hot s) (n, line.Load u fixed session) w = card_line_line n (line.Load u fixed session) s s.live s.base w
+step_line (Hot s) (n, line.Select x) w = card_line_line n (line.Select x) s s.live s.base w
+step_line (Hot s) (n, line.Delete x) w = card_line_line n (line.Delete x) s s.live s.base w
+step_line (Hot s) (n, line.Apdu x) w = card_line_line n (line.Apdu x) s s.live s.base w
+
+-- a dump line changes nothing, and its result is that of any dump line of this name
+dump_after : (s : State) (n : ℕ) (a : List ℕ) (w : Option WornAt) → (step s (n, line.Dump a) w).after ≡ s
+unfolding step
+dump_after (Cold m b x) n a w = refl
+dump_after (Hot s) n a w = refl
+
+dump_result : (s : State) (n : ℕ) (a : List ℕ) (w : Option WornAt) → (step s (n, line.Dump a) w).result ≡ (step s (0, line.Dump a) None).result
+unfolding step
+dump_result (Cold m b x) n a w = refl
+dump_result (Hot s) n a w = refl
+
+-- a line that is a dump line, and one that is none
+as_dump : (l : DeckLine) → is_dump l ≡ true → (a : List ℕ) × (l ≡ line.Dump a)
+as_dump line.Format e = absurd (cc e)
+as_dump line.Named e = absurd (cc e)
+as_dump line.Power e = absurd (cc e)
+as_dump (line.Poke at x) e = absurd (cc e)
+as_dump (line.Budget c) e = absurd (cc e)
+as_dump (line.Cut k x) e = absurd (cc e)
+as_dump (line.Fail k) e = absurd (cc e)
+as_dump (line.Dump x) e = (x, refl)
+as_dump (line.Load u fixed session) e = absurd (cc e)
+as_dump (line.Select x) e = absurd (cc e)
+as_dump (line.Delete x) e = absurd (cc e)
+as_dump (line.Apdu x) e = absurd (cc e)
+
+no_dump : (s : State) (l : DeckLine) → is_dump l ≡ false → dump_text s l ≡ []
+no_dump s line.Format e = refl
+no_dump s line.Named e = refl
+no_dump s line.Power e = refl
+no_dump s (line.Poke at x) e = refl
+no_dump s (line.Budget c) e = refl
+no_dump s (line.Cut k x) e = refl
+no_dump s (line.Fail k) e = refl
+no_dump s (line.Dump x) e = absurd (cc e)
+no_dump s (line.Load u fixed session) e = refl
+no_dump s (line.Select x) e = refl
+no_dump s (line.Delete x) e = refl
+no_dump s (line.Apdu x) e = refl
+
+after_dump : (s : State) (l : ℕ × DeckLine) (w : Option WornAt) → is_dump l.1 ≡ true → (step s l w).after ≡ s
+after_dump s (n, l) w e = let d = as_dump l e in ap (λ (k : DeckLine). (step s (n, k) w).after) d.1 ∙ dump_after s n d.0 w
+
+-- dump lines change nothing
+plays_first : (s : State) (l : ℕ × DeckLine) (ls : List (ℕ × DeckLine)) (ws : List (Option WornAt)) → plays s (l ∷ ls) ws ≡ step s l (first_worn ws) ∷ plays (step s l (first_worn ws)).after ls (drop 1 ws)
+unfolding plays
+plays_first s l ls ws = refl
+
+plays_nothing : (s : State) (ws : List (Option WornAt)) → plays s [] ws ≡ []
+unfolding plays
+plays_nothing s ws = refl
+
+dumps_keep : (s : State) (ls : List (ℕ × DeckLine)) (ws : List (Option WornAt)) → AllByRecursion (λ k. is_dump k.1 ≡ true) ls → last_state s (plays s ls ws) ≡ s
+dumps_keep s [] ws all = ap (λ (ts : List Step). last_state s ts) (plays_nothing s ws)
+dumps_keep s (l ∷ ls) ws all =
+    let same = after_dump s l (first_worn ws) all.0 in
+    ap (λ (ts : List Step). last_state s ts) (plays_first s l ls ws)
+    ∙ ap (λ (u : State). last_state u (plays u ls (drop 1 ws))) same
+    ∙ dumps_keep s ls (drop 1 ws) all.1
+
+-- the result of a line, if it is a dump line, in the last state
+first_dump : (s : State) (l : ℕ × DeckLine) (ls : List (ℕ × DeckLine)) (ws : List (Option WornAt)) (b : Bool) → is_dump l.1 ≡ b → (is_dump l.1 ≡ true → AllByRecursion (λ k. is_dump k.1 ≡ true) ls)
+    → cond b (result_line (step s l (first_worn ws)).result) [] ≡ dump_text (last_state (step s l (first_worn ws)).after (plays (step s l (first_worn ws)).after ls (drop 1 ws))) l.1
+first_dump s l ls ws false e last = sym (no_dump (last_state (step s l (first_worn ws)).after (plays (step s l (first_worn ws)).after ls (drop 1 ws))) l.1 e)
+first_dump s (n, l) ls ws true e last =
+    let w = first_worn ws in
+    let d = as_dump l e in
+    let same = after_dump s (n, l) w e in
+    let kept : last_state (step s (n, l) w).after (plays (step s (n, l) w).after ls (drop 1 ws)) ≡ s = dumps_keep (step s (n, l) w).after ls (drop 1 ws) (last e) ∙ same in
+    ap (λ (k : DeckLine). result_line (step s (n, k) w).result) d.1
+    ∙ ap result_line (dump_result s n d.0 w)
+    ∙ ap (λ (k : DeckLine). dump_text s k) (sym d.1)
+    ∙ ap (λ (u : State). dump_text u l) (sym kept)
+
+-- the dump lines of a play, by the state that it reaches
+pub dumps_are : (s : State) (ls : List (ℕ × DeckLine)) (ws : List (Option WornAt)) → DumpsLast ls → dump_lines (plays s ls ws) ≡ dumps_text (last_state s (plays s ls ws)) ls
+dumps_are s [] ws last = ap dump_lines (plays_nothing s ws)
+dumps_are s (l ∷ ls) ws last =
+    let t = step s l (first_worn ws) in
+    let ts = plays t.after ls (drop 1 ws) in
+    let first : plays s (l ∷ ls) ws ≡ t ∷ ts = plays_first s l ls ws in
+    let is : is_dump t.line ≡ is_dump l.1 = ap is_dump (step_line s l (first_worn ws)) in
+    let end : last_state s (plays s (l ∷ ls) ws) ≡ last_state t.after ts = ap (λ (us : List Step). last_state s us) first in
+    ap dump_lines first
+    ∙ dump_by t ts (is_dump l.1) is
+    ∙ ap (λ (x : List ℕ). x ++ dump_lines ts) (first_dump s l ls ws (is_dump l.1) refl last.0)
+    ∙ ap (λ (x : List ℕ). dump_text (last_state t.after ts) l.1 ++ x) (dumps_are t.after ls (drop 1 ws) last.1)
+    ∙ ap (λ (u : State). dump_text u l.1 ++ dumps_text u ls) (sym end)
+
+-- the summary of a play, by the state that it reaches
+pub summary_is : (s : State) (ls : List (ℕ × DeckLine)) (ws : List (Option WornAt)) → DumpsLast ls → count_line (results (plays s ls ws)) ++ dumps_text (last_state s (plays s ls ws)) ls ≡ summary (plays s ls ws)
+unfolding summary
+summary_is s ls ws last = ap (λ (x : List ℕ). count_line (results (plays s ls ws)) ++ x) (sym (dumps_are s ls ws last))
+
+-- ---- the loop that counts
+
+module _ {N : Type 0} (state : N → DeviceState) (bench : N → BenchState) where
+  -- a player at a state of a play, with these lines left, and what was counted: whatever they play from there, all lines play from the start
+  pub record Counting (s : State) (ls : List (ℕ × DeckLine)) (a : Bench) (left : List (ℕ × DeckLine)) (p : Player N) (c : Counts) (i : ℕ) : Type 0 where
+    pub here : State
+    pub at : IsAt state bench p here
+    pub done : List LineResult
+    pub counted : Counted c done
+    pub few : length done ≤ i
+    pub rest : (ws : List (Option WornAt)) (b : Bench) → Played here left ws (bench_of state bench p) b
+        → (vs : List (Option WornAt)) × Played s ls vs a b × (results (plays s ls vs) ≡ done ++ results (plays here left ws)) × (last_state s (plays s ls vs) ≡ last_state here (plays here left ws))
+
+  pub counting_start : (s : State) (ls : List (ℕ × DeckLine)) (p : Player N) (c : Counts) → IsAt state bench p s → Counted c [] → Counting s ls (bench_of state bench p) ls p c 0
+  counting_start s ls p c at counted = record { here = s; at = at; done = []; counted = counted; few = omega arith; rest = λ ws b h. (ws, h, refl, refl) }
+
+  pub counting_end : (s : State) (ls : List (ℕ × DeckLine)) (a : Bench) (p : Player N) (c : Counts) (i : ℕ) → Counting s ls a [] p c i → Tallied state bench s ls a p c
+  counting_end s ls a p c i h =
+      let all = h.rest [] (bench_of state bench p) (played_none h.here (bench_of state bench p) (player_stands state bench p h.here h.at)) in
+      let none = plays_none h.here in
+      let are : results (plays s ls all.0) ≡ h.done = all.2 ∙ ap (λ (ts : List Step). h.done ++ results ts) none ∙ append-nil h.done in
+      let end : last_state s (plays s ls all.0) ≡ h.here = all.3 ∙ ap (λ (ts : List Step). last_state h.here ts) none in
+      record { worn = all.0; played = all.1; at = subst (λ (u : State). IsAt state bench p u) (sym end) h.at; counted = subst (λ (rs : List LineResult). Counted c rs) (sym are) h.counted }
+
+  few_on : (o : Option LineResult) (rs : List LineResult) (i : ℕ) → length rs ≤ i → length (rs ++ listed o) ≤ i + 1
+  few_on None rs i h = let e : length (rs ++ []) ≡ length rs = ap length (append-nil rs) in omega (arith, h, e)
+  few_on (Some r) rs i h = let e : length (rs ++ r ∷ []) ≡ length rs + 1 = length-append rs (r ∷ []) in omega (arith, h, e)
+
+  pub counting_on : {R : Type 0} (told : R → List Turn → R → Type 0) (s : State) (ls : List (ℕ × DeckLine)) (a : Bench) (left : List (ℕ × DeckLine)) (n : ℕ) (l : DeckLine) (p q : Player N) (c d : Counts) (i : ℕ) (before after : R) (answer : Option Answer)
+      → (h : Counting s ls a ((n, l) ∷ left) p c i) → LineDone state bench told p l before after answer q → Counted d (h.done ++ listed (option_map answer_value answer)) → Counting s ls a left q d (i + 1)
+  counting_on told s ls a left n l p q c d i before after answer h done counted =
+      let line = done h.here n h.at in
+      let w = line.0 in
+      let t = step h.here (n, l) w in
+      let did = line_did state bench told p q h.here (n, l) w before after answer line.1 in
+      record {
+        here = t.after;
+        at = line.1.at;
+        done = h.done ++ listed t.result;
+        counted = subst (λ (o : Option LineResult). Counted d (h.done ++ listed o)) line.1.answers counted;
+        few = few_on t.result h.done i h.few;
+        rest = λ ws b played.
+            let all = h.rest (w ∷ ws) b (played_on h.here (n, l) w left ws (bench_of state bench p) (bench_of state bench q) b did played) in
+            let one = plays_on h.here (n, l) w left ws in (
+              all.0,
+              all.1,
+              all.2 ∙ ap (λ (ts : List Step). h.done ++ results ts) one ∙ ap (λ (x : List LineResult). h.done ++ x) (results_cons t (plays t.after left ws)) ∙ sym (append_assoc h.done (listed t.result) (results (plays t.after left ws))),
+              all.3 ∙ ap (λ (ts : List Step). last_state h.here ts) one,
+            );
+      }

@@ -1,0 +1,94 @@
+-- The turns of a run and their atomic writes.
+use Rattle.std.proofs.Common.{◌≡◌, ℕ, zero, suc, ◌+◌, ◌-◌, ◌≤◌, List, [], ◌∷◌, ◌++◌, length, Option, Some, None, Result, Ok, Err, refl, arith, ap, ◌∙◌}
+use Rattle.std.proofs.lemmas.Bool.{le-leb, lt-leb}
+use Rattle.mc_model.specs.declared.instruction.Ins.{Ins}
+use Rattle.mc_model.specs.declared.instruction.DecodeFault.{DecodeFault}
+use Rattle.mc_model.specs.declared.instruction.DecodeFault.TheVariants.{Undefined, Past}
+use Rattle.mc_model.specs.Bytes.{lookup}
+use Rattle.mc_model.specs.Code.{decoded}
+use Rattle.mc_model.specs.Pieces.{touched}
+use Rattle.mc_model.specs.Row.{RowEnd, Abends, Does, row}
+use Rattle.mc_model.specs.Image.{Two}
+use Rattle.mc_model.specs.Stopped.{cost}
+use Rattle.mc_model.specs.Items.{moves}
+use Rattle.mc_model.specs.Chain.{Chain, Turn, Acted, Continues, write_of, words_of_write, code_in, around, stepped, row_turn, fetched, acted, turn_of, end_of}
+use Rattle.mc_model.specs.Play.{write_items}
+use Rattle.mc_model.specs.TraceText.{before_stop}
+
+-- the device writes of a turn
+abbrev pub turn_moves : Option ℕ → ℕ
+turn_moves None = 0
+turn_moves (Some w) = cost Two w
+
+-- ---- what a turn tells of its writes and of its end
+
+write_moves : (n : List ℕ) (changes : Option (List (ℕ × List ℕ))) → moves (write_items (write_of n changes)) ≡ turn_moves (words_of_write changes)
+write_moves n None = refl
+write_moves n (Some ps) = let e : cost Two (length (touched ps)) + 0 ≡ cost Two (length (touched ps)) = omega arith in e
+
+-- what is true of a turn
+pub record IsTold (t : Acted) : Type 0 where
+  pub moves : moves (write_items t.writes) ≡ turn_moves t.turn.wrote
+  pub end : t.turn.end ≡ end_of t.follows
+
+row_told : (ch : Chain) (i : Ins) (r : RowEnd) → IsTold (row_turn ch i r)
+row_told ch i (Abends a) = record { moves = refl; end = refl }
+row_told ch i (Does d) = record { moves = write_moves ch.frame.name d.effect.changes; end = refl }
+
+fetched_told : (ch : Chain) (r : Result (Ins × ℕ) DecodeFault) → IsTold (fetched ch r)
+fetched_told ch (Err Undefined) = record { moves = refl; end = refl }
+fetched_told ch (Err Past) = record { moves = refl; end = refl }
+fetched_told ch (Ok i) = row_told ch i.0 (row i.0 (stepped ch.frame i.1) ch.public (around ch))
+
+acted_told : (ch : Chain) → IsTold (acted ch)
+unfolding acted
+acted_told ch = fetched_told ch (decoded (code_in (lookup ch.map ch.frame.name)) ch.frame.at)
+
+pub is_told : (n : ℕ) (ch : Chain) → IsTold (turn_of n ch)
+is_told zero ch = record { moves = refl; end = refl }
+is_told (suc n) ch = acted_told ch
+
+-- a turn that goes on is counted
+row_counts : (ch next : Chain) (i : Ins) (r : RowEnd) → (row_turn ch i r).follows ≡ Continues next → (row_turn ch i r).count ≡ 1
+row_counts ch next i (Abends a) e = refl
+row_counts ch next i (Does d) e = refl
+
+fetched_counts : (ch next : Chain) (r : Result (Ins × ℕ) DecodeFault) → (fetched ch r).follows ≡ Continues next → (fetched ch r).count ≡ 1
+fetched_counts ch next (Err Undefined) e = absurd (cc e)
+fetched_counts ch next (Err Past) e = absurd (cc e)
+fetched_counts ch next (Ok i) e = row_counts ch next i.0 (row i.0 (stepped ch.frame i.1) ch.public (around ch)) e
+
+pub acted_counts : (ch next : Chain) → (acted ch).follows ≡ Continues next → (acted ch).count ≡ 1
+unfolding acted
+acted_counts ch next e = fetched_counts ch next (decoded (code_in (lookup ch.map ch.frame.name)) ch.frame.at) e
+
+-- ---- the turns before a stop
+
+-- a stop in the first turn
+stop_first : (w : Option ℕ) (t : Turn) (ts : List Turn) (k : ℕ) → t.wrote ≡ w → 1 ≤ k → k ≤ turn_moves w → before_stop (t ∷ ts) k ≡ []
+stop_first None t ts k is low high = absurd (omega (arith, low, high))
+stop_first (Some w) t ts k is low high = rw (is, le-leb k (cost Two w) high) refl
+
+pub before_first : (t : Turn) (ts : List Turn) (k : ℕ) → 1 ≤ k → k ≤ turn_moves t.wrote → before_stop (t ∷ ts) k ≡ []
+before_first t ts k low high = stop_first t.wrote t ts k refl low high
+
+-- a stop behind the first turn
+stop_later : (w : Option ℕ) (t : Turn) (ts : List Turn) (k j : ℕ) → t.wrote ≡ w → 1 ≤ j → k ≡ turn_moves w + j → before_stop (t ∷ ts) k ≡ t ∷ before_stop ts j
+stop_later None t ts k j is low e = let same : k ≡ j = omega (arith, e) in rw (is, same) refl
+stop_later (Some w) t ts k j is low e =
+    let left : k - cost Two w ≡ j = omega (arith, e) in
+    rw (is, lt-leb k (cost Two w) (omega (arith, e, low)), left) refl
+
+pub before_later : (t : Turn) (ts : List Turn) (k j : ℕ) → 1 ≤ j → k ≡ turn_moves t.wrote + j → before_stop (t ∷ ts) k ≡ t ∷ before_stop ts j
+before_later t ts k j low e = stop_later t.wrote t ts k j refl low e
+
+-- a stop behind turns that are all before it
+pub moves_of_turns : List Turn → ℕ
+moves_of_turns [] = 0
+moves_of_turns (t ∷ ts) = turn_moves t.wrote + moves_of_turns ts
+
+pub before_behind : (ts us : List Turn) (k j : ℕ) → 1 ≤ j → k ≡ moves_of_turns ts + j → before_stop (ts ++ us) k ≡ ts ++ before_stop us j
+unfolding moves_of_turns
+before_behind [] us k j low e = let same : k ≡ j = omega (arith, e) in ap (λ (n : ℕ). before_stop us n) same
+before_behind (t ∷ ts) us k j low e =
+    before_later t (ts ++ us) k (moves_of_turns ts + j) (omega (arith, low)) (omega (arith, e)) ∙ ap (λ (vs : List Turn). t ∷ vs) (before_behind ts us (moves_of_turns ts + j) j low refl)

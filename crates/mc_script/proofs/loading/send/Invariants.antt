@@ -1,0 +1,15 @@
+use Rattle.std.proofs.Common.{length}
+use Rattle.mc_card.specs.Parts.{device_in}
+use Rattle.mc_script.proofs.SendLemmas.{Sends}
+use Rattle.mc_script.proofs.loading.send.Given as goal
+
+-- what the commands that are left do from here, all do from the start
+abbrev pub invariant-loop-bytes : goal.invariant-loop-bytes
+invariant-loop-bytes g l =
+    record {
+      sends : Sends g.N.Nvm.state g.N.Nvm.wrote g.met.N.Nvm.obeys g.R.Runner.told g.met.R.Runner.silent g.met.R.Runner.onward l.fn.card l.budget l.fn.commands l.fn.runner l.commands l.card l.runner;
+      lent : g.N.Nvm.same (device_in l.fn.card) (device_in l.card);
+    }
+
+abbrev pub decreases-loop-bytes : goal.decreases-loop-bytes
+decreases-loop-bytes g l = length l.commands

@@ -1,0 +1,6 @@
+use Rattle.std.proofs.Common.{rules}
+use Rattle.mc_script.proofs.LawLemmas.{sum_deck}
+use Rattle.mc_script.proofs.playing.summarise.Goals as goal
+
+pub returns : goal.returns
+returns g c = record { sums = sum_deck _ _ _ _ _ _ _ _ _ _ c.sum_lines-dev.ensures.sums (search rules) (search rules) (search rules) (search rules) (search rules) }

@@ -1,0 +1,30 @@
+use Rattle.std.proofs.Common.{◌≡◌, Result, sym, ap, subst, ◌∙◌}
+use Rattle.mc_model.specs.Play.{start, plays, last_state}
+use Rattle.mc_model.specs.Generator.{results, summary}
+use Rattle.mc_base.specs.declared.refusals.WriteFault.{WriteFault}
+use Rattle.mc_text.specs.Texts.{Puts, sunk_in}
+use Rattle.mc_text.proofs.TextLemmas.{puts_as}
+use Rattle.mc_script.specs.Scripts.{ended}
+use Rattle.mc_script.specs.Plays.{Bench, Played}
+use Rattle.mc_script.proofs.LoggedLemmas.{ended_err}
+use Rattle.mc_script.proofs.SumLemmas.{summary_is}
+use Rattle.mc_script.proofs.summing.sum_lines.Goals as goal
+
+pub returns-clause-sums : goal.returns-clause-sums
+returns-clause-sums g c =
+    let state = g.N.Nvm.state in
+    let bench = g.N.Bench.bench in
+    let a : Bench = record { device = state c.args.device; bench = bench c.args.device } in
+    let deck = c.args.deck.now in
+    let first = start (state c.args.device).words in
+    let t = c.tally-player.ensures.tallied in
+    let steps = plays first deck t.worn in
+    let before = sunk_in g.T.Sink.taken g.T.Sink.faults c.args.script.now.out.now in
+    let after = sunk_in g.T.Sink.taken g.T.Sink.faults c.put_summary.new.out in
+    let is : c.put_summary.result ≡ ended c.err-script.result = sym (ap ended c.err-script.ensures.value ∙ ended_err c.put_summary.result) in
+    let text = puts_as before after c.put_summary.result (summary_is first deck t.worn c.requires.dumps) (c.put_summary.ensures (last_state first steps) (results steps) t.at t.counted) in
+    record {
+      worn = t.worn;
+      played = subst (λ d. Played first deck t.worn a (record { device = state d; bench = bench d })) (sym c.into_dev.ensures) t.played;
+      text = subst (λ (r : Result (Unit {0}) WriteFault). Puts before (summary steps) r after) is text;
+    }

@@ -1,0 +1,42 @@
+-- An armed stop handed to a bench.
+-- This project's profile.
+use Rattle.std.specs.Prelude.{Some}
+use Rattle.mc_model.specs.declared.device.Stop.{Stop}
+use Rattle.mc_model.specs.declared.device.Stop.TheVariants.{Off, Worn}
+use Rattle.mc_model.specs.Bytes.{zeros}
+use Rattle.mc_model.specs.Device.{BenchState, next_count}
+use Rattle.mc_store.specs.declared.power.Up.{Up}
+use Rattle.mc_store.specs.declared.power.Up.TheVariants as up
+use Rattle.mc_script.specs.Players.{cut_place}
+use Rattle.mc_script.specs.declared.answer.Answer.{Answer}
+use Rattle.mc_script.specs.declared.answer.Answer.TheVariants as answer
+use Rattle.mc_script.specs.declared.player.Power.{Power}
+use Rattle.mc_script.specs.declared.player.Power.TheVariants as power
+use Rattle.mc_script.specs.declared.armed.Armed.{Armed}
+use Rattle.mc_script.specs.declared.armed.Armed.TheVariants as armed
+
+-- a bench with the fuse of an armed stop; a write that is refused leaves eight zero bytes
+abbrev pub armed_bench : Armed → BenchState → BenchState
+armed_bench armed.Not b = b
+armed_bench (armed.Cut k fill) b = record b { cut = Some (record { writes = k; fill = fill }); arms = next_count b.arms }
+armed_bench (armed.Fail k) b = record b { worn = Some (record { writes = k; fill = zeros 8 }); wears = next_count b.wears }
+
+-- the power after a stop: no card runs, and after a refused write it is mute
+abbrev pub power_after_stop : {N : Type 0} → Stop → N → Power N
+power_after_stop Off d = power.Off d
+power_after_stop Worn d = power.Mute d
+
+-- what a line answers that a stop hit
+abbrev pub answer_after_stop : Stop → Armed → Answer
+answer_after_stop Off a = answer.OffAt (cut_place a)
+answer_after_stop Worn a = answer.Worn
+
+-- the power after a power line that gave no card
+abbrev pub power_after_failure : {N : Type 0} → Up → N → Power N
+power_after_failure (up.Stop s) d = power_after_stop s d
+power_after_failure (up.Unusable u) d = power.Off d
+
+-- what a power line answers that gave no card
+abbrev pub answer_after_failure : Up → Armed → Answer
+answer_after_failure (up.Stop s) a = answer_after_stop s a
+answer_after_failure (up.Unusable u) a = answer.Unusable u

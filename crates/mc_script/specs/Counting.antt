@@ -1,0 +1,101 @@
+-- How often a play calls its bench, and how its counts of stops rise.
+-- This project's profile.
+use Rattle.std.specs.Prelude.{◌≡◌, ℕ, zero, suc, ◌+◌, ◌≤◌, cond, nat_lt, List, [], ◌∷◌, length, Option, Some, None}
+use Rattle.mc_model.specs.declared.device.Stop.{Stop}
+use Rattle.mc_model.specs.declared.device.Stop.TheVariants as stop
+use Rattle.mc_model.specs.Device.{DeviceState, BenchState, next_count}
+use Rattle.mc_model.specs.Items.{StopAt}
+use Rattle.mc_model.specs.Play.{Armed, Unarmed, ArmedCut, ArmedFail, State, Cold, Step, armed_in}
+use Rattle.mc_model.specs.DeckGrammar.{DeckLine}
+use Rattle.mc_model.specs.DeckGrammar as line
+
+-- a count that rose so often; at its last value it stays
+abbrev pub raised : ℕ → ℕ → ℕ
+raised n zero = n
+raised n (suc k) = raised (next_count n) k
+
+-- the sum of a number over lines that were played
+abbrev pub total : (Step → ℕ) → List Step → ℕ
+total f [] = 0
+total f (t ∷ ts) = f t + total f ts
+
+-- ---- the calls that a line is worth
+
+-- `power`: one for a power line
+abbrev pub line_powers : DeckLine → ℕ
+line_powers line.Power = 1
+line_powers _ = 0
+
+-- `poke`: five for a `format` line, and one for a `poke` line whose place the device has, before the first power line
+abbrev pub line_pokes : State → DeckLine → ℕ
+line_pokes (Cold m b a) line.Format = 5
+line_pokes (Cold m b a) (line.Poke at fill) = cond (nat_lt at (length m)) 1 0
+line_pokes _ l = 0
+
+-- `arm`: at most one for a `cut` line
+abbrev pub line_cuts : DeckLine → ℕ
+line_cuts (line.Cut k fill) = 1
+line_cuts _ = 0
+
+-- `wear`: at most one for a `fail` line
+abbrev pub line_fails : DeckLine → ℕ
+line_fails (line.Fail k) = 1
+line_fails _ = 0
+
+-- a cut is armed that was not handed to the device yet, and so with a write that is to be refused
+abbrev pub cuts_due : Armed → ℕ
+cuts_due Unarmed = 0
+cuts_due (ArmedCut k fill) = 1
+cuts_due (ArmedFail k) = 0
+
+-- a write that is to be refused was not handed to the device yet
+abbrev pub fails_due : Armed → ℕ
+fails_due Unarmed = 0
+fails_due (ArmedCut k fill) = 0
+fails_due (ArmedFail k) = 1
+
+-- a stop that is a cut
+abbrev pub cut_kind : Stop → ℕ
+cut_kind stop.Off = 1
+cut_kind stop.Worn = 0
+
+-- a line that a cut hit
+abbrev pub cut_by : Option StopAt → ℕ
+cut_by None = 0
+cut_by (Some t) = cut_kind t.kind
+
+-- a stop that is a refused write
+abbrev pub worn_kind : Stop → ℕ
+worn_kind stop.Off = 0
+worn_kind stop.Worn = 1
+
+-- a line that a worn stop hit
+abbrev pub worn_by : Option StopAt → ℕ
+worn_by None = 0
+worn_by (Some t) = worn_kind t.kind
+
+-- ---- the counts
+
+-- the counts of a bench before and after lines that are worth so many calls and stops
+pub record Counts (b : BenchState) (d : DeviceState) (powered poked cut worn : ℕ) (c : BenchState) (e : DeviceState) : Type 0 where
+  pub powers : c.powers ≡ raised b.powers powered
+  pub pokes : c.pokes ≡ raised b.pokes poked
+  pub cuts : e.cuts ≡ raised d.cuts cut
+  pub faults : e.faults ≡ raised d.faults worn
+  pub steady : c.steady ≡ b.steady
+
+-- the calls that arm a stop, between two states with stops that are still to be handed to the device
+pub record Arms (b : BenchState) (due : Armed) (cuts fails : ℕ) (c : BenchState) (left : Armed) : Type 0 where
+  pub arms : c.arms + cuts_due left ≤ b.arms + cuts_due due + cuts
+  pub wears : c.wears + fails_due left ≤ b.wears + fails_due due + fails
+
+-- the counts of one line
+pub record LineCounts (b : BenchState) (d : DeviceState) (t : Step) (c : BenchState) (e : DeviceState) : Type 0 where
+  pub counts : Counts b d (line_powers t.line) (line_pokes t.before t.line) (cut_by t.stop) (worn_by t.stop) c e
+  pub arms : Arms b (armed_in t.before) (line_cuts t.line) (line_fails t.line) c (armed_in t.after)
+
+-- the counts of a play that began with such a stop still to be handed to the device
+pub record PlayCounts (b : BenchState) (d : DeviceState) (due : Armed) (ts : List Step) (c : BenchState) (e : DeviceState) : Type 0 where
+  pub counts : Counts b d (total (λ t. line_powers t.line) ts) (total (λ t. line_pokes t.before t.line) ts) (total (λ t. cut_by t.stop) ts) (total (λ t. worn_by t.stop) ts) c e
+  pub arms : c.arms ≤ b.arms + cuts_due due + total (λ t. line_cuts t.line) ts
+  pub wears : c.wears ≤ b.wears + fails_due due + total (λ t. line_fails t.line) ts

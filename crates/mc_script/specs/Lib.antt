@@ -1,0 +1,16 @@
+pub use Rattle.mc_model.specs.Play
+pub use Rattle.mc_model.specs.Transcript
+pub use Rattle.mc_model.specs.TraceText
+pub use Rattle.mc_model.specs.Generator
+pub mod Loads
+pub mod Classes
+pub mod Runs
+pub mod Logs
+pub mod Scripts
+pub mod Players
+pub mod Counting
+pub mod Arming
+pub mod Commands
+pub mod Lines
+pub mod Plays
+pub mod Sums

@@ -1,0 +1,96 @@
+-- A deck played on a device from the words that it holds: its text, the words and counts that it leaves, and the worn stops that account for all of it.
+-- This project's profile.
+use Rattle.std.specs.Prelude.{◌≡◌, ℕ, ◌<◌, true, List, [], ◌∷◌, ◌++◌, length, Option, Some, None, Result, Ok, Err}
+use Rattle.mc_model.specs.Counts.{Rose}
+use Rattle.mc_model.specs.Device.{DeviceState, BenchState, Entry}
+use Rattle.mc_model.specs.DeckGrammar.{DeckLine}
+use Rattle.mc_model.specs.Play.{State, WornAt, Step, armed_in, plays, start, last_state, Possible, Stands, steady_worn, tape_worn, Accounts}
+use Rattle.mc_model.specs.Laws.{HoldsOf}
+use Rattle.mc_model.specs.Transcript.{line_text}
+use Rattle.mc_model.specs.TraceText.{turn_lines, shown_turns}
+use Rattle.mc_base.specs.Streams.{Grew}
+use Rattle.mc_base.specs.declared.refusals.WriteFault.{WriteFault}
+use Rattle.mc_script.specs.Counting.{PlayCounts}
+use Rattle.mc_text.specs.Texts.{Sunk, Puts}
+
+-- a bench at one moment
+pub record Bench : Type 0 where
+  pub device : DeviceState
+  pub bench : BenchState
+
+-- ---- lines that were played
+
+-- what a told tape says of lines: its new entries account for each of them, and tell the worn stops
+pub record TapeTells (m : List (List ℕ)) (s : State) (ls : List (ℕ × DeckLine)) (ws : List (Option WornAt)) (entries : List Entry) : Type 0 where
+  pub worn : ws ≡ tape_worn s ls entries
+  pub accounts : Accounts m s ls ws entries
+
+-- where the tape is told at the end, it was told at the start, and its new entries tell the lines
+abbrev pub TapeIs : List (List ℕ) → State → List (ℕ × DeckLine) → List (Option WornAt) → Option (List Entry) → Option (List Entry) → Type 0
+TapeIs m s ls ws old None = Unit {0}
+TapeIs m s ls ws None (Some new) = ⊥
+TapeIs m s ls ws (Some old) (Some new) = (entries : List Entry) × (new ≡ old ++ entries) × TapeTells m s ls ws entries
+
+-- Lines played from a state with these worn stops: one list of them accounts for the words, the counts and the tape together.
+pub record Played (s : State) (ls : List (ℕ × DeckLine)) (ws : List (Option WornAt)) (a b : Bench) : Type 0 where
+  pub possible : Possible s ls ws
+  pub words : Stands b.device.words (last_state s (plays s ls ws))
+  pub counts : PlayCounts a.bench a.device (armed_in s) (plays s ls ws) b.bench b.device
+  pub steady : a.bench.steady ≡ true → ws ≡ steady_worn s ls
+  pub tape : TapeIs a.device.words s ls ws a.device.tape b.device.tape
+
+-- ---- their text
+
+-- the text of a line in a transcript
+abbrev pub plain_text : Step → List ℕ
+plain_text t = line_text t.number t.result
+
+-- the text of a line in a trace
+abbrev pub traced_text : Step → List ℕ
+traced_text t = turn_lines (shown_turns t.turns t.stop) ++ line_text t.number t.result
+
+-- the texts of lines, joined
+abbrev pub texts : (Step → List ℕ) → List Step → List ℕ
+texts f [] = []
+texts f (t ∷ ts) = f t ++ texts f ts
+
+-- The last of some lines is the first whose text is not wholly written: the texts before it were, and a front of its own.
+pub record CutText (f : Step → List ℕ) (a : Sunk) (ts : List Step) (b : Sunk) : Type 0 where
+  pub before : List Step
+  pub last : Step
+  pub are : ts ≡ before ++ last ∷ []
+  pub front : List ℕ
+  pub back : List ℕ
+  pub parts : f last ≡ front ++ back
+  pub some_left : 0 < length back
+  pub written : Grew a.taken b.taken (texts f before ++ front)
+  pub cause : Rose a.faults b.faults
+
+-- the lines that were played, and what was written of their text: all lines, or those up to the first whose text is not wholly written
+abbrev pub Ends : (Step → List ℕ) → Sunk → List (ℕ × DeckLine) → List Step → Result (Unit {0}) WriteFault → Sunk → Type 0
+Ends f a rest ts (Ok u) b = (rest ≡ []) × Grew a.taken b.taken (texts f ts)
+Ends f a rest ts (Err e) b = CutText f a ts b
+
+-- ---- calls
+
+-- lines played from a state, with their text
+pub record PlaysFrom (f : Step → List ℕ) (s : State) (ls : List (ℕ × DeckLine)) (a : Bench) (x : Sunk) (result : Result (Unit {0}) WriteFault) (b : Bench) (y : Sunk) : Type 0 where
+  pub lines : List (ℕ × DeckLine)
+  pub rest : List (ℕ × DeckLine)
+  pub are : ls ≡ lines ++ rest
+  pub worn : List (Option WornAt)
+  pub played : Played s lines worn a b
+  pub text : Ends f x rest (plays s lines worn) result y
+
+-- A deck played on a device, with its text. Every closed family of applications is told and holds what it is told and holds on a card of
+-- its own, each line leaves the card with its whole items, and no new application has a stale byte.
+pub record PlaysDeck (f : Step → List ℕ) (ls : List (ℕ × DeckLine)) (a : Bench) (x : Sunk) (result : Result (Unit {0}) WriteFault) (b : Bench) (y : Sunk) : Type 0 where
+  pub from : PlaysFrom f (start a.device.words) ls a x result b y
+  pub laws : HoldsOf a.device.words (plays (start a.device.words) from.lines from.worn)
+
+-- A deck played on a device, and a text of the whole play.
+pub record SumsDeck (f : List Step → List ℕ) (ls : List (ℕ × DeckLine)) (a : Bench) (x : Sunk) (result : Result (Unit {0}) WriteFault) (b : Bench) (y : Sunk) : Type 0 where
+  pub worn : List (Option WornAt)
+  pub played : Played (start a.device.words) ls worn a b
+  pub laws : HoldsOf a.device.words (plays (start a.device.words) ls worn)
+  pub text : Puts x (f (plays (start a.device.words) ls worn)) result y

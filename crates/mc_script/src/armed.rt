@@ -1,0 +1,26 @@
+// The stop that is armed for the next card line.
+ghost use Rattle.std.specs.Prelude.{◌≡◌};
+ghost use Rattle.mc_script.specs.Players.{cut_place};
+
+use mc_base::Word;
+
+/// The stop that is armed for the next card line: the number of the device write that it hits, counted from 1, and for a cut the word
+/// that it leaves. A write that is refused leaves eight zero bytes.
+#[derive(Clone, Copy, Debug)]
+pub enum Armed {
+    Not,
+    Cut { k: u32, fill: Word },
+    Fail(u32),
+}
+
+impl Armed {
+    /// The write at which power goes, and 0 where no cut is armed.
+    pub fn cut_place(&self) -> u32
+        ensures { result ≡ cut_place self.now }
+    {
+        match self {
+            Armed::Cut { k, fill: _ } => *k,
+            _ => 0,
+        }
+    }
+}

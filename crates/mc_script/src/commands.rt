@@ -1,0 +1,81 @@
+// The lines that are commands to a card.
+ghost use Rattle.std.specs.Prelude.{◌≡◌, ◌≤◌, ◌++◌, ◌∷◌, length};
+ghost use Rattle.mc_model.specs.Play.{line_command};
+ghost use Rattle.mc_deck.specs.Lines.{GoodLine};
+ghost use Rattle.mc_card.specs.Parts.{device_in, card_in, seat_in, IsReady};
+ghost use Rattle.mc_script.specs.Commands.{command_line};
+ghost use Rattle.mc_script.specs.Runs.{Ran};
+
+use crate::loading::{LoadCommands, send};
+use crate::runner::Runner;
+use arrayvec::ArrayVec;
+use mc_base::{Aid, Steps, Stop};
+use mc_card::Card;
+use mc_machine::Outcome;
+use mc_nvm::Nvm;
+use mc_unit::Unit;
+use std::sync::ledger::Ledger;
+
+/// A line that is one command to a card, or the commands of a load.
+#[derive(Clone, Copy, Debug)]
+pub enum Command<'a> {
+    Select(&'a Aid),
+    Delete(&'a Aid),
+    Apdu(&'a [u8]),
+    Load {
+        unit: &'a Unit<'a>,
+        fixed: u16,
+        session: u16,
+    },
+}
+
+// A command with a name as its data.
+fn with_name(header: [u8; 4], aid: &Aid) -> ArrayVec<u8, 21>
+    ensures { result.items ≡ header ++ length aid.now ∷ aid.now }
+{
+    let mut bytes = ArrayVec::new();
+    bytes.try_extend_from_slice(&header).unwrap();
+    bytes.push(aid.bytes().len() as u8);
+    bytes.try_extend_from_slice(aid.bytes()).unwrap();
+    bytes
+}
+
+/// Runs the command or the commands of a line on a card.
+pub fn run_line<N: Nvm, R: Runner, L: Ledger>(
+    card: &mut Card<N>,
+    command: &Command<'_>,
+    budget: u32,
+    runner: &mut R,
+    steps: &mut Steps<L>,
+) -> Result<Outcome, Stop>
+    requires ready { IsReady N.state card.old }
+    requires some { 1 ≤ budget }
+    requires budget { budget ≤ 65536 }
+    requires good { GoodLine (command_line command.now) }
+    ensures done { Ran N.state N.wrote R.told card.old (line_command (card_in N.state card.old) (seat_in N.state card.old) budget (command_line command.now)) result card.new runner.old runner.new }
+    ensures lent { N.same (device_in card.old) (device_in card.new) }
+{
+    match command {
+        Command::Select(aid) => runner.run(
+            card,
+            with_name([0x00, 0xA4, 0x04, 0x0C], aid).as_slice(),
+            budget,
+            steps,
+        ),
+        Command::Delete(aid) => runner.run(
+            card,
+            with_name([0xBE, 0x18, 0x00, 0x00], aid).as_slice(),
+            budget,
+            steps,
+        ),
+        Command::Apdu(bytes) => runner.run(card, bytes, budget, steps),
+        Command::Load {
+            unit,
+            fixed,
+            session,
+        } => {
+            let mut commands = LoadCommands::new(unit, *fixed, *session);
+            send(card, &mut commands, budget, runner, steps)
+        }
+    }
+}

@@ -1,0 +1,254 @@
+// The commands of a load, one behind the other.
+ghost use Rattle.std.specs.List.{AllByRecursion};
+ghost use Rattle.std.specs.Prelude.{◌≡◌, ◌+◌, ◌++◌, ◌∷◌, [], ◌≤◌, length, IfSome, IfNone};
+ghost use Rattle.mc_model.specs.Bytes.{bytes2};
+ghost use Rattle.mc_model.specs.Units.{FitsUnit};
+ghost use Rattle.mc_model.specs.Play.{is_done, load_commands, section_commands, send, status};
+ghost use Rattle.mc_unit.specs.Parts.{parts_of};
+ghost use Rattle.mc_machine.specs.Turns.{outcome_value};
+ghost use Rattle.mc_card.specs.Parts.{device_in, card_in, seat_in, IsReady};
+ghost use Rattle.mc_script.specs.Classes.{IsManaged};
+ghost use Rattle.mc_script.specs.Runs.{Ran};
+
+use crate::runner::Runner;
+use arrayvec::ArrayVec;
+use mc_apdu::Reply;
+use mc_base::{Steps, Stop};
+use mc_card::Card;
+use mc_machine::Outcome;
+use mc_nvm::Nvm;
+use mc_unit::Unit;
+use std::marker::Model;
+use std::sync::ledger::Ledger;
+
+/// How many bytes of a section one command sends at the most.
+const PIECE: usize = 248;
+
+/// The command CREATE.
+const CREATE: [u8; 4] = [0xBE, 0x16, 0x00, 0x00];
+
+/// The commands of a load that are still to be sent: OPEN, the pieces of code, data, DIR and FCI, and CREATE. It is seen as their list.
+#[derive(Debug, Drop)]
+pub struct LoadCommands<'a> {
+    open: Option<[u8; 17]>,
+    code: Section<'a>,
+    data: Section<'a>,
+    dir: Section<'a>,
+    fci: Section<'a>,
+    create: Option<[u8; 4]>,
+}
+
+impl<'a> Model for LoadCommands<'a> {
+    ghost use Rattle.std.specs.List.{AllByRecursion};
+    ghost use Rattle.std.specs.Prelude.{List, ℕ};
+
+    ghost Value = { List (List ℕ) };
+
+    ghost use Rattle.mc_script.specs.Loads.{commands_left};
+
+    ghost view = { commands_left };
+}
+
+impl<'a> LoadCommands<'a> {
+    /// All commands of a load.
+    pub fn new(unit: &Unit<'a>, fixed: u16, session: u16) -> LoadCommands<'a>
+        requires { FitsUnit unit.now.code.now unit.now.init.now unit.now.dir.now unit.now.fci.now }
+        ensures commands { result ≡ load_commands (parts_of unit.now) fixed session }
+        ensures managed { AllByRecursion IsManaged result }
+    {
+        LoadCommands {
+            open: Some(open_command(unit, fixed, session)),
+            code: Section::new(0x24, unit.code),
+            data: Section::new(0x26, unit.init),
+            dir: Section::new(0x20, unit.dir),
+            fci: Section::new(0x22, unit.fci),
+            create: Some(CREATE),
+        }
+    }
+
+    /// The next command, and `None` where none is left.
+    pub fn next(&mut self) -> Option<ArrayVec<u8, 253>>
+        ensures command { IfSome result (λ bytes. self.old ≡ bytes.items ∷ self.new) }
+        ensures none { IfNone result (self.old ≡ []) }
+    {
+        if let Some(open) = self.open.take() {
+            return Some(copied(&open));
+        }
+        if let Some(piece) = self.code.next() {
+            return Some(piece);
+        }
+        if let Some(piece) = self.data.next() {
+            return Some(piece);
+        }
+        if let Some(piece) = self.dir.next() {
+            return Some(piece);
+        }
+        if let Some(piece) = self.fci.next() {
+            return Some(piece);
+        }
+        let create = self.create.take()?;
+        Some(copied(&create))
+    }
+}
+
+// The two bytes of a number.
+fn bytes_of(number: u16) -> [u8; 2]
+    ensures { result ≡ bytes2 number }
+{
+    [(number / 256 % 256) as u8, (number % 256) as u8]
+}
+
+// The command OPEN: the lengths of the code, of the static segment, of the data, of the session, of DIR and of FCI.
+fn open_command(unit: &Unit<'_>, fixed: u16, session: u16) -> [u8; 17]
+    requires { FitsUnit unit.now.code.now unit.now.init.now unit.now.dir.now unit.now.fci.now }
+    ensures { result ≡ 0xBE ∷ 0x12 ∷ 0x00 ∷ 0x00 ∷ 12 ∷ (bytes2 (length unit.now.code.now) ++ bytes2 fixed ++ bytes2 (length unit.now.init.now) ++ bytes2 session ++ bytes2 (length unit.now.dir.now) ++ bytes2 (length unit.now.fci.now)) }
+{
+    let [code_high, code_low] = bytes_of(unit.code.len() as u16);
+    let [fixed_high, fixed_low] = bytes_of(fixed);
+    let [data_high, data_low] = bytes_of(unit.init.len() as u16);
+    let [session_high, session_low] = bytes_of(session);
+    let [dir_high, dir_low] = bytes_of(unit.dir.len() as u16);
+    let [fci_high, fci_low] = bytes_of(unit.fci.len() as u16);
+    [
+        0xBE,
+        0x12,
+        0x00,
+        0x00,
+        12,
+        code_high,
+        code_low,
+        fixed_high,
+        fixed_low,
+        data_high,
+        data_low,
+        session_high,
+        session_low,
+        dir_high,
+        dir_low,
+        fci_high,
+        fci_low,
+    ]
+}
+
+// A command of fixed bytes.
+fn copied(bytes: &[u8]) -> ArrayVec<u8, 253>
+    requires { length bytes.now ≤ 253 }
+    ensures { result.items ≡ bytes.now }
+{
+    let mut command = ArrayVec::new();
+    command.try_extend_from_slice(bytes).unwrap();
+    command
+}
+
+// The commands of a section that are still to be sent, each a piece of it with its place.
+#[derive(Debug, Drop)]
+struct Section<'a> {
+    ins: u8,
+    at: u16,
+    rest: &'a [u8],
+}
+
+impl<'a> Model for Section<'a> {
+    ghost use Rattle.std.specs.List.{AllByRecursion};
+    ghost use Rattle.std.specs.Prelude.{◌+◌, ◌≤◌, length, List, ℕ};
+
+    ghost Value = { List (List ℕ) };
+
+    ghost use Rattle.mc_script.specs.Loads.{pieces_left};
+
+    ghost view = { pieces_left };
+
+    ghost invariant = { λ s. s.at + length s.rest.now ≤ 8192 };
+}
+
+impl<'a> Section<'a> {
+    // All commands of a section.
+    fn new(ins: u8, bytes: &'a [u8]) -> Section<'a>
+        requires { length bytes.now ≤ 8192 }
+        ensures { result ≡ section_commands ins bytes.now }
+    {
+        Section {
+            ins,
+            at: 0,
+            rest: bytes,
+        }
+    }
+
+    // The next command.
+    fn next(&mut self) -> Option<ArrayVec<u8, 253>>
+        ensures command { IfSome result (λ bytes. self.old ≡ bytes.items ∷ self.new) }
+        ensures none { IfNone result (self.old ≡ []) }
+        ensures stays { IfNone result (self.new ≡ []) }
+    {
+        if self.rest.is_empty() {
+            return None;
+        }
+        let (piece, behind) = self.rest.split_at(self.rest.len().min(PIECE));
+        let command = piece_command(self.ins, self.at, piece);
+        self.at += piece.len() as u16;
+        self.rest = behind;
+        Some(command)
+    }
+}
+
+// The command that sends a piece of a section, at its place.
+fn piece_command(ins: u8, at: u16, piece: &[u8]) -> ArrayVec<u8, 253>
+    requires { length piece.now ≤ 248 }
+    ensures { result.items ≡ 0xBE ∷ ins ∷ (bytes2 at ++ length piece.now ∷ piece.now) }
+{
+    let mut bytes = ArrayVec::new();
+    let header = [
+        0xBE,
+        ins,
+        (at / 256 % 256) as u8,
+        (at % 256) as u8,
+        piece.len() as u8,
+    ];
+    bytes.try_extend_from_slice(&header).unwrap();
+    bytes.try_extend_from_slice(piece).unwrap();
+    bytes
+}
+
+// Whether a command was answered by 9000 alone.
+fn is_done(outcome: &Outcome) -> bool
+    ensures { result ≡ is_done (outcome_value outcome.now) }
+{
+    match outcome {
+        Outcome::Reply(reply) => reply.body.is_empty() && reply.sw == 0x9000,
+        Outcome::Abend(_) => false,
+    }
+}
+
+// The outcome of commands that were all answered by 9000 alone.
+fn done() -> Outcome
+    ensures { outcome_value result ≡ status 0x9000 }
+{
+    Outcome::Reply(Reply {
+        body: ArrayVec::new(),
+        sw: 0x9000,
+    })
+}
+
+/// Sends commands of class BE to a card in turn, up to the first that is not answered by 9000 alone.
+pub fn send<N: Nvm, R: Runner, L: Ledger>(
+    card: &mut Card<N>,
+    commands: &mut LoadCommands<'_>,
+    budget: u32,
+    runner: &mut R,
+    steps: &mut Steps<L>,
+) -> Result<Outcome, Stop>
+    requires ready { IsReady N.state card.old }
+    requires some { 1 ≤ budget }
+    requires budget { budget ≤ 65536 }
+    requires managed { AllByRecursion IsManaged commands.old }
+    ensures done { Ran N.state N.wrote R.told card.old (send (card_in N.state card.old) (seat_in N.state card.old) budget commands.old) result card.new runner.old runner.new }
+    ensures lent { N.same (device_in card.old) (device_in card.new) }
+{
+    while let Some(bytes) = commands.next() {
+        let outcome = runner.run(card, bytes.as_slice(), budget, steps)?;
+        if !is_done(&outcome) {
+            return Ok(outcome);
+        }
+    }
+    Ok(done())
+}

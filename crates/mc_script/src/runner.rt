@@ -1,0 +1,60 @@
+// Who runs the commands of a play, and what is told of their turns.
+ghost use Rattle.std.specs.Prelude.{◌≡◌, ◌≤◌, ◌++◌, List, []};
+ghost use Rattle.mc_model.specs.Chain.{Turn as ModelTurn};
+ghost use Rattle.mc_card.specs.Parts.{device_in, due, IsReady};
+ghost use Rattle.mc_script.specs.Runs.{Ran};
+
+use mc_base::{Steps, Stop};
+use mc_card::Card;
+use mc_machine::Outcome;
+use mc_nvm::Nvm;
+use std::sync::ledger::Ledger;
+
+/// Runs the commands of a play, and may tell their turns.
+pub trait Runner {
+    /// What it has told before, the turns in order, and what it has told afterwards.
+    ghost told: { Self → List ModelTurn → Self → Type 0 };
+
+    /// One command on a card, with a budget of 1 to 65,536 instructions. The turns that are told are those of its run, and where a
+    /// write stopped those before the turn whose write it was.
+    fn run<N: Nvm, L: Ledger>(
+        &mut self,
+        card: &mut Card<N>,
+        bytes: &[u8],
+        budget: u32,
+        steps: &mut Steps<L>,
+    ) -> Result<Outcome, Stop>
+        requires ready { IsReady N.state card.old }
+        requires some { 1 ≤ budget }
+        requires budget { budget ≤ 65536 }
+        ensures done { Ran N.state N.wrote told card.old (due N.state card.old bytes.now budget) result card.new self.old self.new }
+        ensures lent { N.same (device_in card.old) (device_in card.new) };
+
+    /// Where there are no turns, nothing is told.
+    ghost silent: { (r : Self) → told r [] r };
+
+    /// Turns are told behind those before them.
+    ghost onward: { (q r s : Self) (ts us : List ModelTurn) → told q ts r → told r us s → told q (ts ++ us) s };
+}
+
+/// Runs commands, and tells nothing of their turns.
+#[derive(Clone, Copy, Debug)]
+pub struct Silent;
+
+impl Runner for Silent {
+    ghost told = { λ q ts r. Unit {0} };
+
+    ghost silent = { λ r. tt };
+
+    ghost onward = { λ q r s ts us first rest. tt };
+
+    fn run<N: Nvm, L: Ledger>(
+        &mut self,
+        card: &mut Card<N>,
+        bytes: &[u8],
+        budget: u32,
+        steps: &mut Steps<L>,
+    ) -> Result<Outcome, Stop> {
+        card.command(bytes, budget, steps)
+    }
+}

@@ -1,0 +1,83 @@
+-- How texts that are written one behind the other compose.
+use Rattle.std.proofs.Common.{◌≡◌, ℕ, List, [], ◌∷◌, ◌++◌, length, take, drop, Result, Ok, Err, IsErr, refl, arith, sym, ap, subst, ◌∙◌, append_assoc, length-append}
+use Rattle.std.proofs.lemmas.List.{take-append-drop}
+use Rattle.mc_model.specs.Transcript.{hex_text}
+use Rattle.mc_base.proofs.StreamsLemmas.{Grew-append, Grew-none, Rose-later}
+use Rattle.mc_base.specs.declared.refusals.WriteFault.{WriteFault}
+use Rattle.mc_text.specs.Texts.{Sunk, Writes, Fails, Puts}
+
+-- a text behind a text that was written
+pub writes_then : {a b c : Sunk} {x y : List ℕ} → Writes a x b → Writes b y c → Writes a (x ++ y) c
+writes_then {a} {b} {c} {x} {y} first second =
+    record { whole = Grew-append a.taken b.taken c.taken x y first.whole second.whole; counted = omega (arith, first.counted, second.counted) }
+
+-- a text that failed behind a text that was written
+pub fails_then : {a b c : Sunk} {x y : List ℕ} → Writes a x b → Fails b y c → Fails a (x ++ y) c
+fails_then {a} {b} {c} {x} {y} first second =
+    record {
+      part =
+          record {
+            front = x ++ second.part.front;
+            rest = second.part.rest;
+            parts = ap (λ t. x ++ t) second.part.parts ∙ sym (append_assoc x second.part.front second.part.rest);
+            some_left = second.part.some_left;
+            grew = Grew-append a.taken b.taken c.taken x second.part.front first.whole second.part.grew;
+          };
+      cause = Rose-later a.faults b.faults c.faults first.counted second.cause;
+    }
+
+-- a text behind a text that was written, by the result
+pub puts_then : {a b : Sunk} {x : List ℕ} (c : Sunk) (y : List ℕ) (r : Result (Unit {0}) WriteFault) → Writes a x b → Puts b y r c → Puts a (x ++ y) r c
+puts_then c y (Ok u) first second = writes_then first second
+puts_then c y (Err e) first second = fails_then first second
+
+-- a text that failed fails with whatever is behind it
+pub fails_before : {a b : Sunk} {x : List ℕ} (y : List ℕ) → Fails a x b → Fails a (x ++ y) b
+fails_before {a} {b} {x} y f =
+    record {
+      part =
+          record {
+            front = f.part.front;
+            rest = f.part.rest ++ y;
+            parts = ap (λ t. t ++ y) f.part.parts ∙ append_assoc f.part.front f.part.rest y;
+            some_left = simp (length-append) (omega (arith, f.part.some_left));
+            grew = f.part.grew;
+          };
+      cause = f.cause;
+    }
+
+-- a text that failed, by the result of a `?`
+pub puts_failed : {a b : Sunk} {t : List ℕ} (r : Result (Unit {0}) WriteFault) → IsErr r → Fails a t b → Puts a t r b
+puts_failed (Ok u) is f = absurd (cc is)
+puts_failed (Err w) is f = f
+
+-- nothing was written
+pub writes_none : (a : Sunk) → Writes a [] a
+writes_none a = record { whole = Grew-none a.taken; counted = omega arith }
+
+-- the same text, said in another way
+pub puts_as : (a b : Sunk) {t u : List ℕ} (r : Result (Unit {0}) WriteFault) → t ≡ u → Puts a t r b → Puts a u r b
+puts_as a b r e p = subst (λ (t : List ℕ). Puts a t r b) e p
+
+-- bytes behind bytes
+pub hex_text_append : (xs ys : List ℕ) → hex_text (xs ++ ys) ≡ hex_text xs ++ hex_text ys
+hex_text_append [] ys = refl
+hex_text_append (x ∷ xs) ys = grind (arith, hex_text_append xs ys)
+
+-- bytes in two parts
+pub hex_text_split : (n : ℕ) (xs : List ℕ) → hex_text (take n xs) ++ hex_text (drop n xs) ≡ hex_text xs
+hex_text_split n xs = sym (hex_text_append (take n xs) (drop n xs)) ∙ ap hex_text (take-append-drop n xs)
+
+-- what writes the rest of some bytes, behind a piece that was written, writes all of them
+pub hex_on : {a b : Sunk} {p q t : List ℕ} (c : Sunk) (n : ℕ) (xs : List ℕ) (r : Result (Unit {0}) WriteFault) → p ≡ take n xs → q ≡ drop n xs → t ≡ hex_text p → Writes a t b → Puts b (hex_text q) r c → Puts a (hex_text xs) r c
+hex_on {a} {b} {p} {q} {t} c n xs r front back is first rest =
+    puts_as a c r (rw (is, front, back) (hex_text_split n xs)) (puts_then c (hex_text q) r first rest)
+
+-- a piece that failed
+pub hex_fails : {a b : Sunk} {p t : List ℕ} (n : ℕ) (xs : List ℕ) → p ≡ take n xs → t ≡ hex_text p → Fails a t b → Fails a (hex_text xs) b
+hex_fails {a} {b} {p} {t} n xs front is f = subst (λ (t : List ℕ). Fails a t b) (rw (is, front) (hex_text_split n xs)) (fails_before (hex_text (drop n xs)) f)
+
+-- no byte
+pub hex_none : (a : Sunk) (xs : List ℕ) → length xs ≡ 0 → Writes a (hex_text xs) a
+hex_none a [] e = writes_none a
+hex_none a (x ∷ xs) e = absurd (omega (arith, e))

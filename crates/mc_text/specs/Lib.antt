@@ -1,0 +1,4 @@
+pub use Rattle.mc_model.specs.TraceText
+pub use Rattle.mc_base.specs.Streams
+pub mod Texts
+pub mod Logs

@@ -1,0 +1,30 @@
+-- A text written to a sink: whole, or a front of it where the sink failed.
+-- This project's profile.
+use Rattle.std.specs.Prelude.{ℕ, ◌≤◌, List, Option, Result, Ok, Err}
+use Rattle.mc_model.specs.Counts.{Rose}
+use Rattle.mc_base.specs.Streams.{Grew, GrewByPart}
+use Rattle.mc_base.specs.declared.refusals.WriteFault.{WriteFault}
+
+-- what a sink tells that it has taken, and its count of faults
+pub record Sunk : Type 0 where
+  pub taken : Option (List ℕ)
+  pub faults : ℕ
+
+-- the same of a sink
+abbrev pub sunk_in : {T : Type 0} → (T → Option (List ℕ)) → (T → ℕ) → T → Sunk
+sunk_in taken faults out = record { taken = taken out; faults = faults out }
+
+-- a text was written whole
+pub record Writes (a : Sunk) (text : List ℕ) (b : Sunk) : Type 0 where
+  pub whole : Grew a.taken b.taken text
+  pub counted : a.faults ≤ b.faults
+
+-- a front of a text was written, and the sink failed
+pub record Fails (a : Sunk) (text : List ℕ) (b : Sunk) : Type 0 where
+  pub part : GrewByPart a.taken b.taken text
+  pub cause : Rose a.faults b.faults
+
+-- a text was written, by the result
+abbrev pub Puts : Sunk → List ℕ → Result (Unit {0}) WriteFault → Sunk → Type 0
+Puts a text (Ok u) b = Writes a text b
+Puts a text (Err f) b = Fails a text b
