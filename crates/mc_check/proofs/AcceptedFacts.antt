@@ -1,0 +1,108 @@
+-- What holds at a fact of accepted code: no cause, and room for its stack above each base that its routine may have.
+use Rattle.std.proofs.Common.{◌≡◌, ℕ, ◌+◌, ◌≤◌, Bool, true, false, cond, List, [], ◌∷◌, length, Result, Ok, Err, refl, ap, ◌∙◌, inl, inr, arith}
+use Rattle.std.specs.Prelude.{◌&&◌, not, nat_lt, is_some}
+use Rattle.std.proofs.lemmas.Bool.{false_from_ne_true, true_from_ne_false, ltb-true, ltb-false, cases_lt, not_from_true}
+use Rattle.mc_model.specs.declared.checker.CheckCause.{CheckCause}
+use Rattle.mc_model.specs.declared.checker.CheckCause.TheVariants.{Undefined, Past, Indirect, Returns, Under, Target, Recursive, Deep}
+use Rattle.mc_model.specs.declared.instruction.DecodeFault.{DecodeFault}
+use Rattle.mc_model.specs.declared.instruction.DecodeFault.TheVariants as fault
+use Rattle.mc_model.specs.declared.instruction.Ins.{Ins}
+use Rattle.mc_model.specs.Code.{decoded}
+use Rattle.mc_model.specs.StackRows.{need, is_indirect, counts, places_inside}
+use Rattle.mc_model.specs.StackShape.{Fact, is_main, Look, Bad, Stands, first_bad, seen, look, Gives, Reached, Depth, IsBase, Accepts}
+
+-- ---- what is seen of a fact
+
+step_shown : (b : Bool) (cause : CheckCause) (l : Look) (i : Ins) (next : ℕ) → cond b (Bad cause) l ≡ Stands i next → l ≡ Stands i next
+step_shown true cause l i next e = absurd (cc e)
+step_shown false cause l i next e = e
+
+first_shown : (cs : List (CheckCause × Bool)) (p : Ins × ℕ) (i : Ins) (next : ℕ) → first_bad cs (Stands p.0 p.1) ≡ Stands i next → p ≡ (i, next)
+first_shown [] p i next e =
+    let ins : p.0 ≡ i = cc e in
+    let place : p.1 ≡ next = cc e in
+    ap (λ (j : Ins). (j, p.1)) ins ∙ ap (λ (n : ℕ). (i, n)) place
+first_shown (c ∷ cs) p i next e = first_shown cs p i next (step_shown c.1 c.0 (first_bad cs (Stands p.0 p.1)) i next e)
+
+-- the causes that are seen at an instruction
+abbrev seen_causes : ℕ → Fact → Ins × ℕ → List (CheckCause × Bool)
+seen_causes len f p =
+    (Indirect, is_indirect p.0) ∷ (Returns, is_main f.routine && is_some (counts p.0)) ∷ (Under, nat_lt f.height (need p.0)) ∷ (Target, not (places_inside len p.0 p.1)) ∷ []
+
+seen_decoded : (len : ℕ) (f : Fact) (r : Result (Ins × ℕ) DecodeFault) (i : Ins) (next : ℕ) → seen len f r ≡ Stands i next → r ≡ Ok (i, next)
+seen_decoded len f (Err fault.Undefined) i next e = absurd (cc e)
+seen_decoded len f (Err fault.Past) i next e = absurd (cc e)
+seen_decoded len f (Ok p) i next e = ap (λ (q : Ins × ℕ). Ok q) (first_shown (seen_causes len f p) p i next e)
+
+-- what stands at a fact is the instruction at its place
+pub shown_decoded : (code : List ℕ) (f : Fact) (i : Ins) (next : ℕ) → look code f ≡ Stands i next → decoded code f.place ≡ Ok (i, next)
+unfolding look
+shown_decoded code f i next e = seen_decoded (length code) f (decoded code f.place) i next e
+
+-- nothing is bad
+none_bad : (a b c d : Bool) (w x y z : CheckCause) (l : Look) → a ≡ false → b ≡ false → c ≡ false → d ≡ false → cond a (Bad w) (cond b (Bad x) (cond c (Bad y) (cond d (Bad z) l))) ≡ l
+none_bad a b c d w x y z l p q r s = rw (p, q, r, s) refl
+
+-- ---- facts of accepted code
+
+-- the instruction at a fact, at which nothing is wrong
+pub record GoodAt (code : List ℕ) (f : Fact) (i : Ins) (next : ℕ) : Type 0 where
+  pub decoded : decoded code f.place ≡ Ok (i, next)
+  pub stands : look code f ≡ Stands i next
+  pub direct : is_indirect i ≡ false
+  pub home : (is_main f.routine && is_some (counts i)) ≡ false
+  pub needs : need i ≤ f.height
+  pub inside : places_inside (length code) i next ≡ true
+
+-- room for so many bytes above a base, within the stack and within the deepest one
+pub record HasRoom (session most base height : ℕ) : Type 0 where
+  pub stack : session + base + height ≤ 512
+  pub deepest : base + height ≤ most
+
+-- each routine that is reached has a base
+abbrev pub HasBases : List ℕ → Type 0
+HasBases code = (f : Fact) → Reached code f → (b : ℕ) × IsBase code f.routine b
+
+module _ (code : List ℕ) (session most : ℕ) (accepts : Accepts code session most) where
+  pub undefined_never : (f : Fact) → Reached code f → decoded code f.place ≡ Err fault.Undefined → ⊥
+  undefined_never f reached is = accepts.sound f Undefined reached is
+
+  pub past_never : (f : Fact) → Reached code f → decoded code f.place ≡ Err fault.Past → ⊥
+  past_never f reached is = accepts.sound f Past reached is
+
+  stands_at : (f : Fact) (i : Ins) (next : ℕ) → decoded code f.place ≡ Ok (i, next) → is_indirect i ≡ false → (is_main f.routine && is_some (counts i)) ≡ false → nat_lt f.height (need i) ≡ false → places_inside (length code) i next ≡ true → look code f ≡ Stands i next
+  unfolding look
+  stands_at f i next is direct home enough inside =
+      ap (λ (r : Result (Ins × ℕ) DecodeFault). seen (length code) f r) is
+      ∙ none_bad (is_indirect i) (is_main f.routine && is_some (counts i)) (nat_lt f.height (need i)) (not (places_inside (length code) i next)) Indirect Returns Under Target (Stands i next) direct home enough (not_from_true _ inside)
+
+  pub good_at : (f : Fact) → Reached code f → (i : Ins) (next : ℕ) → decoded code f.place ≡ Ok (i, next) → GoodAt code f i next
+  good_at f reached i next is =
+      let direct : is_indirect i ≡ false = false_from_ne_true (is_indirect i) (λ e. accepts.sound f Indirect reached (i, next, is, e)) in
+      let home : (is_main f.routine && is_some (counts i)) ≡ false = false_from_ne_true _ (λ e. accepts.sound f Returns reached (inl (i, next, is, e))) in
+      let enough : nat_lt f.height (need i) ≡ false = false_from_ne_true _ (λ e. accepts.sound f Under reached (inl (i, next, is, ltb-true f.height (need i) e))) in
+      let inside : places_inside (length code) i next ≡ true = true_from_ne_false _ (λ e. accepts.sound f Target reached (i, next, is, e)) in
+      record { decoded = is; stands = stands_at f i next is direct home enough inside; direct = direct; home = home; needs = ltb-false f.height (need i) enough; inside = inside }
+
+  module _ (bases : HasBases code) where
+    fits_at : (f : Fact) (greatest : ℕ) → Reached code f → IsBase code f.routine greatest → session + greatest + f.height ≤ 512
+    fits_at f greatest reached is =
+        elim (cases_lt 512 (session + greatest + f.height)) [
+          | inl deep ↦ absurd (accepts.sound f Deep reached (record { sound = λ g at itself. accepts.sound g Recursive at itself; base = greatest; is_base = is; deep = deep }))
+          | inr fits ↦ fits
+        ]
+
+    pub room_at : (f : Fact) (b : ℕ) → Reached code f → Depth code f.routine b → HasRoom session most b f.height
+    room_at f b reached depth =
+        let greatest = (bases f reached).0 in
+        let is : IsBase code f.routine greatest = (bases f reached).1 in
+        let low : b ≤ greatest = is.greatest b depth in
+        let fits : session + greatest + f.height ≤ 512 = fits_at f greatest reached is in
+        let deepest : greatest + f.height ≤ most = accepts.deepest.greatest f greatest reached is in
+        record { stack = omega (arith, low, fits); deepest = omega (arith, low, deepest) }
+
+    pub gives_at : (f : Fact) (b : ℕ) (i : Ins) (next : ℕ) → Reached code f → Depth code f.routine b → GoodAt code f i next → Gives code f i next
+    gives_at f b i next reached depth good =
+        let room = room_at f b reached depth in
+        let fits : session + b + f.height ≤ 512 = room.stack in
+        record { stands = good.stands; height = omega (arith, fits) }

@@ -1,0 +1,300 @@
+-- The causes of a row that stands on accepted code: none of the abends 01, 02, 04 and 05 is the first that holds.
+use Rattle.std.proofs.Common.{◌≡◌, ℕ, ◌+◌, ◌-◌, ◌*◌, ◌≤◌, ℤ, Bool, true, false, cond, List, [], ◌∷◌, Option, Some, None, refl, sym, ap, subst, ◌∙◌, arith, le-ltb}
+use Rattle.std.specs.Prelude.{◌==◌, ◌&&◌, ◌||◌, not, nat_lt, slice_index}
+use Rattle.std.proofs.lemmas.Bool.{and_parts, and_left, and_right, not_from_true}
+use Rattle.mc_model.specs.declared.instruction.Ins.{Ins}
+use Rattle.mc_model.specs.declared.instruction.Ins.TheVariants as ins
+use Rattle.mc_model.specs.declared.machine.Abend.{Abend}
+use Rattle.mc_model.specs.declared.machine.Abend.TheVariants.{A06}
+use Rattle.mc_model.specs.Bytes.{num}
+use Rattle.mc_model.specs.Frame.{Frame, floor, dynamic_end, is_under, is_over, popped, top}
+use Rattle.mc_model.specs.Primitives.{Around, Primitive, CheckCase, LoadCcr, StoreCcr, Lookup, MemoryCompare, MemoryCopy, DelegateTo, DelegatorAid, Digest, CompareFixed, CopyFixed, SetProtection, Encipher, Decipher, Sign, BitByte, ShiftLeft, ShiftRight, BitWord, primitive, prim_causes, later_causes, told_causes}
+use Rattle.mc_model.specs.Chain.{stepped}
+use Rattle.mc_model.specs.Row.{causes, first_cause, holds, no_place, on_stack, immediate_reads, immediate_writes, pair_reads, pair_writes}
+use Rattle.mc_model.specs.StackRows.{need, always_abends, prim_abends, height_after, pair_uses, prim_uses, row_uses, is_indirect, counts, call_target, is_inside, target_inside, call_inside, goes_on, jump_target, places_inside}
+use Rattle.mc_check.specs.Checked.{is_excluded}
+use Rattle.mc_check.specs.Standing.{StandsAt}
+use Rattle.mc_check.proofs.CalmWrites.{IsRoomy, stands_roomy}
+
+-- ---- lists of causes
+
+-- an excluded abend does not hold
+abbrev pub IsSilent : Bool → Bool → Type 0
+IsSilent true b = b ≡ false
+IsSilent false b = Unit {0}
+
+-- none of the excluded abends holds
+abbrev pub AreCalm : List (Abend × Bool) → Type 0
+AreCalm [] = Unit {0}
+AreCalm (c ∷ cs) = IsSilent (is_excluded c.0) c.1 × AreCalm cs
+
+silent : (b : Bool) → IsSilent b true → b ≡ false
+silent true s = absurd (cc s)
+silent false s = refl
+
+first_of_two : (a c : Abend) (b : Bool) (rest : Option Abend) → IsSilent (is_excluded a) b → (rest ≡ Some c → is_excluded c ≡ false) → cond b (Some a) rest ≡ Some c → is_excluded c ≡ false
+first_of_two a c true rest s others e =
+    let same : a ≡ c = cc e in
+    ap is_excluded (sym same) ∙ silent (is_excluded a) s
+first_of_two a c false rest s others e = others e
+
+-- the first cause of calm ones is none of the excluded abends
+pub first_calm : (cs : List (Abend × Bool)) (c : Abend) → AreCalm cs → first_cause cs ≡ Some c → is_excluded c ≡ false
+first_calm [] c calm e = absurd (cc e)
+first_calm (p ∷ cs) c calm e = first_of_two p.0 c p.1 (first_cause cs) calm.0 (first_calm cs c calm.1) e
+
+-- ---- tests by kind
+
+-- there are n bytes on the stack
+under : (f : Frame) (h n : ℕ) → IsRoomy f h → n ≤ h → is_under f n ≡ false
+under f h n r few = le-ltb f.dt (floor f + n) (omega (arith, r.low, r.top))
+
+-- the same where the operand lies on the stack alone
+under_on : (b : Bool) (f : Frame) (h n : ℕ) → IsRoomy f h → cond b n 0 ≤ h → (b && is_under f n) ≡ false
+under_on true f h n r few = under f h n r few
+under_on false f h n r few = refl
+
+-- there is room for n bytes more
+over : (f : Frame) (n : ℕ) → f.dt + n ≤ dynamic_end → is_over f n ≡ false
+over f n room = le-ltb dynamic_end (f.dt + n) room
+
+-- a place in the code is one to go to
+placed : (f : Frame) (len : ℕ) (o : Option ℕ) → f.code_len ≡ len → is_inside len o ≡ true → no_place f o ≡ false
+placed f len None is inside = absurd (cc inside)
+placed f len (Some p) is inside = not_from_true (nat_lt p f.code_len) (ap (λ (n : ℕ). nat_lt p n) is ∙ inside)
+
+-- the target of a jump that is not on the stack, and that of a call
+jump_placed : (b : Bool) (f : Frame) (len n to : ℕ) → f.code_len ≡ len → b ≡ false → target_inside len (cond b None (Some (Some to))) ≡ true → no_place f (Some (cond b n to)) ≡ false
+jump_placed true f len n to is direct inside = absurd (cc direct)
+jump_placed false f len n to is direct inside = placed f len (Some to) is inside
+
+call_placed : (b : Bool) (f : Frame) (len n to : ℕ) → f.code_len ≡ len → b ≡ false → call_inside len (cond b None (Some to)) ≡ true → no_place f (Some (cond b n to)) ≡ false
+call_placed true f len n to is direct inside = absurd (cc direct)
+call_placed false f len n to is direct inside = placed f len (Some to) is inside
+
+call_over : (b : Bool) (f : Frame) (to : ℕ) → b ≡ false → ((q : ℕ) → cond b None (Some to) ≡ Some q → f.dt + 4 ≤ dynamic_end) → is_over (cond b (popped f 2) f) 4 ≡ false
+call_over true f to direct room = absurd (cc direct)
+call_over false f to direct room = over f 4 (room to refl)
+
+-- ---- causes by kind
+
+immediate_read : (f : Frame) (h tag : ℕ) (off : ℤ) (n : ℕ) → IsRoomy f h → on_stack tag n 0 ≤ h → AreCalm (immediate_reads f tag off n)
+immediate_read f h tag off n r few = (under_on (tag == 0) f h n r few, (tt, tt))
+
+immediate_write : (f : Frame) (h tag : ℕ) (off : ℤ) (n : ℕ) → IsRoomy f h → on_stack tag n 0 ≤ h → AreCalm (immediate_writes f tag off n)
+immediate_write f h tag off n r few = (under_on (tag == 0) f h n r few, (tt, (tt, tt)))
+
+pair_read : (f : Frame) (h tag : ℕ) (off : ℤ) (n : ℕ) → IsRoomy f h → on_stack tag (2 * n) n ≤ h → AreCalm (pair_reads f tag off n)
+pair_read f h tag off n r few = (under f h (on_stack tag (2 * n) n) r few, (tt, tt))
+
+pair_write : (f : Frame) (h tag : ℕ) (off : ℤ) (n : ℕ) → IsRoomy f h → on_stack tag (2 * n) n ≤ h → AreCalm (pair_writes f tag off n)
+pair_write f h tag off n r few = (under f h (on_stack tag (2 * n) n) r few, (tt, (tt, tt)))
+
+-- ---- primitives
+
+told_calm : (g : Frame) (a : ℕ) (o : Option (List ℕ)) → AreCalm (told_causes g a o)
+told_calm g a None = tt
+told_calm g a (Some name) = (tt, (tt, tt))
+
+later_calm : (p : Primitive) (args : List ℕ) (f : Frame) (h : ℕ) (public : List ℕ) (x : Around) → IsRoomy f h → (prim_uses p args).needs ≤ h
+    → f.dt - (prim_uses p args).pops + (prim_uses p args).pushes ≤ dynamic_end → AreCalm (later_causes p args f public x)
+unfolding later_causes
+later_calm CheckCase args f h public x r few room = (under f h 1 r few, (tt, tt))
+later_calm LoadCcr args f h public x r few room = (over f 1 (omega arith), tt)
+later_calm StoreCcr args f h public x r few room = (under f h 1 r few, tt)
+later_calm Lookup args f h public x r few room = (under f h 3 r few, (tt, tt))
+later_calm MemoryCompare args f h public x r few room = (under f h 6 r few, (tt, (tt, tt)))
+later_calm MemoryCopy args f h public x r few room = (under f h 6 r few, (tt, (tt, (tt, tt))))
+later_calm DelegateTo args f h public x r few room = (under f h 2 r few, (tt, (tt, tt)))
+later_calm DelegatorAid args f h public x r few room = (under f h 2 r few, told_calm (popped f 2) _ x.delegator)
+later_calm Digest args f h public x r few room = (under f h 6 r few, (tt, (tt, (tt, tt))))
+later_calm CompareFixed args f h public x r few room = (under f h 4 r few, (tt, tt))
+later_calm CopyFixed args f h public x r few room = (under f h 4 r few, (tt, (tt, tt)))
+later_calm SetProtection args f h public x r few room = tt
+later_calm (Encipher c) args f h public x r few room = (under f h 6 r few, (tt, (tt, tt)))
+later_calm (Decipher c) args f h public x r few room = (under f h 6 r few, (tt, (tt, tt)))
+later_calm (Sign c) args f h public x r few room = (under f h 8 r few, (tt, (tt, tt)))
+later_calm BitByte args f h public x r few room = (under f h 1 r few, tt)
+later_calm ShiftLeft args f h public x r few room = (under f h (slice_index args 0) r few, tt)
+later_calm ShiftRight args f h public x r few room = (under f h (slice_index args 0) r few, tt)
+later_calm BitWord args f h public x r few room = (under f h 2 r few, tt)
+
+prim_calm : (p : Option Primitive) (args : List ℕ) (f : Frame) (h : ℕ) (public : List ℕ) (x : Around) → IsRoomy f h → (pair_uses p args).needs ≤ h
+    → f.dt - (pair_uses p args).pops + (pair_uses p args).pushes ≤ dynamic_end → AreCalm (prim_causes p args f public x)
+prim_calm None args f h public x r few room = (tt, tt)
+prim_calm (Some p) args f h public x r few room = (tt, (tt, later_calm p args f h public x r few room))
+
+-- ---- all rows
+
+-- what is known where an instruction runs: its bytes are there, its places are in the code, and there is room behind it
+pub record IsReady (len : ℕ) (i : Ins) (f : Frame) (h : ℕ) : Type 0 where
+  pub roomy : IsRoomy f h
+  pub code_len : f.code_len ≡ len
+  pub few : (row_uses i).needs ≤ h
+  pub direct : is_indirect i ≡ false
+  pub inside : places_inside len i f.at ≡ true
+  pub no_return : counts i ≡ None
+  pub room : f.dt - (row_uses i).pops + (row_uses i).pushes ≤ dynamic_end
+  pub call_room : (q : ℕ) → call_target i ≡ Some q → f.dt + 4 ≤ dynamic_end
+
+target_known : (len : ℕ) (i : Ins) (next : ℕ) → places_inside len i next ≡ true → target_inside len (jump_target i next) ≡ true
+target_known len i next h =
+    let behind = not (goes_on i) || nat_lt next len in
+    let at = target_inside len (jump_target i next) in
+    let of_call = call_inside len (call_target i) in
+    (and_parts behind at (and_parts (behind && at) of_call h).0).1
+
+call_known : (len : ℕ) (i : Ins) (next : ℕ) → places_inside len i next ≡ true → call_inside len (call_target i) ≡ true
+call_known len i next h =
+    let behind = not (goes_on i) || nat_lt next len in
+    let at = target_inside len (jump_target i next) in
+    let of_call = call_inside len (call_target i) in
+    (and_parts (behind && at) of_call h).1
+
+causes_calm : (i : Ins) (len h : ℕ) (f : Frame) (public : List ℕ) (x : Around) → IsReady len i f h → AreCalm (causes i f public x)
+unfolding causes
+causes_calm ins.Nop len h f public x y = tt
+causes_calm (ins.Setsw sw) len h f public x y = tt
+causes_calm (ins.Setla la) len h f public x y = tt
+causes_calm (ins.Setswla sw la) len h f public x y = tt
+causes_calm ins.Exit len h f public x y = tt
+causes_calm (ins.Exitsw sw) len h f public x y = tt
+causes_calm (ins.Exitla la) len h f public x y = tt
+causes_calm (ins.Exitswla sw la) len h f public x y = tt
+causes_calm (ins.Branch k d) len h f public x y =
+    (and_right (holds k f) _ (placed f len _ y.code_len (target_known len (ins.Branch k d) f.at y.inside)), tt)
+causes_calm (ins.Jump k to) len h f public x y =
+    let here = jump_placed (k == 0) f len (num (top f 2)) to y.code_len y.direct (target_known len (ins.Jump k to) f.at y.inside) in
+    (and_left (k == 0) (is_under f 2) y.direct, (and_right (holds k f) _ here, tt))
+causes_calm (ins.Call k to) len h f public x y =
+    let here = call_placed (k == 0) f len (num (top f 2)) to y.code_len y.direct (call_known len (ins.Call k to) f.at y.inside) in
+    (and_left (k == 0) (is_under f 2) y.direct, (and_right (holds k f) _ here, (and_right (holds k f) _ (call_over (k == 0) f to y.direct y.call_room), tt)))
+causes_calm (ins.Pushz n) len h f public x y = (tt, (over f n (omega (arith, y.room)), tt))
+causes_calm (ins.Pushb b) len h f public x y = (over f 1 (omega (arith, y.room)), tt)
+causes_calm (ins.Pushw w) len h f public x y = (over f 2 (omega (arith, y.room)), tt)
+causes_calm (ins.Popn n) len h f public x y = (tt, (under f h n y.roomy y.few, tt))
+causes_calm ins.Popb len h f public x y = (under f h 1 y.roomy y.few, tt)
+causes_calm ins.Popw len h f public x y = (under f h 2 y.roomy y.few, tt)
+causes_calm (ins.Prim set number args) len h f public x y = prim_calm (primitive set number) args f h public x y.roomy y.few y.room
+causes_calm ins.Ret len h f public x y = absurd (cc y.no_return)
+causes_calm (ins.Reti i) len h f public x y = absurd (cc y.no_return)
+causes_calm (ins.Reto o) len h f public x y = absurd (cc y.no_return)
+causes_calm (ins.Retio i o) len h f public x y = absurd (cc y.no_return)
+causes_calm (ins.Load tag off n) len h f public x y = (tt, (under_on (tag == 0) f h n y.roomy y.few, (tt, (over f n (omega (arith, y.room)), tt))))
+causes_calm (ins.Store tag off n) len h f public x y = (tt, (under f h (on_stack tag (2 * n) n) y.roomy y.few, (tt, (tt, tt))))
+causes_calm (ins.Loadi tag off n) len h f public x y = (tt, (under_on (tag == 0) f h 2 y.roomy y.few, (tt, (over f n (omega (arith, y.room)), tt))))
+causes_calm (ins.Storei tag off n) len h f public x y = (tt, (under f h (on_stack tag (n + 2) n) y.roomy y.few, (tt, (tt, tt))))
+causes_calm (ins.Loada tag off) len h f public x y = (tt, (over f 2 (omega (arith, y.room)), tt))
+causes_calm (ins.Index tag off size) len h f public x y = (under f h (on_stack tag 3 1) y.roomy y.few, (tt, (over (popped f (on_stack tag 3 1)) 2 y.room, tt)))
+causes_calm (ins.Setb tag off b) len h f public x y = immediate_write f h tag off 1 y.roomy y.few
+causes_calm (ins.Cmpb tag off b) len h f public x y = immediate_read f h tag off 1 y.roomy y.few
+causes_calm (ins.Addb tag off b) len h f public x y = immediate_write f h tag off 1 y.roomy y.few
+causes_calm (ins.Subb tag off b) len h f public x y = immediate_write f h tag off 1 y.roomy y.few
+causes_calm (ins.Setw tag off w) len h f public x y = immediate_write f h tag off 2 y.roomy y.few
+causes_calm (ins.Cmpw tag off w) len h f public x y = immediate_read f h tag off 2 y.roomy y.few
+causes_calm (ins.Addw tag off w) len h f public x y = immediate_write f h tag off 2 y.roomy y.few
+causes_calm (ins.Subw tag off w) len h f public x y = immediate_write f h tag off 2 y.roomy y.few
+causes_calm (ins.Clearn tag off n) len h f public x y = (tt, immediate_write f h tag off n y.roomy y.few)
+causes_calm (ins.Testn tag off n) len h f public x y = (tt, immediate_read f h tag off n y.roomy y.few)
+causes_calm (ins.Incn tag off n) len h f public x y = (tt, immediate_write f h tag off n y.roomy y.few)
+causes_calm (ins.Decn tag off n) len h f public x y = (tt, immediate_write f h tag off n y.roomy y.few)
+causes_calm (ins.Notn tag off n) len h f public x y = (tt, immediate_write f h tag off n y.roomy y.few)
+causes_calm (ins.Cmpn tag off n) len h f public x y = (tt, pair_read f h tag off n y.roomy y.few)
+causes_calm (ins.Addn tag off n) len h f public x y = (tt, pair_write f h tag off n y.roomy y.few)
+causes_calm (ins.Subn tag off n) len h f public x y = (tt, pair_write f h tag off n y.roomy y.few)
+causes_calm (ins.Andn tag off n) len h f public x y = (tt, pair_write f h tag off n y.roomy y.few)
+causes_calm (ins.Orn tag off n) len h f public x y = (tt, pair_write f h tag off n y.roomy y.few)
+causes_calm (ins.Xorn tag off n) len h f public x y = (tt, pair_write f h tag off n y.roomy y.few)
+
+-- ---- instructions that always abend
+
+-- the first cause holds
+at_once : (b : Bool) (rest : Option Abend) → b ≡ true → cond b (Some A06) rest ≡ Some A06
+at_once b rest holds = ap (λ (t : Bool). cond t (Some A06) rest) holds
+
+prim_at_once : (p : Option Primitive) (args : List ℕ) (f : Frame) (public : List ℕ) (x : Around) → prim_abends p args ≡ true → first_cause (prim_causes p args f public x) ≡ Some A06
+prim_at_once None args f public x h = refl
+prim_at_once (Some p) args f public x h = at_once _ _ h
+
+-- an instruction that abends by its own bytes does so with 06, whatever else holds
+pub always_first : (i : Ins) (f : Frame) (public : List ℕ) (x : Around) → always_abends i ≡ true → first_cause (causes i f public x) ≡ Some A06
+unfolding causes
+always_first (ins.Pushz n) f public x h = at_once _ _ h
+always_first (ins.Popn n) f public x h = at_once _ _ h
+always_first (ins.Prim set number args) f public x h = prim_at_once (primitive set number) args f public x h
+always_first (ins.Load tag off n) f public x h = at_once _ _ h
+always_first (ins.Store tag off n) f public x h = at_once _ _ h
+always_first (ins.Loadi tag off n) f public x h = at_once _ _ h
+always_first (ins.Storei tag off n) f public x h = at_once _ _ h
+always_first (ins.Clearn tag off n) f public x h = at_once _ _ h
+always_first (ins.Testn tag off n) f public x h = at_once _ _ h
+always_first (ins.Incn tag off n) f public x h = at_once _ _ h
+always_first (ins.Decn tag off n) f public x h = at_once _ _ h
+always_first (ins.Notn tag off n) f public x h = at_once _ _ h
+always_first (ins.Cmpn tag off n) f public x h = at_once _ _ h
+always_first (ins.Addn tag off n) f public x h = at_once _ _ h
+always_first (ins.Subn tag off n) f public x h = at_once _ _ h
+always_first (ins.Andn tag off n) f public x h = at_once _ _ h
+always_first (ins.Orn tag off n) f public x h = at_once _ _ h
+always_first (ins.Xorn tag off n) f public x h = at_once _ _ h
+always_first _ f public x h = absurd (cc h)
+
+-- ---- rows
+
+-- a frame with its code address behind the instruction stands as before
+pub stepped_stands : (len size base h : ℕ) (f : Frame) (next : ℕ) → StandsAt len size base h f → StandsAt len size base h (stepped f next)
+stepped_stands len size base h f next s =
+    record { session = s.session; code_len = s.code_len; dyn = s.dyn; fixed = s.fixed; lb = s.lb; dt = s.dt; room = s.room }
+
+-- a row pops no more than it needs
+tagged_pops : (b : Bool) (n m : ℕ) → n ≤ m → n ≤ cond b m n
+tagged_pops true n m less = less
+tagged_pops false n m less = omega arith
+
+prim_pops : (p : Primitive) (args : List ℕ) → (prim_uses p args).pops ≤ (prim_uses p args).needs
+prim_pops BitByte args = omega arith
+prim_pops _ args = omega arith
+
+pair_pops : (p : Option Primitive) (args : List ℕ) → (pair_uses p args).pops ≤ (pair_uses p args).needs
+pair_pops None args = omega arith
+pair_pops (Some p) args = prim_pops p args
+
+pub row_pops : (i : Ins) → (row_uses i).pops ≤ (row_uses i).needs
+row_pops (ins.Prim set number args) = pair_pops (primitive set number) args
+row_pops (ins.Store tag off n) = tagged_pops (tag == 0) n (2 * n) (omega arith)
+row_pops (ins.Storei tag off n) = tagged_pops (tag == 0) n (n + 2) (omega arith)
+row_pops _ = omega arith
+
+-- an instruction that may run needs what its row needs
+pub need_few : (i : Ins) (h : ℕ) → need i ≤ h → always_abends i ≡ false → (row_uses i).needs ≤ h
+need_few i h few runs = subst (λ (b : Bool). cond b 0 (row_uses i).needs ≤ h) runs few
+
+calm_by : (b : Bool) (len size base h : ℕ) (i : Ins) (f : Frame) (public : List ℕ) (x : Around) (c : Abend) → always_abends i ≡ b → StandsAt len size base h f
+    → need i ≤ h → is_indirect i ≡ false → places_inside len i f.at ≡ true → counts i ≡ None
+    → (always_abends i ≡ false → size + base + height_after i h ≤ 512) → ((q : ℕ) → call_target i ≡ Some q → size + base + h + 4 ≤ 512)
+    → first_cause (causes i f public x) ≡ Some c → is_excluded c ≡ false
+calm_by true len size base h i f public x c is s few direct inside no_return room call_room e =
+    let only : c ≡ A06 = cc (e, always_first i f public x is) in
+    ap is_excluded only
+calm_by false len size base h i f public x c is s few direct inside no_return room call_room e =
+    let enough : size + base + height_after i h ≤ 512 = room is in
+    let few_bytes : (row_uses i).needs ≤ h = need_few i h few is in
+    let pops : (row_uses i).pops ≤ (row_uses i).needs = row_pops i in
+    first_calm (causes i f public x) c (causes_calm i len h f public x (record {
+      roomy = stands_roomy len size base h f s;
+      code_len = s.code_len;
+      few = few_bytes;
+      direct = direct;
+      inside = inside;
+      no_return = no_return;
+      room = omega arith;
+      call_room = λ q is_call. omega (arith, call_room q is_call);
+    })) e
+
+-- the first cause of a row on accepted code is no excluded abend
+pub rows_calm : (len size base h : ℕ) (i : Ins) (next : ℕ) (f : Frame) (public : List ℕ) (x : Around) (c : Abend) → StandsAt len size base h f
+    → need i ≤ h → is_indirect i ≡ false → places_inside len i next ≡ true → counts i ≡ None
+    → (always_abends i ≡ false → size + base + height_after i h ≤ 512) → ((q : ℕ) → call_target i ≡ Some q → size + base + h + 4 ≤ 512)
+    → first_cause (causes i (stepped f next) public x) ≡ Some c → is_excluded c ≡ false
+rows_calm len size base h i next f public x c s few direct inside no_return room call_room e =
+    calm_by (always_abends i) len size base h i (stepped f next) public x c refl (stepped_stands len size base h f next s) few direct inside no_return room call_room e

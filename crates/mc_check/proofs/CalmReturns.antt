@@ -1,0 +1,176 @@
+-- Returns of accepted code: none abends, and the frame goes on behind the call that was open last, with the LB of its routine.
+use Rattle.std.proofs.Common.{◌≡◌, ℕ, ◌+◌, ◌-◌, ◌≤◌, ◌<◌, Bool, true, false, List, length, take, drop, Option, Some, None, refl, sym, ap, subst, ◌∙◌, inl, inr, arith}
+use Rattle.std.specs.Prelude.{◌&&◌, ◌||◌, not, nat_lt, nat_le, is_some}
+use Rattle.std.proofs.lemmas.Bool.{and_parts, and_from, ltb-true, lt-ltb, le-leb, cases_lt, not_from_true}
+use Rattle.std.proofs.lemmas.List.{length-take, length-drop, drop-drop}
+use Rattle.mc_model.specs.declared.checker.CheckCause.TheVariants.{Under}
+use Rattle.mc_model.specs.declared.instruction.Ins.{Ins}
+use Rattle.mc_model.specs.declared.instruction.Ins.TheVariants as ins
+use Rattle.mc_model.specs.Bytes.{bytes2, num, splice}
+use Rattle.mc_model.specs.Frame.{Frame, dynamic_base, floor, top, saved, no_return, come_back}
+use Rattle.mc_model.specs.Primitives.{Around, going, framed}
+use Rattle.mc_model.specs.Row.{causes, effect, first_cause, return_causes, no_place}
+use Rattle.mc_model.specs.Chain.{stepped}
+use Rattle.mc_model.specs.StackRows.{need, counts, goes_on, jump_target, call_target, target_inside, call_inside, places_inside}
+use Rattle.mc_model.specs.StackShape.{Routine, At, fact, Reached, returns, Gives, Counts, Accepts}
+use Rattle.mc_check.specs.Standing.{StandsAt, Open, none, call}
+use Rattle.mc_check.proofs.AcceptedFacts.{shown_decoded, GoodAt, good_at, HasRoom, HasBases, room_at}
+use Rattle.mc_check.proofs.Opened.{IsAtFact, IsStanding, open_front, open_depth, spliced_length, spliced_above, num_bytes2}
+
+-- ---- the rows of returns
+
+-- a return of these counts
+pub record IsReturn (i : Ins) (c : ℕ × ℕ) : Type 0 where
+  pub causes : (f : Frame) (public : List ℕ) (x : Around) → causes i f public x ≡ return_causes f c.0 c.1
+  pub effect : (f : Frame) (public : List ℕ) (x : Around) → effect i f public x ≡ going (framed (come_back f c.0 c.1) public)
+  pub need : need i ≡ c.1
+
+of_counts : (i : Ins) (c d : ℕ × ℕ) → IsReturn i c → Some c ≡ Some d → IsReturn i d
+of_counts i c d r e = let same : c ≡ d = cc e in subst (λ (p : ℕ × ℕ). IsReturn i p) same r
+
+pub returning : (i : Ins) (c : ℕ × ℕ) → counts i ≡ Some c → IsReturn i c
+unfolding causes effect
+returning ins.Ret c e = of_counts ins.Ret (0, 0) c (record { causes = λ f public x. refl; effect = λ f public x. refl; need = refl }) e
+returning (ins.Reti n) c e = of_counts (ins.Reti n) (n, 0) c (record { causes = λ f public x. refl; effect = λ f public x. refl; need = refl }) e
+returning (ins.Reto n) c e = of_counts (ins.Reto n) (0, n) c (record { causes = λ f public x. refl; effect = λ f public x. refl; need = refl }) e
+returning (ins.Retio n m) c e = of_counts (ins.Retio n m) (n, m) c (record { causes = λ f public x. refl; effect = λ f public x. refl; need = refl }) e
+returning i c e = absurd (cc e)
+
+-- ---- the place behind a call
+
+call_goes : (j : Ins) (q : ℕ) → call_target j ≡ Some q → goes_on j ≡ true
+call_goes (ins.Call k to) q e = refl
+call_goes j q e = absurd (cc e)
+
+-- it lies in the code
+pub behind_call : (len : ℕ) (j : Ins) (q after : ℕ) → call_target j ≡ Some q → places_inside len j after ≡ true → after < len
+behind_call len j q after target inside =
+    let first : ((not (goes_on j) || nat_lt after len) && target_inside len (jump_target j after)) ≡ true = (and_parts _ (call_inside len (call_target j)) inside).0 in
+    let next : (not (goes_on j) || nat_lt after len) ≡ true = (and_parts _ (target_inside len (jump_target j after)) first).0 in
+    ltb-true after len (subst (λ (b : Bool). (not b || nat_lt after len) ≡ true) (call_goes j q target) next)
+
+-- ---- numbers of a return
+
+no_cause : (f : Frame) (less more : ℕ) → no_return f less more ≡ false → no_place f (Some (saved f 2)) ≡ false → first_cause (return_causes f less more) ≡ None
+no_cause f less more p q = rw (p, q) refl
+
+-- the word that a call pushed k bytes above its LB, read back so far below the new one
+read_back : (f : Frame) (session k below n : ℕ) → f.lb - below - dynamic_base ≡ session + k → take 2 (drop k (drop session f.dyn)) ≡ bytes2 n → n < 65536 → saved f below ≡ n
+read_back f session k below n place word small =
+    ap (λ (m : ℕ). num (take 2 (drop m f.dyn))) place ∙ ap (λ (l : List ℕ). num (take 2 l)) (sym (drop-drop k session f.dyn)) ∙ ap (λ (l : List ℕ). num l) word ∙ num_bytes2 n small
+
+top_length : (f : Frame) (n at : ℕ) → length f.dyn ≡ 512 → f.dt - dynamic_base ≡ at → n ≤ at → at ≤ 512 → length (top f n) ≡ n
+top_length f n at long is low high = omega (arith, length-take n (drop (f.dt - n - dynamic_base) f.dyn), length-drop (f.dt - n - dynamic_base) f.dyn)
+
+-- ---- the frame after a return
+
+-- a return that never abends, and the frame that it leaves
+pub record Back (code : List ℕ) (session : ℕ) (f : Frame) (less more : ℕ) : Type 0 where
+  pub calm : first_cause (return_causes f less more) ≡ None
+  pub standing : IsStanding code session (come_back f less more)
+
+module _ (code : List ℕ) (session most : ℕ) (accepts : Accepts code session most) (bases : HasBases code) (short : length code ≤ 8192) where
+  -- the call took no more bytes than there were
+  enough_taken : (r : Routine) (p k at h q less more : ℕ) (j i : Ins) (after next : ℕ) → Reached code (fact r p k) → GoodAt code (fact r p k) j after → call_target j ≡ Some q
+      → Reached code (fact (At q) at h) → GoodAt code (fact (At q) at h) i next → counts i ≡ Some (less, more) → less ≤ k
+  enough_taken r p k at h q less more j i after next caller call_good target reached good e =
+      let back : Counts code (At q) less more = record { place = at; height = h; reached = reached; back = i; stands = (next, good.decoded); counts = e } in
+      elim (cases_lt k less) [
+        | inl fewer ↦ absurd (accepts.sound (fact r p k) Under caller (inr (record { call = j; stands = (after, call_good.decoded); to = q; target = target; less = less; more = more; counts = back; fewer = fewer })))
+        | inr fits ↦ fits
+      ]
+
+  module _ (bytes : List ℕ) (r : Routine) (p k b q : ℕ) (j : Ins) (after : ℕ) (opened : Open code session bytes r b) (caller : Reached code (fact r p k)) (gives : Gives code (fact r p k) j after) (target : call_target j ≡ Some q)
+      (lb_word : take 2 (drop (b + k) bytes) ≡ bytes2 (dynamic_base + session + b)) (at_word : take 2 (drop (b + k + 2) bytes) ≡ bytes2 after) where
+    -- the call that is open last
+    call_good : GoodAt code (fact r p k) j after
+    call_good = good_at code session most accepts (fact r p k) caller j after (shown_decoded code (fact r p k) j after gives.stands)
+
+    module _ (h : ℕ) (f : Frame) (same : bytes ≡ drop session f.dyn) (s : StandsAt (length code) session (b + k + 4) h f) (i : Ins) (next less more : ℕ) (reached : Reached code (fact (At q) f.at h)) (good : GoodAt code (fact (At q) f.at h) i next) (e : counts i ≡ Some (less, more)) where
+      fewer : less ≤ k
+      fewer = enough_taken r p k f.at h q less more j i after next caller call_good target reached good e
+
+      enough : more ≤ h
+      enough = subst (λ (n : ℕ). n ≤ h) (returning i (less, more) e).need good.needs
+
+      behind : Reached code (fact r after (k - less + more))
+      behind = returns j after q i less more caller gives target reached (next, good.decoded) e fewer
+
+      room : HasRoom session most b (k - less + more)
+      room = room_at code session most accepts bases (fact r after (k - less + more)) b behind (open_depth opened)
+
+      base_low : session + b ≤ 512
+      base_low = let fits = room.stack in omega (arith, fits)
+
+      old_lb : saved f 4 ≡ dynamic_base + session + b
+      old_lb =
+          let lb = s.lb in
+          read_back f session (b + k) 4 (dynamic_base + session + b) (omega (arith, lb)) (subst (λ (l : List ℕ). take 2 (drop (b + k) l) ≡ bytes2 (dynamic_base + session + b)) same lb_word) (omega (arith, base_low))
+
+      inside : after < length code
+      inside = behind_call (length code) j q after target call_good.inside
+
+      old_at : saved f 2 ≡ after
+      old_at =
+          let lb = s.lb in
+          read_back f session (b + k + 2) 2 after (omega (arith, lb)) (subst (λ (l : List ℕ). take 2 (drop (b + k + 2) l) ≡ bytes2 after) same at_word) (omega (arith, inside, short))
+
+      back_calm : first_cause (return_causes (stepped f next) less more) ≡ None
+      back_calm =
+          let size = s.session in
+          let lb = s.lb in
+          let dt = s.dt in
+          let low : nat_le (floor f + 4 + less) f.lb ≡ true = le-leb _ _ (omega (arith, size, lb, fewer)) in
+          let high : nat_le (f.lb + more) f.dt ≡ true = le-leb _ _ (omega (arith, dt, enough)) in
+          let place : nat_lt (saved f 2) f.code_len ≡ true = lt-ltb _ _ (subst (λ (n : ℕ). saved f 2 < n) (sym s.code_len) (subst (λ (n : ℕ). n < length code) (sym old_at) inside)) in
+          no_cause (stepped f next) less more (not_from_true _ (and_from _ _ low high)) (not_from_true _ place)
+
+      moved : ℕ
+      moved = f.lb - 4 - less - dynamic_base
+
+      moved_far : moved ≡ session + b + (k - less)
+      unfolding moved
+      moved_far = let lb = s.lb in omega (arith, lb, fewer)
+
+      back_here : IsAtFact code session r b (k - less + more) (come_back (stepped f next) less more)
+      unfolding moved
+      back_here =
+          let lb = s.lb in
+          let dt = s.dt in
+          let long = s.dyn in
+          let within = s.room in
+          let far = moved_far in
+          let fits = room.stack in
+          let top_long : length (top f more) ≡ more = top_length f more (session + (b + k + 4) + h) long (omega (arith, lb, dt)) (omega (arith, enough)) within in
+          let all : moved + length (top f more) ≤ length f.dyn = omega (arith, far, top_long, long, fits) in
+          let front : take b bytes ≡ take b (drop session (splice f.dyn moved (top f more))) =
+          ap (λ (l : List ℕ). take b l) same ∙ sym (spliced_above session b f.dyn moved (top f more) (omega (arith, far)) (omega (arith, all))) in
+          record {
+            stands = record {
+              session = s.session;
+              code_len = s.code_len;
+              dyn = spliced_length f.dyn moved (top f more) all ∙ long;
+              fixed = s.fixed;
+              lb = old_lb;
+              dt = omega (arith, lb, old_lb, fewer);
+              room = fits;
+            };
+            opened = open_front (drop session (splice f.dyn moved (top f more))) opened front;
+            reached = subst (λ (n : ℕ). Reached code (fact r n (k - less + more))) (sym old_at) behind;
+          }
+
+      back_over : Back code session (stepped f next) less more
+      back_over = record { calm = back_calm; standing = record { routine = r; base = b; height = k - less + more; here = back_here } }
+
+  no_home : (i : Ins) (c : ℕ × ℕ) → is_some (counts i) ≡ false → counts i ≡ Some c → ⊥
+  no_home i c no_count e = let some : is_some (Some c) ≡ false = subst (λ (o : Option (ℕ × ℕ)). is_some o ≡ false) e no_count in absurd (cc some)
+
+  -- a return of a routine has a call to go back to
+  back_from : {bytes : List ℕ} {r : Routine} {b : ℕ} (h : ℕ) (f : Frame) (i : Ins) (next less more : ℕ) → Open code session bytes r b → bytes ≡ drop session f.dyn → StandsAt (length code) session b h f → Reached code (fact r f.at h)
+      → GoodAt code (fact r f.at h) i next → counts i ≡ Some (less, more) → Back code session (stepped f next) less more
+  back_from h f i next less more none same s reached good e = absurd (no_home i (less, more) good.home e)
+  back_from {bytes = bytes} h f i next less more (call {r = r} {p = p} {h = k} {b = b} {q = q} j after opened caller gives target lb at) same s reached good e =
+      back_over bytes r p k b q j after opened caller gives target lb at h f same s i next less more reached good e
+
+  pub comes_back : (r : Routine) (b h : ℕ) (f : Frame) (i : Ins) (next : ℕ) (c : ℕ × ℕ) → IsAtFact code session r b h f → GoodAt code (fact r f.at h) i next → counts i ≡ Some c → Back code session (stepped f next) c.0 c.1
+  comes_back r b h f i next c here good e = back_from h f i next c.0 c.1 here.opened refl here.stands here.reached good e

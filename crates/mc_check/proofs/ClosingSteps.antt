@@ -1,0 +1,132 @@
+-- The steps of the search: what a CALL and a plain instruction leave in the tables, which facts they reach, and which refusals are due.
+use Rattle.std.proofs.Common.{◌≡◌, ◌≢◌, ◌⊎◌, ◌<◌, ◌≤◌, ◌+◌, ◌-◌, ℕ, Bool, true, false, ◌&&◌, nat_eq, eq-eqb, List, slice_get, Option, Some, None, sym, ap, ap₂, ◌∙◌, subst, inl, inr, arith}
+use Rattle.std.proofs.lemmas.Bool.{cases_eq, true≢false, and_from}
+use Rattle.mc_model.specs.declared.checker.CheckCause.TheVariants.{Returns, Under}
+use Rattle.mc_model.specs.declared.instruction.Ins.{Ins}
+use Rattle.mc_model.specs.StackRows.{counts, goes_on, jump_target, call_target, is_conditional, height_after}
+use Rattle.mc_model.specs.StackShape.{Routine, Main, At, Fact, fact, Stands, look, Gives, Reached, Counts, Refuses}
+use Rattle.mc_model.specs.StackShape as shape
+use Rattle.mc_check.specs.declared.table.Entry.{Entry}
+use Rattle.mc_check.specs.declared.shape.Counts.{Counts as Pair}
+use Rattle.mc_check.specs.Table.{IsIn}
+use Rattle.mc_check.specs.Closing.{IsReal, ComesBack, IsClosed}
+use Rattle.mc_check.proofs.ClosingLooks.{is_at, refuses_good}
+use Rattle.mc_check.proofs.ClosingPlaces.{call_returns_not, call_jumps_not}
+use Rattle.mc_check.proofs.ClosingTables.{closed_from}
+
+-- ---- what was followed
+
+some_same : (p q : ℕ) → ◌≡◌ {A = Option ℕ} (Some p) (Some q) → p ≡ q
+some_same p q h = cc
+
+module _ (code : List ℕ) (t : List (Option Entry)) (cs : List (Option Pair)) (f : Fact) (i : Ins) (next : ℕ) (stands : look code f ≡ Stands i next) where
+  pub closed_call : (q : ℕ) → call_target i ≡ Some q → IsIn t (fact (At q) q 0) → (is_conditional i ≡ true → IsIn t (fact f.routine next f.height))
+      → ((c : Pair) → slice_get cs q ≡ Some (Some c) → ComesBack t f next c.less c.more) → IsClosed code t cs f
+  closed_call q call entered passed back =
+      closed_from code t cs f i next stands (record {
+        leads = λ low. record {
+          goes = λ plain on. absurd (cc (plain, call));
+          jumps = λ to j. absurd (cc (call_jumps_not i next q call, j));
+          calls = λ r e. subst (λ (x : ℕ). IsIn t (fact (At x) x 0)) (some_same q r (sym call ∙ e)) entered;
+          passes = λ r e conditional. passed conditional;
+        };
+        back = λ r c e known. back c (subst (λ (x : ℕ). slice_get cs x ≡ Some (Some c)) (some_same r q (sym e ∙ call)) known);
+        counted = λ less more e. absurd (cc (call_returns_not i q call, e));
+      })
+
+  pub closed_step : call_target i ≡ None → counts i ≡ None → (goes_on i ≡ true → IsIn t (fact f.routine next (height_after i f.height)))
+      → ((to : ℕ) → jump_target i next ≡ Some (Some to) → IsIn t (fact f.routine to f.height)) → IsClosed code t cs f
+  closed_step plain stays goes jumps =
+      closed_from code t cs f i next stands (record {
+        leads = λ low. record {
+          goes = λ e on. goes on;
+          jumps = jumps;
+          calls = λ r e. absurd (cc (plain, e));
+          passes = λ r e conditional. absurd (cc (plain, e));
+        };
+        back = λ r c e known. absurd (cc (plain, e));
+        counted = λ less more e. absurd (cc (stays, e));
+      })
+
+  -- from a height above 512 no fact follows
+  pub closed_high : 512 < f.height → counts i ≡ None → ((q : ℕ) (c : Pair) → slice_get cs q ≡ Some (Some c) → c.less ≤ 255) → IsClosed code t cs f
+  closed_high high stays bound =
+      closed_from code t cs f i next stands (record {
+        leads = λ low. absurd (omega (arith, high, low));
+        back = λ r c e known. record { enough = omega (arith, high, bound r c known); back = λ low. absurd (omega (arith, high, low)) };
+        counted = λ less more e. absurd (cc (stays, e));
+      })
+
+-- ---- facts that are reached
+
+module _ (code : List ℕ) (f : Fact) (i : Ins) (next : ℕ) (stands : look code f ≡ Stands i next) (low : f.height ≤ 512) (reached : Reached code f) where
+  gives : Gives code f i next
+  gives = record { stands = stands; height = low }
+
+  pub goes_reached : call_target i ≡ None → goes_on i ≡ true → Reached code (fact f.routine next (height_after i f.height))
+  goes_reached plain on = shape.goes i next reached gives plain on
+
+  pub jump_reached : (to : ℕ) → jump_target i next ≡ Some (Some to) → Reached code (fact f.routine to f.height)
+  jump_reached to e = shape.jumps i next to reached gives e
+
+  pub call_reached : (q : ℕ) → call_target i ≡ Some q → Reached code (fact (At q) q 0)
+  call_reached q e = shape.calls i next q reached gives e
+
+  pub pass_reached : (q : ℕ) → call_target i ≡ Some q → is_conditional i ≡ true → Reached code (fact f.routine next f.height)
+  pass_reached q e conditional = shape.passes i next q reached gives e conditional
+
+  pub back_reached : (q : ℕ) (c : Pair) → call_target i ≡ Some q → IsReal code q c → c.less ≤ f.height → Reached code (fact f.routine next (f.height - c.less + c.more))
+  back_reached q c e real enough =
+      let back = real.counts in
+      shape.returns i next q back.back c.less c.more reached gives e back.reached back.stands back.counts enough
+
+-- ---- refusals
+
+abbrev pair : ℕ → ℕ → Pair
+pair less more = record { less = less; more = more }
+
+-- a test of counts that failed
+pub pairs_differ : (a b : Pair) (r : Bool) → r ≡ (nat_eq a.less b.less && nat_eq a.more b.more) → r ≡ false → a ≢ b
+pairs_differ a b r e failed same =
+    let less = eq-eqb a.less b.less (ap (λ (c : Pair). c.less) same) in
+    let more = eq-eqb a.more b.more (ap (λ (c : Pair). c.more) same) in
+    true≢false (sym (and_from (nat_eq a.less b.less) (nat_eq a.more b.more) less more) ∙ sym e ∙ failed)
+
+counts_differ : (a b : Pair) → a ≢ b → (b.less ≢ a.less) ⊎ (b.more ≢ a.more)
+counts_differ a b differ =
+    elim (cases_eq b.less a.less) [
+      | inl less ↦ elim (cases_eq b.more a.more) [
+        | inl more ↦ absurd (differ (ap₂ (λ (l m : ℕ). pair l m) (sym less) (sym more)))
+        | inr more ↦ inr more
+      ]
+      | inr less ↦ inl less
+    ]
+
+pub refuses_returns : (code : List ℕ) (session : ℕ) (f : Fact) (i : Ins) (next : ℕ) (known c : Pair) → Reached code f → look code f ≡ Stands i next → counts i ≡ Some (c.less, c.more)
+    → Counts code f.routine known.less known.more → known ≢ c → Refuses code session f.place Returns
+refuses_returns code session f i next known c reached stands e other differ =
+    refuses_good code session f Returns reached (i, next, stands) (inr (record {
+      back = i;
+      stands = is_at code f i next stands;
+      less = c.less;
+      more = c.more;
+      counts = e;
+      other_less = known.less;
+      other_more = known.more;
+      other = other;
+      differ = counts_differ known c differ;
+    }))
+
+pub refuses_under : (code : List ℕ) (session : ℕ) (f : Fact) (i : Ins) (next q : ℕ) (c : Pair) → Reached code f → look code f ≡ Stands i next → call_target i ≡ Some q
+    → IsReal code q c → f.height < c.less → Refuses code session f.place Under
+refuses_under code session f i next q c reached stands e real fewer =
+    refuses_good code session f Under reached (i, next, stands) (inr (record {
+      call = i;
+      stands = is_at code f i next stands;
+      to = q;
+      target = e;
+      less = c.less;
+      more = c.more;
+      counts = real.counts;
+      fewer = fewer;
+    }))

@@ -1,0 +1,345 @@
+-- What the last pass over a whole table, with its bases, proves of the code.
+use Rattle.std.proofs.Common.{◌≡◌, ◌⊎◌, ℕ, ◌+◌, ◌<◌, ◌≤◌, Bool, true, false, cond, not, List, length, Option, Some, refl, sym, ap, subst, ◌∙◌, inl, inr, arith}
+use Rattle.std.specs.Prelude.{◌&&◌, ◌==◌, nat_lt, is_some, slice_get, MatchBool, Result, Ok, Err}
+use Rattle.std.proofs.lemmas.Bool.{ltb-true, ltb-false}
+use borrow.Author.Count.{below_more}
+use Rattle.std.specs.Ordering.{ord_max, nat_cmp, is_lt}
+use Rattle.std.specs.declared.cmp.Ordering.TheVariants.{Less, Equal, Greater}
+use Rattle.mc_model.specs.declared.checker.CheckCause.{CheckCause}
+use Rattle.mc_model.specs.declared.checker.CheckCause.TheVariants.{Undefined, Past, Indirect, Returns, Under, Target, Recursive, Heights, Wild, Deep}
+use Rattle.mc_model.specs.declared.instruction.DecodeFault.{DecodeFault}
+use Rattle.mc_model.specs.declared.instruction.DecodeFault.TheVariants as fault
+use Rattle.mc_model.specs.declared.instruction.Ins.{Ins}
+use Rattle.mc_model.specs.Code.{decoded}
+use Rattle.mc_model.specs.StackRows.{need, is_indirect, counts, places_inside, is_call, is_plain, writing}
+use Rattle.mc_model.specs.StackShape.{Routine, Main, At, Fact, fact, is_main, Bad, look, Reached, Holds, ReachesItself, SharesPlace, WritesWild, TooDeep, Depth, Breaks, Accepts, Refuses}
+use Rattle.mc_check.specs.declared.table.Entry.{Entry}
+use Rattle.mc_check.specs.declared.table.Refusal.{Refusal}
+use Rattle.mc_check.specs.Judging.{calls_at, plain_at, depth_of, BeginsWithin, IsKept, HasCall, HasNoCall}
+use Rattle.mc_check.specs.Table.{routine_of, fact_of, base_in, IsWhole, AreBases, IsRefused}
+use Rattle.mc_check.proofs.Tables.{kept-inside}
+use Rattle.mc_check.proofs.Reaching.{Entered, entered}
+use Rattle.mc_check.proofs.Looks.{StandsAlone, stands-alone}
+
+-- ---- what stands at a place
+
+call-of : (r : Result (Ins × ℕ) DecodeFault) → calls_at r ≡ true → (i : Ins) × (next : ℕ) × (r ≡ Ok (i, next)) × (is_call i ≡ true)
+call-of (Ok p) h = (p.0, p.1, refl, h)
+call-of (Err e) h = absurd (cc h)
+
+wild-of : (session height : ℕ) (r : Result (Ins × ℕ) DecodeFault) → plain_at session height r ≡ false
+    → (i : Ins) × (next : ℕ) × (r ≡ Ok (i, next)) × (is_plain session height (writing i) ≡ false)
+wild-of session height (Ok p) h = (p.0, p.1, refl, h)
+wild-of session height (Err e) h = absurd (cc h)
+
+same-ins : (r : Result (Ins × ℕ) DecodeFault) (i j : Ins) (n m : ℕ) → r ≡ Ok (i, n) → r ≡ Ok (j, m) → i ≡ j
+same-ins r i j n m a b =
+    let pairs : ◌≡◌ {A = Ins × ℕ} (i, n) (j, m) = cc (a, b) in
+    ap (λ (p : Ins × ℕ). p.0) pairs
+
+same-next : (r : Result (Ins × ℕ) DecodeFault) (i j : Ins) (n m : ℕ) → r ≡ Ok (i, n) → r ≡ Ok (j, m) → n ≡ m
+same-next r i j n m a b =
+    let pairs : ◌≡◌ {A = Ins × ℕ} (i, n) (j, m) = cc (a, b) in
+    ap (λ (p : Ins × ℕ). p.1) pairs
+
+-- ---- one entry
+
+-- the depth of an entry at a place, or the rule that it breaks
+abbrev pub depth_in : List ℕ → ℕ → List ℕ → Bool → ℕ → Entry → Result ℕ Refusal
+depth_in code session bases calls p e =
+    depth_of session p (base_in bases (routine_of e.routine)) e.height (calls && not (plain_at session e.height (decoded code p)))
+
+-- no rule was broken
+record Fine (deep wild : Bool) (s d : ℕ) : Type 0 where
+  shallow : deep ≡ false
+  plain : wild ≡ false
+  depth : s ≡ d
+
+fine : (deep wild : Bool) (a b : Refusal) (s d : ℕ) → cond deep (Err a) (cond wild (Err b) (Ok s)) ≡ Ok d → Fine deep wild s d
+fine true wild a b s d h = absurd (cc h)
+fine false true a b s d h = absurd (cc h)
+fine false false a b s d h = record { shallow = refl; plain = refl; depth = cc h }
+
+broken : (deep wild : Bool) (a b r : Refusal) (s : ℕ) → ◌≡◌ {A = Result ℕ Refusal} (cond deep (Err a) (cond wild (Err b) (Ok s))) (Err r)
+    → ((deep ≡ true) × (a ≡ r)) ⊎ ((wild ≡ true) × (b ≡ r))
+broken true wild a b r s h = inl (refl, cc h)
+broken false true a b r s h = inr (refl, cc h)
+broken false false a b r s h = absurd (cc h)
+
+-- what a depth says of its entry
+pub record Rests (code : List ℕ) (session : ℕ) (bases : List ℕ) (calls : Bool) (p : ℕ) (e : Entry) (d : ℕ) : Type 0 where
+  pub room : session + base_in bases (routine_of e.routine) + e.height ≤ 512
+  pub plain : calls ≡ true → plain_at session e.height (decoded code p) ≡ true
+  pub depth : base_in bases (routine_of e.routine) + e.height ≡ d
+
+and-left : (a b : Bool) → (a && not b) ≡ false → a ≡ true → b ≡ true
+and-left true true h e = refl
+and-left true false h e = absurd (cc h)
+and-left false b h e = absurd (cc e)
+
+rests : (code : List ℕ) (session : ℕ) (bases : List ℕ) (calls : Bool) (p : ℕ) (e : Entry) (d : ℕ) → depth_in code session bases calls p e ≡ Ok d → Rests code session bases calls p e d
+rests code session bases calls p e d h =
+    let base = base_in bases (routine_of e.routine) in
+    let plain = plain_at session e.height (decoded code p) in
+    let f = fine (nat_lt 512 (session + base + e.height)) (calls && not plain) (record { place = p; cause = Deep }) (record { place = p; cause = Wild }) (base + e.height) d h in
+    record {
+      room = ltb-false 512 (session + base + e.height) f.shallow;
+      plain = and-left calls plain f.plain;
+      depth = f.depth;
+    }
+
+-- ---- the pass
+
+-- of the first n places no entry breaks a rule, and this is the greatest depth
+pub record Passes (code : List ℕ) (session : ℕ) (t : List (Option Entry)) (bases : List ℕ) (calls : Bool) (n most : ℕ) : Type 0 where
+  pub each : (p : ℕ) → p < n → (e : Entry) → slice_get t p ≡ Some (Some e) → (d : ℕ) × (depth_in code session bases calls p e ≡ Ok d) × (d ≤ most)
+  pub some : (f : Fact) × Reached code f × (most ≡ base_in bases f.routine + f.height)
+
+-- the pass begins with the first fact
+pub passes-none : (code : List ℕ) (session : ℕ) (t : List (Option Entry)) (bases : List ℕ) (calls : Bool) → Passes code session t bases calls 0 0
+passes-none code session t bases calls =
+    record {
+      each = λ p below e there. absurd (omega arith);
+      some = (fact Main 0 0, Reached.begins, omega arith);
+    }
+
+-- a place without an entry
+pub passes-skip : (code : List ℕ) (session : ℕ) (t : List (Option Entry)) (bases : List ℕ) (calls : Bool) (n most : ℕ) → (IsKept t n → ⊥)
+    → Passes code session t bases calls n most → Passes code session t bases calls (n + 1) most
+passes-skip code session t bases calls n most none passes =
+    let Each : ℕ → Type 0 = λ p. (e : Entry) → slice_get t p ≡ Some (Some e) → (d : ℕ) × (depth_in code session bases calls p e ≡ Ok d) × (d ≤ most) in
+    record {
+      each = below_more Each n passes.each (λ e there. absurd (none (e, there)));
+      some = passes.some;
+    }
+
+-- the greater of two numbers, as the code finds it
+record IsGreater (a b m : ℕ) : Type 0 where
+  first : a ≤ m
+  second : b ≤ m
+  one : (m ≡ a) ⊎ (m ≡ b)
+
+by-tests : (a b : ℕ) (lt eq : Bool) → nat_lt b a ≡ lt → IsGreater a b (cond (is_lt (cond lt Less (cond eq Equal Greater))) a b)
+by-tests a b true eq h = record { first = omega arith; second = omega (arith, ltb-true b a h); one = inl refl }
+by-tests a b false true h = record { first = omega (arith, ltb-false b a h); second = omega arith; one = inr refl }
+by-tests a b false false h = record { first = omega (arith, ltb-false b a h); second = omega arith; one = inr refl }
+
+greater : (a b : ℕ) → IsGreater a b (ord_max nat_cmp a b)
+greater a b = by-tests a b (nat_lt b a) (b == a) refl
+
+-- a place with an entry that is fine
+pub passes-more : (code : List ℕ) (session : ℕ) (t : List (Option Entry)) (bases : List ℕ) (calls : Bool) (n most : ℕ) (e : Entry) (d : ℕ)
+    → slice_get t n ≡ Some (Some e) → depth_in code session bases calls n e ≡ Ok d → Reached code (fact_of n e)
+    → Passes code session t bases calls n most → Passes code session t bases calls (n + 1) (ord_max nat_cmp most d)
+passes-more code session t bases calls n most e d there depth reached passes =
+    let m = ord_max nat_cmp most d in
+    let g : IsGreater most d m = greater most d in
+    let Each : ℕ → Type 0 = λ p. (o : Entry) → slice_get t p ≡ Some (Some o) → (k : ℕ) × (depth_in code session bases calls p o ≡ Ok k) × (k ≤ m) in
+    let before : (p : ℕ) → p < n → Each p = λ p below o stands.
+    let k = passes.each p below o stands in
+    (k.0, k.1, omega (arith, k.2, g.first)) in
+    let here : Each n = λ o stands.
+    let same : o ≡ e = cc (there, stands) in
+    subst (λ (x : Entry). (k : ℕ) × (depth_in code session bases calls n x ≡ Ok k) × (k ≤ m)) (sym same) (d, depth, g.second) in
+    let deep = rests code session bases calls n e d depth in
+    record {
+      each = below_more Each n before here;
+      some = elim g.one [
+        | inl old ↦ (passes.some.0, passes.some.1, old ∙ passes.some.2)
+        | inr new ↦ (fact_of n e, reached, new ∙ sym deep.depth)
+      ];
+    }
+
+-- ---- the end
+
+-- the code has a call where one is kept
+told-true : (code : List ℕ) (t : List (Option Entry)) (calls : Bool) → MatchBool calls (HasCall code t) (HasNoCall code t (length t))
+    → (p : ℕ) → IsKept t p → calls_at (decoded code p) ≡ true → calls ≡ true
+told-true code t true told p kept called = refl
+told-true code t false told p kept called = absurd (cc (told p (kept-inside t p kept) kept, called))
+
+-- where it has one, some entry is a call
+told-call : (code : List ℕ) (t : List (Option Entry)) (calls : Bool) → MatchBool calls (HasCall code t) (HasNoCall code t (length t)) → calls ≡ true → HasCall code t
+told-call code t true told h = told
+told-call code t false told h = absurd (cc h)
+
+and-both : (a b : Bool) → (a && not b) ≡ true → (a ≡ true) × (b ≡ false)
+and-both true true h = absurd (cc h)
+and-both true false h = (refl, refl)
+and-both false b h = absurd (cc h)
+
+-- what the pass knows before it begins
+pub record Known (code : List ℕ) (t : List (Option Entry)) (bases : List ℕ) (calls : Bool) : Type 0 where
+  pub whole : IsWhole code t
+  pub based : AreBases code bases
+  pub told : MatchBool calls (HasCall code t) (HasNoCall code t (length t))
+
+module _ (code : List ℕ) (session : ℕ) (t : List (Option Entry)) (bases : List ℕ) (calls : Bool) (known : Known code t bases calls) where
+  -- the instruction at a fact breaks no rule that is seen from the fact alone
+  good : (f : Fact) → Reached code f → (i : Ins) × (next : ℕ) × StandsAlone (length code) f (decoded code f.place) i next
+  good f reached =
+      let g = (known.whole.sound f (known.whole.all f reached)).1 in
+      (g.0, g.1, stands-alone code f g.0 g.1 g.2)
+
+  no-holds : (f : Fact) (P : Ins → ℕ → Type 0) → Reached code f → ((i : Ins) (next : ℕ) → StandsAlone (length code) f (decoded code f.place) i next → P i next → ⊥) → Holds code f P → ⊥
+  no-holds f P reached not-there h =
+      let g = good f reached in
+      let ins = same-ins (decoded code f.place) h.0 g.0 h.1 g.1 h.2 g.2.decoded in
+      let next = same-next (decoded code f.place) h.0 g.0 h.1 g.1 h.2 g.2.decoded in
+      not-there g.0 g.1 g.2 (subst (λ (n : ℕ). P g.0 n) next (subst (λ (i : Ins). P i h.1) ins h.3))
+
+  no-undefined : (f : Fact) → Reached code f → decoded code f.place ≡ Err fault.Undefined → ⊥
+  no-undefined f reached h = let g = good f reached in cc (h, g.2.decoded)
+
+  no-past : (f : Fact) → Reached code f → decoded code f.place ≡ Err fault.Past → ⊥
+  no-past f reached h = let g = good f reached in cc (h, g.2.decoded)
+
+  no-shared : (f : Fact) → Reached code f → SharesPlace code f → ⊥
+  no-shared f reached shares =
+      let mine = known.whole.all f reached in
+      let other = known.whole.all shares.other shares.reached in
+      let there : slice_get t f.place ≡ Some (Some other.0) = subst (λ (p : ℕ). slice_get t p ≡ Some (Some other.0)) shares.place other.1 in
+      let same : other.0 ≡ mine.0 = cc (there, mine.1) in
+      let fact_there : fact_of f.place other.0 ≡ shares.other = subst (λ (p : ℕ). fact_of p other.0 ≡ shares.other) shares.place other.2 in
+      shares.differ (sym fact_there ∙ ap (λ (e : Entry). fact_of f.place e) same ∙ mine.2)
+
+  no-recursion : (f : Fact) → Reached code f → ReachesItself code f → ⊥
+  no-recursion f reached r = known.based.sound f reached r
+
+  -- a caller that is reached is a call of the table
+  calls-told : (caller : Fact) (i : Ins) (next : ℕ) → Reached code caller → decoded code caller.place ≡ Ok (i, next) → is_call i ≡ true → calls ≡ true
+  calls-told caller i next reached stands is =
+      let kept = known.whole.all caller reached in
+      let called : calls_at (decoded code caller.place) ≡ true = ap (λ (r : Result (Ins × ℕ) DecodeFault). calls_at r) stands ∙ is in
+      told-true code t calls known.told caller.place (kept.0, kept.1) called
+
+  -- ---- no entry broke a rule
+
+  module _ (most : ℕ) (passes : Passes code session t bases calls (length t) most) where
+    -- the entry of a fact, and what its depth says
+    at-fact : (f : Fact) → Reached code f → (e : Entry) × (d : ℕ) × (fact_of f.place e ≡ f) × Rests code session bases calls f.place e d × (d ≤ most)
+    at-fact f reached =
+        let mine = known.whole.all f reached in
+        let deep = passes.each f.place (kept-inside t f.place (mine.0, mine.1)) mine.0 mine.1 in
+        (mine.0, deep.0, mine.2, rests code session bases calls f.place mine.0 deep.0 deep.1, deep.2)
+
+    no-wild : (f : Fact) → Reached code f → WritesWild code session f → ⊥
+    no-wild f reached w =
+        let a = at-fact f reached in
+        let called = calls-told w.caller w.call w.calls.0 w.reached w.calls.1 w.is_call in
+        let plain : is_plain session a.0.height (writing w.writer) ≡ true =
+        sym (ap (λ (r : Result (Ins × ℕ) DecodeFault). plain_at session a.0.height r) w.stands.1) ∙ a.3.plain called in
+        let high : is_plain session f.height (writing w.writer) ≡ true = subst (λ (g : Fact). is_plain session g.height (writing w.writer) ≡ true) a.2 plain in
+        cc (high, w.wild)
+
+    -- the base of a fact and its height are no more than the depth
+    no-deeper : (f : Fact) (b : ℕ) → Reached code f → Depth code f.routine b → (session + b + f.height ≤ 512) × (b + f.height ≤ most)
+    no-deeper f b reached depth =
+        let a = at-fact f reached in
+        let low = (known.based.each f reached).greatest b depth in
+        let base : base_in bases (routine_of a.0.routine) ≡ base_in bases f.routine = ap (λ (g : Fact). base_in bases g.routine) a.2 in
+        let height : a.0.height ≡ f.height = ap (λ (g : Fact). g.height) a.2 in
+        (omega (arith, low, base, height, a.3.room), omega (arith, low, base, height, a.3.depth, a.4))
+
+    no-deep : (f : Fact) → Reached code f → TooDeep code session f → ⊥
+    no-deep f reached d = absurd (omega (arith, d.deep, (no-deeper f d.base reached d.is_base.reached).0))
+
+    sound : (f : Fact) (cause : CheckCause) → Reached code f → Breaks code session cause f → ⊥
+    sound f Undefined reached b = no-undefined f reached b
+    sound f Past reached b = no-past f reached b
+    sound f Indirect reached b = no-holds f (λ i next. is_indirect i ≡ true) reached (λ i next g h. cc (g.direct, h)) b
+    sound f Returns reached b = elim b [
+      | inl h ↦ no-holds f (λ i next. (is_main f.routine && is_some (counts i)) ≡ true) reached (λ i next g h. cc (g.inner, h)) h
+      | inr d ↦ known.whole.returns f reached d
+    ]
+    sound f Under reached b = elim b [
+      | inl h ↦ no-holds f (λ i next. f.height < need i) reached (λ i next g h. absurd (omega (arith, g.enough, h))) h
+      | inr takes ↦ known.whole.takes f reached takes
+    ]
+    sound f Target reached b = no-holds f (λ i next. places_inside (length code) i next ≡ false) reached (λ i next g h. cc (g.inside, h)) b
+    sound f Recursive reached b = known.based.sound f reached b
+    sound f Heights reached b = no-shared f reached b
+    sound f Wild reached b = no-wild f reached b
+    sound f Deep reached b = no-deep f reached b
+
+    pub accepts : Accepts code session most
+    accepts =
+        let top = passes.some in
+        record {
+          sound = sound;
+          deepest = record {
+            some = (top.0, base_in bases top.0.routine, top.1, known.based.each top.0 top.1, top.2);
+            greatest = λ f b reached base. (no-deeper f b reached base.reached).1;
+          };
+        }
+
+  -- ---- an entry breaks a rule
+
+  never-bad : (f : Fact) → Reached code f → (cause alone : CheckCause) → look code f ≡ Bad alone → cause ≡ alone
+  never-bad f reached cause alone h =
+      let g = (known.whole.sound f (known.whole.all f reached)).1 in
+      absurd (cc (h, g.2))
+
+  too-deep : (p : ℕ) (e : Entry) → Reached code (fact_of p e) → 512 < session + base_in bases (routine_of e.routine) + e.height → Refuses code session p Deep
+  too-deep p e reached deep =
+      record {
+        fact = fact_of p e;
+        reached = reached;
+        at = refl;
+        breaks = record {
+          sound = known.based.sound;
+          base = base_in bases (routine_of e.routine);
+          is_base = known.based.each (fact_of p e) reached;
+          deep = deep;
+        };
+        first = never-bad (fact_of p e) reached Deep;
+      }
+
+  writes-wild : (p : ℕ) (e : Entry) → Reached code (fact_of p e) → (calls && not (plain_at session e.height (decoded code p))) ≡ true → Refuses code session p Wild
+  writes-wild p e reached test =
+      let both = and-both calls (plain_at session e.height (decoded code p)) test in
+      let caller = told-call code t calls known.told both.0 in
+      let there = caller.1 in
+      let call = call-of (decoded code caller.0) caller.2 in
+      let writer = wild-of session e.height (decoded code p) both.1 in
+      record {
+        fact = fact_of p e;
+        reached = reached;
+        at = refl;
+        breaks = record {
+          caller = fact_of caller.0 there.0;
+          reached = (known.whole.sound (fact_of caller.0 there.0) (there.0, there.1, refl)).0;
+          call = call.0;
+          calls = (call.1, call.2);
+          is_call = call.3;
+          writer = writer.0;
+          stands = (writer.1, writer.2);
+          wild = writer.3;
+        };
+        first = never-bad (fact_of p e) reached Wild;
+      }
+
+  begins-within : (r : Routine) → Entered code r → BeginsWithin (length bases) r
+  begins-within Main h = tt
+  begins-within (At q) h =
+      let kept = known.whole.all (fact (At q) q 0) h in
+      let inside = kept-inside t q (kept.0, kept.1) in
+      omega (arith, inside, known.whole.size, known.based.size)
+
+  -- an entry stands for a reached fact
+  pub entry-reached : (p : ℕ) (e : Entry) → slice_get t p ≡ Some (Some e) → Reached code (fact_of p e)
+  entry-reached p e there = (known.whole.sound (fact_of p e) (e, there, refl)).0
+
+  pub refuses : (p : ℕ) (e : Entry) (r : Refusal) → slice_get t p ≡ Some (Some e) → depth_in code session bases calls p e ≡ Err r → IsRefused code session r
+  refuses p e r there depth =
+      let reached = entry-reached p e there in
+      let base = base_in bases (routine_of e.routine) in
+      let wild = calls && not (plain_at session e.height (decoded code p)) in
+      elim (broken (nat_lt 512 (session + base + e.height)) wild (record { place = p; cause = Deep }) (record { place = p; cause = Wild }) r (base + e.height) depth) [
+        | inl deep ↦ subst (λ (x : Refusal). IsRefused code session x) deep.1 (too-deep p e reached (ltb-true 512 (session + base + e.height) deep.0))
+        | inr wrote ↦ subst (λ (x : Refusal). IsRefused code session x) wrote.1 (writes-wild p e reached wrote.0)
+      ]
+
+  -- the routine of an entry begins in the code
+  pub entry-begins : (p : ℕ) (e : Entry) → slice_get t p ≡ Some (Some e) → BeginsWithin (length bases) (routine_of e.routine)
+  entry-begins p e there = begins-within (routine_of e.routine) (entered (entry-reached p e there))

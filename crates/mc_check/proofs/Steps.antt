@@ -1,0 +1,221 @@
+-- One step of the search: the routine that was entered last is left with its base, or an unseen caller of it is entered.
+use Rattle.std.proofs.Common.{◌≡◌, ℕ, ◌+◌, ◌-◌, ◌*◌, ◌<◌, ◌≤◌, ◌^◌, cond, List, [], ◌∷◌, ◌++◌, length, get_or, set, take, Some, refl, sym, ap, subst, inl, inr, ◌∙◌, arith}
+use Rattle.std.specs.Prelude.{slice_get}
+use Rattle.std.proofs.lemmas.Bool.{cases_eq}
+use Rattle.std.proofs.lemmas.List.{length-set, length-append, length-take}
+use Rattle.std.proofs.lemmas.List.Sums.{sum_by-set}
+use Rattle.std.proofs.lemmas.Option.{slice_get-get_or, slice_get_within, get_or_from_slice_get, same_Some}
+use Rattle.mc_model.specs.StackShape.{At}
+use Rattle.mc_check.specs.Table.{routine_of}
+use Rattle.mc_check.specs.declared.calls.Call.{Call}
+use Rattle.mc_check.specs.declared.table.Routine.{Routine as Owner}
+use Rattle.mc_check.specs.declared.table.Routine.TheVariants as owner
+use Rattle.mc_check.specs.declared.bases.Progress.{Progress}
+use Rattle.mc_check.specs.declared.bases.Progress.TheVariants as progress
+use Rattle.mc_check.specs.declared.bases.Answer.TheVariants as answer
+use Rattle.mc_check.specs.CallList.{Has, IsCalled, AreClosed, EntersIn, IsBaseIn, ClosesRing}
+use Rattle.mc_check.specs.CallList as list
+use Rattle.mc_check.specs.Searching.{IsTold, Answers, is_unseen, unseen, AreBelow, StaySeen, Searches, left}
+use Rattle.mc_check.proofs.Gets.{get_set_same, get_set_other, get_push_before, get_push_last, get_push, before, last, get_take, take_get}
+use Rattle.mc_check.proofs.Telling.{called_is_inside, caller_is_inside}
+use Rattle.mc_check.proofs.Told.{told_unseen, told_open, told_bound, base_found}
+
+-- ---- one change of a state
+
+-- how many routines are unseen then
+pub unseen_set : (states : List Progress) (p : ℕ) (x y : Progress) → slice_get states p ≡ Some y → unseen (set states p x) + cond (is_unseen y) 1 0 ≡ unseen states + cond (is_unseen x) 1 0
+unseen_set states p x y there =
+    let weight : Progress → ℕ = λ z. cond (is_unseen z) 1 0 in
+    ap (λ (z : Progress). unseen (set states p x) + cond (is_unseen z) 1 0) (sym (get_or_from_slice_get states p y y there))
+    ∙ sum_by-set weight states p x y (slice_get_within states p y there)
+
+-- what stands at a place then: what was written there, or what stood there
+pub data Written (states : List Progress) (p : ℕ) (x : Progress) (q : ℕ) (y : Progress) : Type 0 where
+  this : q ≡ p → x ≡ y → Written states p x q y
+  other : (q ≡ p → ⊥) → slice_get states q ≡ Some y → Written states p x q y
+
+pub written : (states : List Progress) (p : ℕ) (x : Progress) (q : ℕ) (y : Progress) → p < length states → slice_get (set states p x) q ≡ Some y → Written states p x q y
+written states p x q y inside get = elim (cases_eq q p) [
+  | inl same ↦ this same (same_Some x y (sym (get_set_same states p x inside) ∙ subst (λ (n : ℕ). slice_get (set states p x) n ≡ Some y) same get))
+  | inr ne ↦ other ne (sym (get_set_other states p q x ne) ∙ get)
+]
+
+-- a written state that is not unseen leaves what was seen
+pub stay_seen : (states : List Progress) (p : ℕ) (x : Progress) → p < length states → (x ≡ progress.Unseen → ⊥) → StaySeen states (set states p x)
+stay_seen states p x inside seen q was get = elim (written states p x q progress.Unseen inside get) [
+  | this same is ↦ seen is
+  | other ne old ↦ was old
+]
+
+-- ---- numbers
+
+-- what is known of bases, with one routine fewer that is unseen and one more that is open
+pub entered_bound : (n u s m v t b : ℕ) → m ≡ n → v + 1 ≡ u → t ≡ s + 1 → u + s ≤ n → b ≤ 65539 * (n - u - s) → b ≤ 65539 * (m - v - t)
+entered_bound n u s m v t b em ev et room low =
+    let same : n - u - s ≡ m - v - t = omega arith in
+    subst (λ (k : ℕ). b ≤ 65539 * k) same low
+
+-- and with one open routine fewer
+left_bound : (n u s m v t b : ℕ) → m ≡ n → v ≤ u → t + 1 ≡ s → u + s ≤ n → b ≤ 65539 * (n - u - s) + 65539 → b ≤ 65539 * (m - v - t)
+left_bound n u s m v t b em ev et room low =
+    let more : n - u - s + 1 ≤ m - v - t = omega arith in
+    omega arith
+
+left_old_bound : (n u s m v t b : ℕ) → m ≡ n → v ≤ u → t + 1 ≡ s → u + s ≤ n → b ≤ 65539 * (n - u - s) → b ≤ 65539 * (m - v - t)
+left_old_bound n u s m v t b em ev et room low = left_bound n u s m v t b em ev et room (omega arith)
+
+-- ---- the steps
+
+-- the search goes on, what was seen stays seen, and less is left to do
+pub record IsStep (l : List Call) (states : List Progress) (stack : List ℕ) (new : List Progress) (now : List ℕ) : Type 0 where
+  pub searches : Searches l new now
+  pub seen : StaySeen states new
+  pub nearer : left new now < left states stack
+
+step_as : (l : List Call) (states : List Progress) (stack : List ℕ) (new next : List Progress) (now then : List ℕ) → new ≡ next → now ≡ then → IsStep l states stack next then → IsStep l states stack new now
+step_as l states stack new next now then e f step = subst (λ (x : List Progress). IsStep l states stack x now) (sym e) (subst (λ (y : List ℕ). IsStep l states stack next y) (sym f) step)
+
+module _ (states : List Progress) (l : List Call) (stack : List ℕ) (q : ℕ) (closed : AreClosed (length states) l) (so : Searches l states stack) (top : slice_get stack (length stack - 1) ≡ Some q) where
+  -- what the last routine needs
+  pub last_called : IsCalled l q
+  last_called = so.called (length stack - 1) q top
+
+  pub last_inside : q < length states
+  last_inside = called_is_inside (length states) l q closed last_called
+
+  some_open : 0 < length stack
+  some_open = let inside = slice_get_within stack (length stack - 1) q top in omega arith
+
+  pub bases_below : length states ≤ 8192 → AreBelow (2 ^ 31) states
+  bases_below short r b there =
+      let low = so.bound r b there in
+      let most : length states - unseen states - length stack ≤ 8192 = omega arith in
+      let product : 65539 * (length states - unseen states - length stack) ≤ 65539 * 8192 = omega arith in
+      omega arith
+
+  -- an unseen caller
+  module _ (p : ℕ) (tells : IsTold states l q (answer.Unseen p)) where
+    caller : tells.call.caller ≡ owner.At p
+    caller = (told_unseen states tells.call p tells.call.caller tells.tells).by
+
+    pub caller_inside : p < length states
+    caller_inside = caller_is_inside (length states) l tells.at tells.call closed tells.there p caller
+
+    unseen_there : slice_get states p ≡ Some progress.Unseen
+    unseen_there =
+        let there = slice_get-get_or states p progress.Unseen caller_inside in
+        there ∙ ap Some ((told_unseen states tells.call p tells.call.caller tells.tells).none (get_or states p progress.Unseen) there)
+
+    fewer : unseen (set states p progress.Open) + 1 ≡ unseen states
+    fewer = let less = unseen_set states p progress.Open progress.Unseen unseen_there in omega arith
+
+    more : length (stack ++ p ∷ []) ≡ length stack + 1
+    more = length-append stack (p ∷ [])
+
+    -- the new routine calls the last one, so it reaches all that are open
+    way : (i a : ℕ) → slice_get stack i ≡ Some a → EntersIn l (At p) (At a)
+    way i a there =
+        let inside = slice_get_within stack i a there in
+        let has : Has l (At p) tells.call.height q = record { at = tells.at; call = tells.call; there = tells.there; caller = ap routine_of caller; height = refl; target = tells.target } in
+        list.further has (so.enters i (length stack - 1) a q (omega arith) there top)
+
+    enters_pushed : (i j a b : ℕ) → i ≤ j → slice_get (stack ++ p ∷ []) i ≡ Some a → slice_get (stack ++ p ∷ []) j ≡ Some b → EntersIn l (At b) (At a)
+    enters_pushed i j a b le first second = elim (get_push stack p j b second) [
+      | before lt old ↦ elim (get_push stack p i a first) [
+        | before less this_one ↦ so.enters i j a b le this_one old
+        | last at same ↦ absurd (omega arith)
+      ]
+      | last at is ↦ elim (get_push stack p i a first) [
+        | before less this_one ↦ subst (λ (x : ℕ). EntersIn l (At x) (At a)) is (way i a this_one)
+        | last here same ↦ subst (λ (x : ℕ). EntersIn l (At b) (At x)) (sym is ∙ same) list.same
+      ]
+    ]
+
+    on_pushed : (r : ℕ) → slice_get (set states p progress.Open) r ≡ Some progress.Open → (k : ℕ) × (slice_get (stack ++ p ∷ []) k ≡ Some r)
+    on_pushed r get = elim (written states p progress.Open r progress.Open caller_inside get) [
+      | this same is ↦ (length stack, get_push_last stack p ∙ ap Some (sym same))
+      | other ne old ↦ let at = so.on_stack r old in (at.0, get_push_before stack p r at.0 at.1)
+    ]
+
+    entered : Searches l (set states p progress.Open) (stack ++ p ∷ [])
+    entered = record {
+      called = λ k r get. elim (get_push stack p k r get) [
+        | before lt old ↦ so.called k r old
+        | last at is ↦ subst (λ (x : ℕ). IsCalled l x) is (closed.callers tells.at tells.call p tells.there caller)
+      ];
+      enters = enters_pushed;
+      on_stack = on_pushed;
+      bases = λ r b get. elim (written states p progress.Open r (progress.Done b) caller_inside get) [
+        | this same is ↦ absurd (cc is)
+        | other ne old ↦ so.bases r b old
+      ];
+      room = let len = length-set states p progress.Open in let f = fewer in let m = more in let r = so.room in omega arith;
+      bound = λ r b get. elim (written states p progress.Open r (progress.Done b) caller_inside get) [
+        | this same is ↦ absurd (cc is)
+        | other ne old ↦ entered_bound (length states) (unseen states) (length stack) _ _ _ b (length-set states p progress.Open) fewer more so.room (so.bound r b old)
+      ];
+    }
+
+    entered_nearer : left (set states p progress.Open) (stack ++ p ∷ []) < left states stack
+    entered_nearer = let f = fewer in let m = more in omega arith
+
+    pub enters : (new : List Progress) (now : List ℕ) → new ≡ set states p progress.Open → now ≡ stack ++ p ∷ [] → IsStep l states stack new now
+    enters new now e f = step_as l states stack new (set states p progress.Open) now (stack ++ p ∷ []) e f (record { searches = entered; seen = stay_seen states p progress.Open caller_inside (λ same. cc); nearer = entered_nearer })
+
+  -- an open caller
+  pub closes_ring : (place : ℕ) (tells : IsTold states l q (answer.Open place)) → ClosesRing l tells.call × (tells.call.place ≡ place)
+  closes_ring place tells =
+      let told = told_open states tells.call place tells.call.caller tells.tells in
+      let on = so.on_stack told.routine told.open_there in
+      let inside = slice_get_within stack on.0 told.routine on.1 in
+      let way = so.enters on.0 (length stack - 1) told.routine q (omega arith) on.1 top in
+      let from : EntersIn l (At tells.call.target) (At told.routine) = subst (λ (x : ℕ). EntersIn l (At x) (At told.routine)) (sym tells.target) way in
+      (record { at = tells.at; there = tells.there; enters = subst (λ (x : Owner). EntersIn l (At tells.call.target) (routine_of x)) (sym told.by) from }, told.at)
+
+  -- a base
+  module _ (b : ℕ) (answers : Answers states l q (answer.Base b)) where
+    there_is : slice_get states q ≡ Some (get_or states q progress.Open)
+    there_is = slice_get-get_or states q progress.Open last_inside
+
+    no_more : unseen (set states q (progress.Done b)) ≤ unseen states
+    no_more = let less = unseen_set states q (progress.Done b) (get_or states q progress.Open) there_is in omega arith
+
+    one_less : length (take (length stack - 1) stack) + 1 ≡ length stack
+    one_less = let len = length-take (length stack - 1) stack in let some = some_open in omega arith
+
+    on_popped : (r : ℕ) → slice_get (set states q (progress.Done b)) r ≡ Some progress.Open → (k : ℕ) × (slice_get (take (length stack - 1) stack) k ≡ Some r)
+    on_popped r get = elim (written states q (progress.Done b) r progress.Open last_inside get) [
+      | this same is ↦ absurd (cc is)
+      | other ne old ↦
+          let at = so.on_stack r old in
+          let inside = slice_get_within stack at.0 r at.1 in
+          elim (cases_eq at.0 (length stack - 1)) [
+            | inl end ↦ absurd (ne (same_Some r q (sym at.1 ∙ ap (slice_get stack) end ∙ top)))
+            | inr before_end ↦ (at.0, take_get (length stack - 1) stack at.0 r (omega arith) at.1)
+          ]
+    ]
+
+    left_behind : Searches l (set states q (progress.Done b)) (take (length stack - 1) stack)
+    left_behind = record {
+      called = λ k r get. so.called k r (get_take (length stack - 1) stack k r get).1;
+      enters = λ i j a c le first second. so.enters i j a c le (get_take (length stack - 1) stack i a first).1 (get_take (length stack - 1) stack j c second).1;
+      on_stack = on_popped;
+      bases = λ r d get. elim (written states q (progress.Done b) r (progress.Done d) last_inside get) [
+        | this same is ↦ subst (λ (x : ℕ). IsBaseIn l x d) (sym same) (subst (λ (x : ℕ). IsBaseIn l q x) (cc is) (base_found states l so.bases q b answers))
+        | other ne old ↦ so.bases r d old
+      ];
+      room = let len = length-set states q (progress.Done b) in let f = no_more in let m = one_less in let r = so.room in omega arith;
+      bound = λ r d get. elim (written states q (progress.Done b) r (progress.Done d) last_inside get) [
+        | this same is ↦
+            let low = told_bound states l q b (65539 * (length states - unseen states - length stack)) closed so.bound answers.0 in
+            let equal : b ≡ d = cc is in
+            left_bound (length states) (unseen states) (length stack) _ _ _ d (length-set states q (progress.Done b)) no_more one_less so.room (subst (λ (x : ℕ). x ≤ 65539 * (length states - unseen states - length stack) + 65539) equal low)
+        | other ne old ↦ left_old_bound (length states) (unseen states) (length stack) _ _ _ d (length-set states q (progress.Done b)) no_more one_less so.room (so.bound r d old)
+      ];
+    }
+
+    left_nearer : left (set states q (progress.Done b)) (take (length stack - 1) stack) < left states stack
+    left_nearer = let f = no_more in let m = one_less in omega arith
+
+    pub leaves : (new : List Progress) (now : List ℕ) → new ≡ set states q (progress.Done b) → now ≡ take (length stack - 1) stack → IsStep l states stack new now
+    leaves new now e f = step_as l states stack new (set states q (progress.Done b)) now (take (length stack - 1) stack) e f (record { searches = left_behind; seen = stay_seen states q (progress.Done b) last_inside (λ same. cc); nearer = left_nearer })

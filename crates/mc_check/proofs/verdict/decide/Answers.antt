@@ -1,0 +1,7 @@
+use Rattle.mc_isa.proofs.PlaceLemmas.{all_bytes}
+use Rattle.mc_check.proofs.Kept.{keeps}
+use Rattle.mc_check.proofs.verdict.decide.Goals as goal
+
+pub returns-clause-runs : goal.returns-clause-runs
+returns-clause-runs c =
+    keeps c.args.code.now (all_bytes c.args.code.now c.type_inv.code) c.requires.high c.args.session c.in_ok-bases.bases.items c.in_ok-bases.ensures.bases c.judge.result c.judge.ensures

@@ -1,0 +1,63 @@
+-- What accepted code keeps to in every run. This project's profile.
+use Rattle.std.specs.Prelude.{◌≡◌, ◌≤◌, ◌+◌, ℕ, zero, suc, Bool, true, false, List, length, Option, Some, None}
+use Rattle.mc_model.specs.declared.machine.Abend.{Abend}
+use Rattle.mc_model.specs.declared.machine.Abend.TheVariants.{A01, A02, A04, A05}
+use Rattle.mc_model.specs.Bytes.{lookup}
+use Rattle.mc_model.specs.Apdu.{ApduParts}
+use Rattle.mc_model.specs.Card.{App}
+use Rattle.mc_model.specs.Frame.{dynamic_base}
+use Rattle.mc_model.specs.Chain.{Chain, Turn, Outcome, Reply, Abended, Follows, Continues, Ends, turn_of, start}
+use Rattle.mc_model.specs.Manager.{most_static}
+
+-- the abends with which accepted code ends no turn
+abbrev pub is_excluded : Abend → Bool
+is_excluded A01 = true
+is_excluded A02 = true
+is_excluded A04 = true
+is_excluded A05 = true
+is_excluded _ = false
+
+-- a turn that ends the chain with one of them
+abbrev pub ends_excluded : Option Outcome → Bool
+ends_excluded None = false
+ends_excluded (Some (Reply body sw)) = false
+ends_excluded (Some (Abended cause)) = is_excluded cause
+
+-- the running frame is one of an application with this code and so many session bytes
+pub record RunsCode (bytes : List ℕ) (size : ℕ) (ch : Chain) : Type 0 where
+  pub app : App
+  pub there : lookup ch.map ch.frame.name ≡ Some app
+  pub code : app.code ≡ bytes
+  pub session : app.session ≡ size
+
+-- a turn that ends with none of these abends, and at which DT lies at most so far above its floor
+pub record IsCalm (session most : ℕ) (turn : Turn) : Type 0 where
+  pub end : ends_excluded turn.end ≡ false
+  pub dt : turn.dt ≤ dynamic_base + session + most
+
+-- what holds of the chain that goes on, if one does
+abbrev pub OnFollows : Follows → (Chain → Type 0) → Type 0
+OnFollows (Continues ch) holds = holds ch
+OnFollows (Ends o) holds = Unit {0}
+
+-- each turn of a run with this budget in a frame of such an application
+unfoldable pub RunsCalmly : List ℕ → ℕ → ℕ → ℕ → Chain → Type 0
+RunsCalmly code session most zero ch = RunsCode code session ch → IsCalm session most (turn_of zero ch).turn
+RunsCalmly code session most (suc n) ch =
+    (RunsCode code session ch → IsCalm session most (turn_of (suc n) ch).turn) × OnFollows (turn_of (suc n) ch).follows (λ c. RunsCalmly code session most n c)
+
+-- the session bytes of an application, none where it is not there
+abbrev pub session_in : Option App → ℕ
+session_in None = 0
+session_in (Some a) = a.session
+
+-- each application keeps to the most static bytes
+abbrev pub AreLimited : List (List ℕ × App) → Type 0
+AreLimited map = (name : List ℕ) (a : App) → lookup map name ≡ Some a → length a.fixed ≤ most_static
+
+-- On every card, for every command with every session bytes: each turn in a frame of an application with this code.
+abbrev pub IsChecked : List ℕ → ℕ → ℕ → Type 0
+IsChecked code session most =
+    (map : List (List ℕ × App)) (first body : List ℕ) (apdu : ApduParts) (budget : ℕ)
+    → AreLimited map → length body ≡ session_in (lookup map first)
+    → RunsCalmly code session most budget (start map first body apdu)

@@ -1,0 +1,9 @@
+pub mod Table
+pub mod Seen
+pub mod Judging
+pub mod Checked
+pub mod Verdicts
+pub mod Standing
+pub mod CallList
+pub mod Searching
+pub mod Closing

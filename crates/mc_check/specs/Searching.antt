@@ -1,0 +1,93 @@
+-- A search along calls, from routines to their callers: what it knows of bases, and which routines are open.
+-- This project's profile.
+use Rattle.std.specs.Prelude.{◌≡◌, ◌<◌, ◌≤◌, ◌+◌, ◌-◌, ◌*◌, ℕ, Bool, true, false, List, length, slice_get, count_by, Option, Some, None}
+use Rattle.mc_model.specs.StackShape.{At}
+use Rattle.mc_check.specs.CallList.{IsCalled, EntersIn, IsBaseIn}
+use Rattle.mc_check.specs.declared.calls.Call.{Call}
+use Rattle.mc_check.specs.declared.table.Routine.{Routine as Owner}
+use Rattle.mc_check.specs.declared.table.Routine.TheVariants as owner
+use Rattle.mc_check.specs.declared.bases.Progress.{Progress}
+use Rattle.mc_check.specs.declared.bases.Progress.TheVariants as progress
+use Rattle.mc_check.specs.declared.bases.Answer.{Answer}
+use Rattle.mc_check.specs.declared.bases.Answer.TheVariants as answer
+
+-- ---- what callers tell
+
+-- what a caller at a place tells of the base that its call gives
+abbrev pub told_by : Call → ℕ → Option Progress → Answer
+told_by c p None = answer.Unseen p
+told_by c p (Some progress.Unseen) = answer.Unseen p
+told_by c p (Some progress.Open) = answer.Open c.place
+told_by c p (Some (progress.Done b)) = answer.Base (b + c.height + 4)
+
+-- the same of any caller
+abbrev pub told_of : List Progress → Call → Owner → Answer
+told_of states c owner.Main = answer.Base (c.height + 4)
+told_of states c (owner.At p) = told_by c p (slice_get states p)
+
+-- what a call tells of the base of its target
+abbrev pub told : List Progress → Call → Answer
+told states c = told_of states c c.caller
+
+-- a call of the routine at q tells this
+pub record IsTold (states : List Progress) (calls : List Call) (q : ℕ) (a : Answer) : Type 0 where
+  pub at : ℕ
+  pub call : Call
+  pub there : slice_get calls at ≡ Some call
+  pub target : call.target ≡ q
+  pub tells : told states call ≡ a
+
+-- each call of the routine at q, among so many, tells a base that is at most this one
+abbrev pub AreAtMost : List Progress → List Call → ℕ → ℕ → ℕ → Type 0
+AreAtMost states calls q n b =
+    (k : ℕ) (c : Call) → k < n → slice_get calls k ≡ Some c → c.target ≡ q → (d : ℕ) × (told states c ≡ answer.Base d) × (d ≤ b)
+
+-- the greatest base that the calls of the routine at q tell, or a caller without a base
+abbrev pub Answers : List Progress → List Call → ℕ → Answer → Type 0
+Answers states calls q (answer.Base b) = IsTold states calls q (answer.Base b) × AreAtMost states calls q (length calls) b
+Answers states calls q (answer.Unseen p) = IsTold states calls q (answer.Unseen p)
+Answers states calls q (answer.Open p) = IsTold states calls q (answer.Open p)
+
+-- ---- the state of the search
+
+-- a routine that was not seen
+abbrev pub is_unseen : Progress → Bool
+is_unseen progress.Unseen = true
+is_unseen progress.Open = false
+is_unseen (progress.Done b) = false
+
+-- how many routines were not seen
+abbrev pub unseen : List Progress → ℕ
+unseen states = count_by is_unseen states
+
+-- each base that was found is at most this number
+abbrev pub AreBelow : ℕ → List Progress → Type 0
+AreBelow most states = (q b : ℕ) → slice_get states q ≡ Some (progress.Done b) → b ≤ most
+
+-- the routine at q was seen
+abbrev pub IsSeen : List Progress → ℕ → Type 0
+IsSeen states q = slice_get states q ≡ Some progress.Unseen → ⊥
+
+-- what was seen stays seen
+abbrev pub StaySeen : List Progress → List Progress → Type 0
+StaySeen old new = (q : ℕ) → IsSeen old q → IsSeen new q
+
+-- the base that was found, 0 where none was
+abbrev pub base_of : Progress → ℕ
+base_of progress.Unseen = 0
+base_of progress.Open = 0
+base_of (progress.Done b) = b
+
+-- The open routines are called, each one reaches those before it, and no routine is open beside them; the bases that were found are
+-- bases, and at most 65,539 for each routine that is neither unseen nor open.
+pub record Searches (calls : List Call) (states : List Progress) (stack : List ℕ) : Type 0 where
+  pub called : (k q : ℕ) → slice_get stack k ≡ Some q → IsCalled calls q
+  pub enters : (i j p q : ℕ) → i ≤ j → slice_get stack i ≡ Some p → slice_get stack j ≡ Some q → EntersIn calls (At q) (At p)
+  pub on_stack : (q : ℕ) → slice_get states q ≡ Some progress.Open → (k : ℕ) × (slice_get stack k ≡ Some q)
+  pub bases : (q b : ℕ) → slice_get states q ≡ Some (progress.Done b) → IsBaseIn calls q b
+  pub room : unseen states + length stack ≤ length states
+  pub bound : AreBelow (65539 * (length states - unseen states - length stack)) states
+
+-- what is left to do
+abbrev pub left : List Progress → List ℕ → ℕ
+left states stack = 2 * unseen states + length stack

@@ -1,0 +1,38 @@
+-- What is seen of an instruction, in the definition's words.
+-- This project's profile.
+use Rattle.std.specs.Prelude.{ℕ, Result, Ok, Err}
+use Rattle.mc_model.specs.declared.checker.CheckCause.{CheckCause}
+use Rattle.mc_model.specs.declared.checker.CheckCause.TheVariants.{Undefined, Past}
+use Rattle.mc_model.specs.declared.instruction.DecodeFault.{DecodeFault}
+use Rattle.mc_model.specs.declared.instruction.DecodeFault.TheVariants as fault
+use Rattle.mc_model.specs.StackRows as shape
+use Rattle.mc_model.specs.StackShape.{Look, Bad, Stands}
+use Rattle.mc_check.specs.declared.shape.Counts.{Counts}
+use Rattle.mc_check.specs.declared.shape.Seen.{Seen}
+use Rattle.mc_check.specs.declared.uses.Uses.{Uses}
+use Rattle.mc_check.specs.declared.writing.Writing.{Writing}
+use Rattle.mc_check.specs.declared.writing.Writing.TheVariants as writing
+
+-- what an instruction uses of the stack
+abbrev pub uses_of : Uses → shape.Uses
+uses_of u = shape.uses u.needs u.pops u.pushes
+
+-- where an instruction writes
+abbrev pub writing_of : Writing → shape.Writing
+writing_of writing.Nothing = shape.WritesNothing
+writing_of (writing.At tag off n) = shape.WritesAt tag off n
+writing_of writing.Anywhere = shape.WritesAnywhere
+
+-- the counts of a return
+abbrev pub pair_of : Counts → ℕ × ℕ
+pair_of c = (c.less, c.more)
+
+-- the cause in a fault of the decoder
+abbrev pub cause_of : DecodeFault → CheckCause
+cause_of fault.Undefined = Undefined
+cause_of fault.Past = Past
+
+-- what a fact alone shows
+abbrev pub seen_as : Result Seen CheckCause → Look
+seen_as (Ok s) = Stands s.ins s.next
+seen_as (Err cause) = Bad cause

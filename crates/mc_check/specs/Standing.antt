@@ -1,0 +1,29 @@
+-- A frame that runs accepted code: where it stands, and its open calls. This project's profile.
+use Rattle.std.specs.Prelude.{◌≡◌, ◌≤◌, ◌+◌, ◌-◌, ℕ, List, length, take, drop, Some}
+use Rattle.mc_model.specs.declared.instruction.Ins.{Ins}
+use Rattle.mc_model.specs.Bytes.{bytes2}
+use Rattle.mc_model.specs.Frame.{Frame, floor, dynamic_base}
+use Rattle.mc_model.specs.StackRows.{call_target}
+use Rattle.mc_model.specs.StackShape.{Routine, Main, At, fact, Reached, Gives}
+
+-- a frame with so many session bytes, whose DT lies that much above LB, and LB that much above the floor
+pub record StandsAt (len size base height : ℕ) (f : Frame) : Type 0 where
+  pub session : f.session ≡ size
+  pub code_len : f.code_len ≡ len
+  pub dyn : length f.dyn ≡ 512
+  pub fixed : length f.fixed ≤ dynamic_base
+  pub lb : f.lb ≡ dynamic_base + size + base
+  pub dt : f.dt ≡ f.lb + height
+  pub room : size + base + height ≤ 512
+
+-- the bytes of the stack below LB
+abbrev pub calls_of : Frame → List ℕ
+calls_of f = take (f.lb - floor f) (drop f.session f.dyn)
+
+-- The open calls of a routine, whose LB lies that much above the floor, in the bytes of the stack from the floor on: a CALL of
+-- each routine, the first one of main, with the LB and the return address that it pushed.
+pub data Open (code : List ℕ) (session : ℕ) (bytes : List ℕ) : Routine → ℕ → Type 0 where
+  none : Open code session bytes Main 0
+  call : {r : Routine} {p h b q : ℕ} (i : Ins) (next : ℕ) → Open code session bytes r b → Reached code (fact r p h) → Gives code (fact r p h) i next
+      → call_target i ≡ Some q → take 2 (drop (b + h) bytes) ≡ bytes2 (dynamic_base + session + b) → take 2 (drop (b + h + 2) bytes) ≡ bytes2 next
+      → Open code session bytes (At q) (b + h + 4)

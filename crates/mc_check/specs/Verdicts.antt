@@ -1,0 +1,16 @@
+-- What a verdict of the checker says of code, and of every run of it. This project's profile.
+use Rattle.std.specs.Prelude.{ℕ, List, ⊤}
+use Rattle.mc_model.specs.StackShape.{Accepts, Refuses}
+use Rattle.mc_check.specs.declared.verdict.Verdict.{Verdict}
+use Rattle.mc_check.specs.declared.verdict.Verdict.TheVariants.{Accept, Refuse}
+use Rattle.mc_check.specs.Checked.{IsChecked}
+
+-- a verdict that holds of code with so many session bytes
+abbrev pub IsVerdictOf : List ℕ → ℕ → Verdict → Type 0
+IsVerdictOf code session (Accept deepest) = Accepts code session deepest
+IsVerdictOf code session (Refuse place cause) = Refuses code session place cause
+
+-- what accepted code keeps to in every run
+abbrev pub KeepsTo : List ℕ → ℕ → Verdict → Type 0
+KeepsTo code session (Accept deepest) = IsChecked code session deepest
+KeepsTo code session (Refuse place cause) = ⊤

@@ -1,0 +1,135 @@
+// The last pass over the facts, when the bases of the routines are known: where the stack grows too deep, where a write may
+// touch an open call, and how deep the stack is at most.
+ghost use Rattle.std.specs.Prelude.{◌≡◌, ◌≤◌, ◌<◌, ◌&&◌, not, length, IfOk, IfErr, MatchBool};
+ghost use Rattle.mc_model.specs.Code.{decoded};
+ghost use Rattle.mc_model.specs.StackShape.{Accepts};
+ghost use Rattle.mc_check.specs.Judging.{calls_at, plain_at, depth_of, BeginsWithin, HasCall, HasNoCall};
+ghost use Rattle.mc_check.specs.Verdicts.{IsVerdictOf};
+ghost use Rattle.mc_check.specs.Table.{routine_of, base_in, IsWhole, AreBases, IsRefused};
+
+use crate::shape::{is_call, is_plain};
+use crate::table::{Entry, Refusal, Routine};
+use crate::verdict::Verdict;
+use mc_isa::decode;
+use mc_model::CheckCause;
+
+// The bytes of the dynamic segment that session data and the stack share.
+const ROOM: u64 = 512;
+
+// Whether a call stands at a place of code.
+fn calls(code: &[u8], place: u16) -> bool
+    requires { length code.now ≤ 8192 }
+    ensures { result ≡ calls_at (decoded code.now place) }
+{
+    match decode(code, place) {
+        Ok((ins, _)) => is_call(ins),
+        Err(_) => false,
+    }
+}
+
+// Whether what stands at a place of code writes at no address that is not plain.
+fn writes_plain(code: &[u8], session: u16, place: u16, height: u16) -> bool
+    requires { length code.now ≤ 8192 }
+    ensures { result ≡ plain_at session height (decoded code.now place) }
+{
+    match decode(code, place) {
+        Ok((ins, _)) => is_plain(session, height, ins),
+        Err(_) => true,
+    }
+}
+
+// The base of a routine.
+fn base_of(bases: &[u32], routine: Routine) -> u32
+    requires { BeginsWithin (length bases.now) (routine_of routine) }
+    ensures { result ≡ base_in bases.now (routine_of routine) }
+{
+    match routine {
+        Routine::Main => 0,
+        Routine::At(place) => bases[usize::from(place)],
+    }
+}
+
+// How far the stack reaches above its floor at a place, or the rule that is broken there; in code without calls, any write
+// is allowed.
+fn depth_at(
+    code: &[u8],
+    session: u16,
+    place: u16,
+    height: u16,
+    base: u32,
+    has_calls: bool,
+) -> Result<u16, Refusal>
+    requires { length code.now ≤ 8192 }
+    ensures { result ≡ depth_of session place base height (has_calls && not (plain_at session height (decoded code.now place))) }
+{
+    let depth = u64::from(base) + u64::from(height);
+    if u64::from(session) + depth > ROOM {
+        return Err(Refusal {
+            place,
+            cause: CheckCause::Deep,
+        });
+    }
+    if has_calls && !writes_plain(code, session, place, height) {
+        return Err(Refusal {
+            place,
+            cause: CheckCause::Wild,
+        });
+    }
+    Ok(depth as u16)
+}
+
+// Whether some fact is a call.
+fn has_call(code: &[u8], table: &[Option<Entry>]) -> bool
+    requires high { length code.now ≤ 8192 }
+    requires size { length table.now ≡ length code.now }
+    ensures { MatchBool result (HasCall code.now table.now) (HasNoCall code.now table.now (length table.now)) }
+{
+    for (place, entry) in table.iter().enumerate() {
+        if entry.is_some() && calls(code, place as u16) {
+            return true;
+        }
+    }
+    false
+}
+
+// The greatest depth of the stack over all facts, or a rule that one of them breaks.
+fn greatest_depth(
+    code: &[u8],
+    session: u16,
+    table: &[Option<Entry>],
+    bases: &[u32],
+) -> Result<u16, Refusal>
+    requires high { length code.now ≤ 8192 }
+    requires whole { IsWhole code.now table.now }
+    requires based { AreBases code.now bases.now }
+    ensures accepts { IfOk result (λ most. Accepts code.now session most) }
+    ensures refuses { IfErr result (λ refusal. IsRefused code.now session refusal) }
+{
+    let has_calls = has_call(code, table);
+    let mut most = 0;
+    for (place, entry) in table.iter().enumerate() {
+        if let Some(entry) = entry {
+            let base = base_of(bases, entry.routine);
+            let depth = depth_at(code, session, place as u16, entry.height, base, has_calls)?;
+            most = most.max(depth);
+        }
+    }
+    Ok(most)
+}
+
+/// The verdict on code, from the whole table of its facts and the bases of its routines.
+pub fn judge(code: &[u8], session: u16, table: &[Option<Entry>], bases: &[u32]) -> Verdict
+    requires low { 1 ≤ length code.now }
+    requires high { length code.now ≤ 8192 }
+    requires whole { IsWhole code.now table.now }
+    requires bases { AreBases code.now bases.now }
+    ensures { IsVerdictOf code.now session result }
+{
+    match greatest_depth(code, session, table, bases) {
+        Ok(deepest) => Verdict::Accept { deepest },
+        Err(refusal) => Verdict::Refuse {
+            place: refusal.place,
+            cause: refusal.cause,
+        },
+    }
+}

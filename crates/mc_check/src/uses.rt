@@ -1,0 +1,197 @@
+// What an instruction does to the stack: the bytes that it needs, pops and pushes.
+ghost use Rattle.std.specs.Prelude.{◌≡◌, ◌≤◌, ◌*◌};
+ghost use Rattle.mc_model.specs.Code.{Shaped};
+ghost use Rattle.mc_model.specs.Primitives as model;
+ghost use Rattle.mc_model.specs.StackRows as shape;
+ghost use Rattle.mc_model.specs.Row as row;
+ghost use Rattle.mc_prims.specs.Table.{primitive_of};
+ghost use Rattle.mc_check.specs.Seen.{uses_of};
+
+use mc_model::Ins;
+use mc_prims::Primitive;
+
+// The bytes of the stack that an instruction needs, those that it pops, and those that it pushes then.
+#[derive(Clone, Copy)]
+pub struct Uses {
+    pub needs: u16,
+    pub pops: u16,
+    pub pushes: u16,
+}
+
+impl Uses {
+    fn new(needs: u16, pops: u16, pushes: u16) -> Uses
+        ensures { uses_of result ≡ shape.uses needs pops pushes }
+    {
+        Uses {
+            needs,
+            pops,
+            pushes,
+        }
+    }
+}
+
+// One number for an operand on the stack, and another one for an operand at an address.
+fn on_stack(tag: u8, top: u16, address: u16) -> u16
+    ensures { result ≡ row.on_stack tag top address }
+{
+    if tag == 0 { top } else { address }
+}
+
+fn primitive_uses(primitive: Primitive, args: &[u8; 3]) -> Uses
+    ensures { uses_of result ≡ shape.prim_uses (primitive_of primitive) args.now }
+{
+    match primitive {
+        Primitive::LoadCcr => Uses::new(0, 0, 1),
+        Primitive::CheckCase | Primitive::StoreCcr => Uses::new(1, 1, 0),
+        Primitive::Delegate | Primitive::DelegatorAid => Uses::new(2, 2, 0),
+        Primitive::Lookup => Uses::new(3, 3, 1),
+        Primitive::CompareFixed | Primitive::CopyFixed => Uses::new(4, 4, 0),
+        Primitive::MemoryCompare
+        | Primitive::MemoryCopy
+        | Primitive::Digest
+        | Primitive::Encipher(_)
+        | Primitive::Decipher(_) => Uses::new(6, 6, 0),
+        Primitive::Sign(_) => Uses::new(8, 8, 0),
+        Primitive::SetProtection => Uses::new(0, 0, 0),
+        Primitive::BitByte => Uses::new(1, 0, 0),
+        Primitive::BitWord => Uses::new(2, 0, 0),
+        Primitive::ShiftLeft | Primitive::ShiftRight => Uses::new(u16::from(args[0]), 0, 0),
+    }
+}
+
+// The same of a set and a number; a pair that is no primitive uses nothing.
+fn pair_uses(set: u8, number: u8, args: &[u8; 3]) -> Uses
+    ensures { uses_of result ≡ shape.pair_uses (model.primitive set number) args.now }
+{
+    match Primitive::of(set, number) {
+        Some(primitive) => primitive_uses(primitive, args),
+        None => Uses::new(0, 0, 0),
+    }
+}
+
+// Whether an instruction abends with 06 by its own bytes, whatever the stack holds.
+fn pair_abends(set: u8, number: u8, args: &[u8; 3]) -> bool
+    ensures { result ≡ shape.prim_abends (model.primitive set number) args.now }
+{
+    match Primitive::of(set, number) {
+        Some(primitive) => primitive.has_bad_argument(args),
+        None => true,
+    }
+}
+
+// Whether numbers of so many bytes can be worked with.
+fn is_number_len(n: u8) -> bool
+    ensures { result ≡ model.in_range 1 16 n }
+{
+    1 <= n && n <= 16
+}
+
+/// Whether an instruction abends with 06 by its own bytes, whatever the stack and the memory hold.
+pub fn always_abends(ins: Ins) -> bool
+    ensures { result ≡ shape.always_abends ins }
+{
+    match ins {
+        Ins::Pushz { n }
+        | Ins::Popn { n }
+        | Ins::Load { n, .. }
+        | Ins::Store { n, .. }
+        | Ins::Loadi { n, .. }
+        | Ins::Storei { n, .. }
+        | Ins::Clearn { n, .. }
+        | Ins::Testn { n, .. }
+        | Ins::Notn { n, .. }
+        | Ins::Cmpn { n, .. }
+        | Ins::Andn { n, .. }
+        | Ins::Orn { n, .. }
+        | Ins::Xorn { n, .. } => n == 0,
+        Ins::Incn { n, .. } | Ins::Decn { n, .. } | Ins::Addn { n, .. } | Ins::Subn { n, .. } => {
+            !is_number_len(n)
+        }
+        Ins::Prim { set, number, args } => pair_abends(set, number, &args),
+        _ => false,
+    }
+}
+
+// What an instruction uses.
+fn row_uses(ins: Ins) -> Uses
+    ensures { uses_of result ≡ shape.row_uses ins }
+{
+    match ins {
+        Ins::Nop
+        | Ins::Setsw { .. }
+        | Ins::Setla { .. }
+        | Ins::Setswla { .. }
+        | Ins::Exit
+        | Ins::Exitsw { .. }
+        | Ins::Exitla { .. }
+        | Ins::Exitswla { .. }
+        | Ins::Branch { .. }
+        | Ins::Ret
+        | Ins::Reti { .. } => Uses::new(0, 0, 0),
+        Ins::Jump { cond, .. } | Ins::Call { cond, .. } => Uses::new(on_stack(cond, 2, 0), 0, 0),
+        Ins::Pushz { n } => Uses::new(0, 0, u16::from(n)),
+        Ins::Pushb { .. } => Uses::new(0, 0, 1),
+        Ins::Pushw { .. } | Ins::Loada { .. } => Uses::new(0, 0, 2),
+        Ins::Popn { n } => Uses::new(u16::from(n), u16::from(n), 0),
+        Ins::Popb => Uses::new(1, 1, 0),
+        Ins::Popw => Uses::new(2, 2, 0),
+        Ins::Prim { set, number, args } => pair_uses(set, number, &args),
+        Ins::Reto { o } | Ins::Retio { o, .. } => Uses::new(u16::from(o), 0, 0),
+        Ins::Load { tag, n, .. } => Uses::new(on_stack(tag, u16::from(n), 0), 0, u16::from(n)),
+        Ins::Store { tag, n, .. } => Uses::new(pair_needs(tag, n), u16::from(n), 0),
+        Ins::Loadi { tag, n, .. } => Uses::new(on_stack(tag, 2, 0), 0, u16::from(n)),
+        Ins::Storei { tag, n, .. } => Uses::new(
+            on_stack(tag, u16::from(n) + 2, u16::from(n)),
+            u16::from(n),
+            0,
+        ),
+        Ins::Index { tag, .. } => Uses::new(on_stack(tag, 3, 1), on_stack(tag, 3, 1), 2),
+        Ins::Setb { tag, .. }
+        | Ins::Cmpb { tag, .. }
+        | Ins::Addb { tag, .. }
+        | Ins::Subb { tag, .. } => Uses::new(on_stack(tag, 1, 0), 0, 0),
+        Ins::Setw { tag, .. }
+        | Ins::Cmpw { tag, .. }
+        | Ins::Addw { tag, .. }
+        | Ins::Subw { tag, .. } => Uses::new(on_stack(tag, 2, 0), 0, 0),
+        Ins::Clearn { tag, n, .. }
+        | Ins::Testn { tag, n, .. }
+        | Ins::Incn { tag, n, .. }
+        | Ins::Decn { tag, n, .. }
+        | Ins::Notn { tag, n, .. } => Uses::new(on_stack(tag, u16::from(n), 0), 0, 0),
+        Ins::Cmpn { tag, n, .. }
+        | Ins::Addn { tag, n, .. }
+        | Ins::Subn { tag, n, .. }
+        | Ins::Andn { tag, n, .. }
+        | Ins::Orn { tag, n, .. }
+        | Ins::Xorn { tag, n, .. } => Uses::new(pair_needs(tag, n), 0, 0),
+    }
+}
+
+// The bytes of two operands of a length, or of one where the other one stands at an address.
+fn pair_needs(tag: u8, n: u8) -> u16
+    ensures { result ≡ row.on_stack tag (2 * n) n }
+{
+    on_stack(tag, 2 * u16::from(n), u16::from(n))
+}
+
+/// The bytes of the stack that an instruction needs: none where it always abends.
+pub fn need(ins: Ins) -> u16
+    ensures { result ≡ shape.need ins }
+{
+    if always_abends(ins) {
+        0
+    } else {
+        row_uses(ins).needs
+    }
+}
+
+/// The height of the stack behind an instruction.
+pub fn height_after(ins: Ins, height: u16) -> u16
+    requires low { height ≤ 512 }
+    requires shaped { Shaped ins }
+    ensures { result ≡ shape.height_after ins height }
+{
+    let uses = row_uses(ins);
+    height.saturating_sub(uses.pops) + uses.pushes
+}
