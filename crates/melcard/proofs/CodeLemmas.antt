@@ -1,8 +1,9 @@
 -- Digits of code, line by line and pair by pair.
-use Rattle.std.proofs.Common.{◌≡◌, ℕ, suc, ◌+◌, ◌*◌, ◌<◌, ◌≤◌, Bool, true, false, List, [], ◌∷◌, ◌++◌, length, drop, get_or, drop-cons, add-one, Option, Some, None, Result, Ok, Err, refl, ap, sym, ◌∙◌, append_assoc, arith, subst}
+use Rattle.std.proofs.Common.{◌≡◌, ℕ, suc, ◌+◌, ◌-◌, ◌*◌, ◌<◌, ◌≤◌, Bool, true, false, List, [], ◌∷◌, ◌++◌, length, take, drop, get_or, drop-cons, add-one, Option, Some, None, Result, Ok, Err, refl, ap, sym, ◌∙◌, append_assoc, arith, subst}
 use Rattle.std.specs.Prelude.{filter, not, nat_le, ok_or, option_map, ⊤}
 use Rattle.std.specs.List.{AllByRecursion}
 use Rattle.std.proofs.lemmas.Bool.{le-leb, lt-leb}
+use Rattle.std.proofs.Math.Seq.{take-length}
 use Rattle.std.proofs.lemmas.List.{append-nil}
 use Rattle.mc_model.specs.Text
 use Rattle.mc_model.specs.Text.{CodeFault, is_blank, hex_value, hex_values, before_values, paired, lines, numbered, ok_as, only_if, code_digits, code_text_read, ◌>>=◌}
@@ -130,10 +131,21 @@ one_behind : (cur : List ℕ) (b : ℕ) (o : Option (List ℕ)) → bytes_behind
 one_behind cur b (Some bs) = ap (λ (t : List ℕ). Some t) (sym (append_assoc cur (b ∷ []) bs))
 one_behind cur b None = refl
 
+behind_two : (a b : ℕ) (t : List ℕ) → take (length (a ∷ b ∷ t) - 2) t ≡ t
+behind_two a b t = let same : length (a ∷ b ∷ t) - 2 ≡ length t = omega arith in ap (λ n. take n t) same ∙ take-length t
+
 -- two digits more
-pub pair_read : (cur new rest behind : List ℕ) (high low : ℕ) (whole : Option (List ℕ)) → rest ≡ high ∷ low ∷ behind → new ≡ cur ++ (high * 16 + low) ∷ [] → bytes_behind cur (paired rest) ≡ whole → bytes_behind new (paired behind) ≡ whole
-pair_read cur new rest behind high low whole is grew so =
-    ap (λ (t : List ℕ). bytes_behind t (paired behind)) grew ∙ sym (one_behind cur (high * 16 + low) (paired behind)) ∙ ap (λ t. bytes_behind cur (paired t)) (sym is) ∙ so
+pub pair_read : (cur new rest : List ℕ) (whole : Option (List ℕ)) → 2 ≤ length rest → new ≡ cur ++ (get_or rest 0 0 * 16 + get_or rest 1 0) ∷ [] → bytes_behind cur (paired rest) ≡ whole → bytes_behind new (paired (take (length rest - 2) (drop 2 rest))) ≡ whole
+pair_read cur new [] whole two grew so = absurd (omega (arith, two))
+pair_read cur new (a ∷ []) whole two grew so = absurd (omega (arith, two))
+pair_read cur new (a ∷ b ∷ t) whole two grew so =
+    ap (λ ds. bytes_behind new (paired ds)) (behind_two a b t) ∙ ap (λ bs. bytes_behind bs (paired t)) grew ∙ sym (one_behind cur (a * 16 + b) (paired t)) ∙ so
+
+-- the digits behind two are as small
+pub small_behind : (rest : List ℕ) → 2 ≤ length rest → AllByRecursion (λ v. v < 16) rest → AllByRecursion (λ v. v < 16) (take (length rest - 2) (drop 2 rest))
+small_behind [] two small = absurd (omega (arith, two))
+small_behind (a ∷ []) two small = absurd (omega (arith, two))
+small_behind (a ∷ b ∷ t) two small = subst (λ (ds : List ℕ). AllByRecursion (λ v. v < 16) ds) (sym (behind_two a b t)) small.1.1
 
 -- the pairs of digits that an answer of the code stands for
 pub pairs_found : {V : Type 0} (items : V → List ℕ) (o p : Option V) (held digits : List ℕ) → o ≡ p → held ≡ digits → option_map items o ≡ paired held → option_map items p ≡ paired digits

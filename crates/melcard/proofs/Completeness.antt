@@ -1,23 +1,28 @@
--- A job without a fault of source or sink is complete, and what is written by a verdict.
-use Rattle.std.proofs.Common.{◌≡◌, ℕ, ◌<◌, ◌≤◌, List, [], ◌++◌, length, Option, Some, None, refl, ap, sym, ◌∙◌, subst, cond, arith, inl, inr}
-use Rattle.std.specs.Prelude.{IfSome}
-use Rattle.std.proofs.lemmas.Bool.{le-leb, lt-leb}
+-- A job is complete where no call of source or sink fails.
+use Rattle.std.proofs.Common.{◌≡◌, ◌<◌, ℕ, cond, nat_eq, List, ◌++◌, length, Option, Some, None, Result, Ok, Err, IfSome, refl, ap, sym, subst, ◌∙◌, inl, inr, arith, ◌⊎◌}
 use Rattle.std.proofs.lemmas.List.{append-nil, length-append}
 use Rattle.mc_model.specs.Counts.{Rose}
-use Rattle.mc_base.specs.Streams.{Took, AtEnd, TookMore, Grew, GrewByPart}
+use Rattle.mc_model.specs.DeckGrammar.{DeckLine}
+use Rattle.mc_model.specs.Generator.{summary}
+use Rattle.mc_model.specs.Play.{Step}
+use Rattle.mc_base.specs.Streams.{AtEnd, Took, TookMore}
+use Rattle.mc_base.specs.declared.refusals.WriteFault.{WriteFault as Fault}
+use Rattle.mc_script.specs.Plays.{Bench, PlaysDeck, SumsDeck}
+use Rattle.mc_text.specs.Texts.{Puts, Sunk}
 use Rattle.melcard.specs.declared.job.Job.{Job}
 use Rattle.melcard.specs.declared.job.Job.TheVariants as job
-use Rattle.melcard.specs.declared.job.Status.{Status}
-use Rattle.melcard.specs.declared.job.Status.TheVariants.{Done, Refused, NoForm, ReadFault, WriteFault, NoMemory}
-use Rattle.melcard.specs.Verdicts.{Verdict, Whole, Refusal, input_limit, judged, too_long, verdict}
-use Rattle.melcard.proofs.Isolation.{isolated}
-use Rattle.melcard.specs.Job.{Around, Keeps, Says, SaysNoForm, IsDue, Judged, Completes, IsAll, IsComplete, IsWithoutFault, number_of, status_of, text_of}
+use Rattle.melcard.specs.declared.status.Status.{Status}
+use Rattle.melcard.specs.declared.status.Status.TheVariants.{Done, Refused, NoForm, ReadFault, WriteFault, NoMemory}
+use Rattle.melcard.specs.Verdicts.{Verdict, Whole, Refusal, Plays, Sums, input_limit}
+use Rattle.melcard.specs.Statuses.{ended, long, number_of, short, status_of, told, AllStands, Around, Completes, IsAll, IsAllDue, IsDone, IsDue, IsTooLong, IsWhole, IsWithoutFault, Says, SaysDone, Stands}
+
+-- ---- the source
 
 -- what was read to its end is all that was left
-all-read : (old new : Option (List ℕ)) (input : List ℕ) → Took old new input → AtEnd new → IsAll old input
-all-read None new input took end = tt
-all-read (Some xs) None input took end = absurd took
-all-read (Some xs) (Some ys) input took end = took ∙ ap (λ t. input ++ t) end ∙ append-nil input
+all_read : (old new : Option (List ℕ)) (input : List ℕ) → Took old new input → AtEnd new → IsAll old input
+all_read None new input took end = tt
+all_read (Some xs) None input took end = absurd took
+all_read (Some xs) (Some ys) input took end = took ∙ ap (λ t. input ++ t) end ∙ append-nil input
 
 -- more bytes than the limit were left
 record Long (old : Option (List ℕ)) : Type 0 where
@@ -25,95 +30,82 @@ record Long (old : Option (List ℕ)) : Type 0 where
   all : IsAll old input
   over : input_limit < length input
 
-long-read : (old new : Option (List ℕ)) → TookMore old new input_limit → Long old
-long-read None new more = record { input = more.front; all = tt; over = more.over }
-long-read (Some xs) None more = absurd more.took
-long-read (Some xs) (Some ys) more =
+long_read : (old new : Option (List ℕ)) → TookMore old new input_limit → Long old
+long_read None new more = record { input = more.front; all = tt; over = more.over }
+long_read (Some xs) None more = absurd more.took
+long_read (Some xs) (Some ys) more =
     let parts : length xs ≡ length (more.front ++ ys) = ap length more.took in
     let sum = length-append more.front ys in
     let over = more.over in
     record { input = xs; all = refl; over = omega arith }
 
--- any source has some bytes left
-some-left : (old : Option (List ℕ)) → (input : List ℕ) × IsAll old input
-some-left None = ([], tt)
-some-left (Some xs) = (xs, refl)
+-- what was read stands for what all that was left stands for
+all_stands : (work : Job) (a : Around) (v : Verdict) → IsTooLong a v ⊎ Stands work a v → AllStands work a.left_old v
+all_stands work a v (inl more) =
+    let all = long_read a.left_old a.left more.over in
+    subst (λ v. AllStands work a.left_old v) (sym more.is) (long all.input all.all all.over)
+all_stands work a v (inr whole) = short whole.input v (all_read a.left_old a.left whole.input whole.read.bytes whole.read.end) whole.read.fits whole.is
 
--- within the limit a job judges its input
-within : (job : Job) (input : List ℕ) → length input ≤ input_limit → verdict job input ≡ judged job input
-within job input fits = ap (λ b. cond b (judged job input) (Refusal too_long)) (le-leb (length input) input_limit fits)
+all_due : (work : Job) (a : Around) (v : Verdict) → IsDue work a v → IsAllDue work a v
+all_due (job.Generate n) a v due = due.1
+all_due (job.Play t) a v due = all_stands (job.Play t) a v due
+all_due (job.Write f) a v due = all_stands (job.Write f) a v due
 
-beyond : (job : Job) (input : List ℕ) → input_limit < length input → verdict job input ≡ Refusal too_long
-beyond job input over = ap (λ b. cond b (judged job input) (Refusal too_long)) (lt-leb (length input) input_limit over)
+-- ---- the sink
 
--- a play keeps families isolated
-keeps : (job : Job) (input : List ℕ) → Keeps job input
-keeps job.Play input = λ lines is. isolated lines
-keeps job.Asm input = tt
-keeps job.List input = tt
+-- where the sink did not fail, a text was written whole
+written_whole : (a b : Sunk) (text : List ℕ) (good s : Status) (r : Result (Unit {0}) Fault) → (Rose a.faults b.faults → ⊥) → s ≡ ended good r → Puts a text r b → s ≡ good
+written_whole a b text good s (Ok u) quiet e put = e
+written_whole a b text good s (Err f) quiet e put = absurd (quiet put.cause)
 
--- what was read to its end stands for what the job judges
-pub stands : (job : Job) (old new : Option (List ℕ)) (input : List ℕ) (v : Verdict) → Took old new input → AtEnd new → length input ≤ input_limit → judged job input ≡ v → Judged job old new v
-stands job old new input (Whole text) took end fits is = record { input = input; read = record { bytes = took; end = end; fits = fits }; is = within job input fits ∙ is; family = keeps job input }
-stands job old new input (Refusal line) took end fits is = inr (record { input = input; read = record { bytes = took; end = end; fits = fits }; is = within job input fits ∙ is; family = keeps job input })
+-- a deck was told whole
+played_whole : (f : Step → List ℕ) (ls : List (ℕ × DeckLine)) (x y : Bench) (a b : Sunk) (s : Status) (r : Result (Unit {0}) Fault) → (Rose a.faults b.faults → ⊥) → s ≡ ended Done r → PlaysDeck f ls x a r y b → s ≡ Done
+played_whole f ls x y a b s (Ok u) quiet e plays = e
+played_whole f ls x y a b s (Err w) quiet e plays = absurd (quiet plays.from.text.cause)
 
--- what a source had left stands for this
-record Known (job : Job) (old : Option (List ℕ)) (v : Verdict) : Type 0 where
-  input : List ℕ
-  all : IsAll old input
-  is : verdict job input ≡ v
+-- a deck was summarised whole
+summed_whole : (ls : List (ℕ × DeckLine)) (x y : Bench) (a b : Sunk) (s : Status) (r : Result (Unit {0}) Fault) → (Rose a.faults b.faults → ⊥) → s ≡ ended Done r → SumsDeck summary ls x a r y b → s ≡ Done
+summed_whole ls x y a b s (Ok u) quiet e sums = e
+summed_whole ls x y a b s (Err f) quiet e sums = absurd (quiet sums.text.cause)
 
-known : (job : Job) (old new : Option (List ℕ)) (v : Verdict) → Judged job old new v → Known job old v
-known job old new (Whole text) s = record { input = s.input; all = all-read old new s.input s.read.bytes s.read.end; is = s.is }
-known job old new (Refusal line) judged =
-    elim judged [
-      | inl long ↦
-          let l = long-read old new long.over in
-          record { input = l.input; all = l.all; is = beyond job l.input l.over ∙ ap (λ u. Refusal u) (sym long.is) }
-      | inr s ↦ record { input = s.input; all = all-read old new s.input s.read.bytes s.read.end; is = s.is }
-    ]
+-- whatever was due was done whole
+done_whole : (v : Verdict) (s : Status) (a : Around) → (Rose a.out_old.faults a.out.faults → ⊥) → IsDone v s a → s ≡ status_of v
+done_whole (Whole text) s a quiet d = written_whole a.out_old a.out text Done s d.result quiet d.status d.written
+done_whole (Refusal line) s a quiet d = written_whole a.out_old a.out line Refused s d.result quiet d.status d.written
+done_whole (Plays t lines) s a quiet d = played_whole (told t) lines a.dev_old a.dev a.out_old a.out s d.result quiet d.status d.plays
+done_whole (Sums lines) s a quiet d = summed_whole lines a.dev_old a.dev a.out_old a.out s d.result quiet d.status d.sums
 
--- a verdict that was written whole
-written-complete : (job : Job) (a : Around) (v : Verdict) → Judged job a.left_old a.left v → Grew a.taken_old a.taken (text_of v) → IsComplete (number_of (status_of v)) job a
-written-complete job a v judged grew =
-    let k = known job a.left_old a.left v judged in
-    record {
-      input = k.input;
-      all = k.all;
-      ends = inl (ap (λ u. number_of (status_of u)) (sym k.is), subst (λ u. Grew a.taken_old a.taken (text_of u)) (sym k.is) grew);
-    }
+-- ---- the status
 
-no-memory : (job : Job) (a : Around) → a.taken ≡ a.taken_old → IsComplete 5 job a
-no-memory job a same = let s = some-left a.left_old in record { input = s.0; all = s.1; ends = inr (refl, same) }
+whole : (Kept : Type 0) (work : Job) (s : Status) (a : Around) → IsWithoutFault a → SaysDone Kept work s a → IsWhole work s a
+whole Kept work s a quiet says =
+    record { verdict = says.verdict; due = all_due work a says.verdict says.due; status = done_whole says.verdict s a quiet.writes says.done; done = says.done }
 
-complete : (s : Status) (job : Job) (a : Around) → Says s (Some job) a → IsWithoutFault a → IsComplete (number_of s) job a
-complete Done job a says quiet = written-complete job a (Whole says.text) says.judged says.written
-complete Refused job a says quiet = written-complete job a (Refusal says.text) says.judged says.written
-complete NoForm job a says quiet = absurd says
-complete ReadFault job a says quiet = absurd (quiet.reads says.cause)
-complete WriteFault job a says quiet = absurd (quiet.writes says.cause)
-complete NoMemory job a says quiet = no-memory job a says.written
+complete : (Kept : Type 0) (s : Status) (work : Job) (a : Around) → Says Kept s (Some work) a → Completes s work a
+complete Kept Done work a says quiet = inl (whole Kept work Done a quiet says)
+complete Kept Refused work a says quiet = inl (whole Kept work Refused a quiet says)
+complete Kept WriteFault work a says quiet = inl (whole Kept work WriteFault a quiet says)
+complete Kept NoForm work a says quiet = absurd says
+complete Kept ReadFault work a says quiet = absurd (quiet.reads (says.1).cause)
+complete Kept NoMemory work a says quiet = inr refl
+
+-- a number is that of one status
+numbered : ℕ → Status
+numbered n = cond (nat_eq n 0) Done (cond (nat_eq n 1) Refused (cond (nat_eq n 2) NoForm (cond (nat_eq n 3) ReadFault (cond (nat_eq n 4) WriteFault NoMemory))))
+
+numbered_is : (s : Status) → numbered (number_of s) ≡ s
+unfolding numbered
+numbered_is Done = refl
+numbered_is Refused = refl
+numbered_is NoForm = refl
+numbered_is ReadFault = refl
+numbered_is WriteFault = refl
+numbered_is NoMemory = refl
+
+same_status : (s t : Status) (n : ℕ) → n ≡ number_of s → n ≡ number_of t → s ≡ t
+same_status s t n e f = sym (numbered_is s) ∙ ap numbered (sym e ∙ f) ∙ numbered_is t
 
 -- the same at the number of a status, for the job that the words name
-pub complete-at : (form : Option Job) (job : Job) (s : Status) (a : Around) (n : ℕ) → form ≡ Some job → n ≡ number_of s → Says s (Some job) a → IfSome form (λ job. Completes n job a)
-complete-at form job s a n e is says =
-    subst (λ (f : Option Job). IfSome f (λ job. Completes n job a)) (sym e) (λ quiet. subst (λ n. IsComplete n job a) (sym is) (complete s job a says quiet))
-
--- what a verdict says where it was written whole, and where it was not
-pub says-written : (job : Job) (a : Around) (v : Verdict) (s : Status) → s ≡ status_of v → Judged job a.left_old a.left v → Grew a.taken_old a.taken (text_of v) → Says s (Some job) a
-says-written job a v s e judged grew = subst (λ s. Says s (Some job) a) (sym e) (by_verdict v judged grew)
-  where
-    by_verdict : (v : Verdict) → Judged job a.left_old a.left v → Grew a.taken_old a.taken (text_of v) → Says (status_of v) (Some job) a
-    by_verdict (Whole text) judged grew = record { text = text; judged = judged; written = grew }
-    by_verdict (Refusal line) judged grew = record { text = line; judged = judged; written = grew }
-
-is-due : (job : Job) (a : Around) (v : Verdict) → Judged job a.left_old a.left v → IsDue a (Some job) (text_of v)
-is-due job a (Whole text) judged = inl judged
-is-due job a (Refusal line) judged = inr judged
-
-pub says-cut : (job : Job) (a : Around) (v : Verdict) → Judged job a.left_old a.left v → Rose a.writes_old a.writes → GrewByPart a.taken_old a.taken (text_of v) → Says WriteFault (Some job) a
-says-cut job a v judged rose part = record { cause = rose; text = text_of v; due = is-due job a v judged; written = part }
-
--- the usage line was written
-pub no-form : (form : Option Job) (a : Around) → form ≡ None → SaysNoForm a → Says NoForm form a
-no-form form a e says = subst (λ b. Says NoForm b a) (sym e) says
+pub complete_at : (Kept : Type 0) (form : Option Job) (s t : Status) (a : Around) (n : ℕ) → n ≡ number_of s → n ≡ number_of t → Says Kept s form a → IfSome form (λ work. Completes t work a)
+complete_at Kept None s t a n e f says = tt
+complete_at Kept (Some work) s t a n e f says = subst (λ t. Completes t work a) (same_status s t n e f) (complete Kept s work a says)

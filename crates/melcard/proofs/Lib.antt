@@ -1,9 +1,7 @@
-pub mod IncrementLemmas
-pub mod RunLemmas
-pub mod ReadLemmas
 pub mod TextLemmas
+pub mod NumberLemmas
 pub mod CodeLemmas
-pub mod AppsLemmas
-pub mod IsolationLemmas
-pub mod Isolation
+pub mod CheckingLemmas
+pub mod DumpLemmas
+pub mod StatusLemmas
 pub mod Completeness

@@ -1,17 +1,25 @@
--- What an input stands for, for rows that compute it.
--- This project's profile.
+-- What an input stands for, for rows that compute it. This project's profile.
 use Rattle.std.specs.Prelude.{ℕ, List}
 use Rattle.std.specs.Fmt.{digits}
 use Rattle.hex.specs.Hex.{decode_pairs, encode_with}
 use Rattle.mc_model.specs.Assembly.{assembled}
+use Rattle.mc_model.specs.DeckGrammar.{deck_lines, deck_read, section_unit, stated, within}
 use Rattle.mc_model.specs.Listing.{listed}
 use Rattle.mc_model.specs.Text.{code_text_read}
-use Rattle.melcard.specs.declared.job.Job.{Job}
-use Rattle.melcard.specs.Deck.{deck_of, read_from, unhex}
-use Rattle.melcard.specs.Machine.{ran, run_of}
-use Rattle.melcard.specs.Play.{transcript}
-use Rattle.melcard.specs.Verdicts.{Verdict, verdict}
+use Rattle.melcard.specs.declared.job.Telling.TheVariants.{Transcript}
+use Rattle.melcard.specs.Verdicts.{Verdict, of_assembly, of_code, of_deck}
 
-unfoldable pub computed : Job → List ℕ → Verdict
-unfolding digits decode_pairs encode_with assembled listed code_text_read deck_of read_from unhex ran run_of transcript
-computed job input = verdict job input
+-- a deck that is to be played
+unfoldable pub deck_verdict : List ℕ → Verdict
+unfolding digits decode_pairs encode_with assembled deck_lines deck_read section_unit stated within
+deck_verdict input = of_deck Transcript (deck_read input)
+
+-- an assembly text
+unfoldable pub code_verdict : List ℕ → Verdict
+unfolding digits encode_with assembled
+code_verdict input = of_assembly (assembled input)
+
+-- code that is to be listed
+unfoldable pub listing_verdict : List ℕ → Verdict
+unfolding digits decode_pairs encode_with listed code_text_read
+listing_verdict input = of_code (code_text_read input)

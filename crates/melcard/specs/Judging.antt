@@ -1,18 +1,14 @@
--- What the code has of a verdict and of listed code, and what it stands for.
--- This project's profile.
-use Rattle.std.specs.Prelude.{◌≡◌, ℕ, not, List, filter, ok_or, Result, Err, ⊤}
+-- What the code has of listed code and of rejected input, and what it stands for. This project's profile.
+use Rattle.std.specs.Prelude.{◌≡◌, ℕ, not, List, [], ◌∷◌, ◌++◌, filter, ok_or, Result, Ok, Err, ⊤}
 use Rattle.mc_model.specs.Text
 use Rattle.mc_model.specs.Text.{CodeFault, hex_values, is_blank}
 use Rattle.melcard.specs.declared.code.CodeRefusal.{CodeRefusal}
+use Rattle.melcard.specs.declared.rejection.Rejection.{Rejection}
+use Rattle.melcard.specs.declared.rejection.Rejection.TheVariants as rejection
+use Rattle.mc_model.specs.DeckGrammar.{DeckLine}
+use Rattle.mc_model.specs.declared.deck.DeckCause.{DeckCause}
+use Rattle.melcard.specs.Verdicts.{Verdict, Refusal, deck_line, AreVerdicts}
 use Rattle.melcard.specs.declared.code.CodeRefusal.TheVariants.{BadHex, TooLarge, NoMemory}
-use Rattle.melcard.specs.declared.verdict.Verdict.{Verdict}
-use Rattle.melcard.specs.declared.verdict.Verdict.TheVariants.{Whole, Refusal}
-use Rattle.melcard.specs.Verdicts
-
--- a verdict as its definition has it
-abbrev pub verdict_of : Verdict → Verdicts.Verdict
-verdict_of (Whole text) = Verdicts.Whole text.items
-verdict_of (Refusal line) = Verdicts.Refusal line.items
 
 -- the digits of one line of code
 abbrev pub line_digits : ℕ → List ℕ → Result (List ℕ) CodeFault
@@ -23,3 +19,18 @@ abbrev pub RefusesCode : {A : Type 0} → Result A CodeFault → CodeRefusal →
 RefusesCode r (BadHex n) = r ≡ Err (Text.BadHex n)
 RefusesCode r TooLarge = r ≡ Err Text.TooLarge
 RefusesCode r NoMemory = ⊤
+
+-- a rejection of an input that stands for this
+abbrev pub Rejects : (Verdict → Type 0) → Rejection → Type 0
+Rejects IsOf (rejection.Refusal line) = IsOf (Refusal line.items)
+Rejects IsOf rejection.ReadFault = ⊥
+Rejects IsOf rejection.NoMemory = ⊤
+
+-- the line that refuses a deck
+abbrev pub refused_deck : Result (List (ℕ × DeckLine)) (ℕ × DeckCause) → Verdict → Type 0
+refused_deck (Ok lines) v = ⊥
+refused_deck (Err e) v = v ≡ Refusal (deck_line e)
+
+-- a text grew by the line of a load line, and else not
+abbrev pub AddsVerdict : ℕ × DeckLine → List ℕ → List ℕ → Type 0
+AddsVerdict l old new = (text : List ℕ) × (new ≡ old ++ text) × AreVerdicts (l ∷ []) text

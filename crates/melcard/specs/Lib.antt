@@ -1,14 +1,6 @@
-pub mod Values
-pub mod Running
-pub mod Segments
-pub mod Machine
-pub mod Deck
-pub mod Refusals
-pub mod Cards
-pub mod Play
-pub mod Apps
-pub mod Family
+pub mod Jobs
 pub mod Verdicts
 pub mod Judging
-pub mod Job
+pub mod Statuses
+pub mod Running
 pub mod Computed

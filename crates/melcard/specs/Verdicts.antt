@@ -1,27 +1,35 @@
--- What the input of a job stands for: the whole text that is due, or the one line that refuses it.
+-- What the input of a job stands for: the whole text that is due, the one line that refuses it, or a deck that is played.
 -- This project's profile.
-use Rattle.std.specs.Prelude.{ℕ, cond, nat_le, List, ◌++◌, length, codes, decimal, Result, Ok, Err}
+use Rattle.std.specs.Prelude.{◌≡◌, ℕ, List, [], ◌∷◌, ◌++◌, codes, decimal, Result, Ok, Err}
 use Rattle.mc_model.specs.Assembly.{assembled}
+use Rattle.mc_model.specs.DeckGrammar.{DeckLine, deck_read}
+use Rattle.mc_model.specs.DeckGrammar as line
 use Rattle.mc_model.specs.Listing.{listed}
 use Rattle.mc_model.specs.Text.{CodeFault, BadHex, TooLarge, code_text_read}
 use Rattle.mc_model.specs.Transcript.{hex_text}
-use Rattle.mc_model.specs.Words.{asm_word, decode_word}
+use Rattle.mc_model.specs.Words.{asm_word, check_word, decode_word, deck_word}
 use Rattle.mc_model.specs.declared.assembler.AsmCause.{AsmCause}
+use Rattle.mc_model.specs.declared.deck.DeckCause.{DeckCause}
 use Rattle.mc_model.specs.declared.instruction.DecodeFault.{DecodeFault}
-use Rattle.melcard.specs.declared.deck.Line.{Line}
+use Rattle.mc_check.specs.declared.verdict.Verdict.{Verdict as CodeVerdict}
+use Rattle.mc_check.specs.declared.verdict.Verdict.TheVariants.{Accept, Refuse}
+use Rattle.mc_check.specs.Verdicts.{IsVerdictOf}
 use Rattle.melcard.specs.declared.job.Job.{Job}
 use Rattle.melcard.specs.declared.job.Job.TheVariants as job
-use Rattle.melcard.specs.Deck.{deck_of}
-use Rattle.melcard.specs.Play.{plays, empty_card, transcript}
+use Rattle.melcard.specs.declared.job.Telling.{Telling}
+use Rattle.melcard.specs.declared.job.Form.{Form}
+use Rattle.melcard.specs.declared.job.Form.TheVariants as form
 
 -- an input of more bytes is refused
 abbrev pub input_limit : ℕ
 input_limit = 1048576
 
--- the whole text of a job, or the line of a refusal
+-- the whole text of a job, the line of a refusal, a deck that is played and told, or one whose play is summarised
 pub data Verdict : Type 0 where
-  Whole : List ℕ → Verdict
-  Refusal : List ℕ → Verdict
+  Whole : (text : List ℕ) → Verdict
+  Refusal : (line : List ℕ) → Verdict
+  Plays : (telling : Telling) (lines : List (ℕ × DeckLine)) → Verdict
+  Sums : (lines : List (ℕ × DeckLine)) → Verdict
 
 -- ---- lines of refusals
 
@@ -41,16 +49,7 @@ at_place n cause = refusal_line (codes "place") n cause
 abbrev pub too_long : List ℕ
 too_long = codes "line 0 TooLong\n"
 
--- ---- the jobs
-
--- the text of a deck
-abbrev pub deck_text : List (ℕ × Line) → List ℕ
-deck_text lines = transcript (plays empty_card lines)
-
--- the play of a deck
-abbrev pub of_deck : Result (List (ℕ × Line)) ℕ → Verdict
-of_deck (Ok lines) = Whole (deck_text lines)
-of_deck (Err number) = Refusal (at_line number (codes "NotBuilt"))
+-- ---- texts
 
 -- the code of an assembly text
 abbrev pub of_assembly : Result (List ℕ) (ℕ × AsmCause) → Verdict
@@ -68,12 +67,67 @@ of_code (Ok code) = of_listing (listed code)
 of_code (Err (BadHex number)) = Refusal (at_line number (codes "BadHex"))
 of_code (Err TooLarge) = Refusal too_long
 
--- what an input within the limit stands for
-abbrev pub judged : Job → List ℕ → Verdict
-judged job.Play input = of_deck (deck_of input)
-judged job.Asm input = of_assembly (assembled input)
-judged job.List input = of_code (code_text_read input)
+-- ---- decks
 
--- what an input stands for
-abbrev pub verdict : Job → List ℕ → Verdict
-verdict job input = cond (nat_le (length input) input_limit) (judged job input) (Refusal too_long)
+-- the line that refuses a deck
+abbrev pub deck_line : ℕ × DeckCause → List ℕ
+deck_line (number, cause) = at_line number (deck_word cause)
+
+-- a deck that is played
+abbrev pub of_deck : Telling → Result (List (ℕ × DeckLine)) (ℕ × DeckCause) → Verdict
+of_deck t (Ok lines) = Plays t lines
+of_deck t (Err e) = Refusal (deck_line e)
+
+-- ---- checked code
+
+-- what the checker says of code
+abbrev pub verdict_text : CodeVerdict → List ℕ
+verdict_text (Accept deepest) = codes "accept " ++ decimal deepest
+verdict_text (Refuse place cause) = codes "refuse " ++ decimal place ++ codes " " ++ check_word cause
+
+-- the line of a load line
+abbrev pub verdict_line : ℕ → CodeVerdict → List ℕ
+verdict_line number v = decimal number ++ codes " " ++ verdict_text v ++ codes "\n"
+
+-- the first load line, and the text of the rest
+pub record IsJudged (number : ℕ) (code : List ℕ) (session : ℕ) (Rest : List ℕ → Type 0) (text : List ℕ) : Type 0 where
+  pub verdict : CodeVerdict
+  pub holds : IsVerdictOf code session verdict
+  pub behind : List ℕ
+  pub rest : Rest behind
+  pub parts : text ≡ verdict_line number verdict ++ behind
+
+-- a text with a line for each load line, in order, each with a verdict that holds of its code
+unfoldable pub AreVerdicts : List (ℕ × DeckLine) → List ℕ → Type 0
+AreVerdicts [] text = text ≡ []
+AreVerdicts ((n, line.Load u fixed session) ∷ ls) text = IsJudged n u.code session (AreVerdicts ls) text
+AreVerdicts ((n, line.Format) ∷ ls) text = AreVerdicts ls text
+AreVerdicts ((n, line.Power) ∷ ls) text = AreVerdicts ls text
+AreVerdicts ((n, line.Named) ∷ ls) text = AreVerdicts ls text
+AreVerdicts ((n, line.Select aid) ∷ ls) text = AreVerdicts ls text
+AreVerdicts ((n, line.Delete aid) ∷ ls) text = AreVerdicts ls text
+AreVerdicts ((n, line.Dump aid) ∷ ls) text = AreVerdicts ls text
+AreVerdicts ((n, line.Apdu bytes) ∷ ls) text = AreVerdicts ls text
+AreVerdicts ((n, line.Budget b) ∷ ls) text = AreVerdicts ls text
+AreVerdicts ((n, line.Cut k fill) ∷ ls) text = AreVerdicts ls text
+AreVerdicts ((n, line.Fail k) ∷ ls) text = AreVerdicts ls text
+AreVerdicts ((n, line.Poke at fill) ∷ ls) text = AreVerdicts ls text
+
+-- a deck whose code is checked
+abbrev pub IsCheckOf : Result (List (ℕ × DeckLine)) (ℕ × DeckCause) → Verdict → Type 0
+IsCheckOf (Err e) v = v ≡ Refusal (deck_line e)
+IsCheckOf (Ok lines) v = (text : List ℕ) × (v ≡ Whole text) × AreVerdicts lines text
+
+-- ---- jobs
+
+-- what an input stands for where its text is written
+abbrev pub IsTextOf : Form → List ℕ → Verdict → Type 0
+IsTextOf form.Code input v = v ≡ of_assembly (assembled input)
+IsTextOf form.Listing input v = v ≡ of_code (code_text_read input)
+IsTextOf form.Verdicts input v = IsCheckOf (deck_read input) v
+
+-- what an input within the limit stands for; a generated deck has none
+abbrev pub StandsFor : Job → List ℕ → Verdict → Type 0
+StandsFor (job.Play t) input v = v ≡ of_deck t (deck_read input)
+StandsFor (job.Generate n) input v = ⊥
+StandsFor (job.Write f) input v = IsTextOf f input v

@@ -1,5 +1,5 @@
 // Code that is given as hexadecimal digits.
-ghost use Rattle.std.specs.Prelude.{◌≡◌, ◌≤◌, ◌<◌, ◌++◌, ◌∷◌, [], length, vec_len, option_map, Ok, IfOk, IfErr, IfSome, OnOk};
+ghost use Rattle.std.specs.Prelude.{◌≡◌, ◌≤◌, ◌<◌, ◌++◌, ◌∷◌, [], length, vec_len, option_map, Ok, IfOk, IfErr, OnOk};
 ghost use Rattle.std.specs.List.{AllByRecursion};
 ghost use Rattle.mc_model.specs.Text.{is_blank, hex_value, paired, lines, numbered, ok_as, code_digits, code_text_read};
 ghost use Rattle.melcard.specs.Judging.{line_digits, RefusesCode};

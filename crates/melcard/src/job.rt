@@ -1,130 +1,102 @@
-ghost use Rattle.std.specs.Prelude.{◌≡◌, IfSome};
-ghost use Rattle.melcard.specs.declared.job.Status.{Status};
-ghost use Rattle.melcard.specs.Job.{number_of, job_of, Says, Completes};
+// The jobs of the program, and the words that name them.
+ghost use Rattle.std.specs.Prelude.{◌≡◌, ◌≤◌, length, IfSome};
+ghost use Rattle.mc_model.specs.Text.{decimal_number};
+ghost use Rattle.melcard.specs.Jobs.{generated_number, job_named, job_of, Fits};
 
-use crate::judging::{NoVerdict, judge};
-use mc_base::{Sink, Source, Steps, put_all};
-use mc_nvm::Bench;
-use std::alloc::Global;
-use std::sync::ledger::Ledger;
+/// What is told of a play.
+#[derive(Clone, Copy, Debug, PartialEq, Eq)]
+pub enum Telling {
+    /// The results of its lines.
+    Transcript,
+    /// A line besides for each executed instruction.
+    Trace,
+}
+
+/// A text that is made of an input.
+#[derive(Clone, Copy, Debug, PartialEq, Eq)]
+pub enum Form {
+    /// The code of an assembly text, in hexadecimal.
+    Code,
+    /// The listing of code that is given in hexadecimal.
+    Listing,
+    /// What the stack checker says of the code of each load line of a deck.
+    Verdicts,
+}
 
 /// What the words of the command line ask for.
 #[derive(Clone, Copy, Debug, PartialEq, Eq)]
 pub enum Job {
-    /// Plays a deck, and writes its transcript.
-    Play,
-    /// Writes the code of an assembly text in hexadecimal.
-    Asm,
-    /// Writes the listing of code that is given in hexadecimal.
-    List,
+    /// To play a deck and to tell its play.
+    Play(Telling),
+    /// To play the deck that a number up to 2,147,483,647 generates, and to summarise its play.
+    Generate(u32),
+    /// To write a text of the input.
+    Write(Form),
 }
 
-/// How a job ended. Its number is the status of the program.
-#[derive(Clone, Copy, Debug, PartialEq, Eq)]
-pub enum Status {
-    Done,
-    Refused,
-    NoForm,
-    ReadFault,
-    WriteFault,
-    NoMemory,
-}
-
-// The number of a status.
-fn number(status: Status) -> u8
-    ensures { result ≡ number_of status }
+// The number that at most 10 decimal digits spell.
+fn decimal_number(digits: &[u8]) -> Option<u64>
+    requires { length digits.now ≤ 10 }
+    ensures { result ≡ decimal_number digits.now }
 {
-    match status {
-        Status::Done => 0,
-        Status::Refused => 1,
-        Status::NoForm => 2,
-        Status::ReadFault => 3,
-        Status::WriteFault => 4,
-        Status::NoMemory => 5,
-    }
-}
-
-// The job that the words name.
-fn job_of(words: &[String]) -> Option<Job>
-    ensures { result ≡ job_of words.now }
-{
-    let [word] = words else {
+    if digits.is_empty() {
         return None;
-    };
-    match word.as_str() {
-        "play" => Some(Job::Play),
-        "asm" => Some(Job::Asm),
-        "list" => Some(Job::List),
+    }
+    let mut number: u64 = 0;
+    for digit in digits {
+        if !digit.is_ascii_digit() {
+            return None;
+        }
+        number = number * 10 + (*digit - b'0') as u64;
+    }
+    Some(number)
+}
+
+// The number of a generated deck: 1 to 10 decimal digits, up to 2,147,483,647.
+fn generated_number(word: &str) -> Option<u32>
+    ensures value { result ≡ generated_number word.now }
+    ensures most { IfSome result (λ n. n ≤ 2147483647) }
+{
+    let digits = word.as_bytes();
+    if digits.len() > 10 {
+        return None;
+    }
+    let number = decimal_number(digits)?;
+    if number > 2147483647 {
+        return None;
+    }
+    Some(number as u32)
+}
+
+// The job that one word names.
+fn job_named(word: &str) -> Option<Job>
+    ensures job { result ≡ job_named word.now }
+    ensures fits { IfSome result Fits }
+{
+    match word {
+        "play" => Some(Job::Play(Telling::Transcript)),
+        "trace" => Some(Job::Play(Telling::Trace)),
+        "asm" => Some(Job::Write(Form::Code)),
+        "list" => Some(Job::Write(Form::Listing)),
+        "check" => Some(Job::Write(Form::Verdicts)),
         _ => None,
     }
 }
 
-// Does a job: reads its input, and writes the text that is due or the line that refuses it.
-fn run<S: Source, T: Sink, L: Ledger>(
-    alloc: Global,
-    job: Job,
-    input: &mut S,
-    out: &mut T,
-    steps: &mut Steps<L>,
-) -> Status
-    ensures { Says result (Some job) (record {
-      left_old = S.left input.old;
-      left = S.left input.new;
-      taken_old = T.taken out.old;
-      taken = T.taken out.new;
-      reads_old = S.faults input.old;
-      reads = S.faults input.new;
-      writes_old = T.faults out.old;
-      writes = T.faults out.new;
-    }) }
+/// The job that the words of the command line name, without the name of the program.
+pub fn job_of(words: &[String]) -> Option<Job>
+    ensures job { result ≡ job_of words.now }
+    ensures fits { IfSome result Fits }
 {
-    match judge(alloc, job, input, steps) {
-        Ok(verdict) => match put_all(out, verdict.text()) {
-            Ok(()) => verdict.status(),
-            Err(_) => Status::WriteFault,
-        },
-        Err(NoVerdict::ReadFault) => Status::ReadFault,
-        Err(NoVerdict::NoMemory) => Status::NoMemory,
-    }
-}
-
-/// Does the job that the words name, over a source, a sink and a device, and gives its status: 0 done, 1 the input is
-/// refused, 2 the words name no job, 3 a fault of the source, 4 a fault of the sink, 5 want of memory.
-pub fn melcard<S: Source, T: Sink, N: Bench, L: Ledger>(
-    alloc: Global,
-    words: &[String],
-    input: &mut S,
-    out: &mut T,
-    dev: &mut N,
-    steps: &mut Steps<L>,
-) -> u8
-    ensures says { (s : Status) × (result ≡ number_of s) × Says s (job_of words.now) (record {
-      left_old = S.left input.old;
-      left = S.left input.new;
-      taken_old = T.taken out.old;
-      taken = T.taken out.new;
-      reads_old = S.faults input.old;
-      reads = S.faults input.new;
-      writes_old = T.faults out.old;
-      writes = T.faults out.new;
-    }) }
-    ensures complete { IfSome (job_of words.now) (λ job. Completes result job (record {
-      left_old = S.left input.old;
-      left = S.left input.new;
-      taken_old = T.taken out.old;
-      taken = T.taken out.new;
-      reads_old = S.faults input.old;
-      reads = S.faults input.new;
-      writes_old = T.faults out.old;
-      writes = T.faults out.new;
-    })) }
-    ensures device { dev.new ≡ dev.old }
-{
-    if let Some(job) = job_of(words) {
-        return number(run(alloc, job, input, out, steps));
-    }
-    match put_all(out, b"usage: melcard play | asm | list\n") {
-        Ok(()) => number(Status::NoForm),
-        Err(_) => number(Status::WriteFault),
+    match words {
+        [word] => job_named(word.as_str()),
+        [word, number] => {
+            if word.as_str() != "gen" {
+                return None;
+            }
+            let number = generated_number(number.as_str())?;
+            Some(Job::Generate(number))
+        }
+        _ => None,
     }
 }

@@ -1,23 +1,24 @@
 #![tactic(auto)]
 
-mod bytes;
+mod checking;
 mod code;
-mod deck;
+#[cfg(test)]
+mod decks;
+mod form;
 mod job;
-mod judging;
-mod machine;
-mod play;
+mod rejection;
 mod rows;
+mod running;
 #[cfg(test)]
 mod samples;
+mod status;
 #[cfg(test)]
 mod tests;
 mod text;
-mod verdict;
 
 ghost use Rattle.std.specs.Prelude.{◌≡◌, ◌<◌};
 
-use crate::job::melcard;
+use crate::running::melcard;
 use mc_base::{StdSink, StdSource, Steps};
 use mc_nvm::SimNvm;
 use std::io::ErrorKind;

@@ -1,7 +1,8 @@
 ghost use Rattle.std.specs.Prelude.{◌≡◌, ◌<◌};
 
-use crate::job::melcard;
-use crate::samples::SAMPLES;
+use crate::decks::DECKS;
+use crate::running::melcard;
+use crate::samples::{SAMPLES, Sample};
 use mc_base::{
     MemSink, MemSource, NoMemory, ReadAll, StdSink, StdSource, Steps, put_all, read_all,
 };
@@ -46,7 +47,7 @@ fn counted<L: Ledger>(
     let mut steps = Steps::<L>::new(blank);
     let mut source = MemSource::new(alloc, input, fail_at)?;
     let mut sink = MemSink::new(alloc, room, &[])?;
-    let mut device = SimNvm::new(alloc, 256)?;
+    let mut device = SimNvm::new(alloc, 8192)?;
     let status = melcard(
         alloc,
         words,
@@ -89,8 +90,9 @@ fn words(alloc: Global, texts: &[&str]) -> Result<Vec<String>, AllocError> {
 // Whether these words give the usage line, and leave the source as it was.
 fn is_no_form(alloc: Global, texts: &[&str]) -> Result<bool, NoMemory> {
     let words = words(alloc, texts)?;
-    let end = ended(alloc, words.as_slice(), COUNTER, 33, &[])?;
-    Ok(end.is(2, b"usage: melcard play | asm | list\n") && end.left == COUNTER.len())
+    let end = ended(alloc, words.as_slice(), COUNTER, 58, &[])?;
+    let usage = b"usage: melcard play | asm | list | gen N | check | trace\n";
+    Ok(end.is(2, usage) && end.left == COUNTER.len())
 }
 
 // Each status of a play over streams in memory.
@@ -111,28 +113,91 @@ fn statuses(rt: HostRuntime) -> Result<(), Fail> {
     let end = ended(alloc, words, b"", 58, &[])?;
     assert!(rt; end.is(0, b""));
     let end = ended(alloc, words, b"format\n\nreboot\n", 58, &[])?;
-    assert!(rt; end.is(1, b"line 3 NotBuilt\n"));
+    assert!(rt; end.is(1, b"line 3 BadLine\n"));
     Ok(())
 }
 
-// What is written of assembly texts and codes, over a sink with room, over one with a byte too little, and over a source
-// that fails.
+// Whether a sample gives what is due over a sink with room, a front of it over one with a byte too little, and nothing over
+// a source that fails.
+fn is_due(alloc: Global, sample: &Sample) -> Result<bool, NoMemory> {
+    let words = words(alloc, &[sample.word])?;
+    let words = words.as_slice();
+    let room = sample.text.len();
+    let whole = ended(alloc, words, sample.input, room, &[])?;
+    let failed = ended(alloc, words, sample.input, room, &[1])?;
+    if !whole.is(sample.status, sample.text) || !failed.is(3, b"") {
+        return Ok(false);
+    }
+    if room == 0 {
+        return Ok(true);
+    }
+    let cut = ended(alloc, words, sample.input, room - 1, &[])?;
+    Ok(cut.is(4, &sample.text[..room - 1]))
+}
+
+// Assembly texts and codes.
 #[test]
 fn samples(rt: HostRuntime) -> Result<(), Fail> {
-    let alloc = rt.alloc();
     for (i, sample) in SAMPLES.iter().enumerate() {
-        let words = words(alloc, &[sample.word])?;
-        let words = words.as_slice();
-        let room = sample.text.len();
-        let end = ended(alloc, words, sample.input, room, &[])?;
-        assert!(rt; end.is(sample.status, sample.text), "at {i}");
-        let end = ended(alloc, words, sample.input, room, &[1])?;
-        assert!(rt; end.is(3, b""), "at {i}");
-        if room > 0 {
-            let end = ended(alloc, words, sample.input, room - 1, &[])?;
-            assert!(rt; end.is(4, &sample.text[..room - 1]), "at {i}");
-        }
+        assert!(rt; is_due(rt.alloc(), sample)?, "at {i}");
     }
+    Ok(())
+}
+
+// Decks: their transcripts and traces, and the lines that refuse them.
+#[test]
+fn decks(rt: HostRuntime) -> Result<(), Fail> {
+    for (i, sample) in DECKS.iter().enumerate() {
+        assert!(rt; is_due(rt.alloc(), sample)?, "at {i}");
+    }
+    Ok(())
+}
+
+// Generated decks: their summaries, and numbers that generate none.
+#[test]
+fn generated(rt: HostRuntime) -> Result<(), Fail> {
+    let alloc = rt.alloc();
+    for (number, summary) in [
+        (
+            "1",
+            b"lines 3752 replies 2912 abends 0 cuts 39 offs 420 readies 377\nstatic 03A3\nstatic 00000000000000000000\nstatic 05A000000001\n" as &[u8],
+        ),
+        (
+            "2",
+            b"lines 3761 replies 2886 abends 0 cuts 41 offs 484 readies 346\nstatic 03D3\nstatic 0000EB03000000000001\nstatic 05A000000001\n",
+        ),
+        (
+            "2147483647",
+            b"lines 3752 replies 2985 abends 0 cuts 41 offs 346 readies 376\nstatic 040E\nstatic 000032A9000000000000\nstatic 05A000000001\n",
+        ),
+    ] {
+        let words = words(alloc, &["gen", number])?;
+        let end = ended(alloc, words.as_slice(), COUNTER, 200, &[1])?;
+        assert!(rt; end.is(0, summary), "{number}");
+    }
+    for number in ["2147483648", "99999999999", "", "-1", "1x"] {
+        assert!(rt; is_no_form(alloc, &["gen", number])?, "{number}");
+    }
+    assert!(rt; is_no_form(alloc, &["gen"])?);
+    assert!(rt; is_no_form(alloc, &["gen", "1", "2"])?);
+    Ok(())
+}
+
+// What the checker says of the code of a deck's load lines, with their session bytes.
+#[test]
+fn checked(rt: HostRuntime) -> Result<(), Fail> {
+    let alloc = rt.alloc();
+    let words = words(alloc, &["check"])?;
+    let words = words.as_slice();
+    let deck = b"app one A000000001\nPUSHB 1\nPOPB\nEXIT\nend\nload one 0 511\nload one 0 512\n";
+    let end = ended(alloc, words, deck, 58, &[])?;
+    assert!(rt; end.is(0, b"6 accept 1\n7 refuse 2 Deep\n"));
+    let end = ended(alloc, words, b"", 58, &[])?;
+    assert!(rt; end.is(0, b""));
+    let end = ended(alloc, words, deck, 10, &[])?;
+    assert!(rt; end.is(4, b"6 accept 1"));
+    let end = ended(alloc, words, b"load one 0 0\n", 58, &[])?;
+    assert!(rt; end.is(1, b"line 1 UnknownName\n"));
     Ok(())
 }
 
@@ -141,7 +206,7 @@ fn samples(rt: HostRuntime) -> Result<(), Fail> {
 fn long_inputs(rt: HostRuntime) -> Result<(), Fail> {
     let alloc = rt.alloc();
     let feeds = vec![in alloc; b'\n'; 1_048_577]?;
-    for word in ["play", "asm", "list"] {
+    for word in ["play", "trace", "asm", "list", "check"] {
         let words = words(alloc, &[word])?;
         let end = ended(alloc, words.as_slice(), feeds.as_slice(), 58, &[])?;
         assert!(rt; end.is(1, b"line 0 TooLong\n"), "{word}");

@@ -1,0 +1,57 @@
+-- Behind the first dump line of a generated deck there are only dump lines.
+use Rattle.std.proofs.Common.{◌≡◌, ◌==◌, ◌%◌, ℕ, zero, suc, Bool, true, false, cond, List, [], ◌∷◌, ◌++◌, refl, sym, subst, ◌∙◌, true≢false, nat_lt}
+use Rattle.std.specs.List.{AllByRecursion}
+use Rattle.mc_model.specs.Bytes.{bytes}
+use Rattle.mc_model.specs.Text.{numbered}
+use Rattle.mc_model.specs.DeckGrammar.{DeckLine, Power, Load, Select, Delete, Apdu}
+use Rattle.mc_model.specs.Generator.{closing, command, counter_aid, cut_line, draw, generated, is_dump, line_of, next, opening, purse, purse_aid, purse_line, relay_aid, turns}
+use Rattle.mc_script.specs.Sums.{DumpsLast}
+
+-- ---- the turns have no dump line
+
+-- one of two lines
+pick : (b : Bool) (x y : DeckLine) → is_dump x ≡ false → is_dump y ≡ false → is_dump (cond b x y) ≡ false
+pick true x y g h = g
+pick false x y g h = h
+
+purse_none : (q : ℕ) → is_dump (purse_line q) ≡ false
+purse_none q = pick (q % 4 == 0) (Delete purse_aid) (cond (q % 4 == 1) (Load purse 10 0) Power) refl (pick (q % 4 == 1) (Load purse 10 0) Power refl refl)
+
+line_none : (r q : ℕ) → is_dump (line_of r q) ≡ false
+line_none r q =
+    pick (r % 16 == 0) (Select counter_aid) _ refl
+    (pick (r % 16 == 1) (Select relay_aid) _ refl
+    (pick (r % 16 == 2) (Select purse_aid) _ refl
+    (pick (r % 16 == 3) Power _ refl
+    (pick (nat_lt (r % 16) 9) (Apdu (0x80 ∷ 1 ∷ 0 ∷ 0 ∷ 2 ∷ [])) _ refl
+    (pick (nat_lt (r % 16) 11) (command 0x30 (bytes 4 q)) _ refl
+    (pick (nat_lt (r % 16) 13) (command 0x40 (bytes 4 q)) _ refl
+    (pick (r % 16 == 13) (command 0x50 []) _ refl
+    (pick (r % 16 == 14) (cut_line q) (purse_line q) refl (purse_none q)))))))))
+
+turns_none : (k x : ℕ) → AllByRecursion (λ l. is_dump l ≡ false) (turns k x)
+turns_none zero x = tt
+turns_none (suc k) x = (line_none (draw (next x)) (draw (next (next x))), turns_none k (next (next x)))
+
+-- ---- the deck
+
+-- lines that are no dump lines stand before others
+before : (m : ℕ) (ks ls : List DeckLine) → AllByRecursion (λ l. is_dump l ≡ false) ks → ((n : ℕ) → DumpsLast (numbered n ls)) → DumpsLast (numbered m (ks ++ ls))
+before m [] ls none last = last m
+before m (k ∷ ks) ls none last = (λ is. absurd (true≢false (sym is ∙ none.0)), before (suc m) ks ls none.1 last)
+
+closing_last : (n : ℕ) → DumpsLast (numbered n closing)
+closing_last n = (λ is. (refl, (refl, (refl, tt))), (λ is. (refl, (refl, tt)), (λ is. (refl, tt), (λ is. tt, tt))))
+
+opening_none : AllByRecursion (λ l. is_dump l ≡ false) opening
+opening_none = (refl, (refl, (refl, (refl, (refl, (refl, (refl, (refl, tt))))))))
+
+deck_last : (k n : ℕ) → DumpsLast (numbered 1 (opening ++ turns k n ++ closing))
+deck_last k n = before 1 opening (turns k n ++ closing) opening_none (λ m. before m (turns k n) closing (turns_none k n) closing_last)
+
+generated_is : (n : ℕ) → generated n ≡ numbered 1 (opening ++ turns 4000 n ++ closing)
+unfolding generated
+generated_is n = refl
+
+pub generated_last : (ls : List (ℕ × DeckLine)) (n : ℕ) → ls ≡ generated n → DumpsLast ls
+generated_last ls n e = subst (λ (ls : List (ℕ × DeckLine)). DumpsLast ls) (sym (e ∙ generated_is n)) (deck_last 4000 n)

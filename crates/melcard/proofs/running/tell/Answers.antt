@@ -1,0 +1,13 @@
+use Rattle.std.proofs.Common.{◌∙◌, ap, sym, inr}
+use Rattle.mc_model.specs.DeckGrammar.{deck_read}
+use Rattle.melcard.specs.Verdicts.{of_deck}
+use Rattle.melcard.proofs.running.tell.Goals as goal
+
+pub returns-clause-done : goal.returns-clause-done
+returns-clause-done g c =
+    let is = sym (ap (of_deck c.args.telling) (ap deck_read (sym c.as_slice.ensures.value) ∙ c.in_ok-deck.ensures.deck)) in
+    record {
+      lines = c.in_ok-deck.deck;
+      due = inr (record { input = c.in_ok-text.text.items; read = c.in_ok-text.ensures.read; is = is });
+      played = record { result = c.play_as.result; status = c.ended.ensures; plays = c.play_as.ensures };
+    }

@@ -1,0 +1,207 @@
+-- What the top call says of the outside at each of its statuses. This project's profile.
+use Rattle.std.specs.Prelude.{◌≡◌, ℕ, ◌≤◌, ◌<◌, ◌⊎◌, List, length, Option, Some, None, Result, Ok, Err, ⊤}
+use Rattle.mc_model.specs.Counts.{Rose}
+use Rattle.mc_model.specs.Device.{DeviceState, BenchState}
+use Rattle.mc_model.specs.DeckGrammar.{DeckLine}
+use Rattle.mc_model.specs.Generator.{generated, summary}
+use Rattle.mc_model.specs.Play.{Step}
+use Rattle.mc_base.specs.Streams.{Took, AtEnd, TookMore}
+use Rattle.mc_base.specs.declared.refusals.WriteFault.{WriteFault as Fault}
+use Rattle.mc_text.specs.Texts.{Sunk, Puts}
+use Rattle.mc_script.specs.Plays.{Bench, plain_text, traced_text, PlaysDeck, SumsDeck}
+use Rattle.melcard.specs.declared.job.Job.{Job}
+use Rattle.melcard.specs.declared.job.Job.TheVariants as job
+use Rattle.melcard.specs.declared.job.Telling.{Telling}
+use Rattle.melcard.specs.declared.job.Telling.TheVariants.{Transcript, Trace}
+use Rattle.melcard.specs.declared.status.Status.{Status}
+use Rattle.melcard.specs.declared.status.Status.TheVariants.{Done, Refused, NoForm, ReadFault, WriteFault, NoMemory}
+use Rattle.melcard.specs.Jobs.{usage}
+use Rattle.melcard.specs.Verdicts.{Verdict, Whole, Refusal, Plays, Sums, input_limit, too_long, StandsFor}
+
+-- the number of a status
+abbrev pub number_of : Status → ℕ
+number_of Done = 0
+number_of Refused = 1
+number_of NoForm = 2
+number_of ReadFault = 3
+number_of WriteFault = 4
+number_of NoMemory = 5
+
+-- ---- the outside
+
+-- what source, sink and device tell before and after the call
+pub record Around : Type 0 where
+  pub left_old : Option (List ℕ)
+  pub left : Option (List ℕ)
+  pub reads_old : ℕ
+  pub reads : ℕ
+  pub out_old : Sunk
+  pub out : Sunk
+  pub dev_old : Bench
+  pub dev : Bench
+
+-- a bench as its device tells it
+abbrev pub bench_of : {N : Type 0} → (N → DeviceState) → (N → BenchState) → N → Bench
+bench_of state bench dev = record { device = state dev; bench = bench dev }
+
+-- the source was not touched
+pub record Untouched (a : Around) : Type 0 where
+  pub left : a.left ≡ a.left_old
+  pub reads : a.reads ≡ a.reads_old
+
+-- ---- what was read
+
+-- this was read, to the end, and is within the limit
+pub record ReadWhole (old new : Option (List ℕ)) (input : List ℕ) : Type 0 where
+  pub bytes : Took old new input
+  pub end : AtEnd new
+  pub fits : length input ≤ input_limit
+
+-- what was read to its end stands for this
+pub record Stands (job : Job) (a : Around) (v : Verdict) : Type 0 where
+  pub input : List ℕ
+  pub read : ReadWhole a.left_old a.left input
+  pub is : StandsFor job input v
+
+-- more was read than the limit allows
+pub record IsTooLong (a : Around) (v : Verdict) : Type 0 where
+  pub over : TookMore a.left_old a.left input_limit
+  pub is : v ≡ Refusal too_long
+
+-- what a job is to do: by its number, or by what was read
+abbrev pub IsDue : Job → Around → Verdict → Type 0
+IsDue (job.Generate n) a v = Untouched a × (v ≡ Sums (generated n))
+IsDue (job.Play t) a v = IsTooLong a v ⊎ Stands (job.Play t) a v
+IsDue (job.Write f) a v = IsTooLong a v ⊎ Stands (job.Write f) a v
+
+-- ---- what was done
+
+-- a status by how the writing ended
+abbrev pub ended : Status → Result (Unit {0}) Fault → Status
+ended good (Ok u) = good
+ended good (Err f) = WriteFault
+
+-- the text of a line of a play, as it is told
+abbrev pub told : Telling → Step → List ℕ
+told Transcript = plain_text
+told Trace = traced_text
+
+-- a text was written, whole or up to a fault
+pub record IsWritten (good : Status) (text : List ℕ) (s : Status) (a : Around) : Type 0 where
+  pub result : Result (Unit {0}) Fault
+  pub status : s ≡ ended good result
+  pub written : Puts a.out_old text result a.out
+
+-- a deck was played and told, whole or up to a fault
+pub record IsPlayed (t : Telling) (lines : List (ℕ × DeckLine)) (s : Status) (a : Around) : Type 0 where
+  pub result : Result (Unit {0}) Fault
+  pub status : s ≡ ended Done result
+  pub plays : PlaysDeck (told t) lines a.dev_old a.out_old result a.dev a.out
+
+-- a deck was played and summarised, whole or up to a fault
+pub record IsSummed (lines : List (ℕ × DeckLine)) (s : Status) (a : Around) : Type 0 where
+  pub result : Result (Unit {0}) Fault
+  pub status : s ≡ ended Done result
+  pub sums : SumsDeck summary lines a.dev_old a.out_old result a.dev a.out
+
+-- what an input stands for was done
+abbrev pub IsDone : Verdict → Status → Around → Type 0
+IsDone (Whole text) s a = IsWritten Done text s a
+IsDone (Refusal line) s a = IsWritten Refused line s a
+IsDone (Plays t lines) s a = IsPlayed t lines s a
+IsDone (Sums lines) s a = IsSummed lines s a
+
+-- a device that is not played on is as it was handed in
+abbrev pub IsKept : Type 0 → Verdict → Type 0
+IsKept Kept (Whole text) = Kept
+IsKept Kept (Refusal line) = Kept
+IsKept Kept (Plays t lines) = ⊤
+IsKept Kept (Sums lines) = ⊤
+
+-- ---- statuses: `Kept` says that the device is as it was handed in
+
+-- a job was done, or its input was refused, or the sink failed
+pub record SaysDone (Kept : Type 0) (job : Job) (s : Status) (a : Around) : Type 0 where
+  pub verdict : Verdict
+  pub due : IsDue job a verdict
+  pub done : IsDone verdict s a
+  pub kept : IsKept Kept verdict
+
+-- the source failed
+pub record SaysReadFault (Kept : Type 0) (a : Around) : Type 0 where
+  pub cause : Rose a.reads_old a.reads
+  pub written : a.out ≡ a.out_old
+  pub kept : Kept
+
+-- memory was short before the first byte
+pub record SaysNoMemory (Kept : Type 0) (a : Around) : Type 0 where
+  pub written : a.out ≡ a.out_old
+  pub kept : Kept
+
+-- the usage line was written
+pub record SaysNoForm (Kept : Type 0) (s : Status) (a : Around) : Type 0 where
+  pub source : Untouched a
+  pub kept : Kept
+  pub written : IsWritten NoForm usage s a
+
+-- a job that reads
+abbrev pub IsReading : Job → Type 0
+IsReading (job.Play t) = ⊤
+IsReading (job.Generate n) = ⊥
+IsReading (job.Write f) = ⊤
+
+-- what each status says, by the job that the words name: what never comes is empty
+abbrev pub Says : Type 0 → Status → Option Job → Around → Type 0
+Says Kept ReadFault (Some job) a = IsReading job × SaysReadFault Kept a
+Says Kept NoMemory (Some job) a = SaysNoMemory Kept a
+Says Kept NoForm (Some job) a = ⊥
+Says Kept Done (Some job) a = SaysDone Kept job Done a
+Says Kept Refused (Some job) a = SaysDone Kept job Refused a
+Says Kept WriteFault (Some job) a = SaysDone Kept job WriteFault a
+Says Kept ReadFault None a = ⊥
+Says Kept NoMemory None a = ⊥
+Says Kept Done None a = ⊥
+Says Kept Refused None a = ⊥
+Says Kept NoForm None a = SaysNoForm Kept NoForm a
+Says Kept WriteFault None a = SaysNoForm Kept WriteFault a
+
+-- ---- completeness
+
+-- these bytes are all that a source had left, where it tells them
+abbrev pub IsAll : Option (List ℕ) → List ℕ → Type 0
+IsAll None input = ⊤
+IsAll (Some bytes) input = bytes ≡ input
+
+-- no call of source or sink failed
+pub record IsWithoutFault (a : Around) : Type 0 where
+  pub reads : Rose a.reads_old a.reads → ⊥
+  pub writes : Rose a.out_old.faults a.out.faults → ⊥
+
+-- the status that comes where a verdict is done whole
+abbrev pub status_of : Verdict → Status
+status_of (Whole text) = Done
+status_of (Refusal line) = Refused
+status_of (Plays t lines) = Done
+status_of (Sums lines) = Done
+
+-- what all that a source had left stands for
+pub data AllStands (job : Job) (left : Option (List ℕ)) : Verdict → Type 0 where
+  long : (input : List ℕ) → IsAll left input → input_limit < length input → AllStands job left (Refusal too_long)
+  short : (input : List ℕ) (v : Verdict) → IsAll left input → length input ≤ input_limit → StandsFor job input v → AllStands job left v
+
+-- what a job is to do: by its number, or by all that its source had left
+abbrev pub IsAllDue : Job → Around → Verdict → Type 0
+IsAllDue (job.Generate n) a v = v ≡ Sums (generated n)
+IsAllDue (job.Play t) a v = AllStands (job.Play t) a.left_old v
+IsAllDue (job.Write f) a v = AllStands (job.Write f) a.left_old v
+
+-- the whole of what is due was done
+pub record IsWhole (job : Job) (s : Status) (a : Around) : Type 0 where
+  pub verdict : Verdict
+  pub due : IsAllDue job a verdict
+  pub status : s ≡ status_of verdict
+  pub done : IsDone verdict s a
+
+-- where no call of source or sink fails, all that is due is done, or memory was short before the first byte
+abbrev pub Completes : Status → Job → Around → Type 0
+Completes s job a = IsWithoutFault a → IsWhole job s a ⊎ (s ≡ NoMemory)

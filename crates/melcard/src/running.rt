@@ -1,0 +1,179 @@
+// The top call: a job over a source, a sink and a device.
+ghost use Rattle.std.specs.Prelude.{◌≡◌, ◌≤◌, ℕ, List, Option, Some, IfErr, IfOk, IfSome};
+ghost use Rattle.mc_model.specs.Generator.{generated};
+ghost use Rattle.mc_script.specs.Players.{IsUnfused};
+ghost use Rattle.mc_text.specs.Texts.{sunk_in};
+ghost use Rattle.melcard.specs.declared.status.Status.{Status};
+ghost use Rattle.melcard.specs.declared.job.Job.TheVariants as job;
+ghost use Rattle.melcard.specs.declared.rejection.Rejection.TheVariants as rejection;
+ghost use Rattle.melcard.specs.Jobs.{greatest_number, job_of, Fits};
+ghost use Rattle.melcard.specs.Running.{Ends, PlaysInput, RejectsJob, RejectsRead, WritesInput};
+ghost use Rattle.melcard.specs.Statuses.{bench_of, ended, number_of, told, Completes, IsSummed, ReadWhole, Says};
+ghost use Rattle.mc_script.specs.Plays.{Bench as Told, PlaysDeck};
+
+use crate::form::{deck_of, text_of};
+use crate::job::{Form, Job, Telling, job_of};
+use crate::rejection::Rejection;
+use crate::status::{Status, number};
+use crate::text::too_long;
+use mc_base::{ReadAll, Sink, Source, Steps, WriteFault, put_all, read_all};
+use mc_deck::{Deck, generate};
+use mc_nvm::Bench;
+use mc_script::{play, summarise, trace};
+use std::alloc::Global;
+use std::sync::ledger::Ledger;
+
+// The most bytes of an input.
+const INPUT_LIMIT: usize = 1_048_576;
+
+// Reads an input to its end.
+fn read_input<S: Source>(alloc: Global, input: &mut S) -> Result<Vec<u8>, Rejection>
+    ensures read { IfOk result (λ t. ReadWhole (S.left input.old) (S.left input.new) t.items) }
+    ensures rejected { IfErr result (RejectsRead (S.left input.old) (S.left input.new) (S.faults input.old) (S.faults input.new)) }
+{
+    match read_all(alloc, input, INPUT_LIMIT) {
+        Ok(text) => Ok(text),
+        Err(ReadAll::TooLong) => Err(too_long(alloc)),
+        Err(ReadAll::ReadFault) => Err(Rejection::ReadFault),
+        Err(ReadAll::NoMemory) => Err(Rejection::NoMemory),
+    }
+}
+
+// The status of a text that was to be written.
+fn ended(good: Status, written: Result<(), WriteFault>) -> Status
+    ensures { result ≡ ended good written }
+{
+    match written {
+        Ok(()) => good,
+        Err(WriteFault) => Status::WriteFault,
+    }
+}
+
+// Plays a deck and tells its play.
+fn play_as<T: Sink, N: Bench, L: Ledger>(
+    telling: Telling,
+    deck: &Deck,
+    out: &mut T,
+    dev: &mut N,
+    steps: &mut Steps<L>,
+) -> Result<(), WriteFault>
+    requires { IsUnfused (N.bench dev.old) }
+    ensures { PlaysDeck (told telling) deck.now (bench_of N.state N.bench dev.old) (sunk_in T.taken T.faults out.old) result (bench_of N.state N.bench dev.new) (sunk_in T.taken T.faults out.new) }
+{
+    match telling {
+        Telling::Transcript => play(deck, dev, out, steps),
+        Telling::Trace => trace(deck, dev, out, steps),
+    }
+}
+
+// Plays the deck that an input spells, and tells its play.
+fn tell<S: Source, T: Sink, N: Bench, L: Ledger>(
+    alloc: Global,
+    telling: Telling,
+    input: &mut S,
+    out: &mut T,
+    dev: &mut N,
+    steps: &mut Steps<L>,
+) -> Result<Status, Rejection>
+    requires { IsUnfused (N.bench dev.old) }
+    ensures done { IfOk result (λ s. PlaysInput telling s (record { left_old = S.left input.old; left = S.left input.new; reads_old = S.faults input.old; reads = S.faults input.new; out_old = sunk_in T.taken T.faults out.old; out = sunk_in T.taken T.faults out.new; dev_old = bench_of N.state N.bench dev.old; dev = bench_of N.state N.bench dev.new })) }
+    ensures rejected { IfErr result (RejectsJob (job.Play telling) (record { left_old = S.left input.old; left = S.left input.new; reads_old = S.faults input.old; reads = S.faults input.new; out_old = sunk_in T.taken T.faults out.old; out = sunk_in T.taken T.faults out.new; dev_old = bench_of N.state N.bench dev.old; dev = bench_of N.state N.bench dev.new })) }
+    ensures out { IfErr result (λ e. out.new ≡ out.old) }
+    ensures device { IfErr result (λ e. dev.new ≡ dev.old) }
+{
+    let text = read_input(alloc, input)?;
+    let deck = deck_of(alloc, text.as_slice())?;
+    Ok(ended(Status::Done, play_as(telling, &deck, out, dev, steps)))
+}
+
+// Plays the deck that a number generates, and summarises its play.
+fn sum<T: Sink, N: Bench, L: Ledger>(
+    alloc: Global,
+    number: u32,
+    out: &mut T,
+    dev: &mut N,
+    steps: &mut Steps<L>,
+) -> Result<Status, Rejection>
+    requires number { number ≤ greatest_number }
+    requires fuses { IsUnfused (N.bench dev.old) }
+    ensures done { (old new : Option (List ℕ)) (reads_old reads : ℕ) → IfOk result (λ s. IsSummed (generated number) s (record { left_old = old; left = new; reads_old = reads_old; reads = reads; out_old = sunk_in T.taken T.faults out.old; out = sunk_in T.taken T.faults out.new; dev_old = bench_of N.state N.bench dev.old; dev = bench_of N.state N.bench dev.new })) }
+    ensures rejected { IfErr result (λ e. e ≡ rejection.NoMemory) }
+    ensures out { IfErr result (λ e. out.new ≡ out.old) }
+    ensures device { IfErr result (λ e. dev.new ≡ dev.old) }
+{
+    let deck = generate(alloc, number)?;
+    Ok(ended(Status::Done, summarise(&deck, dev, out, steps)))
+}
+
+// Writes the text of an input.
+fn write<S: Source, T: Sink>(
+    alloc: Global,
+    form: Form,
+    input: &mut S,
+    out: &mut T,
+) -> Result<Status, Rejection>
+    ensures done { (before after : Told) → IfOk result (λ s. WritesInput form s (record { left_old = S.left input.old; left = S.left input.new; reads_old = S.faults input.old; reads = S.faults input.new; out_old = sunk_in T.taken T.faults out.old; out = sunk_in T.taken T.faults out.new; dev_old = before; dev = after })) }
+    ensures rejected { (before after : Told) → IfErr result (RejectsJob (job.Write form) (record { left_old = S.left input.old; left = S.left input.new; reads_old = S.faults input.old; reads = S.faults input.new; out_old = sunk_in T.taken T.faults out.old; out = sunk_in T.taken T.faults out.new; dev_old = before; dev = after })) }
+    ensures out { IfErr result (λ e. out.new ≡ out.old) }
+{
+    let bytes = read_input(alloc, input)?;
+    let text = text_of(alloc, form, bytes.as_slice())?;
+    Ok(ended(Status::Done, put_all(out, text.as_slice())))
+}
+
+// Ends a job that is not done.
+fn reject<T: Sink>(out: &mut T, rejection: &Rejection) -> Status
+    ensures { Ends rejection.now (sunk_in T.taken T.faults out.old) result (sunk_in T.taken T.faults out.new) }
+{
+    match rejection {
+        Rejection::Refusal(line) => ended(Status::Refused, put_all(out, line.as_slice())),
+        Rejection::ReadFault => Status::ReadFault,
+        Rejection::NoMemory => Status::NoMemory,
+    }
+}
+
+// Does a job.
+fn run<S: Source, T: Sink, N: Bench, L: Ledger>(
+    alloc: Global,
+    job: Job,
+    input: &mut S,
+    out: &mut T,
+    dev: &mut N,
+    steps: &mut Steps<L>,
+) -> Status
+    requires fits { Fits job }
+    requires fuses { IsUnfused (N.bench dev.old) }
+    ensures { Says (dev.new ≡ dev.old) result (Some job) (record { left_old = S.left input.old; left = S.left input.new; reads_old = S.faults input.old; reads = S.faults input.new; out_old = sunk_in T.taken T.faults out.old; out = sunk_in T.taken T.faults out.new; dev_old = bench_of N.state N.bench dev.old; dev = bench_of N.state N.bench dev.new }) }
+{
+    let done = match job {
+        Job::Play(telling) => tell(alloc, telling, input, out, dev, steps),
+        Job::Generate(number) => sum(alloc, number, out, dev, steps),
+        Job::Write(form) => write(alloc, form, input, out),
+    };
+    match done {
+        Ok(status) => status,
+        Err(rejection) => reject(out, &rejection),
+    }
+}
+
+/// Does the job that the words name, over a source, a sink and a device that is handed in without a fuse, and gives its
+/// status: 0 done, 1 the input is refused, 2 the words name no job, 3 a fault of the source, 4 a fault of the sink, 5 want
+/// of memory.
+pub fn melcard<S: Source, T: Sink, N: Bench, L: Ledger>(
+    alloc: Global,
+    words: &[String],
+    input: &mut S,
+    out: &mut T,
+    dev: &mut N,
+    steps: &mut Steps<L>,
+) -> u8
+    requires { IsUnfused (N.bench dev.old) }
+    ensures says { (s : Status) × (result ≡ number_of s) × Says (dev.new ≡ dev.old) s (job_of words.now) (record { left_old = S.left input.old; left = S.left input.new; reads_old = S.faults input.old; reads = S.faults input.new; out_old = sunk_in T.taken T.faults out.old; out = sunk_in T.taken T.faults out.new; dev_old = bench_of N.state N.bench dev.old; dev = bench_of N.state N.bench dev.new }) }
+    ensures complete { (s : Status) → result ≡ number_of s → IfSome (job_of words.now) (λ job. Completes s job (record { left_old = S.left input.old; left = S.left input.new; reads_old = S.faults input.old; reads = S.faults input.new; out_old = sunk_in T.taken T.faults out.old; out = sunk_in T.taken T.faults out.new; dev_old = bench_of N.state N.bench dev.old; dev = bench_of N.state N.bench dev.new })) }
+{
+    let Some(job) = job_of(words) else {
+        let usage = b"usage: melcard play | asm | list | gen N | check | trace\n";
+        return number(ended(Status::NoForm, put_all(out, usage)));
+    };
+    number(run(alloc, job, input, out, dev, steps))
+}
