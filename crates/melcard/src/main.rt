@@ -13,6 +13,10 @@ mod running;
 mod samples;
 mod status;
 #[cfg(test)]
+mod stops;
+#[cfg(test)]
+mod summaries;
+#[cfg(test)]
 mod tests;
 mod text;
 

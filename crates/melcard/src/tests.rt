@@ -17,16 +17,17 @@ const COUNTER: &[u8] =
 
 const TEXT: &[u8] = b"1 formatted\n2 ready 0\n4 9000\n5 9000\n6 00019000\n7 00029000\n";
 
-// How a job ended, what it wrote, and how many bytes it left in its source.
+/// How a job ended, what it wrote, and how many bytes it left in its source.
 #[derive(Drop)]
-struct End {
-    status: u8,
-    text: Vec<u8>,
-    left: usize,
+pub struct End {
+    pub status: u8,
+    pub text: Vec<u8>,
+    pub left: usize,
 }
 
 impl End {
-    fn is(&self, status: u8, text: &[u8]) -> bool {
+    /// Whether the status and the text are these.
+    pub fn is(&self, status: u8, text: &[u8]) -> bool {
         self.status == status && self.text.as_slice() == text
     }
 }
@@ -67,8 +68,8 @@ fn counted<L: Ledger>(
     })
 }
 
-// The end of a job over memory: its words, its input, the room of its sink, and the calls of its source that fail.
-fn ended(
+/// The end of a job over memory: its words, its input, the room of its sink, and the calls of its source that fail.
+pub fn ended(
     alloc: Global,
     words: &[String],
     input: &[u8],
@@ -78,8 +79,8 @@ fn ended(
     counted::<Brand>(alloc, Blank::new(1), words, input, room, fail_at)
 }
 
-// The words of a command line.
-fn words(alloc: Global, texts: &[&str]) -> Result<Vec<String>, AllocError> {
+/// The words of a command line.
+pub fn words(alloc: Global, texts: &[&str]) -> Result<Vec<String>, AllocError> {
     let mut words = Vec::new(alloc);
     for text in texts {
         words.push(String::from_str(alloc, text)?)?;
