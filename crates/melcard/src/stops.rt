@@ -10,69 +10,147 @@ use std::marker::Brand;
 use std::sync::ledger::{Blank, Ledger};
 use std::test::Fail;
 
-// A counter that is loaded and selected, and has counted once.
-const OPENING: &str =
-    "format\npower\napp counter A000000001\nINCN SB[0],2\nLOAD SB[0],2\nSTORE PB[0],2\nEXITLA 2\nend\nload counter 2 0\nselect A000000001\napdu 8001000002\n";
+// A counter and a purse that are named, and a card that runs.
+const NAMES: &str =
+    "format\npower\napp counter A000000001\nINCN SB[0],2\nLOAD SB[0],2\nSTORE PB[0],2\nEXITLA 2\nend\napp purse A000000002\nPRIM 3,2\nSUBW SB[0],0x0001\nADDW SB[8],0x0001\nPRIM 3,1\nDATA 00050000000000000000\nEXIT\nend\n";
 
-// The device writes of a command that changes one word.
-const WRITES: u32 = 6;
+// A line that changes the card behind some others, and what an application's static bytes are without the change and with it.
+struct Change {
+    before: &'static str,
+    line: &'static str,
+    name: &'static str,
+    old: &'static [u8],
+    new: &'static [u8],
+}
 
-// A deck whose second command is armed with a stop, and after it a recovery that is cut at a write, where it is not 0.
-fn stopped_deck(alloc: Global, stop: &str, cut: u32) -> Result<String, AllocError> {
+// A load, a command that writes one word, a transaction of two words, and a deletion.
+const CHANGES: [Change; 4] = [
+    Change {
+        before: "",
+        line: "load counter 2 0",
+        name: "A000000001",
+        old: b" absent\n",
+        new: b" static 0000\n",
+    },
+    Change {
+        before: "load counter 2 0\nselect A000000001\n",
+        line: "apdu 8001000002",
+        name: "A000000001",
+        old: b" static 0000\n",
+        new: b" static 0001\n",
+    },
+    Change {
+        before: "load purse 10 0\nselect A000000002\n",
+        line: "apdu 80010000",
+        name: "A000000002",
+        old: b" static 00050000000000000000\n",
+        new: b" static 00040000000000000001\n",
+    },
+    Change {
+        before: "load purse 10 0\nload counter 2 0\n",
+        line: "delete A000000002",
+        name: "A000000002",
+        old: b" static 00050000000000000000\n",
+        new: b" absent\n",
+    },
+];
+
+// What is armed: a cut with the word that it leaves, or a refused write.
+#[derive(Clone, Copy)]
+enum Arming {
+    Cut(&'static str),
+    Fail,
+}
+
+fn armed(alloc: Global, arming: Arming, k: u32) -> Result<String, AllocError> {
+    match arming {
+        Arming::Cut(fill) => format!(in alloc; "cut {k} {fill}\n"),
+        Arming::Fail => format!(in alloc; "fail {k}\n"),
+    }
+}
+
+// A deck whose change is armed with a stop, and after it a recovery that is cut at a write, where it is not 0.
+fn stopped_deck(
+    alloc: Global,
+    change: &Change,
+    stop: &str,
+    cut: u32,
+) -> Result<String, AllocError> {
+    let Change {
+        before,
+        line,
+        name,
+        ..
+    } = change;
     let recovery = if cut == 0 {
         String::new(alloc)
     } else {
         format!(in alloc; "cut {cut} FFFFFFFFFFFFFFFF\npower\n")?
     };
-    format!(in alloc; "{OPENING}{stop}\napdu 8001000002\n{recovery}power\ndump A000000001\n")
+    format!(in alloc; "{NAMES}{before}{stop}{line}\n{recovery}power\ndump {name}\n")
 }
 
-// Whether the number is as it should be after a stop of the second command at a write, whatever write of the recovery is
-// cut: the new one from the write on that leaves the gate open.
-fn is_whole(alloc: Global, stop: &str, answer: &str, is_new: bool) -> Result<bool, NoMemory> {
+// How a change came out: whether its line was stopped, and whether the card has it.
+#[derive(Clone, Copy, Debug, PartialEq, Eq)]
+struct Outcome {
+    is_stopped: bool,
+    is_new: bool,
+}
+
+// How a stopped change comes out, where it is whole.
+fn outcome_of(
+    alloc: Global,
+    change: &Change,
+    stop: &str,
+    cut: u32,
+) -> Result<Option<Outcome>, NoMemory> {
     let play = words(alloc, &["play"])?;
-    let number: &[u8] = if is_new {
-        b"static 0002\n"
-    } else {
-        b"static 0001\n"
-    };
-    for cut in 0..4 {
-        let deck = stopped_deck(alloc, stop, cut)?;
-        let end = ended(alloc, play.as_slice(), deck.as_bytes(), 400, &[])?;
-        let Ok(text) = str::from_utf8(end.text.as_slice()) else {
-            return Ok(false);
-        };
-        if end.status != 0 || !text.contains(answer) || !end.text.as_slice().ends_with(number) {
-            return Ok(false);
-        }
-    }
-    Ok(true)
+    let deck = stopped_deck(alloc, change, stop, cut)?;
+    let end = ended(alloc, play.as_slice(), deck.as_bytes(), 400, &[])?;
+    let text = str::from_utf8(end.text.as_slice()).unwrap_or("");
+    let is_new = end.text.as_slice().ends_with(change.new);
+    let is_old = end.text.as_slice().ends_with(change.old);
+    let is_stopped = text.contains("off at write") || text.contains(" 6581\n");
+    let is_whole = end.status == 0 && is_new != is_old;
+    Ok(is_whole.then_some(Outcome { is_stopped, is_new }))
 }
 
-// A command that is cut at every write, with three fills, and that meets a refused write at every write.
+// Each change, stopped at each of its writes, with recoveries that are cut: it is whole, and once it is there at a write,
+// it is at each later one.
 #[test]
-fn stopped_commands(rt: HostRuntime) -> Result<(), Fail> {
+fn stopped_changes(rt: HostRuntime) -> Result<(), Fail> {
     let alloc = rt.alloc();
-    for (fill, opening) in [
-        ("0000000000000000", 5),
-        ("FFFFFFFFFFFFFFFF", 5),
-        ("4F50454E2D322D2D", 4),
-    ] {
-        for k in 1..=WRITES {
-            let stop = format!(in alloc; "cut {k} {fill}")?;
-            let answer = format!(in alloc; "off at write {k}\n")?;
-            assert!(rt;
-                is_whole(alloc, stop.as_str(), answer.as_str(), k >= opening)?,
-                "{k} {fill}"
-            );
+    for change in &CHANGES {
+        for arming in [
+            Arming::Cut("0000000000000000"),
+            Arming::Cut("4F50454E2D322D2D"),
+            Arming::Fail,
+        ] {
+            let mut last = Outcome {
+                is_stopped: true,
+                is_new: false,
+            };
+            for k in 1..=32 {
+                let stop = armed(alloc, arming, k)?;
+                let plain = outcome_of(alloc, change, stop.as_str(), 0)?;
+                let cut = outcome_of(alloc, change, stop.as_str(), 1)?;
+                assert!(rt; plain.is_some(), "{} {k}", change.line);
+                if let Some(plain) = plain {
+                    assert!(rt; plain.is_new || !last.is_new, "{} {k}", change.line);
+                    assert!(rt;
+                        cut.map(|it| it.is_new) == Some(plain.is_new),
+                        "{} {k}",
+                        change.line
+                    );
+                    last = plain;
+                }
+                if !last.is_stopped {
+                    break;
+                }
+            }
+            assert!(rt; last.is_new && !last.is_stopped, "{}", change.line);
         }
     }
-    for k in 1..=WRITES {
-        let stop = format!(in alloc; "fail {k}")?;
-        assert!(rt; is_whole(alloc, stop.as_str(), " 6581\n", k >= 5)?, "{k}");
-    }
-    let late = format!(in alloc; "cut {} 0000000000000000", WRITES + 1)?;
-    assert!(rt; is_whole(alloc, late.as_str(), " 00029000\n", true)?);
     Ok(())
 }
 
@@ -138,7 +216,7 @@ fn play_taped(alloc: Global, input: &[u8], worn: &[u32]) -> Result<Taped, NoMemo
 #[test]
 fn refused_writes(rt: HostRuntime) -> Result<(), Fail> {
     let alloc = rt.alloc();
-    let deck = stopped_deck(alloc, "budget 100", 0)?;
+    let deck = stopped_deck(alloc, &CHANGES[1], "budget 100\n", 0)?;
     let quiet = play_taped(alloc, deck.as_bytes(), &[])?;
     assert!(rt; quiet.status == 0 && quiet.refused == None && quiet.tried > 12);
     for n in 1_u32..=256 {
