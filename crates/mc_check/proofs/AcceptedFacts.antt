@@ -1,5 +1,5 @@
 -- What holds at a fact of accepted code: no cause, and room for its stack above each base that its routine may have.
-use Rattle.std.proofs.Common.{◌≡◌, ℕ, ◌+◌, ◌≤◌, Bool, true, false, cond, List, [], ◌∷◌, length, Result, Ok, Err, refl, ap, ◌∙◌, inl, inr, arith}
+use Rattle.std.proofs.Common.{◌≡◌, ℕ, ◌+◌, ◌≤◌, Bool, true, false, cond, List, length, Result, Ok, Err, refl, ap, ◌∙◌, inl, inr, arith}
 use Rattle.std.specs.Prelude.{◌&&◌, not, nat_lt, is_some}
 use Rattle.std.proofs.lemmas.Bool.{false_from_ne_true, true_from_ne_false, ltb-true, ltb-false, cases_lt, not_from_true}
 use Rattle.mc_model.specs.declared.checker.CheckCause.{CheckCause}
@@ -9,35 +9,9 @@ use Rattle.mc_model.specs.declared.instruction.DecodeFault.TheVariants as fault
 use Rattle.mc_model.specs.declared.instruction.Ins.{Ins}
 use Rattle.mc_model.specs.Code.{decoded}
 use Rattle.mc_model.specs.StackRows.{need, is_indirect, counts, places_inside}
-use Rattle.mc_model.specs.StackShape.{Fact, is_main, Look, Bad, Stands, first_bad, seen, look, Gives, Reached, Depth, IsBase, Accepts}
+use Rattle.mc_model.specs.StackShape.{Fact, is_main, Look, Bad, Stands, seen, look, Gives, Reached, Depth, IsBase, Accepts}
 
 -- ---- what is seen of a fact
-
-step_shown : (b : Bool) (cause : CheckCause) (l : Look) (i : Ins) (next : ℕ) → cond b (Bad cause) l ≡ Stands i next → l ≡ Stands i next
-step_shown true cause l i next e = absurd (cc e)
-step_shown false cause l i next e = e
-
-first_shown : (cs : List (CheckCause × Bool)) (p : Ins × ℕ) (i : Ins) (next : ℕ) → first_bad cs (Stands p.0 p.1) ≡ Stands i next → p ≡ (i, next)
-first_shown [] p i next e =
-    let ins : p.0 ≡ i = cc e in
-    let place : p.1 ≡ next = cc e in
-    ap (λ (j : Ins). (j, p.1)) ins ∙ ap (λ (n : ℕ). (i, n)) place
-first_shown (c ∷ cs) p i next e = first_shown cs p i next (step_shown c.1 c.0 (first_bad cs (Stands p.0 p.1)) i next e)
-
--- the causes that are seen at an instruction
-abbrev seen_causes : ℕ → Fact → Ins × ℕ → List (CheckCause × Bool)
-seen_causes len f p =
-    (Indirect, is_indirect p.0) ∷ (Returns, is_main f.routine && is_some (counts p.0)) ∷ (Under, nat_lt f.height (need p.0)) ∷ (Target, not (places_inside len p.0 p.1)) ∷ []
-
-seen_decoded : (len : ℕ) (f : Fact) (r : Result (Ins × ℕ) DecodeFault) (i : Ins) (next : ℕ) → seen len f r ≡ Stands i next → r ≡ Ok (i, next)
-seen_decoded len f (Err fault.Undefined) i next e = absurd (cc e)
-seen_decoded len f (Err fault.Past) i next e = absurd (cc e)
-seen_decoded len f (Ok p) i next e = ap (λ (q : Ins × ℕ). Ok q) (first_shown (seen_causes len f p) p i next e)
-
--- what stands at a fact is the instruction at its place
-pub shown_decoded : (code : List ℕ) (f : Fact) (i : Ins) (next : ℕ) → look code f ≡ Stands i next → decoded code f.place ≡ Ok (i, next)
-unfolding look
-shown_decoded code f i next e = seen_decoded (length code) f (decoded code f.place) i next e
 
 -- nothing is bad
 none_bad : (a b c d : Bool) (w x y z : CheckCause) (l : Look) → a ≡ false → b ≡ false → c ≡ false → d ≡ false → cond a (Bad w) (cond b (Bad x) (cond c (Bad y) (cond d (Bad z) l))) ≡ l

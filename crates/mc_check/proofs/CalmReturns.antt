@@ -14,7 +14,8 @@ use Rattle.mc_model.specs.Chain.{stepped}
 use Rattle.mc_model.specs.StackRows.{need, counts, goes_on, jump_target, call_target, target_inside, call_inside, places_inside}
 use Rattle.mc_model.specs.StackShape.{Routine, At, fact, Reached, returns, Gives, Counts, Accepts}
 use Rattle.mc_check.specs.Standing.{StandsAt, Open, none, call}
-use Rattle.mc_check.proofs.AcceptedFacts.{shown_decoded, GoodAt, good_at, HasRoom, HasBases, room_at}
+use Rattle.mc_check.proofs.AcceptedFacts.{GoodAt, good_at, HasRoom, HasBases, room_at}
+use Rattle.mc_check.proofs.Looks.{fine}
 use Rattle.mc_check.proofs.Opened.{IsAtFact, IsStanding, open_front, open_depth, spliced_length, spliced_above, num_bytes2}
 
 -- ---- the rows of returns
@@ -84,7 +85,7 @@ module _ (code : List ℕ) (session most : ℕ) (accepts : Accepts code session 
       (lb_word : take 2 (drop (b + k) bytes) ≡ bytes2 (dynamic_base + session + b)) (at_word : take 2 (drop (b + k + 2) bytes) ≡ bytes2 after) where
     -- the call that is open last
     call_good : GoodAt code (fact r p k) j after
-    call_good = good_at code session most accepts (fact r p k) caller j after (shown_decoded code (fact r p k) j after gives.stands)
+    call_good = good_at code session most accepts (fact r p k) caller j after (fine code (fact r p k) j after gives.stands).there
 
     module _ (h : ℕ) (f : Frame) (same : bytes ≡ drop session f.dyn) (s : StandsAt (length code) session (b + k + 4) h f) (i : Ins) (next less more : ℕ) (reached : Reached code (fact (At q) f.at h)) (good : GoodAt code (fact (At q) f.at h) i next) (e : counts i ≡ Some (less, more)) where
       fewer : less ≤ k

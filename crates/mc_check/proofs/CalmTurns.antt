@@ -18,10 +18,11 @@ use Rattle.mc_isa.proofs.PlaceLemmas.{decoded_stands}
 use Rattle.mc_check.specs.Checked.{is_excluded}
 use Rattle.mc_check.specs.Standing.{StandsAt, Open, none, call, calls_of}
 use Rattle.mc_check.proofs.RowFacts.{RowFacts, RowStays, GoesTo}
-use Rattle.mc_check.proofs.AcceptedFacts.{shown_decoded, GoodAt, HasRoom, HasBases, room_at, gives_at}
+use Rattle.mc_check.proofs.AcceptedFacts.{GoodAt, HasRoom, HasBases, room_at, gives_at}
 use Rattle.mc_check.proofs.Opened.{IsAtFact, IsStanding, open_front, open_depth, calls_below, target_of_call}
 use Rattle.mc_check.proofs.HeightLemmas.{moves, jump_height, exit_height}
 use Rattle.mc_check.proofs.CalmCalls.{row_cause, row_done, CallEnd, call_end, call_room, entered_at, passed_at}
+use Rattle.mc_check.proofs.Looks.{fine}
 use Rattle.mc_check.proofs.CalmReturns.{returning, Back, comes_back}
 
 -- what holds of a frame that does not exit
@@ -69,7 +70,7 @@ module _ (code : List ℕ) (session most : ℕ) (accepts : Accepts code session 
   plain_or_bottom at h i next (call {r = r} {p = p} {h = k} {q = q} j after opened caller gives target lb_word at_word) reached is =
       elim (cases_Bool (is_plain session h (writing i))) [
         | inl plain ↦ inl plain
-        | inr wild ↦ absurd (accepts.sound (fact _ at h) Wild reached (record { caller = fact r p k; reached = caller; call = j; calls = (after, shown_decoded code (fact r p k) j after gives.stands); is_call = target_of_call j q target; writer = i; stands = (next, is); wild = wild }))
+        | inr wild ↦ absurd (accepts.sound (fact _ at h) Wild reached (record { caller = fact r p k; reached = caller; call = j; calls = (after, (fine code (fact r p k) j after gives.stands).there); is_call = target_of_call j q target; writer = i; stands = (next, is); wild = wild }))
       ]
 
   -- ---- room

@@ -1,24 +1,13 @@
--- Lists under the search for all facts: a write at a place, the places that wait, and the places that are free.
+-- Lists under the search for all facts: an empty table, the places that wait, and the places that are free.
 use Rattle.std.proofs.Common.{◌≡◌, ◌⊎◌, ◌<◌, ◌+◌, ℕ, zero, suc, List, [], ◌∷◌, ◌++◌, length, set, slice_get, replicate, Option, Some, None, refl, sym, ap, ◌∙◌, inl, inr, arith}
 use Rattle.std.proofs.lemmas.Bool.{cases_eq}
 use Rattle.mc_model.specs.StackShape.{Fact}
 use Rattle.mc_check.specs.declared.table.Entry.{Entry}
 use Rattle.mc_check.specs.Table.{fact_of, IsIn}
 use Rattle.mc_check.specs.Closing.{IsAmong, free}
+use Rattle.mc_check.proofs.Gets.{get_set_same, get_set_other}
 
--- ---- a write at a place
-
-pub get_written : {A : Type 0} (xs : List A) (i : ℕ) (a : A) → i < length xs → slice_get (set xs i a) i ≡ Some a
-get_written [] i a h = absurd (omega arith)
-get_written (x ∷ xs) zero a h = refl
-get_written (x ∷ xs) (suc i) a h = get_written xs i a (omega arith)
-
-pub get_beside : {A : Type 0} (xs : List A) (i j : ℕ) (a : A) → (j ≡ i → ⊥) → slice_get (set xs i a) j ≡ slice_get xs j
-get_beside [] i j a h = refl
-get_beside (x ∷ xs) zero zero a h = absurd (h refl)
-get_beside (x ∷ xs) zero (suc j) a h = refl
-get_beside (x ∷ xs) (suc i) zero a h = refl
-get_beside (x ∷ xs) (suc i) (suc j) a h = get_beside xs i j a (λ e. h (ap suc e))
+-- ---- empty tables
 
 pub get_replicated : {A : Type 0} (n i : ℕ) (a b : A) → slice_get (replicate n a) i ≡ Some b → a ≡ b
 get_replicated zero i a b h = absurd (cc h)
@@ -69,16 +58,16 @@ in_empty n f a =
 
 module _ (t : List (Option Entry)) (place : ℕ) (e : Entry) (free_there : slice_get t place ≡ Some None) (inside : place < length t) where
   pub in_written_there : IsIn (set t place (Some e)) (fact_of place e)
-  in_written_there = (e, get_written t place (Some e) inside, refl)
+  in_written_there = (e, get_set_same t place (Some e) inside, refl)
 
   pub in_written_before : (f : Fact) → IsIn t f → IsIn (set t place (Some e)) f
   in_written_before f a =
       let beside : f.place ≡ place → ⊥ = λ same. let there : slice_get t f.place ≡ slice_get t place = ap (λ (p : ℕ). slice_get t p) same in cc (a.1, there, free_there) in
-      (a.0, get_beside t place f.place (Some e) beside ∙ a.1, a.2)
+      (a.0, get_set_other t place f.place (Some e) beside ∙ a.1, a.2)
 
   pub in_written : (f : Fact) → IsIn (set t place (Some e)) f → (f ≡ fact_of place e) ⊎ IsIn t f
   in_written f a =
       elim (cases_eq f.place place) [
         | inl same ↦ inl (in_alike (set t place (Some e)) f (fact_of place e) a in_written_there same)
-        | inr beside ↦ inr (a.0, sym (get_beside t place f.place (Some e) beside) ∙ a.1, a.2)
+        | inr beside ↦ inr (a.0, sym (get_set_other t place f.place (Some e) beside) ∙ a.1, a.2)
       ]

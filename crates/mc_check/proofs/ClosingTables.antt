@@ -8,7 +8,8 @@ use Rattle.mc_check.specs.declared.table.Entry.{Entry}
 use Rattle.mc_check.specs.declared.shape.Counts.{Counts as Pair}
 use Rattle.mc_check.specs.Table.{fact_of, IsIn, IsGood, IsSound}
 use Rattle.mc_check.specs.Closing.{Tables, IsAmong, IsReal, IsFit, Leads, ComesBack, ComesBackFrom, HasCounts, IsFollowed, IsClosed, IsOpen, Adds}
-use Rattle.mc_check.proofs.ClosingLists.{get_written, get_beside, among_more, among_last, among_taken, free_written, in_alike, in_written_before, in_written}
+use Rattle.mc_check.proofs.Gets.{get_set_same, get_set_other}
+use Rattle.mc_check.proofs.ClosingLists.{among_more, among_last, among_taken, free_written, in_alike, in_written_before, in_written}
 use Rattle.mc_check.proofs.ClosingPlaces.{return_ends}
 
 -- ---- facts that come in
@@ -183,10 +184,10 @@ closed_return code t cs f i next q c at h e there =
 
 module _ (code : List ℕ) (s : Tables) (q : ℕ) (c : Pair) (free_there : slice_get s.counts q ≡ Some None) (inside : q < length code) (real : IsReal code q c) (fit : IsFit code s) where
   counts_there : slice_get (counted s q c).counts q ≡ Some (Some c)
-  counts_there = get_written s.counts q (Some c) (omega (arith, fit.counts_size))
+  counts_there = get_set_same s.counts q (Some c) (omega (arith, fit.counts_size))
 
   counts_beside : (r : ℕ) → (r ≡ q → ⊥) → slice_get (counted s q c).counts r ≡ slice_get s.counts r
-  counts_beside r beside = get_beside s.counts q r (Some c) beside
+  counts_beside r beside = get_set_other s.counts q r (Some c) beside
 
   -- the counts that stand there are these, or those from before
   counts_known : (r : ℕ) (d : Pair) → slice_get (counted s q c).counts r ≡ Some (Some d) → ((r ≡ q) × (c ≡ d)) ⊎ (slice_get s.counts r ≡ Some (Some d))

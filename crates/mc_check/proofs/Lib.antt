@@ -29,7 +29,6 @@ pub mod Found
 pub mod ClosingBack
 pub mod ClosingDone
 pub mod ClosingLists
-pub mod ClosingLooks
 pub mod ClosingPlaces
 pub mod ClosingSteps
 pub mod ClosingTables

@@ -1,57 +1,126 @@
--- What is known of a fact from what it shows alone.
-use Rattle.std.proofs.Common.{◌≡◌, ℕ, ◌≤◌, Bool, true, false, not, List, [], ◌∷◌, length, refl, subst, ap, ◌∙◌}
-use Rattle.std.specs.Prelude.{◌&&◌, nat_lt, is_some, Result, Ok, Err}
-use Rattle.std.proofs.lemmas.Bool.{ltb-false, not-false}
-use Rattle.mc_model.specs.declared.checker.CheckCause.TheVariants.{Indirect, Returns, Under, Target}
+-- What stands at a fact: why a bad one is refused, and what a good one keeps to.
+use Rattle.std.proofs.Common.{◌≡◌, ℕ, Bool, true, false, cond, not, ◌&&◌, nat_lt, List, length, is_some, Result, Ok, Err, refl, sym, ap, ◌∙◌, subst, inl, ltb-true}
+use Rattle.std.proofs.lemmas.Bool.{not-true, not-false}
+use Rattle.mc_model.specs.declared.checker.CheckCause.{CheckCause}
+use Rattle.mc_model.specs.declared.checker.CheckCause.TheVariants.{Undefined, Past, Indirect, Returns, Under, Target}
 use Rattle.mc_model.specs.declared.instruction.DecodeFault.{DecodeFault}
 use Rattle.mc_model.specs.declared.instruction.DecodeFault.TheVariants as fault
 use Rattle.mc_model.specs.declared.instruction.Ins.{Ins}
 use Rattle.mc_model.specs.Code.{decoded}
 use Rattle.mc_model.specs.StackRows.{need, is_indirect, counts, places_inside}
-use Rattle.mc_model.specs.StackShape.{Fact, Stands, first_bad, seen, look, is_main}
+use Rattle.mc_model.specs.StackShape.{Fact, Look, Bad, Stands, is_main, seen, look, Reached, IsAt, Breaks, Refuses}
+use Rattle.mc_check.specs.Table.{IsGood}
 
--- the instruction stands at the fact's place, and breaks no rule there that is seen from the fact alone
-pub record StandsAlone (len : ℕ) (f : Fact) (r : Result (Ins × ℕ) DecodeFault) (i : Ins) (next : ℕ) : Type 0 where
-  pub decoded : r ≡ Ok (i, next)
+-- ---- the chain of tests
+
+-- the tests, one after another, and what stands there where none of them holds
+abbrev chain : Bool → Bool → Bool → Bool → Look → Look
+chain a b c d look = cond a (Bad Indirect) (cond b (Bad Returns) (cond c (Bad Under) (cond d (Bad Target) look)))
+
+-- none of the tests holds
+record NoneHolds (a b c d : Bool) (i : Ins) (next : ℕ) (l : Look) : Type 0 where
+  indirect : a ≡ false
+  returns : b ≡ false
+  under : c ≡ false
+  target : d ≡ false
+  stands : l ≡ Stands i next
+
+chain_stands : (a b c d : Bool) (l : Look) (i : Ins) (next : ℕ) → chain a b c d l ≡ Stands i next → NoneHolds a b c d i next l
+chain_stands true b c d l i next h = absurd (cc h)
+chain_stands false true c d l i next h = absurd (cc h)
+chain_stands false false true d l i next h = absurd (cc h)
+chain_stands false false false true l i next h = absurd (cc h)
+chain_stands false false false false l i next h = record { indirect = refl; returns = refl; under = refl; target = refl; stands = h }
+
+bad_same : (a b : CheckCause) → Bad a ≡ Bad b → a ≡ b
+bad_same a b h = cc
+
+-- the first test that holds is named
+data Named (a b c d : Bool) : CheckCause → Type 0 where
+  indirect : a ≡ true → Named a b c d Indirect
+  returns : b ≡ true → Named a b c d Returns
+  under : c ≡ true → Named a b c d Under
+  target : d ≡ true → Named a b c d Target
+
+chain_bad : (a b c d : Bool) (i : Ins) (next : ℕ) (cause : CheckCause) → chain a b c d (Stands i next) ≡ Bad cause → Named a b c d cause
+chain_bad true b c d i next cause h = subst (λ (x : CheckCause). Named true b c d x) (bad_same Indirect cause h) (indirect refl)
+chain_bad false true c d i next cause h = subst (λ (x : CheckCause). Named false true c d x) (bad_same Returns cause h) (returns refl)
+chain_bad false false true d i next cause h = subst (λ (x : CheckCause). Named false false true d x) (bad_same Under cause h) (under refl)
+chain_bad false false false true i next cause h = subst (λ (x : CheckCause). Named false false false true x) (bad_same Target cause h) (target refl)
+chain_bad false false false false i next cause h = absurd (cc h)
+
+-- ---- a good fact
+
+-- what the instruction of a good fact keeps to
+pub record Fine (code : List ℕ) (f : Fact) (i : Ins) (next : ℕ) : Type 0 where
+  pub there : decoded code f.place ≡ Ok (i, next)
   pub direct : is_indirect i ≡ false
-  pub inner : (is_main f.routine && is_some (counts i)) ≡ false
-  pub enough : need i ≤ f.height
-  pub inside : places_inside len i next ≡ true
+  pub stays : (is_main f.routine && is_some (counts i)) ≡ false
+  pub enough : nat_lt f.height (need i) ≡ false
+  pub inside : places_inside (length code) i next ≡ true
 
--- no test of a list of four held
-record NoneHeld (a b c d : Bool) (i : Ins) (n : ℕ) (j : Ins) (m : ℕ) : Type 0 where
-  first : a ≡ false
-  second : b ≡ false
-  third : c ≡ false
-  fourth : d ≡ false
-  ins : i ≡ j
-  next : n ≡ m
+fine_from : (code : List ℕ) (f : Fact) (d : Result (Ins × ℕ) DecodeFault) (i : Ins) (next : ℕ) → decoded code f.place ≡ d → seen (length code) f d ≡ Stands i next → Fine code f i next
+fine_from code f (Err fault.Undefined) i next e h = absurd (cc h)
+fine_from code f (Err fault.Past) i next e h = absurd (cc h)
+fine_from code f (Ok p) i next e h =
+    let passed = chain_stands (is_indirect p.0) (is_main f.routine && is_some (counts p.0)) (nat_lt f.height (need p.0)) (not (places_inside (length code) p.0 p.1)) (Stands p.0 p.1) i next h in
+    let same : p.0 ≡ i = cc passed.stands in
+    let next_same : p.1 ≡ next = cc passed.stands in
+    let fine : Fine code f p.0 p.1 = record { there = e; direct = passed.indirect; stays = passed.returns; enough = passed.under; inside = not-false (places_inside (length code) p.0 p.1) passed.target } in
+    subst (λ (n : ℕ). Fine code f i n) next_same (subst (λ (x : Ins). Fine code f x p.1) same fine)
 
-none-held : (a b c d : Bool) (i : Ins) (n : ℕ) (j : Ins) (m : ℕ)
-    → first_bad ((Indirect, a) ∷ (Returns, b) ∷ (Under, c) ∷ (Target, d) ∷ []) (Stands i n) ≡ Stands j m → NoneHeld a b c d i n j m
-none-held true b c d i n j m h = absurd (cc h)
-none-held false true c d i n j m h = absurd (cc h)
-none-held false false true d i n j m h = absurd (cc h)
-none-held false false false true i n j m h = absurd (cc h)
-none-held false false false false i n j m h =
-    record { first = refl; second = refl; third = refl; fourth = refl; ins = cc h; next = cc h }
-
-same-pair : {A B : Type 0} (p : A × B) (a : A) (b : B) → p.0 ≡ a → p.1 ≡ b → p ≡ (a, b)
-same-pair {A} {B} p a b e h = ap (λ (x : A). (x, p.1)) e ∙ ap (λ (y : B). (a, y)) h
-
-seen-alone : (len : ℕ) (f : Fact) (r : Result (Ins × ℕ) DecodeFault) (i : Ins) (next : ℕ) → seen len f r ≡ Stands i next → StandsAlone len f r i next
-seen-alone len f (Err fault.Undefined) i next h = absurd (cc h)
-seen-alone len f (Err fault.Past) i next h = absurd (cc h)
-seen-alone len f (Ok p) i next h =
-    let none = none-held (is_indirect p.0) (is_main f.routine && is_some (counts p.0)) (nat_lt f.height (need p.0)) (not (places_inside len p.0 p.1)) p.0 p.1 i next h in
-    subst (λ (q : Ins × ℕ). StandsAlone len f (Ok p) q.0 q.1) (same-pair p i next none.ins none.next) (record {
-      decoded = refl;
-      direct = none.first;
-      inner = none.second;
-      enough = ltb-false f.height (need p.0) none.third;
-      inside = not-false (places_inside len p.0 p.1) none.fourth;
-    })
-
-pub stands-alone : (code : List ℕ) (f : Fact) (i : Ins) (next : ℕ) → look code f ≡ Stands i next → StandsAlone (length code) f (decoded code f.place) i next
+pub fine : (code : List ℕ) (f : Fact) (i : Ins) (next : ℕ) → look code f ≡ Stands i next → Fine code f i next
 unfolding look
-stands-alone code f i next h = seen-alone (length code) f (decoded code f.place) i next h
+fine code f i next h = fine_from code f (decoded code f.place) i next refl h
+
+pub is_at : (code : List ℕ) (f : Fact) (i : Ins) (next : ℕ) → look code f ≡ Stands i next → IsAt code f.place i
+is_at code f i next h = (next, (fine code f i next h).there)
+
+ok_same : (p q : Ins × ℕ) → ◌≡◌ {A = Result (Ins × ℕ) DecodeFault} (Ok p) (Ok q) → p ≡ q
+ok_same p q h = cc
+
+-- the instruction at a good fact's place is the one that stands there
+pub stands_at : (code : List ℕ) (f : Fact) (i : Ins) → IsGood code f → IsAt code f.place i → (next : ℕ) × (look code f ≡ Stands i next)
+stands_at code f i good at =
+    let there = (fine code f good.0 good.1 good.2).there in
+    let same : good.0 ≡ i = ap (λ (p : Ins × ℕ). p.0) (ok_same (good.0, good.1) (i, at.0) (sym there ∙ at.1)) in
+    (good.1, good.2 ∙ ap (λ (x : Ins). Stands x good.1) same)
+
+-- ---- a bad fact
+
+named_breaks : (code : List ℕ) (session : ℕ) (f : Fact) (p : Ins × ℕ) (cause : CheckCause) → decoded code f.place ≡ Ok p
+    → Named (is_indirect p.0) (is_main f.routine && is_some (counts p.0)) (nat_lt f.height (need p.0)) (not (places_inside (length code) p.0 p.1)) cause → Breaks code session cause f
+named_breaks code session f p cause e (indirect h) = (p.0, p.1, e, h)
+named_breaks code session f p cause e (returns h) = inl (p.0, p.1, e, h)
+named_breaks code session f p cause e (under h) = inl (p.0, p.1, e, ltb-true f.height (need p.0) h)
+named_breaks code session f p cause e (target h) = (p.0, p.1, e, not-true (places_inside (length code) p.0 p.1) h)
+
+breaks_from : (code : List ℕ) (session : ℕ) (f : Fact) (d : Result (Ins × ℕ) DecodeFault) (cause : CheckCause) → decoded code f.place ≡ d → seen (length code) f d ≡ Bad cause → Breaks code session cause f
+breaks_from code session f (Err fault.Undefined) cause e h = subst (λ (x : CheckCause). Breaks code session x f) (bad_same Undefined cause h) e
+breaks_from code session f (Err fault.Past) cause e h = subst (λ (x : CheckCause). Breaks code session x f) (bad_same Past cause h) e
+breaks_from code session f (Ok p) cause e h =
+    named_breaks code session f p cause e (chain_bad (is_indirect p.0) (is_main f.routine && is_some (counts p.0)) (nat_lt f.height (need p.0)) (not (places_inside (length code) p.0 p.1)) p.0 p.1 cause h)
+
+pub breaks : (code : List ℕ) (session : ℕ) (f : Fact) (cause : CheckCause) → look code f ≡ Bad cause → Breaks code session cause f
+unfolding look
+breaks code session f cause h = breaks_from code session f (decoded code f.place) cause refl h
+
+-- ---- refusals
+
+pub refuses_bad : (code : List ℕ) (session : ℕ) (f : Fact) (cause : CheckCause) → Reached code f → look code f ≡ Bad cause → Refuses code session f.place cause
+refuses_bad code session f cause reached h = record {
+  fact = f;
+  reached = reached;
+  at = refl;
+  breaks = breaks code session f cause h;
+  first = λ alone e. bad_same cause alone (sym h ∙ e);
+}
+
+pub refuses_good : (code : List ℕ) (session : ℕ) (f : Fact) (cause : CheckCause) → Reached code f → IsGood code f → Breaks code session cause f → Refuses code session f.place cause
+refuses_good code session f cause reached good broken = record {
+  fact = f;
+  reached = reached;
+  at = refl;
+  breaks = broken;
+  first = λ alone e. absurd (cc (good.2, e));
+}

@@ -7,8 +7,8 @@ use Rattle.mc_model.specs.Bytes.{bytes2, num, splice}
 use Rattle.mc_model.specs.Frame.{Frame, floor}
 use Rattle.mc_model.specs.StackRows.{call_target, is_call}
 use Rattle.mc_model.specs.StackShape.{Routine, fact, Reached, Depth, main, called}
+use Rattle.mc_check.proofs.Looks.{fine}
 use Rattle.mc_check.specs.Standing.{StandsAt, Open, none, call, calls_of}
-use Rattle.mc_check.proofs.AcceptedFacts.{shown_decoded}
 
 -- ---- lists
 
@@ -70,7 +70,7 @@ open_front {xs = xs} ys (call {p = p} {h = h} {b = b} i next opened reached give
 pub open_depth : {code : List ℕ} {session : ℕ} {bytes : List ℕ} {r : Routine} {b : ℕ} → Open code session bytes r b → Depth code r b
 open_depth none = main
 open_depth {code = code} (call {r = r} {p = p} {h = h} i next opened reached gives target lb at) =
-    called (open_depth opened) (record { place = p; reached = reached; call = i; stands = (next, shown_decoded code (fact r p h) i next gives.stands); target = target })
+    called (open_depth opened) (record { place = p; reached = reached; call = i; stands = (next, (fine code (fact r p h) i next gives.stands).there); target = target })
 
 pub target_of_call : (i : Ins) (q : ℕ) → call_target i ≡ Some q → is_call i ≡ true
 target_of_call (ins.Call k to) q e = refl

@@ -19,7 +19,7 @@ use Rattle.mc_check.specs.Judging.{calls_at, plain_at, depth_of, BeginsWithin, I
 use Rattle.mc_check.specs.Table.{routine_of, fact_of, base_in, IsWhole, AreBases, IsRefused}
 use Rattle.mc_check.proofs.Tables.{kept-inside}
 use Rattle.mc_check.proofs.Reaching.{Entered, entered}
-use Rattle.mc_check.proofs.Looks.{StandsAlone, stands-alone}
+use Rattle.mc_check.proofs.Looks.{Fine as GoodAlone, fine as good-alone}
 
 -- ---- what stands at a place
 
@@ -176,23 +176,23 @@ pub record Known (code : List ℕ) (t : List (Option Entry)) (bases : List ℕ) 
 
 module _ (code : List ℕ) (session : ℕ) (t : List (Option Entry)) (bases : List ℕ) (calls : Bool) (known : Known code t bases calls) where
   -- the instruction at a fact breaks no rule that is seen from the fact alone
-  good : (f : Fact) → Reached code f → (i : Ins) × (next : ℕ) × StandsAlone (length code) f (decoded code f.place) i next
+  good : (f : Fact) → Reached code f → (i : Ins) × (next : ℕ) × GoodAlone code f i next
   good f reached =
       let g = (known.whole.sound f (known.whole.all f reached)).1 in
-      (g.0, g.1, stands-alone code f g.0 g.1 g.2)
+      (g.0, g.1, good-alone code f g.0 g.1 g.2)
 
-  no-holds : (f : Fact) (P : Ins → ℕ → Type 0) → Reached code f → ((i : Ins) (next : ℕ) → StandsAlone (length code) f (decoded code f.place) i next → P i next → ⊥) → Holds code f P → ⊥
+  no-holds : (f : Fact) (P : Ins → ℕ → Type 0) → Reached code f → ((i : Ins) (next : ℕ) → GoodAlone code f i next → P i next → ⊥) → Holds code f P → ⊥
   no-holds f P reached not-there h =
       let g = good f reached in
-      let ins = same-ins (decoded code f.place) h.0 g.0 h.1 g.1 h.2 g.2.decoded in
-      let next = same-next (decoded code f.place) h.0 g.0 h.1 g.1 h.2 g.2.decoded in
+      let ins = same-ins (decoded code f.place) h.0 g.0 h.1 g.1 h.2 g.2.there in
+      let next = same-next (decoded code f.place) h.0 g.0 h.1 g.1 h.2 g.2.there in
       not-there g.0 g.1 g.2 (subst (λ (n : ℕ). P g.0 n) next (subst (λ (i : Ins). P i h.1) ins h.3))
 
   no-undefined : (f : Fact) → Reached code f → decoded code f.place ≡ Err fault.Undefined → ⊥
-  no-undefined f reached h = let g = good f reached in cc (h, g.2.decoded)
+  no-undefined f reached h = let g = good f reached in cc (h, g.2.there)
 
   no-past : (f : Fact) → Reached code f → decoded code f.place ≡ Err fault.Past → ⊥
-  no-past f reached h = let g = good f reached in cc (h, g.2.decoded)
+  no-past f reached h = let g = good f reached in cc (h, g.2.there)
 
   no-shared : (f : Fact) → Reached code f → SharesPlace code f → ⊥
   no-shared f reached shares =
@@ -249,11 +249,11 @@ module _ (code : List ℕ) (session : ℕ) (t : List (Option Entry)) (bases : Li
     sound f Past reached b = no-past f reached b
     sound f Indirect reached b = no-holds f (λ i next. is_indirect i ≡ true) reached (λ i next g h. cc (g.direct, h)) b
     sound f Returns reached b = elim b [
-      | inl h ↦ no-holds f (λ i next. (is_main f.routine && is_some (counts i)) ≡ true) reached (λ i next g h. cc (g.inner, h)) h
+      | inl h ↦ no-holds f (λ i next. (is_main f.routine && is_some (counts i)) ≡ true) reached (λ i next g h. cc (g.stays, h)) h
       | inr d ↦ known.whole.returns f reached d
     ]
     sound f Under reached b = elim b [
-      | inl h ↦ no-holds f (λ i next. f.height < need i) reached (λ i next g h. absurd (omega (arith, g.enough, h))) h
+      | inl h ↦ no-holds f (λ i next. f.height < need i) reached (λ i next g h. let most = ltb-false f.height (need i) g.enough in absurd (omega (arith, most, h))) h
       | inr takes ↦ known.whole.takes f reached takes
     ]
     sound f Target reached b = no-holds f (λ i next. places_inside (length code) i next ≡ false) reached (λ i next g h. cc (g.inside, h)) b

@@ -57,9 +57,6 @@ pub record TellsUpTo (states : List Progress) (l : List Call) (q n greatest : �
   pub some : (greatest ≡ 0) ⊎ IsTold states l q (answer.Base greatest)
   pub each : AreAtMost states l q n greatest
 
-pub tells_none : (states : List Progress) (l : List Call) (q : ℕ) → TellsUpTo states l q 0 0
-tells_none states l q = record { some = inl refl; each = λ k c lt there target. absurd (omega arith) }
-
 module _ (states : List Progress) (l : List Call) (q n g : ℕ) (so : TellsUpTo states l q n g) (c : Call) (there : slice_get l n ≡ Some c) where
   call_at : (k : ℕ) (d : Call) → k ≡ n → slice_get l k ≡ Some d → c ≡ d
   call_at k d same here = same_Some c d (sym there ∙ subst (λ (m : ℕ). slice_get l m ≡ Some d) same here)
