@@ -7,7 +7,8 @@ use Rattle.mc_model.specs.DeckGrammar.{deck_lines, deck_read, section_unit, stat
 use Rattle.mc_model.specs.Listing.{listed}
 use Rattle.mc_model.specs.Text.{code_text_read}
 use Rattle.melcard.specs.declared.job.Telling.TheVariants.{Transcript}
-use Rattle.melcard.specs.Verdicts.{Verdict, of_assembly, of_code, of_deck}
+use Rattle.mc_check.specs.declared.verdict.Verdict.{Verdict as CodeVerdict}
+use Rattle.melcard.specs.Verdicts.{Verdict, of_assembly, of_code, of_deck, verdict_line}
 
 -- a deck that is to be played
 unfoldable pub deck_verdict : List ℕ → Verdict
@@ -23,3 +24,8 @@ code_verdict input = of_assembly (assembled input)
 unfoldable pub listing_verdict : List ℕ → Verdict
 unfolding digits decode_pairs encode_with listed code_text_read
 listing_verdict input = of_code (code_text_read input)
+
+-- the line of a load line
+unfoldable pub checked_line : ℕ → CodeVerdict → List ℕ
+unfolding digits
+checked_line number v = verdict_line number v

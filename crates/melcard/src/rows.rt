@@ -1,8 +1,43 @@
 // Worked inputs, and what they stand for.
-ghost use Rattle.std.specs.Prelude.{◌≡◌, [], codes};
-ghost use Rattle.melcard.specs.declared.job.Telling.TheVariants.{Transcript};
+ghost use Rattle.std.specs.Prelude.{◌≡◌, [], codes, None, Some};
+ghost use Rattle.mc_model.specs.declared.checker.CheckCause.TheVariants.{Deep};
+ghost use Rattle.mc_check.specs.declared.verdict.Verdict.TheVariants.{Accept, Refuse};
+ghost use Rattle.melcard.specs.declared.job.Form.TheVariants as form;
+ghost use Rattle.melcard.specs.declared.job.Job.TheVariants as job;
+ghost use Rattle.melcard.specs.declared.job.Telling.TheVariants.{Trace, Transcript};
+ghost use Rattle.melcard.specs.Jobs.{generated_number, job_named, job_numbered};
 ghost use Rattle.melcard.specs.Verdicts.{Plays, Refusal, Whole};
-ghost use Rattle.melcard.specs.Computed.{code_verdict, deck_verdict, listing_verdict};
+ghost use Rattle.melcard.specs.Computed.{checked_line, code_verdict, deck_verdict, listing_verdict};
+
+/// The words of the jobs, and words that name none.
+pub fn words_of_jobs()
+    ensures play { job_named (codes "play") ≡ Some (job.Play Transcript) }
+    ensures trace { job_named (codes "trace") ≡ Some (job.Play Trace) }
+    ensures asm { job_named (codes "asm") ≡ Some (job.Write form.Code) }
+    ensures list { job_named (codes "list") ≡ Some (job.Write form.Listing) }
+    ensures check { job_named (codes "check") ≡ Some (job.Write form.Verdicts) }
+    ensures generated { job_numbered (codes "gen") (codes "1") ≡ Some (job.Generate 1) }
+    ensures alone { job_named (codes "gen") ≡ None }
+    ensures upper { job_named (codes "Play") ≡ None }
+    ensures twice { job_numbered (codes "play") (codes "1") ≡ None }
+{}
+
+/// The numbers of generated decks: at most ten digits, and at most 2,147,483,647.
+pub fn numbers_of_decks()
+    ensures most { generated_number (codes "2147483647") ≡ Some 2147483647 }
+    ensures zeros { generated_number (codes "0000000001") ≡ Some 1 }
+    ensures large { generated_number (codes "2147483648") ≡ None }
+    ensures long { generated_number (codes "00000000001") ≡ None }
+    ensures empty { generated_number [] ≡ None }
+    ensures sign { generated_number (codes "-1") ≡ None }
+{}
+
+/// The lines of two verdicts of the stack checker.
+#[tactic(auto, unfolding(crate::specs::Computed::checked_line))]
+pub fn lines_of_verdicts()
+    ensures accepted { checked_line 4 (Accept 2) ≡ codes "4 accept 2\n" }
+    ensures refused { checked_line 12 (Refuse 130 Deep) ≡ codes "12 refuse 130 Deep\n" }
+{}
 
 /// The first line that is not taken is refused by its number, and skipped lines count.
 #[tactic(auto, unfolding(crate::specs::Computed::deck_verdict))]
