@@ -3,11 +3,13 @@ use Rattle.std.specs.Prelude.{ℕ, Bool, true, ◌&&◌, List, [], ◌∷◌, by
 use Rattle.mc_model.specs.Bytes.{bytes}
 use Rattle.mc_model.specs.Aes.{aes_encipher, aes_decipher}
 
+-- a known answer
 pub record Row : Type 0 where
   pub key : ℕ
   pub block : ℕ
   pub enciphered : ℕ
 
+-- a known answer from its three numbers
 abbrev pub row : ℕ → ℕ → ℕ → Row
 row key block enciphered = record { key = key; block = block; enciphered = enciphered }
 

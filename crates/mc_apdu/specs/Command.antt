@@ -3,8 +3,10 @@ use Rattle.mc_model.specs.Apdu.{ApduParts, Rest}
 use Rattle.mc_apdu.specs.declared.command.Apdu.{Apdu}
 use Rattle.mc_apdu.specs.declared.command.Fields.{Fields}
 
+-- the parts of a command
 abbrev pub parts_of : Apdu → ApduParts
 parts_of a = record { cla = a.cla; ins = a.ins; p1 = a.p1; p2 = a.p2; p3 = a.p3; body = a.body.now; le = a.le }
 
+-- the parts behind its header
 abbrev pub rest_of : Fields → Rest
 rest_of f = record { p3 = f.p3; body = f.body.now; le = f.le }

@@ -1,5 +1,4 @@
 -- The forms of operands as the code has them, and what they stand for.
--- This project's profile.
 use Rattle.std.specs.Prelude.{ℕ, ℤ, List, take, drop}
 use Rattle.mc_model.specs.Code.{Shaped}
 use Rattle.mc_model.specs.declared.instruction.Ins.{Ins}

@@ -1,5 +1,4 @@
 -- What the code has of a line, and what it stands for.
--- This project's profile.
 use Rattle.std.specs.Prelude.{ℕ, ◌<◌, List, map, option_map}
 use denote.Ref.{Bor}
 use Rattle.mc_model.specs.Code.{Shaped}

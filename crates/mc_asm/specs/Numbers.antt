@@ -1,5 +1,4 @@
 -- Numbers in the range that the assembler keeps, and digits that follow others.
--- This project's profile.
 use Rattle.std.specs.Prelude.{ℕ, ℤ, pos, negsuc, ◌-◌, ◌<◌, cond, nat_le, List, map, Option, Some, None, option_map}
 use Rattle.mc_model.specs.Text.{every, is_digit, digits_onto, hex_values}
 

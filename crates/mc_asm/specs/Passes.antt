@@ -1,5 +1,4 @@
 -- The two passes over a text: the places of its labels, and its code under these places.
--- This project's profile.
 use Rattle.std.specs.Prelude.{◌≡◌, ℕ, ℤ, ◌+◌, cond, nat_le, List, [], ◌∷◌, ◌++◌, map, Option, Some, None, Result, Ok}
 use Rattle.std.specs.Ordering.{nat_cmp}
 use Rattle.std.specs.Cmp.Lexicographic.{slice_cmp}

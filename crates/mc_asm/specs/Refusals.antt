@@ -1,5 +1,4 @@
 -- What a refusal says of a text, and of code.
--- This project's profile.
 use Rattle.std.specs.Prelude.{◌≡◌, ℕ, List, Result, Err, ⊤}
 use Rattle.mc_model.specs.declared.assembler.AsmCause.{AsmCause}
 use Rattle.mc_model.specs.declared.instruction.DecodeFault.{DecodeFault}

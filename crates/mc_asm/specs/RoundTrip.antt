@@ -1,5 +1,4 @@
 -- From code to its listing and back.
--- This project's profile.
 use Rattle.std.specs.Prelude.{◌≡◌, ℕ, ◌<◌, ◌≤◌, List, length, Ok}
 use Rattle.std.specs.List.{AllByRecursion}
 use Rattle.mc_model.specs.Assembly.{assembled}

@@ -1,5 +1,4 @@
 -- Texts, cut at the first character that cuts.
--- This project's profile.
 use Rattle.std.specs.Prelude.{ℕ, suc, ◌-◌, cond, ◌==◌, List, [], length, take, drop, slice_index, Option, Some, None}
 use Rattle.mc_model.specs.Text.{first_cut, is_empty}
 

@@ -1,5 +1,4 @@
 -- What the calls of a source and a sink over memory do, exactly.
--- This project's profile.
 use Rattle.std.specs.Prelude.{ℕ, ◌+◌, ◌-◌, ◌==◌, min, Bool, true, false, ◌||◌, ◌&&◌, not, cond, List, [], ◌∷◌, ◌++◌, length, take, drop, Result, Ok, Err}
 use Rattle.std.specs.List.{list_any}
 use Rattle.mc_model.specs.Counts.{last_count}

@@ -1,5 +1,5 @@
 -- What calls do to the bytes that a source tells it has left and a sink tells it has taken. A stream that tells
--- nothing is held to nothing here, and one that tells goes on telling. This project's profile.
+-- nothing is held to nothing here, and one that tells goes on telling.
 use Rattle.std.specs.Prelude.{◌≡◌, ℕ, ◌<◌, ◌≤◌, List, [], ◌++◌, length, Option, Some, None, ⊤}
 
 -- these bytes came from the front of what was left

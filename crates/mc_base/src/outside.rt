@@ -1,11 +1,12 @@
-ghost use Rattle.std.specs.Prelude.{◌≡◌, None};
+ghost use Rattle.std.specs.Prelude.{◌≡◌};
 
 use crate::refusals::Failed;
 use crate::sink::Sink;
 use crate::source::Source;
 use std::io::{Read, Write};
 
-/// A source over a reader of the standard library. It tells no bytes.
+/// A source over a reader of the standard library. It tells the bytes that the reader has left where the reader tells
+/// them, as one over memory does; the standard input does not. A read that fails is a fault, and not the end of input.
 #[derive(Drop)]
 pub struct StdSource<R> {
     reader: R,
@@ -15,14 +16,15 @@ pub struct StdSource<R> {
 impl<R: Read> StdSource<R> {
     /// Reads from this reader, and has seen no fault.
     pub fn new(reader: R) -> Self
-        ensures { ⟦<StdSource<R> as Source>⟧.faults result ≡ 0 }
+        ensures faults { ⟦<StdSource<R> as Source>⟧.faults result ≡ 0 }
+        ensures left { ⟦<StdSource<R> as Source>⟧.left result ≡ R.remaining reader }
     {
         StdSource { reader, faults: 0 }
     }
 }
 
 impl<R: Read> Source for StdSource<R> {
-    ghost left = { λ s. None };
+    ghost left = { λ s. R.remaining s.reader };
 
     ghost faults = { λ s. s.faults };
 
@@ -37,7 +39,8 @@ impl<R: Read> Source for StdSource<R> {
     }
 }
 
-/// A sink over a writer of the standard library. It tells no bytes.
+/// A sink over a writer of the standard library. It tells the bytes that the writer holds where the writer tells them,
+/// as one into memory does; the standard output does not. A short write takes what was written, and no more.
 #[derive(Drop)]
 pub struct StdSink<W> {
     writer: W,
@@ -47,14 +50,15 @@ pub struct StdSink<W> {
 impl<W: Write> StdSink<W> {
     /// Writes into this writer, and has seen no fault.
     pub fn new(writer: W) -> Self
-        ensures { ⟦<StdSink<W> as Sink>⟧.faults result ≡ 0 }
+        ensures faults { ⟦<StdSink<W> as Sink>⟧.faults result ≡ 0 }
+        ensures taken { ⟦<StdSink<W> as Sink>⟧.taken result ≡ W.contents writer }
     {
         StdSink { writer, faults: 0 }
     }
 }
 
 impl<W: Write> Sink for StdSink<W> {
-    ghost taken = { λ s. None };
+    ghost taken = { λ s. W.contents s.writer };
 
     ghost faults = { λ s. s.faults };
 
@@ -67,7 +71,7 @@ impl<W: Write> Sink for StdSink<W> {
                 self.faults = self.faults.saturating_add(1);
                 Err(Failed)
             }
-            Ok(count) => Ok(count),
+            Ok(written) => Ok(written),
         }
     }
 }

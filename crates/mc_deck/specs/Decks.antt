@@ -1,5 +1,4 @@
 -- What a deck stands for.
--- This project's profile.
 use Rattle.std.specs.Prelude.{ℕ, List, length}
 use Rattle.std.specs.List.{AllByRecursion}
 use Rattle.mc_model.specs.DeckGrammar.{DeckLine}

@@ -1,5 +1,4 @@
 -- The generated deck as the code has it.
--- This project's profile.
 use Rattle.std.specs.Prelude.{◌≡◌, List}
 use Rattle.mc_model.specs.Generator.{counter, purse, relay}
 use Rattle.mc_deck.specs.declared.unit.OwnedUnit.{OwnedUnit}

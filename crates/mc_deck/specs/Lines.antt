@@ -1,5 +1,4 @@
 -- The lines of a deck as the code has them, and what they stand for.
--- This project's profile.
 use Rattle.std.specs.Prelude.{◌≡◌, ℕ, ◌<◌, ◌≤◌, Bool, true, false, List, [], ◌∷◌, length, map, slice_index_or, Ok}
 use Rattle.std.specs.List.{AllByRecursion}
 use Rattle.mc_model.specs.Bytes.{zeros}

@@ -1,5 +1,4 @@
 -- What was read so far, and what a line makes of it.
--- This project's profile.
 use Rattle.std.specs.Prelude.{◌≡◌, ℕ, Bool, false, cond, List, [], ◌∷◌, ◌++◌, length, Option, Some, None, ok_or, Result, Ok}
 use Rattle.std.specs.List.{AllByRecursion}
 use Rattle.std.specs.BTreeMap.{BTreeMap}

@@ -1,5 +1,4 @@
 -- What a refusal says of a text.
--- This project's profile.
 use Rattle.std.specs.Prelude.{◌≡◌, ℕ, Result, Err, ⊤}
 use Rattle.mc_model.specs.declared.deck.DeckCause.{DeckCause}
 use Rattle.mc_deck.specs.declared.refusal.DeckRefusal.{DeckRefusal}

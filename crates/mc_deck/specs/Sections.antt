@@ -1,5 +1,4 @@
 -- Sections as the code has them, and what they stand for.
--- This project's profile.
 use Rattle.std.specs.Prelude.{ℕ, List, Result}
 use Rattle.mc_model.specs.Text.{err_as}
 use Rattle.mc_model.specs.Units.{UnitParts}

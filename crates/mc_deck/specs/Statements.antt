@@ -1,5 +1,4 @@
 -- Statements as the code has them, and what they stand for.
--- This project's profile.
 use Rattle.std.specs.Prelude.{◌≡◌, ℕ, ◌<◌, ◌≤◌, Bool, true, false, List, [], length, take, drop}
 use Rattle.mc_model.specs.DeckGrammar
 use Rattle.mc_model.specs.DeckGrammar.{Context, Stated, Says, Opens, with_unit}
@@ -31,6 +30,7 @@ keyword_of Keyword.Poke = DeckGrammar.PokeWord
 abbrev pub first_words : List (List ℕ × DeckGrammar.Word)
 first_words = take 7 DeckGrammar.deck_words
 
+-- the words of the other statements
 abbrev pub second_words : List (List ℕ × DeckGrammar.Word)
 second_words = drop 7 DeckGrammar.deck_words
 

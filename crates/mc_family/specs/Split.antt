@@ -1,5 +1,4 @@
 -- Whole items before those of a stop.
--- This project's profile.
 use Rattle.std.specs.Prelude.{List, ◌++◌}
 use Rattle.mc_model.specs.Items.{Item, Stopped}
 

@@ -1,5 +1,4 @@
 -- A play of two counters on one card, as a worked example of views: a family of one, and a stranger.
--- This project's profile.
 use Rattle.std.specs.Prelude.{ℕ, List, [], ◌∷◌, replicate}
 use Rattle.mc_model.specs.Bytes.{zeros}
 use Rattle.mc_model.specs.Units.{UnitParts, name_of, made_dir, made_fci}
@@ -20,10 +19,11 @@ use Rattle.mc_model.specs.View.{View, answers, view, solo_view}
 use Rattle.mc_model.specs.DeckGrammar.{DeckLine}
 use Rattle.mc_model.specs.DeckGrammar as line
 
--- two names
+-- a name
 abbrev pub first : List ℕ
 first = 0xA0 ∷ 0 ∷ 0 ∷ 0 ∷ 1 ∷ []
 
+-- another name
 abbrev pub second : List ℕ
 second = 0xA0 ∷ 0 ∷ 0 ∷ 0 ∷ 2 ∷ []
 
@@ -39,6 +39,7 @@ counter aid =
       aid = aid;
     }
 
+-- the command that counts
 abbrev pub count : DeckLine
 count = line.Apdu (0x80 ∷ 1 ∷ 0 ∷ 0 ∷ 2 ∷ [])
 
@@ -53,6 +54,7 @@ lines =
     ∷ (7, line.Select second) ∷ (8, cut_there) ∷ (9, count) ∷ (10, line.Power) ∷ (11, line.Select first) ∷ (12, cut_there) ∷ (13, count) ∷ (14, line.Power)
     ∷ (15, line.Dump first) ∷ (16, line.Dump second) ∷ []
 
+-- the words of a small device
 abbrev pub blank : List (List ℕ)
 blank = replicate 256 (zeros 8)
 
@@ -61,10 +63,12 @@ unfoldable pub steps : List Step
 unfolding name_of apdu_read touched targets_1 targets_2 pairs blocks_from apps_of layout step_of bad_block bad_record bytes_at written too_many later_causes prim_effect causes effect row acted ran manage command send warmed step plays moves_of steady_worn
 steps = plays (start blank) lines (steady_worn (start blank) lines)
 
+-- what the family is told in the play
 unfoldable pub seen_in_play : View
 unfolding steps answers
 seen_in_play = view (first ∷ []) (start blank) steps
 
+-- and what it is told alone
 unfoldable pub seen_alone : View
 unfolding steps events apdu_read touched bytes_at written too_many later_causes prim_effect causes effect row acted ran solo_command hears hears_all
 seen_alone = solo_view (first ∷ []) (given (first ∷ []) steps)

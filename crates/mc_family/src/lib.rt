@@ -1,4 +1,4 @@
-//! The law of isolation, over the definitions of `mc_model` alone.
+//! The law of isolation and the other laws of plays, over the definitions of `mc_model` alone.
 #![tactic(auto)]
 
 mod definitions;
@@ -10,11 +10,16 @@ ghost use Rattle.mc_model.specs.View.{View};
 ghost use Rattle.mc_model.specs.Laws.{IsolationLaw};
 ghost use Rattle.mc_family.specs.Worked.{seen_in_play, seen_alone};
 
-pub use definitions::{counts_within_budget, pairs_compose, stops_split};
+pub use definitions::{
+    changes_write_few_headers, counts_within_budget, few_words_cost_few_writes, pairs_compose,
+    rows_write_few_words, runs_begin_well, runs_write_few_words, stops_split,
+    traces_hold_transcripts,
+};
 
 /// For every deck, image, list of worn stops that is possible and front of the play: what a closed family of applications is told
-/// and holds is what it is told and holds on a card of its own, each line leaves the card with its whole items, and no new
-/// application has a stale byte. The law speaks of this project's definitions; no standard has one like it.
+/// and holds is what it is told and holds on a card of its own, each line leaves the card with its whole items, no new
+/// application has a stale byte, and no chain of cuts makes a card unusable. The law speaks of this project's definitions; no
+/// standard has one like it.
 pub fn isolation()
     ensures { IsolationLaw }
 {}

@@ -1,5 +1,4 @@
 -- A small image of zeros with some words set by hand.
--- This project's profile.
 use Rattle.std.specs.Prelude.{ℕ, List, [], ◌∷◌, replicate, slice_set}
 use Rattle.mc_model.specs.Bytes.{zeros, bytes}
 

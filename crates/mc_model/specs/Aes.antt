@@ -5,7 +5,7 @@ use Rattle.mc_model.specs.Modes.{added, cbc_last}
 
 -- ---- the field
 
--- a byte times x, modulo x^8 + x^4 + x^3 + x + 1
+-- a byte times x, modulo x^8 + x^4 + x^3 + x + 1 (FIPS 197, 4.2.1)
 abbrev pub times2 : ℕ → ℕ
 times2 b = bit_xor (2 * b % 256) (27 * (b / 128))
 
@@ -14,7 +14,7 @@ unfoldable pub mul_bits : ℕ → ℕ → ℕ → ℕ
 mul_bits zero a b = 0
 mul_bits (suc n) a b = bit_xor (a % 2 * b) (mul_bits n (a / 2) (times2 b))
 
--- the product of two bytes
+-- the product of two bytes (FIPS 197, 4.2)
 unfoldable pub mul : ℕ → ℕ → ℕ
 unfolding mul_bits
 mul a b = mul_bits 8 a b
@@ -41,20 +41,20 @@ abbrev pub byte_by : ℕ → (ℕ → ℕ) → ℕ
 byte_by zero value = 0
 byte_by (suc n) value = value n * 2 ^ n + byte_by n value
 
--- the affine change of a byte, and its inverse
+-- the affine change of a byte (FIPS 197, 5.1.1)
 unfoldable pub affine : ℕ → ℕ
 affine b = byte_by 8 (λ i. (bit b i + bit b (i + 4) + bit b (i + 5) + bit b (i + 6) + bit b (i + 7) + bit 0x63 i) % 2)
 
--- the inverse of the affine change
+-- the inverse of the affine change (FIPS 197, 5.3.2)
 unfoldable pub affine_back : ℕ → ℕ
 affine_back b = byte_by 8 (λ i. (bit b (i + 2) + bit b (i + 5) + bit b (i + 7) + bit 0x05 i) % 2)
 
--- the substitute of a byte, and the byte of a substitute
+-- SubBytes: the substitute of a byte (FIPS 197, 5.1.1)
 unfoldable pub sub : ℕ → ℕ
 unfolding inverse affine
 sub b = affine (inverse b)
 
--- the inverse of the substitution
+-- InvSubBytes: the byte of a substitute (FIPS 197, 5.3.2)
 unfoldable pub sub_back : ℕ → ℕ
 unfolding inverse affine_back
 sub_back b = inverse (affine_back b)
@@ -66,11 +66,11 @@ abbrev pub placed : List ℕ → List ℕ → List ℕ
 placed [] s = []
 placed (i ∷ is) s = slice_index s i ∷ placed is s
 
--- row r turned left by r, and back
+-- ShiftRows: row r turned left by r (FIPS 197, 5.1.2)
 abbrev pub shift_rows : List ℕ → List ℕ
 shift_rows s = placed (0 ∷ 5 ∷ 10 ∷ 15 ∷ 4 ∷ 9 ∷ 14 ∷ 3 ∷ 8 ∷ 13 ∷ 2 ∷ 7 ∷ 12 ∷ 1 ∷ 6 ∷ 11 ∷ []) s
 
--- the rows turned back
+-- InvShiftRows: the rows turned back (FIPS 197, 5.3.1)
 abbrev pub shift_rows_back : List ℕ → List ℕ
 shift_rows_back s = placed (0 ∷ 13 ∷ 10 ∷ 7 ∷ 4 ∷ 1 ∷ 14 ∷ 11 ∷ 8 ∷ 5 ∷ 2 ∷ 15 ∷ 12 ∷ 9 ∷ 6 ∷ 3 ∷ []) s
 
@@ -89,27 +89,27 @@ unfolding mul
 mixed zero p q r s state = []
 mixed (suc n) p q r s state = times_matrix p q r s (take 4 state) ++ mixed n p q r s (drop 4 state)
 
--- the column step, and its inverse
+-- MixColumns: each column times the matrix (FIPS 197, 5.1.3)
 unfoldable pub mix_columns : List ℕ → List ℕ
 unfolding mixed
 mix_columns s = mixed 4 2 3 1 1 s
 
--- the inverse of the column step
+-- InvMixColumns (FIPS 197, 5.3.3)
 unfoldable pub mix_columns_back : List ℕ → List ℕ
 unfolding mixed
 mix_columns_back s = mixed 4 14 11 13 9 s
 
--- a round, and the last round, which has no column step
+-- a round; its last step adds the round key, AddRoundKey (FIPS 197, 5.1 and 5.1.4)
 unfoldable pub round : List ℕ → List ℕ → List ℕ
 unfolding sub mix_columns
 round k s = added (mix_columns (shift_rows (map sub s))) k
 
--- the tenth round, without a column step
+-- the tenth round, without a column step (FIPS 197, 5.1)
 unfoldable pub last_round : List ℕ → List ℕ → List ℕ
 unfolding sub
 last_round k s = added (shift_rows (map sub s)) k
 
--- the last round and a round undone
+-- the last round undone
 unfoldable pub last_round_back : List ℕ → List ℕ → List ℕ
 unfolding sub_back
 last_round_back k s = map sub_back (shift_rows_back (added s k))
@@ -143,7 +143,7 @@ unfolding next_key
 round_keys_from zero c k = k ∷ []
 round_keys_from (suc n) c k = k ∷ round_keys_from n (times2 c) (next_key c k)
 
--- the 11 round keys of a key of 16 bytes
+-- the 11 round keys of a key of 16 bytes (FIPS 197, 5.2, key expansion)
 unfoldable pub round_keys : List ℕ → List (List ℕ)
 unfolding round_keys_from
 round_keys key = round_keys_from 10 1 key
@@ -176,17 +176,17 @@ unfolding rounds_back last_round_back
 deciphered [] block = block
 deciphered (k ∷ ks) block = rounds_back ks (last_round_back k block)
 
--- AES-128, with a key and a block of 16 bytes
+-- AES-128, with a key and a block of 16 bytes (FIPS 197, 5.1, cipher)
 unfoldable pub aes_encipher : List ℕ → List ℕ → List ℕ
 unfolding round_keys enciphered
 aes_encipher key block = enciphered (round_keys key) block
 
--- a block deciphered
+-- a block deciphered (FIPS 197, 5.3, inverse cipher)
 unfoldable pub aes_decipher : List ℕ → List ℕ → List ℕ
 unfolding round_keys deciphered
 aes_decipher key block = deciphered (reverse (round_keys key)) block
 
--- the last block of the chain over a message of whole blocks, from a start block
+-- the last block of the chain over a message of whole blocks, from a start block (SP 800-38A, 6.2, CBC)
 unfoldable pub aes_signature : List ℕ → List ℕ → List ℕ → List ℕ
 unfolding aes_encipher
 aes_signature key start message = cbc_last (aes_encipher key) 16 start message

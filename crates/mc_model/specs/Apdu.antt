@@ -1,5 +1,5 @@
 -- Command APDUs in the short and the extended cases.
--- ISO/IEC 7816-4; this project's profile takes at most 1,024 bytes of command data.
+-- ISO/IEC 7816-4:2005, 5.1 (command-response pairs); of command data at most 1,024 bytes are taken.
 use Rattle.std.specs.Prelude.{◌≡◌, ◌≢◌, ◌⊎◌, ℕ, ◌+◌, ◌*◌, ◌≤◌, cond, ◌&&◌, nat_le, ◌==◌, List, [], ◌∷◌, length, take, drop, slice_index, Option, Some, None, option_map}
 use Rattle.mc_model.specs.Bytes.{be2}
 
@@ -19,7 +19,7 @@ pub record Rest : Type 0 where
   pub body : List ℕ
   pub le : Option ℕ
 
--- Le in one byte, where 00 means 256, and in two, where 0000 is held as 65,535
+-- Le in one byte, where 00 means 256
 abbrev pub short_le : ℕ → ℕ
 short_le n = cond (n == 0) 256 n
 
@@ -80,7 +80,7 @@ pub record HasHeader (b : List ℕ) (a : ApduParts) : Type 0 where
 abbrev pub HasRest : ApduParts → ℕ → List ℕ → Option ℕ → Type 0
 HasRest a p3 body le = (a.p3 ≡ p3) × (a.body ≡ body) × (a.le ≡ le)
 
--- the four short cases, of bytes b, and the three extended ones, whose number is b[5] b[6]
+-- the short case 1, of bytes b
 abbrev pub IsShort1 : List ℕ → ApduParts → Type 0
 IsShort1 b a = (length b ≡ 4) × HasRest a 0 [] None
 
@@ -100,7 +100,7 @@ IsShort4 b a =
     let lc = slice_index b 4 in
     (lc ≢ 0) × (length b ≡ 6 + lc) × HasRest a lc (take lc (drop 5 b)) (Some (short_le (slice_index b (5 + lc))))
 
--- the extended case 2
+-- the extended case 2; the number of an extended case is b[5] b[6]
 abbrev pub IsExtended2 : List ℕ → ApduParts → Type 0
 IsExtended2 b a = (slice_index b 4 ≡ 0) × (length b ≡ 7) × HasRest a 0 [] (Some (extended_le (be2 b 5)))
 

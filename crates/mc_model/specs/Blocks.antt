@@ -1,5 +1,4 @@
 -- Arithmetic on blocks of bytes as whole numbers, unsigned and big endian, with the flags.
--- This project's profile.
 use Rattle.std.specs.Prelude.{ℕ, ◌+◌, ◌-◌, ◌*◌, ◌/◌, ◌%◌, ◌^◌, Bool, nat_lt, nat_le, ◌==◌, List, [], ◌∷◌, length, map, bit_and, bit_or, bit_xor}
 use Rattle.mc_model.specs.Bytes.{num, bytes}
 

@@ -1,8 +1,8 @@
 -- Bytes, numbers of several bytes, lists changed at a place, and finite maps that are keyed by names.
--- This project's profile: a byte is a number below 256, and every number of several bytes is big endian.
+-- A byte is a number below 256, and every number of several bytes is big endian.
 use Rattle.std.specs.Prelude.{ℕ, zero, suc, ◌+◌, ◌-◌, ◌*◌, ◌/◌, ◌%◌, ◌^◌, Bool, true, false, cond, ◌&&◌, ◌||◌, nat_lt, ◌==◌, List, [], ◌∷◌, ◌++◌, length, take, drop, replicate, slice_index, bytes_eq, Option, Some, None}
 
--- n divided by d, rounded up, and rounded down
+-- n divided by d, rounded up
 abbrev pub up : ℕ → ℕ → ℕ
 up n d = (n + (d - 1)) / d
 
@@ -22,7 +22,7 @@ be2 b i = 256 * slice_index b i + slice_index b (i + 1)
 abbrev pub bytes2 : ℕ → List ℕ
 bytes2 n = (n / 256 % 256) ∷ (n % 256) ∷ []
 
--- the number of a block of bytes, and the block of n bytes of a number modulo 256 ^ n
+-- the number of a block of bytes
 abbrev pub num : List ℕ → ℕ
 num [] = 0
 num (b ∷ bs) = b * 256 ^ length bs + num bs

@@ -1,5 +1,4 @@
 -- What the words of a device mean: a map from names to applications, read from its used blocks by their lengths.
--- This project's profile.
 use Rattle.std.specs.Prelude.{◌≡◌, ℕ, zero, suc, ◌+◌, ◌-◌, Bool, cond, ◌&&◌, ◌||◌, nat_le, ◌==◌, List, [], ◌∷◌, length, take, drop, slice_index, slice_index_or, Option, Some, None}
 use Rattle.std.specs.List.{concat}
 use Rattle.mc_model.specs.Bytes.{up, be2, insert}

@@ -1,5 +1,4 @@
 -- A command to an application: frames that run instructions under a budget, delegate, exit and abend.
--- This project's profile.
 use Rattle.std.specs.Prelude.{ℕ, zero, suc, ◌+◌, Bool, true, false, cond, ◌||◌, nat_lt, nat_le, ◌==◌, min, List, [], ◌∷◌, ◌++◌, length, take, unwrap_or, bytes_eq, Option, Some, None, Result, Ok, Err}
 use Rattle.mc_model.specs.declared.instruction.Ins.{Ins}
 use Rattle.mc_model.specs.declared.instruction.DecodeFault.{DecodeFault}

@@ -1,5 +1,5 @@
 -- Instructions as bytes: the table of instruction bytes, the spelling, and what stands at a place of code.
--- This project's profile: an instruction byte is op * 8 + tag, its operands follow, and then two bytes of signed offset where an address has a tag other than 0.
+-- An instruction byte is op * 8 + tag, its operands follow, and then two bytes of signed offset where an address has a tag other than 0.
 use Rattle.std.specs.Prelude.{◌≡◌, ℕ, ◌+◌, ◌-◌, ◌*◌, ◌/◌, ◌%◌, ◌<◌, ◌≤◌, ◌⊎◌, Bool, true, false, cond, ◌==◌, nat_le, ℤ, pos, FitsSigned, List, [], ◌∷◌, ◌++◌, length, take, drop, replicate, slice_index, Option, Some, None, option_map, option_and_then, Result, Ok, Err}
 use Rattle.std.specs.List.{AllByRecursion}
 use Rattle.std.specs.Int.{w8, w16, cast_signed, cast_unsigned}

@@ -1,5 +1,4 @@
 -- Counts of faults, cuts and calls, which are held in 64 bits and stand still at the last value.
--- This project's profile.
 use Rattle.std.specs.Prelude.{◌≡◌, ℕ, ◌-◌, ◌^◌, ◌<◌, ◌⊎◌}
 
 -- the last value, at which a count stays

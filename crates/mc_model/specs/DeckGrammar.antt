@@ -1,5 +1,4 @@
 -- The text of a deck: its statements, the sections that assemble an application, and the lines of the deck or the first refusal.
--- This project's profile.
 use Rattle.std.specs.Prelude.{ℕ, Bool, true, false, cond, not, nat_lt, nat_le, ◌==◌, filter, List, [], ◌∷◌, ◌++◌, length, bytes_eq, codes, is_none, ok_or, Result, Ok, Err}
 use Rattle.mc_model.specs.declared.deck.DeckCause.{DeckCause}
 use Rattle.mc_model.specs.declared.deck.DeckCause.TheVariants.{TooManyLines, BadLine, BadName, BadHex, BadNumber, OutOfRange, NameTwice, UnknownName, LateLine, NoEnd}
@@ -32,7 +31,7 @@ pub data DeckLine : Type 0 where
 abbrev pub name_field : List ℕ → Result (List ℕ) DeckCause
 name_field t = only_if (is_name t) BadName t
 
--- hexadecimal bytes, and so many of them
+-- a field of hexadecimal bytes
 abbrev pub hex_field : List ℕ → Result (List ℕ) DeckCause
 hex_field t = ok_or (hex_bytes t) BadHex
 

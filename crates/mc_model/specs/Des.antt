@@ -38,7 +38,7 @@ turn k l = drop k l ++ take k l
 
 -- ---- tables
 
--- IP, the initial permutation
+-- IP, the initial permutation (FIPS 46-3, Enciphering)
 unfoldable pub initial : List ℕ
 initial =
     58 ∷ 50 ∷ 42 ∷ 34 ∷ 26 ∷ 18 ∷ 10 ∷ 2 ∷ 60 ∷ 52 ∷ 44 ∷ 36 ∷ 28 ∷ 20 ∷ 12 ∷ 4 ∷
@@ -46,7 +46,7 @@ initial =
     57 ∷ 49 ∷ 41 ∷ 33 ∷ 25 ∷ 17 ∷ 9 ∷ 1 ∷ 59 ∷ 51 ∷ 43 ∷ 35 ∷ 27 ∷ 19 ∷ 11 ∷ 3 ∷
     61 ∷ 53 ∷ 45 ∷ 37 ∷ 29 ∷ 21 ∷ 13 ∷ 5 ∷ 63 ∷ 55 ∷ 47 ∷ 39 ∷ 31 ∷ 23 ∷ 15 ∷ 7 ∷ []
 
--- the inverse of IP
+-- the inverse of IP (FIPS 46-3, Enciphering)
 unfoldable pub final : List ℕ
 final =
     40 ∷ 8 ∷ 48 ∷ 16 ∷ 56 ∷ 24 ∷ 64 ∷ 32 ∷ 39 ∷ 7 ∷ 47 ∷ 15 ∷ 55 ∷ 23 ∷ 63 ∷ 31 ∷
@@ -54,7 +54,7 @@ final =
     36 ∷ 4 ∷ 44 ∷ 12 ∷ 52 ∷ 20 ∷ 60 ∷ 28 ∷ 35 ∷ 3 ∷ 43 ∷ 11 ∷ 51 ∷ 19 ∷ 59 ∷ 27 ∷
     34 ∷ 2 ∷ 42 ∷ 10 ∷ 50 ∷ 18 ∷ 58 ∷ 26 ∷ 33 ∷ 1 ∷ 41 ∷ 9 ∷ 49 ∷ 17 ∷ 57 ∷ 25 ∷ []
 
--- E, from 32 bits to 48
+-- E, from 32 bits to 48 (FIPS 46-3, The cipher function f)
 unfoldable pub expansion : List ℕ
 expansion =
     32 ∷ 1 ∷ 2 ∷ 3 ∷ 4 ∷ 5 ∷ 4 ∷ 5 ∷ 6 ∷ 7 ∷ 8 ∷ 9 ∷
@@ -62,13 +62,13 @@ expansion =
     16 ∷ 17 ∷ 18 ∷ 19 ∷ 20 ∷ 21 ∷ 20 ∷ 21 ∷ 22 ∷ 23 ∷ 24 ∷ 25 ∷
     24 ∷ 25 ∷ 26 ∷ 27 ∷ 28 ∷ 29 ∷ 28 ∷ 29 ∷ 30 ∷ 31 ∷ 32 ∷ 1 ∷ []
 
--- P
+-- P (FIPS 46-3, The cipher function f)
 unfoldable pub permutation : List ℕ
 permutation =
     16 ∷ 7 ∷ 20 ∷ 21 ∷ 29 ∷ 12 ∷ 28 ∷ 17 ∷ 1 ∷ 15 ∷ 23 ∷ 26 ∷ 5 ∷ 18 ∷ 31 ∷ 10 ∷
     2 ∷ 8 ∷ 24 ∷ 14 ∷ 32 ∷ 27 ∷ 3 ∷ 9 ∷ 19 ∷ 13 ∷ 30 ∷ 6 ∷ 22 ∷ 11 ∷ 4 ∷ 25 ∷ []
 
--- PC-1, from the key to two halves of 28 bits
+-- PC-1, from the key to two halves of 28 bits (FIPS 46-3, Appendix 1)
 unfoldable pub choice1 : List ℕ
 choice1 =
     57 ∷ 49 ∷ 41 ∷ 33 ∷ 25 ∷ 17 ∷ 9 ∷ 1 ∷ 58 ∷ 50 ∷ 42 ∷ 34 ∷ 26 ∷ 18 ∷
@@ -76,7 +76,7 @@ choice1 =
     63 ∷ 55 ∷ 47 ∷ 39 ∷ 31 ∷ 23 ∷ 15 ∷ 7 ∷ 62 ∷ 54 ∷ 46 ∷ 38 ∷ 30 ∷ 22 ∷
     14 ∷ 6 ∷ 61 ∷ 53 ∷ 45 ∷ 37 ∷ 29 ∷ 21 ∷ 13 ∷ 5 ∷ 28 ∷ 20 ∷ 12 ∷ 4 ∷ []
 
--- PC-2, from both halves to a round key of 48 bits
+-- PC-2, from both halves to a round key of 48 bits (FIPS 46-3, Appendix 1)
 unfoldable pub choice2 : List ℕ
 choice2 =
     14 ∷ 17 ∷ 11 ∷ 24 ∷ 1 ∷ 5 ∷ 3 ∷ 28 ∷ 15 ∷ 6 ∷ 21 ∷ 10 ∷
@@ -84,12 +84,12 @@ choice2 =
     41 ∷ 52 ∷ 31 ∷ 37 ∷ 47 ∷ 55 ∷ 30 ∷ 40 ∷ 51 ∷ 45 ∷ 33 ∷ 48 ∷
     44 ∷ 49 ∷ 39 ∷ 56 ∷ 34 ∷ 53 ∷ 46 ∷ 42 ∷ 50 ∷ 36 ∷ 29 ∷ 32 ∷ []
 
--- how far the halves of the key are turned before each round
+-- how far the halves of the key are turned before each round (FIPS 46-3, Appendix 1)
 unfoldable pub shifts : List ℕ
 shifts =
     1 ∷ 1 ∷ 2 ∷ 2 ∷ 2 ∷ 2 ∷ 2 ∷ 2 ∷ 1 ∷ 2 ∷ 2 ∷ 2 ∷ 2 ∷ 2 ∷ 2 ∷ 1 ∷ []
 
--- S1 to S8, each as its four rows
+-- S1 to S8, each as its four rows (FIPS 46-3, Appendix 1)
 unfoldable pub boxes : List (List (List ℕ))
 boxes =
     ((14 ∷ 4 ∷ 13 ∷ 1 ∷ 2 ∷ 15 ∷ 11 ∷ 8 ∷ 3 ∷ 10 ∷ 6 ∷ 12 ∷ 5 ∷ 9 ∷ 0 ∷ 7 ∷ []) ∷ (0 ∷ 15 ∷ 7 ∷ 4 ∷ 14 ∷ 2 ∷ 13 ∷ 1 ∷ 10 ∷ 6 ∷ 12 ∷ 11 ∷ 9 ∷ 5 ∷ 3 ∷ 8 ∷ []) ∷ (4 ∷ 1 ∷ 14 ∷ 8 ∷ 13 ∷ 6 ∷ 2 ∷ 11 ∷ 15 ∷ 12 ∷ 9 ∷ 7 ∷ 3 ∷ 10 ∷ 5 ∷ 0 ∷ []) ∷ (15 ∷ 12 ∷ 8 ∷ 2 ∷ 4 ∷ 9 ∷ 1 ∷ 7 ∷ 5 ∷ 11 ∷ 3 ∷ 14 ∷ 10 ∷ 0 ∷ 6 ∷ 13 ∷ []) ∷ []) ∷
@@ -117,7 +117,7 @@ unfolding box_at
 through [] l = []
 through (box ∷ rest) l = box_at box (take 6 l) ++ through rest (drop 6 l)
 
--- the cipher function f, of the right half and a round key
+-- the cipher function f, of the right half and a round key (FIPS 46-3, The cipher function f)
 unfoldable pub f : List ℕ → List ℕ → List ℕ
 unfolding pick through expansion permutation boxes
 f r k = pick permutation (through boxes (added (pick expansion r) k))
@@ -134,7 +134,7 @@ unfolding pick turn choice2
 schedule [] c d = []
 schedule (s ∷ ss) c d = pick choice2 (turn s c ++ turn s d) ∷ schedule ss (turn s c) (turn s d)
 
--- the 16 round keys of a key of 8 bytes
+-- the 16 round keys of a key of 8 bytes (FIPS 46-3, Appendix 1, KS)
 unfoldable pub round_keys : List ℕ → List (List ℕ)
 unfolding pick bits_of schedule choice1 shifts
 round_keys key =
@@ -156,17 +156,17 @@ unfoldable pub ciphered : List (List ℕ) → List ℕ → List ℕ
 unfolding bits_of bytes_of with_keys
 ciphered ks block = bytes_of 8 (with_keys ks (bits_of block))
 
--- DES, with a key of 8 bytes
+-- DES, with a key of 8 bytes (FIPS 46-3, Enciphering)
 unfoldable pub des_encipher : List ℕ → List ℕ → List ℕ
 unfolding round_keys ciphered
 des_encipher key block = ciphered (round_keys key) block
 
--- the same round keys in reverse
+-- the same round keys in reverse (FIPS 46-3, Deciphering)
 unfoldable pub des_decipher : List ℕ → List ℕ → List ℕ
 unfolding round_keys ciphered
 des_decipher key block = ciphered (reverse (round_keys key)) block
 
--- two-key triple DES, with a key of 16 bytes
+-- two-key triple DES, with a key of 16 bytes (FIPS 46-3, Triple data encryption algorithm, keying option 2)
 unfoldable pub tdes_encipher : List ℕ → List ℕ → List ℕ
 unfolding des_encipher des_decipher
 tdes_encipher key block = des_encipher (take 8 key) (des_decipher (drop 8 key) (des_encipher (take 8 key) block))

@@ -1,5 +1,4 @@
 -- Families of applications that call no other, and which commands of a play are a family's.
--- This project's profile.
 use Rattle.std.specs.Prelude.{◌≡◌, ℕ, Bool, true, false, List, [], ◌∷◌, Option, Some, None, ⊤}
 use Rattle.mc_model.specs.Bytes.{has_name}
 use Rattle.mc_model.specs.Manager.{Selected, Seat, Route, WrongLength, WrongClass, ToSelect, ToManager, ToApplication, route}

@@ -1,5 +1,4 @@
 -- A frame of a running application, the public segment that a chain shares, and the accesses to both.
--- This project's profile.
 use Rattle.std.specs.Prelude.{ℕ, suc, ◌+◌, ◌-◌, Bool, true, false, cond, not, ◌&&◌, ◌||◌, nat_lt, nat_le, ◌==◌, List, [], ◌∷◌, ◌++◌, length, take, drop, ℤ, pos, negsuc, unwrap_or, is_none, Option, Some, None}
 use Rattle.mc_model.specs.Bytes.{be2, bytes2, num, zeros, splice}
 use Rattle.mc_model.specs.Pieces.{laid_pieces, touched}

@@ -1,5 +1,4 @@
 -- The deck that a number generates, and the summary of its play.
--- This project's profile.
 use Rattle.std.specs.Prelude.{ℕ, zero, suc, ◌+◌, ◌*◌, ◌/◌, ◌%◌, ◌^◌, Bool, true, false, cond, nat_lt, ◌==◌, List, [], ◌∷◌, ◌++◌, length, filter, filter_map, flat_map, codes, decimal}
 use Rattle.mc_model.specs.Bytes.{bytes, zeros}
 use Rattle.mc_model.specs.Units.{UnitParts}

@@ -1,5 +1,4 @@
 -- What a card that holds one family alone is given of a play: its applications at the start, and an event for each line that concerns it.
--- This project's profile.
 use Rattle.std.specs.Prelude.{ℕ, Bool, true, false, cond, not, ◌&&◌, ◌||◌, ◌==◌, List, [], ◌∷◌, ◌++◌, is_some, unwrap_or, Option, Some, None}
 use Rattle.mc_model.specs.declared.device.Stop.{Stop}
 use Rattle.mc_model.specs.declared.device.Stop.TheVariants as stop

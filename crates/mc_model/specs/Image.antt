@@ -1,5 +1,4 @@
 -- The words of a device as journals see them: which journal is open, what it holds, the image after its replay.
--- This project's profile.
 use Rattle.std.specs.Prelude.{ℕ, zero, suc, ◌+◌, ◌-◌, ◌*◌, Bool, true, false, ◌&&◌, ◌||◌, nat_lt, nat_le, ◌==◌, List, [], ◌∷◌, ◌++◌, length, take, drop, slice_index_or, slice_set, bytes_eq, codes, Option, Some, None, Result, Ok, Err}
 use Rattle.mc_model.specs.Bytes.{up, zeros, be2}
 
@@ -22,7 +21,7 @@ word_at m i = slice_index_or m i []
 
 -- ---- which journal is open
 
--- the word that opens a journal, and the one that shuts either
+-- the word that opens a journal
 abbrev pub opening : Journal → List ℕ
 opening One = codes "OPEN-1--"
 opening Two = codes "OPEN-2--"
@@ -59,7 +58,7 @@ which m = which_of (is_open Two m) (is_open One m)
 
 -- ---- what an open journal holds
 
--- whether a number of pairs may stand in a head, and a number of a word may be a target: word 0 or one of the heap
+-- whether a number of pairs may stand in a head
 abbrev pub is_count : ℕ → Bool
 is_count c = nat_le 1 c && nat_le c 64
 
@@ -67,7 +66,7 @@ is_count c = nat_le 1 c && nat_le c 64
 abbrev pub within : ℕ → ℕ → Bool
 within size t = (t == 0) || (nat_le 131 t && nat_lt t size)
 
--- the number of a word of six zero bytes and two bytes of number, where it is such a word and the test takes it
+-- a number where it was taken
 abbrev pub when : Bool → ℕ → Option ℕ
 when true n = Some n
 when false n = None
@@ -89,7 +88,7 @@ abbrev pub before : List ℕ → Result (List ℕ) ℕ → Result (List ℕ) ℕ
 before now (Ok ts) = Ok (now ++ ts)
 before now (Err p) = Err p
 
--- journal 1: n targets from pair i on, one in each target word
+-- journal 1: a target and those behind it, or the place of its word where that holds none
 abbrev pub one_before : Option ℕ → ℕ → Result (List ℕ) ℕ → Result (List ℕ) ℕ
 one_before (Some t) place rest = before (t ∷ []) rest
 one_before None place rest = Err place
@@ -138,7 +137,7 @@ abbrev pub targets : Journal → List (List ℕ) → ℕ → Result (List ℕ) �
 targets One m w = targets_1 m 0 w
 targets Two m w = targets_2 m 0 (up w 4) w 0
 
--- the value of pair i, and the pairs of targets from pair i on
+-- the value of pair i
 abbrev pub value : Journal → List (List ℕ) → ℕ → List ℕ
 value One m i = word_at m (4 + 2 * i)
 value Two m i = word_at m (19 + i)
@@ -209,7 +208,7 @@ debt (Refused p) = 0
 debt Closed = 0
 debt (Pending j ps) = length ps + 1
 
--- the image after the replay, and the writes that it owes: of the whole image, and of one journal alone
+-- the image after the replay
 abbrev pub after : List (List ℕ) → After
 after m = replayed m (look m)
 

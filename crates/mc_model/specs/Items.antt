@@ -1,5 +1,4 @@
 -- The device writes of a command as items, where a stop falls in them, and the items of a bank with their contents.
--- This project's profile.
 use Rattle.std.specs.Prelude.{◌≡◌, ℕ, ◌+◌, ◌-◌, ◌*◌, Bool, true, false, cond, ◌&&◌, nat_le, ◌==◌, List, [], ◌∷◌, ◌++◌, length, option_map, Option, Some, None}
 use Rattle.mc_model.specs.declared.card.Part.{Part}
 use Rattle.mc_model.specs.declared.card.Sizes.{Sizes}

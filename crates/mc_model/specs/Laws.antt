@@ -1,5 +1,5 @@
--- The laws of plays: isolation of closed families, every line whole or stopped, and no stale byte in a new application.
--- This project's profile.
+-- The laws of plays: isolation of closed families, every line whole or stopped, no stale byte in a new application, and no
+-- chain of cuts that makes a card unusable.
 use Rattle.std.specs.Prelude.{◌≡◌, ℕ, ◌-◌, Bool, true, false, cond, ◌==◌, List, [], ◌∷◌, ◌++◌, length, take, Option, Some, None, Result, Ok, Err, ⊤}
 use Rattle.mc_model.specs.declared.unit.AidFault.{AidFault}
 use Rattle.mc_model.specs.declared.card.Part.{Part}
@@ -16,6 +16,8 @@ use Rattle.mc_model.specs.Items as items
 use Rattle.mc_model.specs.Family.{Closed}
 use Rattle.mc_model.specs.Given.{apps_on, apps_in, is_power}
 use Rattle.mc_model.specs.View.{IsIsolated}
+use Rattle.mc_model.specs.ReadyAgain.{AllFitJournal, ReadyAgain}
+use Rattle.mc_model.specs.Device.{IsImage}
 use Rattle.mc_model.specs.DeckGrammar.{DeckLine}
 use Rattle.mc_model.specs.DeckGrammar as line
 
@@ -113,7 +115,7 @@ abbrev pub made_by_all : Option Sent → List (List ℕ) → List (List ℕ × A
 made_by_all s [] = []
 made_by_all s (b ∷ bs) = made_by s (route b) ++ made_by_all (sent_after s (route b)) bs
 
--- the commands of a line that are answered by 9000 alone, up to the first that is not
+-- a command that was taken, and those that were taken behind it
 abbrev pub taken_if : Bool → List ℕ → List (List ℕ) → List (List ℕ)
 taken_if true b rest = b ∷ rest
 taken_if false b rest = []
@@ -150,7 +152,7 @@ kept_sent true t s = None
 kept_sent false (Some t) s = None
 kept_sent false None s = s
 
--- the creations among items
+-- the creation that an item is
 abbrev pub created_by : Item → List (List ℕ × App)
 created_by Plain = []
 created_by (Atomic w (Fixed n ps)) = []
@@ -192,9 +194,11 @@ pub record HoldsOf (m : List (List ℕ)) (steps : List Step) : Type 0 where
   pub family : (K : List (List ℕ)) → Closed K steps → IsIsolated K (start m) steps
   pub each_line : KeepsLines steps
   pub fresh : NoStaleByte None steps
+  pub ready : IsImage m → AllFitJournal steps → ReadyAgain false steps
 
 -- For every deck, every image and every list of worn stops that is possible, and for every front of the play: what a closed family is told
--- and holds is what it is told and holds on a card of its own; each line leaves the card with its whole items; no new application has a stale byte.
+-- and holds is what it is told and holds on a card of its own; each line leaves the card with its whole items; no new application has a stale byte;
+-- and where the words of each item fit a journal, a card that was found or formatted is found by every later power line that no stop hits.
 abbrev pub IsolationLaw : Type 0
 IsolationLaw =
     (ls : List (ℕ × DeckLine)) (m : List (List ℕ)) (ws : List (Option WornAt)) → Possible (start m) ls ws

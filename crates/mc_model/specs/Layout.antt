@@ -1,5 +1,4 @@
 -- The header words that a card must hold, the changes between two of them, and the first fault of an image.
--- This project's profile.
 use Rattle.std.specs.Prelude.{◌≡◌, ℕ, zero, suc, ◌+◌, ◌-◌, Bool, true, false, cond, not, ◌&&◌, ◌||◌, nat_lt, nat_le, ◌==◌, List, [], ◌∷◌, ◌++◌, length, take, drop, slice_index, bytes_eq, filter, Option, Some, None}
 use Rattle.std.specs.List.{list_any}
 use Rattle.mc_model.specs.declared.card.Cause.{Cause}
@@ -15,7 +14,7 @@ abbrev pub put_at : {A : Type 0} → ℕ → A → List (ℕ × A) → List (ℕ
 put_at p x [] = (p, x) ∷ []
 put_at p x (e ∷ es) = cond (nat_lt p e.0) ((p, x) ∷ e ∷ es) (e ∷ put_at p x es)
 
--- the places of the applications and how many words they take, ascending
+-- the places of some applications and how many words they take, ascending
 abbrev pub spans_of : List (List ℕ × App) → List (ℕ × ℕ)
 spans_of [] = []
 spans_of (e ∷ es) = put_at (e.1).place (needed e.1) (spans_of es)
@@ -86,7 +85,7 @@ step_of a b = filter (λ e. not (list_any (same_pair e) (layout a))) (layout b)
 
 -- ---- faults. Each gives its first place
 
--- word 0 is a root of layout 1 or 2 with this size
+-- place 0, where word 0 is no root of layout 1 or 2 with this size
 abbrev pub no_root : List (List ℕ) → Option ℕ
 no_root m =
     let v = slice_index (word m 0) 3 in

@@ -28,6 +28,7 @@ pub mod Family
 pub mod Given
 pub mod Solo
 pub mod View
+pub mod ReadyAgain
 pub mod Laws
 pub mod Text
 pub mod DeckGrammar

@@ -1,5 +1,5 @@
 -- The text of one instruction, and the listing of code.
--- This project's profile: bytes, lengths, offsets and displacements in decimal, words and addresses of code as 0x and four upper case hexadecimal digits.
+-- Bytes, lengths, offsets and displacements in decimal, words and addresses of code as 0x and four upper case hexadecimal digits.
 use Rattle.std.specs.Prelude.{ℕ, zero, suc, ◌+◌, ◌-◌, ◌/◌, ◌%◌, Bool, true, false, cond, ◌==◌, nat_lt, ℤ, List, [], ◌∷◌, ◌++◌, length, take, drop, Result, Ok, Err, codes, decimal, slice_index_or}
 use Rattle.std.specs.Fmt.{signed_decimal}
 use Rattle.mc_model.specs.Code.{front}
@@ -70,6 +70,7 @@ operand_line name tag off operand = name ++ codes " " ++ cond (tag == 0) [] (add
 
 -- ---- the line of one instruction, without its line feed
 
+-- the line of an instruction in a listing, without its line feed
 abbrev pub text_of : Ins → List ℕ
 text_of Nop = codes "NOP"
 text_of (Setsw sw) = word_line (codes "SETSW") sw

@@ -1,5 +1,5 @@
 -- The commands of the card manager: select, load, create, delete; and how a command is routed to it or to an application.
--- Headers and status words are those of ISO/IEC 7816-4; the commands of class BE are this project's profile.
+-- Headers, SELECT and status words are those of ISO/IEC 7816-4:2005 (5.1 and 7.1.1); the commands of class BE are this project's own.
 use Rattle.std.specs.Prelude.{ℕ, zero, suc, ◌+◌, ◌-◌, ◌*◌, ◌%◌, Bool, true, false, cond, not, ◌&&◌, ◌||◌, nat_lt, nat_le, ◌==◌, min, List, [], ◌∷◌, ◌++◌, length, take, drop, map, slice_index, bytes_eq, is_some, is_none, is_ok, unwrap_or, Option, Some, None, Result, Ok, Err}
 use Rattle.mc_model.specs.declared.card.Part.{Part}
 use Rattle.mc_model.specs.declared.card.Part.TheVariants as part

@@ -23,11 +23,11 @@ abbrev pub chained : (List ℕ → List ℕ) → List ℕ → List (List ℕ) �
 chained cipher last [] = last
 chained cipher last (b ∷ bs) = chained cipher (cipher (added b last)) bs
 
--- ECB: a message of whole blocks, block by block
+-- ECB: a message of whole blocks, block by block (SP 800-38A, 6.1)
 abbrev pub ecb : (List ℕ → List ℕ) → ℕ → List ℕ → List ℕ
 ecb cipher size message = each cipher (blocks_of (length message / size) size message)
 
--- the last block of CBC over a message of whole blocks, from a start block
+-- the last block of CBC over a message of whole blocks, from a start block (SP 800-38A, 6.2)
 abbrev pub cbc_last : (List ℕ → List ℕ) → ℕ → List ℕ → List ℕ → List ℕ
 cbc_last cipher size start message = chained cipher start (blocks_of (length message / size) size message)
 

@@ -1,5 +1,4 @@
 -- Lists of steps that are done in order, up to a stop: the one fold that device writes and items of a bank share.
--- This project's profile.
 use Rattle.std.specs.Prelude.{◌≡◌, ◌⊎◌, List, [], ◌∷◌, Result, Ok, Err}
 use Rattle.mc_model.specs.declared.device.Stop.{Stop}
 

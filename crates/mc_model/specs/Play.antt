@@ -1,5 +1,4 @@
 -- A deck played on a device, line by line, with the lines' cuts and refused writes, and the words that a play leaves.
--- This project's profile.
 use Rattle.std.specs.Prelude.{◌≡◌, ◌≢◌, ◌⊎◌, ℕ, zero, suc, ◌+◌, ◌-◌, ◌*◌, ◌/◌, ◌%◌, ◌<◌, ◌≤◌, Bool, true, false, cond, ◌&&◌, nat_lt, nat_le, ◌==◌, List, [], ◌∷◌, ◌++◌, length, take, drop, map, slice_set, Option, Some, None, ⊤}
 use Rattle.mc_model.specs.declared.card.Cause.{Cause}
 use Rattle.mc_model.specs.declared.device.Stop.{Stop}
@@ -183,7 +182,7 @@ load_commands u fixed session =
     ∷ (section_commands 0x24 u.code ++ section_commands 0x26 u.init ++ section_commands 0x20 u.dir ++ section_commands 0x22 u.fci
     ++ (0xBE ∷ 0x16 ∷ 0x00 ∷ 0x00 ∷ []) ∷ [])
 
--- the commands in turn, up to the first that is not answered by 9000 alone
+-- an outcome that is 9000 alone
 abbrev pub is_done : Outcome → Bool
 is_done (Reply [] sw) = sw == 0x9000
 is_done o = false
@@ -576,7 +575,7 @@ tape_worn s (l ∷ ls) t =
 
 -- ---- the words that a play leaves
 
--- the words fit a state: before the first power line they are the image; then their meaning or fault, and what they owe, are the play's
+-- the words fit a play whose base is a card: they have no fault, they mean the card, and they owe what the play owes
 pub record StandsForCard (m : List (List ℕ)) (c : Card) (s : Warm) : Type 0 where
   pub sound : fault m ≡ None
   pub meaning : means m ≡ c
@@ -592,7 +591,7 @@ abbrev pub StandsForBase : List (List ℕ) → Base → Warm → Type 0
 StandsForBase m (OnCard c) s = StandsForCard m c s
 StandsForBase m (AtFault cause p) s = StandsForFault m cause p s
 
--- the words fit a state, and what they owe is owed by its journal
+-- the words fit a state: before the first power line they are the image; then they fit its base, and what they owe is owed by its journal
 abbrev pub Stands : List (List ℕ) → State → Type 0
 Stands m (Cold image b a) = m ≡ image
 Stands m (Hot s) = StandsForBase m s.base s × (s.owed ≢ 0 → owing (which m) ≡ s.by)

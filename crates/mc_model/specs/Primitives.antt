@@ -1,5 +1,5 @@
 -- What each primitive does, and the first cause for which it abends. A primitive is named by its set, which is the
--- number of its argument bytes, and its number. This project's profile; the ciphers are those of FIPS 46-3 and FIPS 197, the digest that of FIPS 180-4.
+-- number of its argument bytes, and its number. The ciphers are those of FIPS 46-3 and FIPS 197, the digest is SHA-1 (FIPS 180-4, 6.1).
 use Rattle.std.specs.Prelude.{ℕ, ◌+◌, ◌-◌, ◌*◌, ◌/◌, ◌%◌, Bool, true, false, cond, not, ◌&&◌, ◌||◌, nat_lt, nat_le, ◌==◌, List, [], ◌∷◌, ◌++◌, length, take, drop, slice_index, position, is_some, Option, Some, None}
 use Rattle.sha1.specs.Sha1.{sha1}
 use Rattle.mc_model.specs.declared.machine.Abend.{Abend}

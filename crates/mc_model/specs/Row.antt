@@ -1,5 +1,5 @@
 -- What each instruction does, and the first cause for which it abends. The frame's code address is already the place
--- after the instruction. This project's profile.
+-- after the instruction.
 use Rattle.std.specs.Prelude.{ℕ, suc, ◌+◌, ◌-◌, ◌*◌, Bool, true, false, cond, not, ◌&&◌, ◌||◌, nat_lt, nat_le, ◌==◌, List, [], ◌∷◌, ◌++◌, length, take, drop, ℤ, is_none, unwrap_or, option_and_then, Option, Some, None}
 use Rattle.mc_model.specs.declared.instruction.Ins.{Ins}
 use Rattle.mc_model.specs.declared.instruction.Ins.TheVariants as ins
@@ -110,6 +110,7 @@ pair_writes f tag off n = (A04, is_under f (on_stack tag (2 * n) n)) ∷ writes 
 
 -- ---- the causes of each row, in the order in which the first counts
 
+-- for each instruction its causes, each with whether it holds
 unfoldable pub causes : Ins → Frame → List ℕ → Around → List (Abend × Bool)
 causes ins.Nop f public x = []
 causes (ins.Setsw sw) f public x = []
@@ -181,6 +182,7 @@ value_of f public tag off n = bytes_at f public (place_of f tag off n) n
 abbrev pub first_of : Frame → List ℕ → ℕ → ℤ → ℕ → List ℕ
 first_of f public tag off n = bytes_at f public (place_of f tag off (2 * n)) n
 
+-- what each instruction does where no cause holds
 unfoldable pub effect : Ins → Frame → List ℕ → Around → Done
 effect ins.Nop f public x = going (framed f public)
 effect (ins.Setsw sw) f public x = going (framed f (with_sw public sw))

@@ -1,5 +1,4 @@
 -- A card that holds one family alone: a map and a selection, without places, gaps, journals, others or limits of room.
--- This project's profile.
 use Rattle.std.specs.Prelude.{ℕ, cond, nat_le, List, [], ◌∷◌, ◌++◌, Option, Some, None}
 use Rattle.mc_model.specs.Bytes.{lookup, insert, remove}
 use Rattle.mc_model.specs.Apdu.{ApduParts}
@@ -89,7 +88,7 @@ hears t Leaves = silent (record t { selected = None })
 hears t (Dumps n) = record { after = t; answer = static_of (lookup t.map n) ∷ []; work = [] }
 hears t (Commands b budget s) = heard_command t (solo_command t b budget) s
 
--- all events in order
+-- what was heard of one event, and of those behind it
 abbrev pub heard_before : Heard → Heard → Heard
 heard_before h r = record { after = r.after; answer = h.answer ++ r.answer; work = h.work ++ r.work }
 

@@ -1,5 +1,4 @@
 -- What each instruction does to the shape of the stack: the bytes that it needs, pops and pushes, where it writes, and where it goes.
--- This project's profile.
 use Rattle.std.specs.Prelude.{ℕ, suc, ◌+◌, ◌-◌, ◌*◌, Bool, true, false, cond, not, ◌&&◌, ◌||◌, nat_lt, nat_le, ◌==◌, ℤ, pos, negsuc, List, slice_index, Option, Some, None, is_none}
 use Rattle.mc_model.specs.declared.instruction.Ins.{Ins}
 use Rattle.mc_model.specs.declared.instruction.Ins.TheVariants as ins

@@ -1,5 +1,4 @@
 -- The shape of the stack at each place of code: the facts, the causes by which code is refused, and the deepest stack.
--- This project's profile.
 use Rattle.std.specs.Prelude.{◌≡◌, ◌≢◌, ◌⊎◌, ℕ, ◌+◌, ◌-◌, ◌<◌, ◌≤◌, Bool, true, false, cond, not, ◌&&◌, nat_lt, List, [], ◌∷◌, length, Some, None, is_some, Result, Ok, Err}
 use Rattle.mc_model.specs.declared.checker.CheckCause.{CheckCause}
 use Rattle.mc_model.specs.declared.checker.CheckCause.TheVariants.{Undefined, Past, Indirect, Returns, Under, Target, Recursive, Heights, Wild, Deep}

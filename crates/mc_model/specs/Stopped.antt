@@ -1,5 +1,4 @@
 -- An atomic write as a list of device writes, and what stands of it after a stop at any of them.
--- This project's profile.
 use Rattle.std.specs.Prelude.{◌≡◌, ◌≢◌, ◌⊎◌, ℕ, zero, suc, ◌+◌, ◌*◌, ◌≤◌, Bool, true, false, cond, not, ◌&&◌, ◌||◌, nat_lt, nat_le, ◌==◌, List, [], ◌∷◌, ◌++◌, length, take, drop, map, slice_set, bytes_eq, Ok, Err}
 use Rattle.std.specs.List.{AllByRecursion}
 use Rattle.mc_model.specs.Bytes.{up, zeros, bytes2}
@@ -8,7 +7,7 @@ use Rattle.mc_model.specs.declared.device.Stop.{Stop}
 use Rattle.mc_model.specs.Orders.{Answer}
 use Rattle.mc_model.specs.Device.{DeviceState, Ended, GrowsBy, done_entries, torn_entries}
 
--- the number of device writes of an atomic write of w words, and which of them opens the gate
+-- the number of device writes of an atomic write of w words
 abbrev pub cost : Journal → ℕ → ℕ
 cost One w = 3 * w + 3
 cost Two w = up w 4 + 2 * w + 3
@@ -41,7 +40,7 @@ abbrev pub entries_1 : ℕ → List (ℕ × List ℕ) → List (ℕ × List ℕ)
 entries_1 i [] = []
 entries_1 i (p ∷ ps) = (3 + 2 * i, numbered p.0) ∷ (4 + 2 * i, p.1) ∷ entries_1 (i + 1) ps
 
--- journal 2: the bytes of the first four targets, zeros where there are fewer; k target words from word 3 + i on
+-- journal 2: two bytes of each target
 abbrev pub two_bytes_each : List ℕ → List ℕ
 two_bytes_each [] = []
 two_bytes_each (t ∷ ts) = bytes2 t ++ two_bytes_each ts

@@ -1,5 +1,4 @@
 -- Texts: lines, fields, names and numbers, hexadecimal digits, and code that is written in them.
--- This project's profile.
 use Rattle.std.specs.Prelude.{ℕ, suc, ◌+◌, ◌-◌, ◌*◌, Bool, true, false, cond, not, ◌&&◌, ◌||◌, nat_le, ◌==◌, List, [], ◌∷◌, ◌++◌, map, length, filter, Option, Some, None, option_map, option_and_then, ok_or, Result, Ok, Err}
 
 -- ---- answers in turn
@@ -10,7 +9,7 @@ abbrev pub ◌>>=◌ : {A B E : Type 0} → Result A E → (A → Result B E) �
 (Ok a) >>= step = step a
 (Err e) >>= step = Err e
 
--- an answer with its value changed, and with its refusal changed
+-- an answer with its value changed
 abbrev pub ok_as : {A B E : Type 0} → (A → B) → Result A E → Result B E
 ok_as f (Ok a) = Ok (f a)
 ok_as f (Err e) = Err e
@@ -86,7 +85,7 @@ is_empty (c ∷ t) = false
 abbrev pub fields : List ℕ → List (List ℕ)
 fields l = filter (λ p. not (is_empty p)) (pieces is_blank l)
 
--- a part without the blanks around it
+-- a text without the blanks at its front
 abbrev pub trim_front : List ℕ → List ℕ
 trim_front [] = []
 trim_front (c ∷ t) = cond (is_blank c) (trim_front t) (c ∷ t)

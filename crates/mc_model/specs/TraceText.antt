@@ -1,6 +1,5 @@
 -- The line of each executed instruction, and the transcript with those lines.
--- This project's profile.
-use Rattle.std.specs.Prelude.{ℕ, ◌+◌, ◌-◌, Bool, cond, nat_le, List, [], ◌∷◌, ◌++◌, Option, Some, None, codes}
+use Rattle.std.specs.Prelude.{◌≡◌, ℕ, ◌+◌, ◌-◌, Bool, cond, not, nat_le, ◌==◌, List, [], ◌∷◌, ◌++◌, filter, Option, Some, None, codes}
 use Rattle.mc_model.specs.declared.instruction.Ins.{Ins}
 use Rattle.mc_model.specs.Bytes.{bytes2}
 use Rattle.mc_model.specs.Image.{Two}
@@ -9,7 +8,8 @@ use Rattle.mc_model.specs.Listing.{text_of}
 use Rattle.mc_model.specs.Chain.{Turn}
 use Rattle.mc_model.specs.Items.{StopAt}
 use Rattle.mc_model.specs.Play.{Step}
-use Rattle.mc_model.specs.Transcript.{hex_text, line_text}
+use Rattle.mc_model.specs.Text.{begins, pieces}
+use Rattle.mc_model.specs.Transcript.{hex_text, plain_text, texts, transcript}
 
 -- the text of an instruction, or `?`
 abbrev pub ins_text : Option Ins → List ℕ
@@ -46,7 +46,30 @@ abbrev pub turn_lines : List Turn → List ℕ
 turn_lines [] = []
 turn_lines (t ∷ ts) = turn_line t ++ turn_lines ts
 
+-- the text of a line that was played, behind the lines of its turns
+abbrev pub traced_text : Step → List ℕ
+traced_text t = turn_lines (shown_turns t.turns t.stop) ++ plain_text t
+
 -- the text of a traced play
-unfoldable pub traced : List Step → List ℕ
-traced [] = []
-traced (t ∷ ts) = turn_lines (shown_turns t.turns t.stop) ++ line_text t.number t.result ++ traced ts
+abbrev pub traced : List Step → List ℕ
+traced ts = texts traced_text ts
+
+-- ---- the transcript in it
+
+-- a line of a turn, and no other line, begins with `>`
+abbrev pub is_turn_line : List ℕ → Bool
+is_turn_line l = begins 62 l
+
+-- pieces with a line feed between each and the next
+abbrev pub joined : List (List ℕ) → List ℕ
+joined [] = []
+joined (p ∷ []) = p
+joined (p ∷ q ∷ ps) = p ++ 10 ∷ joined (q ∷ ps)
+
+-- a text without the lines that begin with `>`
+abbrev pub without_turn_lines : List ℕ → List ℕ
+without_turn_lines t = joined (filter (λ l. not (is_turn_line l)) (pieces (λ c. c == 10) t))
+
+-- a trace without its turns' lines is the transcript
+abbrev pub TraceLaw : Type 0
+TraceLaw = (ts : List Step) → without_turn_lines (traced ts) ≡ transcript ts

@@ -1,5 +1,4 @@
 -- The text that a play writes: for each line that answers its number, a blank, its result and a line feed.
--- This project's profile.
 use Rattle.std.specs.Prelude.{ℕ, ◌/◌, ◌%◌, List, [], ◌∷◌, ◌++◌, Option, Some, None, codes, decimal}
 use Rattle.mc_model.specs.declared.card.Cause.{Cause}
 use Rattle.mc_model.specs.declared.card.Cause.TheVariants.{BadJournal, NoRoot, BadBlock, BadRecord, BadChain}
@@ -64,7 +63,15 @@ abbrev pub line_text : ℕ → Option LineResult → List ℕ
 line_text n None = []
 line_text n (Some r) = decimal n ++ codes " " ++ shown r ++ codes "\n"
 
+-- the text of a line that was played
+abbrev pub plain_text : Step → List ℕ
+plain_text t = line_text t.number t.result
+
+-- the texts of lines that were played, joined
+abbrev pub texts : (Step → List ℕ) → List Step → List ℕ
+texts f [] = []
+texts f (t ∷ ts) = f t ++ texts f ts
+
 -- the text of a play
-unfoldable pub transcript : List Step → List ℕ
-transcript [] = []
-transcript (t ∷ ts) = line_text t.number t.result ++ transcript ts
+abbrev pub transcript : List Step → List ℕ
+transcript ts = texts plain_text ts

@@ -1,5 +1,5 @@
 -- Load units: the grammar as a reader and as a relation, and the name in a DIR record.
--- This project's profile; the objects of a DIR record are tag, length and value as in ISO/IEC 7816-4.
+-- The objects of a DIR record are tag, length and value (ISO/IEC 7816-4:2005, 5.2.2, BER-TLV data objects).
 use Rattle.std.specs.Prelude.{◌≡◌, ℕ, zero, suc, ◌+◌, ◌%◌, ◌<◌, ◌≤◌, cond, ◌&&◌, nat_lt, nat_le, ◌==◌, if◌then◌else◌, List, [], ◌∷◌, ◌++◌, length, take, drop, position, bytes_eq, Option, Some, None, option_map, option_and_then, Result, Ok, Err}
 use Rattle.mc_model.specs.Bytes.{be2, bytes2, zeros}
 use Rattle.mc_model.specs.declared.unit.UnitRefusal.{UnitRefusal}
@@ -72,6 +72,7 @@ name_of d = checked_name (option_and_then (λ t. name_among (length t) t) (templ
 -- ---- the fields of a unit, read from the front with the first refusal
 
 infixl 10 ◌>>=◌
+-- what is read next, unless a refusal came first
 abbrev pub ◌>>=◌ : {A B : Type 0} → Result A UnitRefusal → (A → Result B UnitRefusal) → Result B UnitRefusal
 (Ok x) >>= f = f x
 (Err e) >>= f = Err e

@@ -1,5 +1,4 @@
 -- What a family is told and holds, in a play and on a card of its own, and the law that both are the same.
--- This project's profile.
 use Rattle.std.specs.Prelude.{◌≡◌, ℕ, Bool, true, false, ◌&&◌, List, [], ◌∷◌, ◌++◌, map, Option, Some, None}
 use Rattle.mc_model.specs.Bytes.{has_name, lookup}
 use Rattle.mc_model.specs.Card.{App}

@@ -1,5 +1,4 @@
 -- The words that are printed of causes.
--- This project's profile.
 use Rattle.std.specs.Prelude.{ℕ, List, codes}
 use Rattle.mc_model.specs.declared.assembler.AsmCause.{AsmCause}
 use Rattle.mc_model.specs.declared.assembler.AsmCause.TheVariants as asm

@@ -1,5 +1,4 @@
 -- The verdicts on the load lines of a deck, found by following all facts of short code.
--- This project's profile.
 use Rattle.std.specs.Prelude.{ℕ, List, [], ◌∷◌, flat_map, Option, Result, Ok, Err}
 use Rattle.mc_model.specs.declared.deck.DeckCause.{DeckCause}
 use Rattle.mc_model.specs.DeckGrammar.{DeckLine, Load, deck_read}
@@ -13,11 +12,13 @@ verdict code session =
     let fs = facts_in 120 code (fact Main 0 0 ∷ []) in
     verdict_of code session fs (calls_in code fs)
 
+-- the verdict of a line, if it is a load line
 abbrev pub line_verdict : ℕ × DeckLine → List (ℕ × Option ℕ)
 unfolding verdict
 line_verdict (n, Load u fixed session) = (n, verdict u.code session) ∷ []
 line_verdict (n, _) = []
 
+-- the verdicts of a deck
 abbrev pub verdicts_of : Result (List (ℕ × DeckLine)) (ℕ × DeckCause) → List (ℕ × Option ℕ)
 unfolding line_verdict
 verdicts_of (Ok ls) = flat_map line_verdict ls

@@ -1,5 +1,4 @@
 -- The play of a generated deck in parts: what the lines of a part add to the summary, and the state between two parts.
--- This project's profile.
 use Rattle.std.specs.Prelude.{ℕ, ◌+◌, List, [], ◌∷◌, ◌++◌, length, replicate, codes, decimal, Option, Some, None}
 use Rattle.mc_model.specs.Image.{Journal}
 use Rattle.mc_model.specs.Units.{UnitParts}
@@ -16,6 +15,7 @@ generated_play n = plays (start (replicate 8192 (replicate 8 255))) (generated n
 
 -- ---- what lines add to a summary
 
+-- the counts of a summary
 pub record Summed : Type 0 where
   pub lines : ℕ
   pub replies : ℕ
@@ -25,6 +25,7 @@ pub record Summed : Type 0 where
   pub readies : ℕ
   pub dumps : List ℕ
 
+-- the counts of a play
 abbrev pub summed : List Step → Summed
 summed ts =
     record {
@@ -58,6 +59,7 @@ summed_text s =
 
 -- ---- parts
 
+-- the counts of a play and the state that it leaves
 abbrev pub told : State → List Step → Summed × State
 told s ts = (summed ts, last_state s ts)
 
@@ -66,9 +68,11 @@ unfoldable pub part : State → List (ℕ × DeckLine) → Summed × State
 unfolding steps_on
 part s ls = told s (plays s ls [])
 
+-- an application of a unit, with these static bytes at this place
 abbrev pub app_of : UnitParts → List ℕ → ℕ → App
 app_of u fixed place = record { code = u.code; fixed = fixed; session = 0; deny = 0; dir = u.dir; fci = u.fci; place = place }
 
+-- the purse, if it is on the card
 abbrev pub purse_in : Option (List ℕ) → List (List ℕ × App)
 purse_in None = []
 purse_in (Some fixed) = (purse_aid, app_of purse fixed 143) ∷ []

@@ -1,5 +1,4 @@
 -- Ways to write bytes, texts and lists of worked rows.
--- This project's profile.
 use Rattle.std.specs.Prelude.{ℕ, zero, suc, not, List, [], ◌∷◌, ◌++◌, take, filter, unwrap_or, Result}
 use Rattle.std.specs.Fmt.{digits}
 use Rattle.mc_model.specs.declared.instruction.DecodeFault.{DecodeFault}

@@ -1,5 +1,4 @@
 -- A view of a device that counts its reads.
--- This project's profile.
 use Rattle.mc_nvm.specs.declared.probe.Probe.{Probe}
 
 -- the device that a probe reads

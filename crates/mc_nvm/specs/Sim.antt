@@ -1,5 +1,4 @@
 -- A device in memory: what it means, and its writes under two fuses.
--- This project's profile.
 use Rattle.std.specs.Prelude.{◌≡◌, ◌+◌, ◌<◌, ◌≤◌, ℕ, Bool, true, false, replicate, List, length, slice_set, Option, Some, None, option_map, Ok, Err, refl}
 use Rattle.std.proofs.Common.{subst, sym, inl, inr, arith, zero, suc}
 use Rattle.std.proofs.lemmas.Bool.{cases_lt}
@@ -26,15 +25,17 @@ pub record Sim : Type 0 where
   pub arms : ℕ
   pub wears : ℕ
 
--- what a fuse in memory means, and what was found of the next write
+-- what a fuse in memory means
 abbrev pub fuse_of : Inside → Fuse
 fuse_of f = record { writes = f.writes; fill = f.fill }
 
+-- what was found of the next write
 abbrev pub due_of : Found → Due
 due_of (FoundCut fill) = DueCut fill
 due_of (FoundWorn fill) = DueWorn fill
 due_of FoundNot = DueNot
 
+-- a device in memory as it is seen
 abbrev pub sim_of : Held → Sim
 sim_of a = record { words = a.words.items; on = a.on; cuts = a.cuts; faults = a.faults; cut = option_map fuse_of a.cut; worn = option_map fuse_of a.worn; powers = a.powers; pokes = a.pokes; arms = a.arms; wears = a.wears }
 
@@ -42,10 +43,11 @@ sim_of a = record { words = a.words.items; on = a.on; cuts = a.cuts; faults = a.
 abbrev pub blank_sim : ℕ → Sim
 blank_sim n = record { words = replicate n (replicate 8 255); on = false; cuts = 0; faults = 0; cut = None; worn = None; powers = 0; pokes = 0; arms = 0; wears = 0 }
 
--- the device and the bench that it is; it tells no tape and is steady
+-- the device that it is; it tells no tape
 abbrev pub sim_state : Sim → DeviceState
 sim_state s = record { words = s.words; on = s.on; cuts = s.cuts; faults = s.faults; tape = None }
 
+-- the bench that it is; it refuses no write by itself
 abbrev pub sim_bench : Sim → BenchState
 sim_bench s = record { cut = s.cut; worn = s.worn; powers = s.powers; pokes = s.pokes; arms = s.arms; wears = s.wears; steady = true }
 
@@ -55,6 +57,7 @@ after_write s at w (DueCut fill) = record s { words = slice_set s.words at fill;
 after_write s at w (DueWorn fill) = record s { words = slice_set s.words at fill; faults = next_count s.faults; cut = counted s.cut; worn = counted s.worn }
 after_write s at w DueNot = record s { words = slice_set s.words at w; cut = counted s.cut; worn = counted s.worn }
 
+-- what a write answers of which this came
 abbrev pub answer_to : Due → Answer
 answer_to (DueCut fill) = Err Off
 answer_to (DueWorn fill) = Err Worn
@@ -72,6 +75,7 @@ own true (DueCut fill) = DueCut fill
 own true (DueWorn fill) = DueWorn (replicate 8 0)
 own true DueNot = DueWorn (replicate 8 0)
 
+-- what comes of the next write, where the device refuses it by itself or not
 abbrev pub next_due : Bool → Sim → Due
 next_due refused s = own refused (due (falling s.cut) (falling s.worn))
 

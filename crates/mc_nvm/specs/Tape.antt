@@ -1,5 +1,4 @@
 -- The tape of a device: what it tells, and when it tells no longer.
--- This project's profile.
 use Rattle.std.specs.Prelude.{◌≤◌, ℕ, Bool, true, false, nat_le, List, [], ◌∷◌, ◌++◌, length, map, vec_capacity, Option, Some, None}
 use Rattle.mc_model.specs.Device.{Entry}
 use Rattle.mc_nvm.specs.declared.tape.Entry.{Entry as Written}
@@ -10,13 +9,16 @@ pub record Told : Type 0 where
   pub room : ℕ
   pub told : Option (List Entry)
 
+-- an entry of the tape, as the code wrote it
 abbrev pub entry_of : Written → Entry
 entry_of e = record { at = e.at; left = e.left; end = e.end }
 
+-- the tape, unless there was no room for it all
 abbrev pub unless : Bool → List Entry → Option (List Entry)
 unless true es = None
 unless false es = Some es
 
+-- a tape as it is seen
 abbrev pub told_inside : TapeInside → Told
 told_inside t = record { room = t.room; told = unless t.over (map entry_of t.entries.items) }
 

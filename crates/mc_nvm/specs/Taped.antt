@@ -1,5 +1,4 @@
 -- A device in memory that tells its tape, and refuses the writes of a list besides.
--- This project's profile.
 use Rattle.std.specs.Prelude.{◌≡◌, ◌<◌, ℕ, Bool, true, false, ◌||◌, ◌==◌, nat_le, List, [], ◌∷◌, ◌++◌, length, slice_set, Option, Some, None, refl}
 use Rattle.std.proofs.Common.{subst, sym, inl}
 use Rattle.mc_model.specs.declared.device.Stop.{Stop}
@@ -17,20 +16,25 @@ pub record Taped : Type 0 where
   pub worn : List ℕ
   pub tried : ℕ
 
+-- a device with its tape as it is seen
 abbrev pub taped_inside : Held → Taped
 taped_inside d = record { device = d.device; tape = d.tape; worn = d.worn.items; tried = d.tried }
 
+-- a blank device with an empty tape
 abbrev pub blank_taped : ℕ → ℕ → List ℕ → Taped
 blank_taped n room worn = record { device = blank_sim n; tape = record { room = room; told = Some [] }; worn = worn; tried = 0 }
 
+-- whether a number is in a list
 abbrev pub is_listed : List ℕ → ℕ → Bool
 is_listed [] n = false
 is_listed (w ∷ ws) n = (w == n) || is_listed ws n
 
+-- whether a list is empty
 abbrev pub no_entry : List ℕ → Bool
 no_entry [] = true
 no_entry (w ∷ ws) = false
 
+-- the device with what it tells of its tape
 abbrev pub taped_state : Taped → DeviceState
 taped_state t = record (sim_state t.device) { tape = t.tape.told }
 
@@ -44,6 +48,7 @@ left_by (DueCut fill) w = fill
 left_by (DueWorn fill) w = fill
 left_by DueNot w = w
 
+-- the stop of a write of which this came
 abbrev pub stop_of : Due → Option Stop
 stop_of (DueCut fill) = Some Off
 stop_of (DueWorn fill) = Some Worn
@@ -53,6 +58,7 @@ stop_of DueNot = None
 abbrev pub taped_due : Taped → Due
 taped_due t = next_due (is_listed t.worn (next_count t.tried)) t.device
 
+-- the device after a write of which this came, with its entry
 abbrev pub after_taped : Taped → ℕ → List ℕ → Due → Taped
 after_taped t at w d =
     record t {

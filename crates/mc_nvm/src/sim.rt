@@ -56,6 +56,23 @@ impl SimNvm {
         })
     }
 
+    /// Makes this device blank again, as `new` made it: every byte FF, power off, no fuse, every count 0. Its length
+    /// stays, and it takes no memory.
+    pub fn erase(&mut self)
+        ensures { self.new ≡ blank_sim (length self.old.words) }
+    {
+        self.words.as_mut_slice().fill(BLANK);
+        self.on = false;
+        self.cuts = 0;
+        self.faults = 0;
+        self.cut = None;
+        self.worn = None;
+        self.powers = 0;
+        self.pokes = 0;
+        self.arms = 0;
+        self.wears = 0;
+    }
+
     /// A write that the device refuses by itself, where `refused` says so, and leaves eight zero bytes. The fuse of
     /// `arm` goes before that, and that before the fuse of `wear`.
     pub(crate) fn try_write(&mut self, at: u32, word: Word, refused: bool) -> Result<(), Stop>

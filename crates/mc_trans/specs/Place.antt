@@ -1,5 +1,4 @@
 -- Where a word stands among words that ascend by their numbers.
--- This project's profile.
 use Rattle.std.specs.Prelude.{ℕ, suc, cond, nat_le, List, [], ◌∷◌}
 
 -- the place of the first word whose number is not below this one, or the end

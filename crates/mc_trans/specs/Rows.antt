@@ -1,5 +1,4 @@
 -- Pieces for worked rows.
--- This project's profile.
 use Rattle.std.specs.Prelude.{ℕ, zero, suc, ◌*◌, List, [], ◌∷◌, ◌++◌}
 
 -- a piece of one byte at the front of each of the first so many words

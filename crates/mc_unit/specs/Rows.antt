@@ -1,5 +1,4 @@
 -- The unit of a small application, for worked rows: the code of a counter, and the name A000000001.
--- This project's profile.
 use Rattle.std.specs.Prelude.{ℕ, zero, suc, Bool, true, false, ◌&&◌, List, [], ◌∷◌, take, Result, Ok, Err}
 use Rattle.mc_model.specs.declared.unit.UnitRefusal.{UnitRefusal}
 use Rattle.mc_model.specs.declared.unit.UnitRefusal.TheVariants as refusals
@@ -9,9 +8,11 @@ use Rattle.mc_model.specs.Units.{unit_read, UnitParts}
 abbrev pub counter_name : List ℕ
 counter_name = 0xa0 ∷ 0 ∷ 0 ∷ 0 ∷ 1 ∷ []
 
+-- the code of a counter
 abbrev pub counter_code : List ℕ
 counter_code = 0xb9 ∷ 2 ∷ 0 ∷ 0 ∷ 0x39 ∷ 2 ∷ 0 ∷ 0 ∷ 0x46 ∷ 2 ∷ 0 ∷ 0 ∷ 6 ∷ 0 ∷ 2 ∷ []
 
+-- the bytes of its unit
 abbrev pub counter_unit : List ℕ
 counter_unit =
     0 ∷ 0 ∷ 0 ∷ 0 ∷ 0 ∷ 0 ∷ 0 ∷ 0 ∷ 0 ∷ 0xf ∷ 0xb9 ∷ 2 ∷ 0 ∷ 0 ∷ 0x39 ∷ 2 ∷ 0 ∷ 0 ∷ 0x46 ∷ 2 ∷ 0 ∷ 0 ∷ 6 ∷ 0 ∷ 2 ∷ 0 ∷ 0 ∷ 0 ∷ 9 ∷ 0x61 ∷ 7 ∷ 0x4f ∷ 5 ∷ 0xa0 ∷ 0 ∷ 0 ∷ 0 ∷ 1 ∷ 0 ∷ 9 ∷ 0x6f ∷ 7 ∷ 0x84 ∷ 5 ∷ 0xa0 ∷ 0 ∷ 0 ∷ 0 ∷ 1 ∷ 0 ∷ 0 ∷ 0 ∷ 0 ∷ []

@@ -1,0 +1,53 @@
+-- What holds of every run that begins well holds of every run of a play.
+use Rattle.std.proofs.Common.{ℕ, Bool, true, false, List, [], ◌∷◌, Option, Some, None}
+use Rattle.mc_model.specs.Apdu.{ApduParts}
+use Rattle.mc_model.specs.Card.{App, Card}
+use Rattle.mc_model.specs.Chain.{Chain}
+use Rattle.mc_model.specs.Items.{card_done}
+use Rattle.mc_model.specs.Manager.{Selected, Seat, Route, WrongLength, WrongClass, ToSelect, ToManager, ToApplication, route}
+use Rattle.mc_model.specs.DeckGrammar.{DeckLine}
+use Rattle.mc_model.specs.Play.{WornAt, Live, Running, Unpowered, Muted, Base, OnCard, AtFault, State, Cold, Hot, Step, command, is_done, plays, start}
+use Rattle.mc_model.specs.Laws.{bytes_of}
+use Rattle.mc_family.specs.Begins.{PassedWell, RoutedWell, BehindDone, SentWell, TakenWell, LineWell, BeginWell, OnPassed, OnRouted, OnSent, OnTaken, OnLine, OnEachRun, HoldsWherever}
+use Rattle.mc_family.proofs.PlaySizes.{begins_law}
+
+module _ (holds : ℕ → Chain → Type 0) (wherever : HoldsWherever holds) where
+  on-passed : (m : List (List ℕ × App)) (budget : ℕ) (o : Option Selected) (a : ApduParts) → PassedWell m o → OnPassed holds m budget o a
+  on-passed m budget None a h = tt
+  on-passed m budget (Some s) a h = wherever m s.name s.session a budget h.limited h.session
+
+  on-routed : (m : List (List ℕ × App)) (seat : Seat) (budget : ℕ) (r : Route) → RoutedWell m seat r → OnRouted holds m seat budget r
+  on-routed m seat budget (ToApplication a) h = on-passed m budget seat.selected a h
+  on-routed m seat budget WrongLength h = tt
+  on-routed m seat budget WrongClass h = tt
+  on-routed m seat budget (ToSelect a) h = tt
+  on-routed m seat budget (ToManager a) h = tt
+
+  behind-done : (b : Bool) (before after : Type 0) → (before → after) → BehindDone b before → BehindDone b after
+  behind-done true before after f h = f h
+  behind-done false before after f h = tt
+
+  on-sent : (c : Card) (seat : Seat) (budget : ℕ) (bs : List (List ℕ)) → SentWell c seat budget bs → OnSent holds c seat budget bs
+  on-sent c seat budget [] h = tt
+  on-sent c seat budget (b ∷ bs) h =
+      let r = command c seat b budget in
+      let d = card_done c r.items in
+      (on-routed c.apps seat budget (route b) h.0, behind-done (is_done r.outcome) (SentWell d r.seat budget bs) (OnSent holds d r.seat budget bs) (λ k. on-sent d r.seat budget bs k) h.1)
+
+  on-taken : (v : Live) (b : Base) (budget : ℕ) (bs : List (List ℕ)) → TakenWell v b budget bs → OnTaken holds v b budget bs
+  on-taken (Running seat) (OnCard c) budget bs h = on-sent c seat budget bs h
+  on-taken (Running seat) (AtFault cause p) budget bs h = tt
+  on-taken Unpowered b budget bs h = tt
+  on-taken Muted b budget bs h = tt
+
+  on-line : (z : State) (bs : List (List ℕ)) → LineWell z bs → OnLine holds z bs
+  on-line (Cold m b a) bs h = tt
+  on-line (Hot s) bs h = on-taken s.live s.base s.budget bs h
+
+  pub on-each : (ts : List Step) → BeginWell ts → OnEachRun holds ts
+  on-each [] h = tt
+  on-each (t ∷ ts) h = (on-line t.before (bytes_of t.line) h.0, on-each ts h.1)
+
+  -- of every play, and so of what the checker says of the runs of accepted code
+  pub each_run : (ls : List (ℕ × DeckLine)) (m : List (List ℕ)) (ws : List (Option WornAt)) → OnEachRun holds (plays (start m) ls ws)
+  each_run ls m ws = on-each (plays (start m) ls ws) (begins_law ls m ws)

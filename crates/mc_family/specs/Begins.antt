@@ -1,0 +1,117 @@
+-- Every application of a play is limited, and each run begins with as many session bytes as its application has.
+use Rattle.std.specs.Prelude.{◌≡◌, ℕ, ◌≤◌, Bool, true, false, List, [], ◌∷◌, length, Option, Some, None, ⊤}
+use Rattle.mc_model.specs.Bytes.{lookup}
+use Rattle.mc_model.specs.Apdu.{ApduParts}
+use Rattle.mc_model.specs.Card.{App, Card}
+use Rattle.mc_model.specs.Chain.{Chain}
+use Rattle.mc_model.specs.Chain.{start as begun}
+use Rattle.mc_model.specs.Items.{card_done}
+use Rattle.mc_model.specs.Manager.{most_static, Selected, Seat, Route, WrongLength, WrongClass, ToSelect, ToManager, ToApplication, route}
+use Rattle.mc_model.specs.DeckGrammar.{DeckLine}
+use Rattle.mc_model.specs.Play.{WornAt, Live, Running, Unpowered, Muted, Base, OnCard, AtFault, State, Cold, Hot, Step, command, is_done, plays, start}
+use Rattle.mc_model.specs.Laws.{bytes_of}
+
+-- the session bytes of an application, none where it is not there
+abbrev pub session_in : Option App → ℕ
+session_in None = 0
+session_in (Some a) = a.session
+
+-- each application keeps to the most static bytes
+abbrev pub AreLimited : List (List ℕ × App) → Type 0
+AreLimited map = (name : List ℕ) (a : App) → lookup map name ≡ Some a → length a.fixed ≤ most_static
+
+-- a run of the selected application begins on limited applications, with the session bytes of its own
+pub record BeginsWell (map : List (List ℕ × App)) (s : Selected) : Type 0 where
+  pub limited : AreLimited map
+  pub session : length s.session ≡ session_in (lookup map s.name)
+
+-- what is passed to a selected application
+abbrev pub PassedWell : List (List ℕ × App) → Option Selected → Type 0
+PassedWell map None = ⊤
+PassedWell map (Some s) = BeginsWell map s
+
+-- a command that is passed to the selected application
+abbrev pub RoutedWell : List (List ℕ × App) → Seat → Route → Type 0
+RoutedWell map seat (ToApplication a) = PassedWell map seat.selected
+RoutedWell map seat WrongLength = ⊤
+RoutedWell map seat WrongClass = ⊤
+RoutedWell map seat (ToSelect a) = ⊤
+RoutedWell map seat (ToManager a) = ⊤
+
+-- what holds of the commands behind one that was answered by 9000 alone
+abbrev pub BehindDone : Bool → Type 0 → Type 0
+BehindDone true later = later
+BehindDone false later = ⊤
+
+-- the commands of a line in turn, up to the first that is not answered by 9000 alone
+abbrev pub SentWell : Card → Seat → ℕ → List (List ℕ) → Type 0
+SentWell c seat budget [] = ⊤
+SentWell c seat budget (b ∷ bs) =
+    let r = command c seat b budget in
+    RoutedWell c.apps seat (route b) × BehindDone (is_done r.outcome) (SentWell (card_done c r.items) r.seat budget bs)
+
+-- those that a running card takes
+abbrev pub TakenWell : Live → Base → ℕ → List (List ℕ) → Type 0
+TakenWell (Running seat) (OnCard c) budget bs = SentWell c seat budget bs
+TakenWell (Running seat) (AtFault cause p) budget bs = ⊤
+TakenWell Unpowered base budget bs = ⊤
+TakenWell Muted base budget bs = ⊤
+
+-- those of a line that was played
+abbrev pub LineWell : State → List (List ℕ) → Type 0
+LineWell (Cold m b a) bs = ⊤
+LineWell (Hot s) bs = TakenWell s.live s.base s.budget bs
+
+-- each run of a play
+abbrev pub BeginWell : List Step → Type 0
+BeginWell [] = ⊤
+BeginWell (t ∷ ts) = LineWell t.before (bytes_of t.line) × BeginWell ts
+
+-- for every deck, image and list of worn stops, possible or not
+abbrev pub BeginsLaw : Type 0
+BeginsLaw = (ls : List (ℕ × DeckLine)) (m : List (List ℕ)) (ws : List (Option WornAt)) → BeginWell (plays (start m) ls ws)
+
+-- ---- what holds of each run
+
+-- what holds of the run of a command that is passed to an application: its budget and its first chain
+abbrev pub OnPassed : (ℕ → Chain → Type 0) → List (List ℕ × App) → ℕ → Option Selected → ApduParts → Type 0
+OnPassed holds map budget None a = ⊤
+OnPassed holds map budget (Some s) a = holds budget (begun map s.name s.session a)
+
+-- of a command by its route
+abbrev pub OnRouted : (ℕ → Chain → Type 0) → List (List ℕ × App) → Seat → ℕ → Route → Type 0
+OnRouted holds map seat budget (ToApplication a) = OnPassed holds map budget seat.selected a
+OnRouted holds map seat budget WrongLength = ⊤
+OnRouted holds map seat budget WrongClass = ⊤
+OnRouted holds map seat budget (ToSelect a) = ⊤
+OnRouted holds map seat budget (ToManager a) = ⊤
+
+-- of the commands of a line in turn, up to the first that is not answered by 9000 alone
+abbrev pub OnSent : (ℕ → Chain → Type 0) → Card → Seat → ℕ → List (List ℕ) → Type 0
+OnSent holds c seat budget [] = ⊤
+OnSent holds c seat budget (b ∷ bs) =
+    let r = command c seat b budget in
+    OnRouted holds c.apps seat budget (route b) × BehindDone (is_done r.outcome) (OnSent holds (card_done c r.items) r.seat budget bs)
+
+-- of those that a running card takes
+abbrev pub OnTaken : (ℕ → Chain → Type 0) → Live → Base → ℕ → List (List ℕ) → Type 0
+OnTaken holds (Running seat) (OnCard c) budget bs = OnSent holds c seat budget bs
+OnTaken holds (Running seat) (AtFault cause p) budget bs = ⊤
+OnTaken holds Unpowered base budget bs = ⊤
+OnTaken holds Muted base budget bs = ⊤
+
+-- of those of a line that was played
+abbrev pub OnLine : (ℕ → Chain → Type 0) → State → List (List ℕ) → Type 0
+OnLine holds (Cold m b a) bs = ⊤
+OnLine holds (Hot s) bs = OnTaken holds s.live s.base s.budget bs
+
+-- of every run of a play
+abbrev pub OnEachRun : (ℕ → Chain → Type 0) → List Step → Type 0
+OnEachRun holds [] = ⊤
+OnEachRun holds (t ∷ ts) = OnLine holds t.before (bytes_of t.line) × OnEachRun holds ts
+
+-- what holds of every run that begins on limited applications with the session bytes of its own
+abbrev pub HoldsWherever : (ℕ → Chain → Type 0) → Type 0
+HoldsWherever holds =
+    (map : List (List ℕ × App)) (first body : List ℕ) (apdu : ApduParts) (budget : ℕ)
+    → AreLimited map → length body ≡ session_in (lookup map first) → holds budget (begun map first body apdu)
