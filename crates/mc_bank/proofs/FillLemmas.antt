@@ -14,12 +14,12 @@ use Rattle.mc_model.specs.Items.{Site, Piece}
 use Rattle.mc_model.specs.Manager.{in_words}
 use Rattle.mc_bank.specs.declared.bank.Facts.{Facts}
 use Rattle.mc_bank.specs.declared.entries.Entry.{Entry}
-use Rattle.mc_bank.specs.Bank.{part_len, FitsLimits, IsGood}
-use Rattle.mc_bank.specs.Memory.{facts_in, named_at, first_free, IsWhole, IsMemory, apps_from, memory_room, entry_at, part_of, with_piece, MemoryDid}
+use Rattle.mc_bank.specs.Bank.{app_of, sizes_of, part_len, FitsLimits, IsGood}
+use Rattle.mc_bank.specs.Memory.{facts_in, first_free, IsWhole, IsMemory, apps_from, memory_room, entry_at, part_of, with_piece, MemoryDid}
 use Rattle.mc_bank.specs.Entries.{facts_kept, whole_at, apps_free}
 use Rattle.mc_bank.specs.MemoryLaws.{set_self, entry_set}
 use Rattle.mc_bank.specs.Left.{FillLeft}
-use Rattle.mc_bank.proofs.LeftLemmas.{length-spliced, front_piece, splice-splice, memory_kept, free_place}
+use Rattle.mc_bank.proofs.LeftLemmas.{length-spliced, front_piece, splice-splice, same_named, memory_kept, free_place}
 
 -- ---- one entry
 
@@ -158,6 +158,6 @@ fill_left m s p at b x h good range is =
       apps = record { apps = apps; cuts = refl; faults = refl; going = refl };
       piece = ap (λ (e : Entry). take (part_len p s.sizes) (part_of p e)) here ∙ ap (take (part_len p s.sizes)) (part_with p at b y) ∙ front_piece (part_len p s.sizes) (part_of p y) at b range small;
       others = λ q other. ap (λ (e : Entry). take (part_len q s.sizes) (part_of q e)) here ∙ ap (take (part_len q s.sizes)) (part_beside p q at b y other);
-      slots = λ j. ap (λ (fs : List (Option Facts)). named_at fs j) facts;
+      slots = λ j. same_named m (slice_set m s.place z) j facts (λ n. ap (λ (es : List (List ℕ × App)). sizes_of (app_of es (Some n))) apps);
       good = λ t ok. let few = ok.few in record { limits = ok.limits; few = subst (λ (l : List (List ℕ × App)). length l < 32) (sym apps) few; place = ap (λ (fs : List (Option Facts)). Some (first_free fs)) facts ∙ ok.place };
     })

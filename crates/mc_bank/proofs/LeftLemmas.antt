@@ -14,13 +14,15 @@ use Rattle.mc_model.specs.Manager.{word_parts}
 use Rattle.mc_base.specs.Name.{IsName}
 use Rattle.mc_bank.specs.declared.bank.Facts.{Facts}
 use Rattle.mc_bank.specs.declared.entries.Entry.{Entry}
-use Rattle.mc_bank.specs.Bank.{name_or, app_of, FitsLimits, CanCommit, IsGood}
-use Rattle.mc_bank.specs.Memory.{facts_in, named_at, first_free, is_named, AreFacts, IsWhole, IsMemory, AreApart, app_in, apps_from, memory_room, entry_at, with_app, with_list, freed, new_facts, fixed_len, MemoryDid}
+use Rattle.mc_bank.specs.Bank.{name_or, app_of, sizes_of, FitsLimits, CanCommit, IsGood}
+use Rattle.mc_bank.specs.Memory.{facts_in, named_at, memory_named, first_free, is_named, AreFacts, IsWhole, IsMemory, AreApart, app_in, apps_from, memory_room, entry_at, with_app, with_list, freed, new_facts, fixed_len, MemoryDid}
 use Rattle.mc_bank.specs.Entries.{facts_set, facts_kept, length-facts, free_has_no_name, free_is_there, no_name, apart_freed, apart_set, lookup_is, whole_set, whole_at, length-apps}
 use Rattle.mc_bank.specs.MemoryLaws.{split, app_is, memory_obeys, memory_keeps, memory_spares, memory_leaves}
 use Rattle.mc_bank.specs.Shown.{app_at}
+use Rattle.mc_bank.specs.Slots.{slot_place, name_of_slot}
+use Rattle.mc_bank.specs.SlotLaws.{slot_stays, commit_sized}
 use Rattle.mc_bank.specs.Left.{CommitLeft, CreateLeft, DeleteLeft}
-use Rattle.mc_bank.proofs.ShownLemmas.{name_there, slot_within}
+use Rattle.mc_bank.proofs.ShownLemmas.{name_at, slot_at, slot_within}
 
 -- ---- lists of bytes
 
@@ -69,6 +71,15 @@ some_name : (o : Option (List ℕ)) → IsSome o → o ≡ Some (name_or o)
 some_name None h = absurd (cc h)
 some_name (Some n) h = refl
 
+-- the name of a slot stands at its place
+place_name : (m : List Entry) (j : ℕ) → IsSome (memory_named m j) → named_at (facts_in m) (slot_place j) ≡ Some (name_or (memory_named m j))
+place_name m j there = sym (slot_at m j there) ∙ some_name (memory_named m j) there
+
+-- entries that keep all facts and all sizes keep the names of slots
+pub same_named : (m e : List Entry) (j : ℕ) → facts_in e ≡ facts_in m → ((n : List ℕ) → sizes_of (app_of (apps_from 0 e) (Some n)) ≡ sizes_of (app_of (apps_from 0 m) (Some n))) → memory_named e j ≡ memory_named m j
+same_named m e j facts sizes =
+    slot_stays (apps_from 0 m) (apps_from 0 e) j (named_at (facts_in e) (slot_place j)) sizes ∙ ap (λ (fs : List (Option Facts)). name_of_slot (apps_from 0 m) j (named_at fs (slot_place j))) facts
+
 -- ---- entries
 
 pub memory_kept : (m : List Entry) (k : ℕ) (x : Entry) → IsMemory m → x.facts ≡ (entry_at m k).facts → IsWhole x → IsMemory (slice_set m k x)
@@ -81,40 +92,44 @@ memory_kept m k x h same whole =
 
 -- ---- a commit
 
-fixed_size : (m : List Entry) (k : ℕ) → IsMemory m → IsSome (named_at (facts_in m) k) → (length (app_at m k).fixed ≡ fixed_len (entry_at m k).facts) × (fixed_len (entry_at m k).facts ≤ length (entry_at m k).fixed)
-fixed_size m k h there =
-    let n = name_there (named_at (facts_in m) k) there in
-    let s = split m k n.0 n.1 h.apart in
-    let w = whole_at m k (slot_within m k there) h.whole in
+fixed_size : (m : List Entry) (j : ℕ) → IsMemory m → IsSome (memory_named m j)
+    → (length (app_at m j).fixed ≡ fixed_len (entry_at m (slot_place j)).facts) × (fixed_len (entry_at m (slot_place j)).facts ≤ length (entry_at m (slot_place j)).fixed)
+fixed_size m j h there =
+    let k = slot_place j in
+    let at = name_at m j there in
+    let s = split m k at.0 at.1 h.apart in
+    let w = whole_at m k (slot_within m j there) h.whole in
     let facts = subst AreFacts s.stands w.facts in
     let le = facts.1.fixed in
     let long = w.fixed in
     let small : s.facts.sizes.fixed ≤ length (entry_at m k).fixed = omega (arith, le, long) in
     let len : fixed_len (entry_at m k).facts ≡ s.facts.sizes.fixed = ap fixed_len s.stands in
-    let app : app_at m k ≡ app_in k (entry_at m k) s.facts.sizes = ap (app_of (apps_from 0 m)) n.1 ∙ app_is m k n.0 s in
+    let app : app_at m j ≡ app_in k (entry_at m k) s.facts.sizes = ap (app_of (apps_from 0 m)) at.2 ∙ app_is m k at.0 s in
     (ap (λ (a : App). length a.fixed) app ∙ length-take-le s.facts.sizes.fixed (entry_at m k).fixed small ∙ sym len, subst (λ (i : ℕ). i ≤ length (entry_at m k).fixed) (sym len) small)
 
-pub commit_fits : (m : List Entry) (k : ℕ) (ws : List (ℕ × List ℕ)) → IsMemory m → IsSome (named_at (facts_in m) k) → CanCommit (app_at m k).fixed ws → AllByRecursion (λ w. 8 * w.0 + 8 ≤ length (entry_at m k).fixed) ws
-commit_fits m k ws h there can =
-    let size = fixed_size m k h there in
+pub commit_fits : (m : List Entry) (j : ℕ) (ws : List (ℕ × List ℕ)) → IsMemory m → IsSome (memory_named m j) → CanCommit (app_at m j).fixed ws → AllByRecursion (λ w. 8 * w.0 + 8 ≤ length (entry_at m (slot_place j)).fixed) ws
+commit_fits m j ws h there can =
+    let size = fixed_size m j h there in
     let a = size.0 in
     let b = size.1 in
-    words_fit (length (app_at m k).fixed) (length (entry_at m k).fixed) ws (omega (arith, a, b)) (whole_at m k (slot_within m k there) h.whole).fixed can.within
+    words_fit (length (app_at m j).fixed) (length (entry_at m (slot_place j)).fixed) ws (omega (arith, a, b)) (whole_at m (slot_place j) (slot_within m j there) h.whole).fixed can.within
 
-pub commit_left : (m : List Entry) (k : ℕ) (ws : List (ℕ × List ℕ)) (x : Entry) → IsMemory m → IsSome (named_at (facts_in m) k) → CanCommit (app_at m k).fixed ws → x ≡ with_list ws (entry_at m k) → CommitLeft m k ws (slice_set m k x)
-commit_left m k ws x h there can is =
-    let size = fixed_size m k h there in
-    let n = name_or (named_at (facts_in m) k) in
-    let w = whole_at m k (slot_within m k there) h.whole in
+pub commit_left : (m : List Entry) (j : ℕ) (ws : List (ℕ × List ℕ)) (x : Entry) → IsMemory m → IsSome (memory_named m j) → CanCommit (app_at m j).fixed ws → x ≡ with_list ws (entry_at m (slot_place j))
+    → CommitLeft m j ws (slice_set m (slot_place j) x)
+commit_left m j ws x h there can is =
+    let k = slot_place j in
+    let size = fixed_size m j h there in
+    let n = name_or (memory_named m j) in
+    let w = whole_at m k (slot_within m j there) h.whole in
     let whole : IsWhole (with_list ws (entry_at m k)) =
-    record { facts = w.facts; code = w.code; fixed = length-laid (entry_at m k).fixed ws can.pending.whole (commit_fits m k ws h there can) ∙ w.fixed; dir = w.dir; fci = w.fci } in
+    record { facts = w.facts; code = w.code; fixed = length-laid (entry_at m k).fixed ws can.pending.whole (commit_fits m j ws h there can) ∙ w.fixed; dir = w.dir; fci = w.fci } in
     let e = slice_set m k x in
     let did : MemoryDid m (Commit n ws) (Ok tt) e =
     record {
       answer = refl;
       done = record {
         slot = k;
-        named = some_name (named_at (facts_in m) k) there;
+        named = place_name m j there;
         apart = h.apart;
         within = subst (λ (i : ℕ). AllByRecursion (λ (v : ℕ × List ℕ). 8 * v.0 < i) ws) size.0 can.within;
         whole = size.1;
@@ -126,21 +141,23 @@ commit_left m k ws x h there can is =
       memory = memory_kept m k x h facts (subst IsWhole (sym is) whole);
       items = inl (e, did, refl);
       apps = memory_obeys m (Commit n ws) (Ok tt) e did;
-      slots = λ j. ap (λ (fs : List (Option Facts)). named_at fs j) (facts_kept m k x facts);
+      slots = λ i. same_named m e i (facts_kept m k x facts)
+          (λ l. ap (λ (es : List (List ℕ × App)). sizes_of (app_of es (Some l))) (memory_obeys m (Commit n ws) (Ok tt) e did).apps ∙ commit_sized (apps_from 0 m) n ws l);
       good = memory_spares m n ws (Ok tt) e did;
       bytes = memory_leaves m n ws (Ok tt) e did;
     }
 
 -- ---- a deletion
 
-pub delete_left : (m : List Entry) (k : ℕ) (x : Entry) → IsMemory m → IsSome (named_at (facts_in m) k) → x ≡ freed (entry_at m k) → DeleteLeft m k (slice_set m k x)
-delete_left m k x h there is =
-    let n = name_or (named_at (facts_in m) k) in
-    let w = whole_at m k (slot_within m k there) h.whole in
+pub delete_left : (m : List Entry) (j : ℕ) (x : Entry) → IsMemory m → IsSome (memory_named m j) → x ≡ freed (entry_at m (slot_place j)) → DeleteLeft m j (slice_set m (slot_place j) x)
+delete_left m j x h there is =
+    let k = slot_place j in
+    let n = name_or (memory_named m j) in
+    let w = whole_at m k (slot_within m j there) h.whole in
     let whole : IsWhole (freed (entry_at m k)) = record { facts = tt; code = w.code; fixed = w.fixed; dir = w.dir; fci = w.fci } in
     let e = slice_set m k x in
     let did : MemoryDid m (Remove n) (Ok tt) e =
-    record { answer = refl; done = record { slot = k; named = some_name (named_at (facts_in m) k) there; apart = h.apart; after = ap (slice_set m k) is } } in
+    record { answer = refl; done = record { slot = k; named = place_name m j there; apart = h.apart; after = ap (slice_set m k) is } } in
     let facts : facts_in e ≡ slice_set (facts_in m) k None = facts_set m k x ∙ ap (λ (y : Entry). slice_set (facts_in m) k y.facts) is in
     record {
       memory = record {
@@ -150,7 +167,7 @@ delete_left m k x h there is =
       };
       items = inl (e, did, refl);
       apps = memory_obeys m (Remove n) (Ok tt) e did;
-      slots = λ j l named other. memory_keeps m (Remove n) (Ok tt) e did j l named other;
+      slots = λ i l named other. memory_keeps m (Remove n) (Ok tt) e did i l named other;
     }
 
 -- ---- good sites
@@ -206,5 +223,5 @@ create_left m s n x h good fresh name is =
       items = did_blanks m s (word_parts s.sizes.init (zeros (s.sizes.fixed - s.sizes.init))) (Note s n 0 ∷ Note s n 1 ∷ Note s n 2 ∷ Note s n 3 ∷ Enter s n ∷ []) (Ok tt) e
           (inl (m, note 0, inl (m, note 1, inl (m, note 2, inl (m, note 3, inl (e, did, refl))))));
       apps = memory_obeys m (Enter s n) (Ok tt) e did;
-      slots = λ j there. memory_keeps m (Enter s n) (Ok tt) e did j (name_or (named_at (facts_in m) j)) (some_name (named_at (facts_in m) j) there) tt ∙ sym (some_name (named_at (facts_in m) j) there);
+      slots = λ j there. memory_keeps m (Enter s n) (Ok tt) e did j (name_or (memory_named m j)) (some_name (memory_named m j) there) tt ∙ sym (some_name (memory_named m j) there);
     }

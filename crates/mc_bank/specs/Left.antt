@@ -1,5 +1,4 @@
 -- What each call leaves of the entries of a bank in memory.
--- This project's profile.
 use Rattle.std.specs.Prelude.{◌≡◌, ◌≢◌, ℕ, List, [], ◌∷◌, map, IsSome, Some, Ok}
 use Rattle.mc_model.specs.declared.card.Part.{Part}
 use Rattle.mc_model.specs.Orders.{InOrder}
@@ -8,14 +7,14 @@ use Rattle.mc_model.specs.Items.{Site, Piece, Commit, Remove}
 use Rattle.mc_model.specs.Manager.{word_parts, create_items}
 use Rattle.mc_bank.specs.declared.entries.Entry.{Entry}
 use Rattle.mc_bank.specs.Bank.{name_or, committed, entered, StayGood, BytesStay, IsChanged}
-use Rattle.mc_bank.specs.Memory.{facts_in, named_at, apps_from, memory_state, memory_room, memory_standing, IsMemory, MemoryDid}
+use Rattle.mc_bank.specs.Memory.{memory_named, apps_from, memory_state, memory_room, memory_standing, IsMemory, MemoryDid}
 
 -- a commit
 pub record CommitLeft (m : List Entry) (k : ℕ) (ws : List (ℕ × List ℕ)) (e : List Entry) : Type 0 where
   pub memory : IsMemory e
-  pub items : InOrder MemoryDid m (Commit (name_or (named_at (facts_in m) k)) ws ∷ []) (Ok tt) e
-  pub apps : IsChanged (memory_state m) (committed (apps_from 0 m) (name_or (named_at (facts_in m) k)) ws) (memory_state e)
-  pub slots : (j : ℕ) → named_at (facts_in e) j ≡ named_at (facts_in m) j
+  pub items : InOrder MemoryDid m (Commit (name_or (memory_named m k)) ws ∷ []) (Ok tt) e
+  pub apps : IsChanged (memory_state m) (committed (apps_from 0 m) (name_or (memory_named m k)) ws) (memory_state e)
+  pub slots : (j : ℕ) → memory_named e j ≡ memory_named m j
   pub good : StayGood (apps_from 0 m) (memory_room m) (apps_from 0 e) (memory_room e)
   pub bytes : BytesStay (apps_from 0 m) (memory_room m) (memory_standing m) (memory_standing e)
 
@@ -26,7 +25,7 @@ pub record FillLeft (m : List Entry) (s : Site) (p : Part) (at : ℕ) (b : List 
   pub apps : IsChanged (memory_state m) (apps_from 0 m) (memory_state e)
   pub piece : memory_standing e s p ≡ splice (memory_standing m s p) at b
   pub others : (q : Part) → q ≢ p → memory_standing e s q ≡ memory_standing m s q
-  pub slots : (j : ℕ) → named_at (facts_in e) j ≡ named_at (facts_in m) j
+  pub slots : (j : ℕ) → memory_named e j ≡ memory_named m j
   pub good : StayGood (apps_from 0 m) (memory_room m) (apps_from 0 e) (memory_room e)
 
 -- a creation
@@ -34,11 +33,11 @@ pub record CreateLeft (m : List Entry) (s : Site) (n : List ℕ) (e : List Entry
   pub memory : IsMemory e
   pub items : InOrder MemoryDid m (create_items s n) (Ok tt) e
   pub apps : IsChanged (memory_state m) (insert (apps_from 0 m) n (entered s (memory_standing m s))) (memory_state e)
-  pub slots : (j : ℕ) → IsSome (named_at (facts_in m) j) → named_at (facts_in e) j ≡ named_at (facts_in m) j
+  pub slots : (j : ℕ) → IsSome (memory_named m j) → memory_named e j ≡ memory_named m j
 
 -- a deletion
 pub record DeleteLeft (m : List Entry) (k : ℕ) (e : List Entry) : Type 0 where
   pub memory : IsMemory e
-  pub items : InOrder MemoryDid m (Remove (name_or (named_at (facts_in m) k)) ∷ []) (Ok tt) e
-  pub apps : IsChanged (memory_state m) (remove (apps_from 0 m) (name_or (named_at (facts_in m) k))) (memory_state e)
-  pub slots : (j : ℕ) (n : List ℕ) → named_at (facts_in m) j ≡ Some n → n ≢ name_or (named_at (facts_in m) k) → named_at (facts_in e) j ≡ Some n
+  pub items : InOrder MemoryDid m (Remove (name_or (memory_named m k)) ∷ []) (Ok tt) e
+  pub apps : IsChanged (memory_state m) (remove (apps_from 0 m) (name_or (memory_named m k))) (memory_state e)
+  pub slots : (j : ℕ) (n : List ℕ) → memory_named m j ≡ Some n → n ≢ name_or (memory_named m k) → memory_named e j ≡ Some n

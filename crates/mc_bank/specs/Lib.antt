@@ -1,5 +1,7 @@
 pub mod Bank
 pub mod Names
+pub mod Slots
+pub mod SlotLaws
 pub mod Memory
 pub mod Entries
 pub mod MemoryLaws

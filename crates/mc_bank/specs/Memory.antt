@@ -1,5 +1,4 @@
 -- A bank in memory: 32 entries, each used or free, and what an item does to them.
--- This project's profile.
 use Rattle.std.specs.Prelude.{◌≡◌, ℕ, zero, suc, ◌-◌, ◌*◌, ◌<◌, ◌≤◌, Bool, false, ◌||◌, List, [], ◌∷◌, length, take, map, bytes_eq, slice_index_or, slice_set, Option, Some, None, Ok}
 use Rattle.std.specs.List.{AllByRecursion}
 use Rattle.mc_model.specs.declared.card.Part.{Part}
@@ -14,6 +13,7 @@ use Rattle.mc_base.specs.Name.{IsName}
 use Rattle.mc_bank.specs.declared.bank.Facts.{Facts}
 use Rattle.mc_bank.specs.declared.entries.Entry.{Entry}
 use Rattle.mc_bank.specs.Bank.{BankState, FitsLimits, part_len}
+use Rattle.mc_bank.specs.Slots.{slot_place, name_of_slot}
 
 -- ---- names
 
@@ -88,6 +88,10 @@ with_entry k e (Some f) apps = insert apps f.aid (app_in k e f.sizes)
 abbrev pub apps_from : ℕ → List Entry → List (List ℕ × App)
 apps_from k [] = []
 apps_from k (e ∷ es) = with_entry k e e.facts (apps_from (suc k) es)
+
+-- the name of a slot
+abbrev pub memory_named : List Entry → ℕ → Option (List ℕ)
+memory_named m k = name_of_slot (apps_from 0 m) k (named_at (facts_in m) (slot_place k))
 
 -- what a bank in memory means: it never stops
 abbrev pub memory_state : List Entry → BankState

@@ -1,5 +1,4 @@
 -- What an item does to the applications, the slots and the sites of a bank in memory.
--- This project's profile.
 use Rattle.std.specs.Prelude.{◌≡◌, ◌≢◌, ℕ, zero, suc, ◌+◌, ◌-◌, ◌*◌, ◌<◌, ◌≤◌, false, List, [], ◌∷◌, ◌++◌, length, take, drop, slice_set, unwrap_or, Option, Some, None}
 use Rattle.std.specs.List.{AllByRecursion}
 use Rattle.std.proofs.Common.{refl, ap, sym, subst, ◌∙◌, arith}
@@ -15,10 +14,12 @@ use Rattle.mc_model.specs.Card.{App}
 use Rattle.mc_model.specs.Items.{Site, BankItem, Piece, Blank, Note, Commit, Enter, Remove}
 use Rattle.mc_bank.specs.declared.bank.Facts.{Facts}
 use Rattle.mc_bank.specs.declared.entries.Entry.{Entry}
-use Rattle.mc_bank.specs.Bank.{app_of, no_app, part_len, with_words, committed, entered, item_done, Spares, StayGood, BytesStay, Changes}
+use Rattle.mc_bank.specs.Bank.{app_of, no_app, sizes_of, part_len, with_words, committed, entered, item_done, Spares, StayGood, BytesStay, Changes}
 use Rattle.mc_bank.specs.Names.{lookup-inserted, insert-twice, remove-inserted, length-same}
-use Rattle.mc_bank.specs.Memory.{facts_in, named_at, first_free, is_named, AreApart, app_in, apps_from, memory_state, memory_room, entry_at, part_of, with_piece, memory_standing, new_facts, with_app, with_list, freed, fixed_len, CommitDone, EnterDone, RemoveDone, ItemDone, MemoryDid}
-use Rattle.mc_bank.specs.Entries.{facts_set, facts_kept, named_here, named_other, free_has_no_name, free_named, name_gone, not_named_freed, lookup_none, apps_free, apps_set}
+use Rattle.mc_bank.specs.Memory.{facts_in, named_at, memory_named, first_free, is_named, AreApart, app_in, apps_from, memory_state, memory_room, entry_at, part_of, with_piece, memory_standing, new_facts, with_app, with_list, freed, fixed_len, CommitDone, EnterDone, RemoveDone, ItemDone, MemoryDid}
+use Rattle.mc_bank.specs.Slots.{slot_place}
+use Rattle.mc_bank.specs.SlotLaws.{HasSizes, EntersNot, has_sizes, slot_named, item_sized}
+use Rattle.mc_bank.specs.Entries.{facts_set, facts_kept, named_here, named_other, named_is, free_has_no_name, free_named, name_gone, not_named_freed, lookup_none, apps_free, apps_set}
 
 -- ---- lists of bytes
 
@@ -196,9 +197,25 @@ names_done m (Remove l) e d k n h q =
     ∙ ap (λ (fs : List (Option Facts)). named_at fs k) (facts_set m d.slot (freed (entry_at m d.slot)))
     ∙ named_other (facts_in m) d.slot None k n h (λ r. q (cc (sym r ∙ d.named)))
 
+-- no item enters a name that is there
+enters_other : (m : List Entry) (i : BankItem) (e : List Entry) → ItemDone m i e → (k : ℕ) (n : List ℕ) → named_at (facts_in m) k ≡ Some n → EntersNot n i
+enters_other m (Piece s p at b) e d k n h = tt
+enters_other m (Blank s at c) e d k n h = tt
+enters_other m (Note s l i) e d k n h = tt
+enters_other m (Commit l ws) e d k n h = tt
+enters_other m (Enter s l) e d k n h = λ same. cc (sym (named_is (facts_in m) k n h) ∙ ap (is_named (facts_in m)) (sym same) ∙ d.fresh)
+enters_other m (Remove l) e d k n h = tt
+
+sizes_done : (m : List Entry) (i : BankItem) (e : List Entry) → ItemDone m i e → (k : ℕ) (n : List ℕ) → named_at (facts_in m) k ≡ Some n → Spares n i → sizes_of (app_of (apps_from 0 e) (Some n)) ≡ sizes_of (app_of (apps_from 0 m) (Some n))
+sizes_done m i e d k n h q =
+    ap (λ (es : List (List ℕ × App)). sizes_of (app_of es (Some n))) (apps_done m i e d)
+    ∙ item_sized (memory_standing m) i (apps_from 0 m) n q (enters_other m i e d k n h)
+
 -- and keeps the slots of all but the one that it deletes
-pub memory_keeps : (m : List Entry) (i : BankItem) (a : Answer) (e : List Entry) → MemoryDid m i a e → (k : ℕ) (n : List ℕ) → named_at (facts_in m) k ≡ Some n → Spares n i → named_at (facts_in e) k ≡ Some n
-memory_keeps m i a e d = names_done m i e d.done
+pub memory_keeps : (m : List Entry) (i : BankItem) (a : Answer) (e : List Entry) → MemoryDid m i a e → (k : ℕ) (n : List ℕ) → memory_named m k ≡ Some n → Spares n i → memory_named e k ≡ Some n
+memory_keeps m i a e d k n h q =
+    let s : HasSizes (apps_from 0 m) k (named_at (facts_in m) (slot_place k)) n = has_sizes (apps_from 0 m) k (named_at (facts_in m) (slot_place k)) n h in
+    slot_named (apps_from 0 e) k (named_at (facts_in e) (slot_place k)) n (names_done m i e d.done (slot_place k) n s.name q) (s.sizes ∙ sym (sizes_done m i e d.done (slot_place k) n s.name q))
 
 commit_facts : (m : List Entry) (n : List ℕ) (ws : List (ℕ × List ℕ)) (e : List Entry) → CommitDone m n ws e → facts_in e ≡ facts_in m
 commit_facts m n ws e d = ap facts_in d.after ∙ facts_kept m d.slot (with_list ws (entry_at m d.slot)) refl

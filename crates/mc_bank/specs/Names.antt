@@ -1,5 +1,4 @@
 -- Laws of maps that are keyed by names: their order, and insertions that may change places.
--- This project's profile.
 use Rattle.std.specs.Prelude.{◌≡◌, ℕ, Bool, true, false, cond, List, [], ◌∷◌, length, bytes_eq, Some, None}
 use Rattle.std.specs.List.{AllByRecursion}
 use Rattle.std.proofs.Common.{suc, refl, ap, subst, ◌∙◌, arith}

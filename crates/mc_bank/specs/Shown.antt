@@ -1,16 +1,15 @@
 -- What the entry of a slot shows of its application.
--- This project's profile.
 use Rattle.std.specs.Prelude.{◌≡◌, ℕ, ◌+◌, ◌≤◌, List, length, take, drop, IsSome, Some}
 use Rattle.mc_model.specs.Bytes.{lookup}
 use Rattle.mc_model.specs.Card.{App}
 use Rattle.mc_bank.specs.declared.bank.Facts.{Facts}
 use Rattle.mc_bank.specs.declared.entries.Entry.{Entry}
 use Rattle.mc_bank.specs.Bank.{app_of, sizes_of, FitsLimits}
-use Rattle.mc_bank.specs.Memory.{facts_in, named_at, apps_from}
+use Rattle.mc_bank.specs.Memory.{memory_named, apps_from}
 
--- the application of an entry
+-- the application of a slot
 abbrev pub app_at : List Entry → ℕ → App
-app_at m k = app_of (apps_from 0 m) (named_at (facts_in m) k)
+app_at m k = app_of (apps_from 0 m) (memory_named m k)
 
 -- a section is the front of its memory
 abbrev pub IsFront : List ℕ → List ℕ → Type 0
@@ -18,7 +17,7 @@ IsFront xs ys = (at n : ℕ) → at + n ≤ length xs → (at + n ≤ length ys)
 
 -- facts are those of an application
 pub record Tells (m : List Entry) (k : ℕ) (f : Facts) : Type 0 where
-  pub name : named_at (facts_in m) k ≡ Some f.aid
+  pub name : memory_named m k ≡ Some f.aid
   pub app : IsSome (lookup (apps_from 0 m) f.aid)
   pub sizes : f.sizes ≡ sizes_of (app_at m k)
   pub limits : FitsLimits f.sizes

@@ -5,6 +5,7 @@ ghost use Rattle.mc_model.specs.Orders.{Answer, InOrder};
 ghost use Rattle.mc_model.specs.Bytes.{lookup, insert, remove, splice};
 ghost use Rattle.mc_model.specs.Items.{Site as SiteValue, BankItem, Piece, Commit, Remove};
 ghost use Rattle.mc_model.specs.Manager.{word_parts, create_items};
+ghost use Rattle.mc_bank.specs.Slots.{slot_number, slot_place, slot_sizes};
 ghost use Rattle.mc_bank.specs.Bank.{BankState, app_of, name_or, sizes_of, FitsLimits, AreApps, part_len, opened, IsGood, HasParts, StayGood, BytesStay, CanCommit, committed, entered, item_done, Spares, Changes};
 
 use mc_base::{Aid, Steps, Stop, Word};
@@ -12,35 +13,53 @@ use mc_model::{OpenRefusal, Part, Sizes};
 use std::marker::Model;
 use std::sync::ledger::Ledger;
 
-/// A name of an application that is on the card, for as long as it is there.
+/// A name of an application that is on the card, for as long as it is there: the number of its place, and its sizes,
+/// which stay while it is there.
 #[derive(Clone, Copy, Debug, PartialEq, Eq)]
 pub struct Slot {
     pub(crate) index: u16,
+    pub(crate) sizes: Sizes,
 }
 
 impl Model for Slot {
     ghost use Rattle.std.specs.Prelude.{ℕ};
+    ghost use Rattle.std.proofs.Common.{ap};
+    ghost use Rattle.mc_bank.specs.Slots.{slot_number, slot_place, slot_sizes, AreDigits};
+    ghost use Rattle.mc_bank.specs.SlotLaws.{slot_back};
 
     ghost Value = { ℕ };
 
-    ghost view = { λ s. s.index };
+    ghost view = { λ s. slot_number s.index s.sizes };
 
-    ghost inverse = { λ n. record { index = n } };
+    ghost invariant = { λ s. AreDigits s.index s.sizes };
+
+    ghost inverse = { λ k. record { index = slot_place k; sizes = slot_sizes k } };
+
+    ghost inverse_ok = { λ s h. ap (λ p. record { index = p.0; sizes = p.1 }) (slot_back s.index s.sizes h) };
 }
 
 impl Slot {
-    /// The slot with this number, as a bank gives it out.
-    pub fn new(index: u16) -> Slot
-        ensures { result ≡ index }
+    /// The slot with this number, of an application of these sizes, as a bank gives it out.
+    pub fn new(index: u16, sizes: Sizes) -> Slot
+        ensures number { result ≡ slot_number index sizes }
+        ensures place { slot_place result ≡ index }
+        ensures sizes { slot_sizes result ≡ sizes }
     {
-        Slot { index }
+        Slot { index, sizes }
     }
 
     /// The number by which a bank knows the slot.
     pub fn index(&self) -> u16
-        ensures { result ≡ self.now }
+        ensures { result ≡ slot_place self.now }
     {
         self.index
+    }
+
+    /// The sizes of the slot's application.
+    pub fn sizes(&self) -> Sizes
+        ensures { result ≡ slot_sizes self.now }
+    {
+        self.sizes
     }
 }
 
@@ -107,6 +126,9 @@ pub trait Bank {
     /// One item: the bank before, the item, the answer, the bank after.
     ghost did: { Self → BankItem → Answer → Self → Type 0 };
 
+    /// A slot has the sizes of its application.
+    ghost sized: { (b : Self) (k : ℕ) → IsSome (named b k) → slot_sizes k ≡ sizes_of (app_of (state b).apps (named b k)) };
+
     /// The slot of a name, or `None` exactly where the name is not there.
     fn find(&self, aid: &Aid) -> Option<Slot>
         requires going { (state self.now).stopped ≡ false }
@@ -170,7 +192,8 @@ pub trait Bank {
         ensures good { IfOk result (λ site. IsGood (state self.now).apps (room self.now) site) }
         ensures parts { IfOk result (λ site. HasParts site (standing self.now site)) }
         ensures rises { steps.old ≤ steps.new }
-        ensures ticks { steps.new ≤ steps.old + (state self.now).ticks };
+        ensures ticks { steps.new ≤ steps.old + (state self.now).ticks }
+        ensures full { 32 ≤ length (state self.now).apps → steps.new ≡ steps.old };
 
     /// Sets bytes of a section of a good site, and no other bytes of it. The bytes of other sites may change.
     fn fill(&mut self, site: &Site, part: Part, at: u16, piece: &[u8]) -> Result<(), Stop>

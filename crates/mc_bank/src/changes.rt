@@ -2,24 +2,24 @@ ghost use Rattle.std.specs.Prelude.{◌≡◌, ◌+◌, ◌≤◌, length, vec_l
 ghost use Rattle.mc_model.specs.Bytes.{lookup};
 ghost use Rattle.mc_base.specs.Name.{IsName};
 ghost use Rattle.mc_bank.specs.Bank.{CanCommit, IsGood, part_len};
-ghost use Rattle.mc_bank.specs.Memory.{facts_in, named_at, apps_from, memory_room, IsMemory};
+ghost use Rattle.mc_bank.specs.Memory.{memory_named, apps_from, memory_room, IsMemory};
 ghost use Rattle.mc_bank.specs.Shown.{app_at};
 ghost use Rattle.mc_bank.specs.Left.{CommitLeft, FillLeft, CreateLeft, DeleteLeft};
 
-use crate::bank::Site;
+use crate::bank::{Site, Slot};
 use crate::entries::{Entry, put_app, put_piece, put_words};
 use mc_base::{Aid, Word};
 use mc_model::Part;
 
 /// Sets words of an application.
-pub fn commit(entries: &mut Vec<Entry>, index: u16, list: &[(u16, Word)])
+pub fn commit(entries: &mut Vec<Entry>, slot: Slot, list: &[(u16, Word)])
     requires memory { IsMemory entries.old.items }
-    requires there { IsSome (named_at (facts_in entries.old.items) index) }
-    requires list { CanCommit (app_at entries.old.items index).fixed list.now }
-    ensures left { CommitLeft entries.old.items index list.now entries.new.items }
+    requires there { IsSome (memory_named entries.old.items slot) }
+    requires list { CanCommit (app_at entries.old.items slot).fixed list.now }
+    ensures left { CommitLeft entries.old.items slot list.now entries.new.items }
 {
     check_len(entries);
-    put_words(&mut entries[index as usize], list);
+    put_words(&mut entries[slot.index() as usize], list);
 }
 
 /// Sets bytes of a section of a good site.
@@ -60,11 +60,11 @@ fn check_name(aid: &Aid)
 }
 
 /// Frees the entry of an application.
-pub fn delete(entries: &mut Vec<Entry>, index: u16)
+pub fn delete(entries: &mut Vec<Entry>, slot: Slot)
     requires memory { IsMemory entries.old.items }
-    requires there { IsSome (named_at (facts_in entries.old.items) index) }
-    ensures left { DeleteLeft entries.old.items index entries.new.items }
+    requires there { IsSome (memory_named entries.old.items slot) }
+    ensures left { DeleteLeft entries.old.items slot entries.new.items }
 {
     check_len(entries);
-    entries[index as usize].facts = None;
+    entries[slot.index() as usize].facts = None;
 }

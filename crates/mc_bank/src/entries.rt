@@ -2,10 +2,10 @@ ghost use Rattle.std.specs.Prelude.{◌≡◌, ◌+◌, ◌-◌, ◌*◌, ◌<�
 ghost use Rattle.std.specs.List.{AllByRecursion};
 ghost use Rattle.mc_model.specs.Bytes.{splice, zeros};
 ghost use Rattle.mc_model.specs.Pieces.{laid_pieces, word_pieces};
-ghost use Rattle.mc_bank.specs.Memory.{facts_in, named_at, first_free, used, has, is_named, entry_at, part_of, with_piece, with_list, with_app, IsMemory};
+ghost use Rattle.mc_bank.specs.Memory.{facts_in, named_at, memory_named, first_free, used, has, is_named, part_of, with_piece, with_list, with_app, IsMemory};
 ghost use Rattle.mc_bank.specs.Shown.{Shows};
 
-use crate::bank::Facts;
+use crate::bank::{Facts, Slot};
 use mc_base::{Aid, Word};
 use mc_model::{Part, Sizes};
 
@@ -142,12 +142,21 @@ pub fn put_app(entry: &mut Entry, sizes: &Sizes, aid: &Aid)
     });
 }
 
-/// The entry of an application.
-pub fn used_entry(entries: &[Entry], index: u16) -> &Entry
+/// The slot of the application in an entry that is used.
+pub fn slot_of(entries: &[Entry], index: u16) -> Slot
     requires memory { IsMemory entries.now }
     requires there { IsSome (named_at (facts_in entries.now) index) }
-    ensures entry { result.now ≡ entry_at entries.now index }
-    ensures shows { Shows entries.now index result.now }
+    ensures { memory_named entries.now result ≡ named_at (facts_in entries.now) index }
 {
-    &entries[index as usize]
+    let entry = &entries[index as usize];
+    Slot::new(index, entry.facts.unwrap().sizes)
+}
+
+/// The entry of an application.
+pub fn used_entry(entries: &[Entry], slot: Slot) -> &Entry
+    requires memory { IsMemory entries.now }
+    requires there { IsSome (memory_named entries.now slot) }
+    ensures { Shows entries.now slot result.now }
+{
+    &entries[slot.index() as usize]
 }

@@ -3,7 +3,7 @@ ghost use Rattle.mc_bank.specs.Memory.{apps_from};
 
 use crate::bank::{Bank, Facts, Site, Slot};
 use crate::changes;
-use crate::entries::{Entry, count_used, entry_of, free_entry, read, used_entry};
+use crate::entries::{Entry, count_used, entry_of, free_entry, read, slot_of, used_entry};
 use mc_base::{Aid, NoMemory, Steps, Stop, Word};
 use mc_model::{OpenRefusal, Part, Sizes};
 use std::alloc::Global;
@@ -50,18 +50,23 @@ impl MemBank {
 }
 
 impl Bank for MemBank {
-    ghost use Rattle.mc_bank.specs.Memory.{facts_in, named_at, memory_state, memory_room, memory_standing, MemoryDid};
+    ghost use Rattle.mc_bank.specs.Memory.{memory_state, memory_named, memory_room, memory_standing, MemoryDid};
+    ghost use Rattle.mc_bank.specs.Memory.{facts_in, named_at};
+    ghost use Rattle.mc_bank.specs.Slots.{slot_place};
+    ghost use Rattle.mc_bank.specs.SlotLaws.{slot_sized};
     ghost use Rattle.mc_bank.specs.MemoryLaws.{memory_obeys, memory_keeps, memory_spares, memory_leaves};
 
     ghost state = { memory_state };
 
-    ghost named = { λ b k. named_at (facts_in b) k };
+    ghost named = { memory_named };
 
     ghost room = { memory_room };
 
     ghost standing = { memory_standing };
 
     ghost did = { MemoryDid };
+
+    ghost sized = { λ b k there. slot_sized (apps_from 0 b) k (named_at (facts_in b) (slot_place k)) there };
 
     ghost obeys = { memory_obeys };
 
@@ -73,7 +78,7 @@ impl Bank for MemBank {
 
     fn find(&self, aid: &Aid) -> Option<Slot> {
         match entry_of(&self.entries, aid) {
-            Some(index) => Some(Slot { index }),
+            Some(index) => Some(slot_of(&self.entries, index)),
             None => None,
         }
     }
@@ -83,35 +88,23 @@ impl Bank for MemBank {
     }
 
     fn facts(&self, slot: Slot) -> Facts {
-        used_entry(&self.entries, slot.index).facts.unwrap()
+        used_entry(&self.entries, slot).facts.unwrap()
     }
 
     fn code(&self, slot: Slot, at: u16, into: &mut [u8]) {
-        read(
-            &used_entry(&self.entries, slot.index).code,
-            at as usize,
-            into,
-        );
+        read(&used_entry(&self.entries, slot).code, at as usize, into);
     }
 
     fn fixed(&self, slot: Slot, at: u16, into: &mut [u8]) {
-        read(
-            &used_entry(&self.entries, slot.index).fixed,
-            at as usize,
-            into,
-        );
+        read(&used_entry(&self.entries, slot).fixed, at as usize, into);
     }
 
     fn fci(&self, slot: Slot, at: u16, into: &mut [u8]) {
-        read(
-            &used_entry(&self.entries, slot.index).fci,
-            at as usize,
-            into,
-        );
+        read(&used_entry(&self.entries, slot).fci, at as usize, into);
     }
 
     fn commit(&mut self, slot: Slot, list: &[(u16, Word)]) -> Result<(), Stop> {
-        changes::commit(&mut self.entries, slot.index, list);
+        changes::commit(&mut self.entries, slot, list);
         Ok(())
     }
 
@@ -136,7 +129,7 @@ impl Bank for MemBank {
     }
 
     fn delete(&mut self, slot: Slot) -> Result<(), Stop> {
-        changes::delete(&mut self.entries, slot.index);
+        changes::delete(&mut self.entries, slot);
         Ok(())
     }
 }

@@ -1,13 +1,13 @@
 -- The chain of holes, and a search along it.
-use Rattle.std.proofs.Common.{◌≡◌, ◌≢◌, ℕ, ◌+◌, ◌-◌, ◌<◌, ◌≤◌, Bool, true, false, List, [], ◌∷◌, length, Option, Some, None, refl, sym, ◌∙◌, ap, subst, arith, cond, not}
+use Rattle.std.proofs.Common.{◌≡◌, ◌≢◌, ℕ, suc, ◌+◌, ◌-◌, ◌<◌, ◌≤◌, Bool, true, false, List, [], ◌∷◌, length, Option, Some, None, refl, sym, ◌∙◌, ap, subst, arith, cond, not}
 use Rattle.std.specs.Prelude.{nat_le, ◌==◌}
-use Rattle.std.proofs.lemmas.Bool.{leb-false, le-leb, lt-leb, ne_eqb, eqb-true}
+use Rattle.std.proofs.lemmas.Bool.{leb-true, leb-false, le-leb, lt-leb, ne_eqb, eqb-true}
 use Rattle.mc_model.specs.Bytes.{be2, or_else}
 use Rattle.mc_model.specs.Image.{Closed, look}
 use Rattle.mc_model.specs.Device.{IsImage}
 use Rattle.mc_model.specs.Card.{Card, Block, word, header, blocks, means}
 use Rattle.mc_model.specs.Layout.{first_hole, first_place, first_fitting, gaps, bad_link, IsWellLaid}
-use Rattle.mc_blocks.specs.Chains.{Above, IsChain}
+use Rattle.mc_blocks.specs.Chains.{Above, IsChain, looked_at}
 use Rattle.mc_blocks.specs.Blocks.{hole_spans}
 use Rattle.mc_blocks.proofs.Steps.{HeaderIs, header-is}
 use Rattle.mc_blocks.proofs.Tiles.{Tiled, AreRead, first-is}
@@ -77,15 +77,12 @@ pub record Search (m : List (List ℕ)) (need : ℕ) (whole : List (ℕ × ℕ))
   pub chain : IsChain m rest
   pub here : place ≡ first_place rest
   pub same : first_fitting need whole ≡ first_fitting need rest
-  pub rises : start ≤ steps
-  pub ticks : steps + length rest ≤ start + length whole + 1
+  pub ticks : steps + looked_at need rest ≡ start + (1 + looked_at need whole)
 
 -- what is known of a hole on the way
 pub record OnTheWay (m : List (List ℕ)) (need : ℕ) (whole : List (ℕ × ℕ)) (place start steps : ℕ) : Type 0 where
   pub within : place < length m
-  pub rises : start ≤ steps
-  pub ticks : steps + 1 ≤ start + length whole + 1
-  pub found : need ≤ be2 (word m place) 2 → first_fitting need whole ≡ Some place
+  pub found : need ≤ be2 (word m place) 2 → (first_fitting need whole ≡ Some place) × (steps + 1 ≡ start + (1 + looked_at need whole))
   pub next : be2 (word m place) 2 < need → Search m need whole (be2 (word m place) 4) start (steps + 1)
   pub nearer : left_of (length m) (be2 (word m place) 4) < left_of (length m) place
 
@@ -101,51 +98,62 @@ next-nearer size place (g ∷ gs) low high a =
     (subst (λ (t : Bool). cond t 0 (size - g.0) < size - place) (sym (ne_eqb g.0 0 also)) (omega arith))
 
 way : (m : List (List ℕ)) (need : ℕ) (whole rest : List (ℕ × ℕ)) (place start steps : ℕ) → IsChain m rest → place ≡ first_place rest → first_fitting need whole ≡ first_fitting need rest
-    → start ≤ steps → steps + length rest ≤ start + length whole + 1 → place ≢ 0 → OnTheWay m need whole place start steps
-way m need whole [] place start steps chain here same rises ticks ne = absurd (ne here)
-way m need whole (g ∷ gs) place start steps chain here same rises ticks ne =
+    → steps + looked_at need rest ≡ start + (1 + looked_at need whole) → place ≢ 0 → OnTheWay m need whole place start steps
+way m need whole [] place start steps chain here same ticks ne = absurd (ne here)
+way m need whole (g ∷ gs) place start steps chain here same ticks ne =
     let low : 1 ≤ g.0 = chain.0 in
     let high : g.0 + g.1 ≤ length m = chain.1 in
     let long : 1 ≤ g.1 = chain.2 in
     subst (λ (p : ℕ). OnTheWay m need whole p start steps) (sym here)
     (record {
       within = omega arith;
-      rises = rises;
-      ticks = omega arith;
-      found = λ h. same ∙ ap (λ (t : Bool). cond t (Some g.0) (first_fitting need gs)) (le-leb need g.1 (subst (λ (n : ℕ). need ≤ n) chain.3 h));
-      next = λ h. record {
-        rest = gs;
-        chain = chain.6;
-        here = chain.4;
-        same = same ∙ ap (λ (t : Bool). cond t (Some g.0) (first_fitting need gs)) (lt-leb need g.1 (subst (λ (n : ℕ). n < need) chain.3 h));
-        rises = omega arith;
-        ticks = omega arith;
-      };
+      found = λ h.
+          let yes : nat_le need g.1 ≡ true = le-leb need g.1 (subst (λ (n : ℕ). need ≤ n) chain.3 h) in
+          let one : looked_at need (g ∷ gs) ≡ 1 = ap (λ (t : Bool). suc (cond t 0 (looked_at need gs))) yes in
+          (same ∙ ap (λ (t : Bool). cond t (Some g.0) (first_fitting need gs)) yes, ap (λ (n : ℕ). steps + n) (sym one) ∙ ticks);
+      next = λ h.
+          let no : nat_le need g.1 ≡ false = lt-leb need g.1 (subst (λ (n : ℕ). n < need) chain.3 h) in
+          let more : looked_at need (g ∷ gs) ≡ suc (looked_at need gs) = ap (λ (t : Bool). suc (cond t 0 (looked_at need gs))) no in
+          record {
+            rest = gs;
+            chain = chain.6;
+            here = chain.4;
+            same = same ∙ ap (λ (t : Bool). cond t (Some g.0) (first_fitting need gs)) no;
+            ticks = omega (arith, ticks, more);
+          };
       nearer = subst (λ (p : ℕ). left_of (length m) p < left_of (length m) g.0) (sym chain.4) (next-nearer (length m) g.0 gs low (omega arith) chain.5);
     })
 
 pub on-the-way : (m : List (List ℕ)) (need : ℕ) (whole : List (ℕ × ℕ)) (place start steps : ℕ) → Search m need whole place start steps → place ≢ 0 → OnTheWay m need whole place start steps
-on-the-way m need whole place start steps s ne = way m need whole s.rest place start steps s.chain s.here s.same s.rises s.ticks ne
+on-the-way m need whole place start steps s ne = way m need whole s.rest place start steps s.chain s.here s.same s.ticks ne
 
 none-left : (m : List (List ℕ)) (need : ℕ) (rest : List (ℕ × ℕ)) → IsChain m rest → first_place rest ≡ 0 → first_fitting need rest ≡ None
 none-left m need [] chain h = refl
 none-left m need (g ∷ gs) chain h = let low : 1 ≤ g.0 = chain.0 in absurd (omega (arith, h))
 
+all-looked : (m : List (List ℕ)) (need : ℕ) (rest : List (ℕ × ℕ)) → IsChain m rest → first_place rest ≡ 0 → looked_at need rest ≡ 0
+all-looked m need [] chain h = refl
+all-looked m need (g ∷ gs) chain h = let low : 1 ≤ g.0 = chain.0 in absurd (omega (arith, h))
+
 -- at the end of the chain no hole was long enough
-pub search-ends : (m : List (List ℕ)) (need : ℕ) (whole : List (ℕ × ℕ)) (place start steps : ℕ) → Search m need whole place start steps → place ≡ 0 → first_fitting need whole ≡ None
-search-ends m need whole place start steps s h = s.same ∙ none-left m need s.rest s.chain (sym s.here ∙ h)
+pub search-ends : (m : List (List ℕ)) (need : ℕ) (whole : List (ℕ × ℕ)) (place start steps : ℕ) → Search m need whole place start steps → place ≡ 0
+    → (first_fitting need whole ≡ None) × (steps ≡ start + (1 + looked_at need whole))
+search-ends m need whole place start steps s h =
+    let end : first_place s.rest ≡ 0 = sym s.here ∙ h in
+    let none = all-looked m need s.rest s.chain end in
+    let ticks = s.ticks in
+    (s.same ∙ none-left m need s.rest s.chain end, omega (arith, none, ticks))
 
 pub search-begins : (m : List (List ℕ)) (need place start steps : ℕ) (x : List ℕ) → IsImage m → look m ≡ Closed → IsWellLaid m → x ≡ word m 0 → place ≡ be2 x 6 → steps ≡ start + 1 → Search m need (gaps (means m)) place start steps
 search-begins m need place start steps x image closed h is here one =
     let c : Chain m = chain-of m image closed h in
-    let count : length (gaps (means m)) ≡ length (hole_spans (blocks m)) = ap length c.gaps in
+    let count : looked_at need (gaps (means m)) ≡ looked_at need (hole_spans (blocks m)) = ap (λ (l : List (ℕ × ℕ)). looked_at need l) c.gaps in
     record {
       rest = hole_spans (blocks m);
       chain = c.chain;
       here = here ∙ ap (λ (w : List ℕ). be2 w 6) is ∙ c.first;
       same = ap (λ (l : List (ℕ × ℕ)). first_fitting need l) c.gaps;
-      rises = omega arith;
-      ticks = omega (arith, count);
+      ticks = omega (arith, count, one);
     }
 
 -- a hole that is too short is passed
@@ -158,3 +166,13 @@ search-on m need whole place start steps x words next after s ne is e less f one
     let link : next ≡ be2 (word m place) 4 = f ∙ ap (λ (w : List ℕ). be2 w 4) is in
     let n : Search m need whole (be2 (word m place) 4) start (steps + 1) = way.next (subst (λ (w : ℕ). w < need) long short) in
     subst (λ (p : ℕ). Search m need whole p start after) (sym link) (subst (λ (t : ℕ). Search m need whole (be2 (word m place) 4) start t) (sym one) n)
+
+-- a hole that is long enough is found
+pub search-found : (m : List (List ℕ)) (need : ℕ) (whole : List (ℕ × ℕ)) (place start steps : ℕ) (x : List ℕ) (words after : ℕ) → Search m need whole place start steps → place ≢ 0 → x ≡ word m place
+    → words ≡ be2 x 2 → nat_le need words ≡ true → after ≡ steps + 1 → (Some place ≡ first_fitting need whole) × (after ≡ start + (1 + looked_at need whole))
+search-found m need whole place start steps x words after s ne is e enough one =
+    let fits : need ≤ words = leb-true need words enough in
+    let way : OnTheWay m need whole place start steps = on-the-way m need whole place start steps s ne in
+    let long : words ≡ be2 (word m place) 2 = e ∙ ap (λ (w : List ℕ). be2 w 2) is in
+    let f = way.found (subst (λ (w : ℕ). need ≤ w) long fits) in
+    (sym f.0, one ∙ f.1)

@@ -1,5 +1,4 @@
 -- What the code reads of a block, the blocks from a place on, and the spans of used blocks and of holes.
--- This project's profile.
 use Rattle.std.specs.Prelude.{◌≡◌, ℕ, ◌+◌, ◌-◌, ◌<◌, ◌≤◌, Bool, true, false, cond, not, ◌&&◌, ◌||◌, nat_le, nat_lt, ◌==◌, List, [], ◌∷◌, ◌++◌, length, take, map, slice_index, bytes_eq, Option, Some, None, MatchBool}
 use Rattle.mc_model.specs.Bytes.{has_name}
 use Rattle.mc_model.specs.Card.{Block, word, blocks_from, record_at, name_in}

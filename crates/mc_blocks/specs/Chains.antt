@@ -1,6 +1,5 @@
 -- The chain of holes in the words of a device: each hole's header names the next.
--- This project's profile.
-use Rattle.std.specs.Prelude.{◌≡◌, ℕ, ◌+◌, ◌≤◌, List, [], ◌∷◌, length}
+use Rattle.std.specs.Prelude.{◌≡◌, ℕ, suc, ◌+◌, ◌≤◌, cond, nat_le, List, [], ◌∷◌, length}
 use Rattle.mc_model.specs.Bytes.{be2}
 use Rattle.mc_model.specs.Card.{word}
 use Rattle.mc_model.specs.Layout.{first_place}
@@ -15,3 +14,8 @@ abbrev pub IsChain : List (List ℕ) → List (ℕ × ℕ) → Type 0
 IsChain m [] = Unit {0}
 IsChain m (g ∷ gs) =
     (1 ≤ g.0) × (g.0 + g.1 ≤ length m) × (1 ≤ g.1) × (be2 (word m g.0) 2 ≡ g.1) × (be2 (word m g.0) 4 ≡ first_place gs) × Above (g.0 + 1) gs × IsChain m gs
+
+-- how many of these gaps a search for n words looks at: those up to the first of at least n words
+abbrev pub looked_at : ℕ → List (ℕ × ℕ) → ℕ
+looked_at n [] = 0
+looked_at n (g ∷ gs) = suc (cond (nat_le n g.1) 0 (looked_at n gs))

@@ -1,5 +1,4 @@
 -- What the code found wrong, as a fault.
--- This project's profile.
 use Rattle.std.specs.Prelude.{ℕ, Option, Some, None, Result, Ok, Err}
 use Rattle.mc_model.specs.declared.card.Cause.{Cause}
 use Rattle.mc_blocks.specs.declared.image.Shape.{Shape}

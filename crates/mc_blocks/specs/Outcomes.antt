@@ -1,5 +1,4 @@
 -- Words after a plan, and the card that they hold.
--- This project's profile.
 use Rattle.std.specs.Prelude.{◌≡◌, ◌≢◌, ℕ, ◌+◌, ◌<◌, ◌≤◌, true, List, [], ◌∷◌, length, None}
 use Rattle.std.specs.List.{AllByRecursion}
 use Rattle.mc_model.specs.Card.{App, Block, word, means, card_of}

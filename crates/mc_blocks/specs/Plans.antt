@@ -1,5 +1,4 @@
 -- The header words that change where words of a hole are taken, or a used block is freed.
--- This project's profile.
 use Rattle.std.specs.Prelude.{ℕ, ◌+◌, ◌-◌, Bool, false, cond, not, ◌&&◌, ◌||◌, nat_lt, nat_le, ◌==◌, List, [], ◌∷◌, filter}
 use Rattle.std.specs.List.{list_any}
 use Rattle.mc_model.specs.Card.{Card, heap_start}

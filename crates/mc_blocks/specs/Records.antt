@@ -1,5 +1,4 @@
 -- The tests of a record in three parts: its name, the lengths of its sections, its session size and access list.
--- This project's profile.
 use Rattle.std.specs.Prelude.{ℕ, ◌-◌, Bool, ◌&&◌, nat_le, ◌==◌, List, take, drop, slice_index, bytes_eq}
 use Rattle.mc_model.specs.Bytes.{be2, zeros}
 

@@ -1,8 +1,9 @@
-ghost use Rattle.std.specs.Prelude.{◌≡◌, ◌+◌, ◌≤◌, nat_le, length};
+ghost use Rattle.std.specs.Prelude.{◌≡◌, ◌+◌, ◌≤◌, nat_le};
 ghost use Rattle.mc_model.specs.Image.{Closed, look};
 ghost use Rattle.mc_model.specs.Card.{means};
 ghost use Rattle.mc_model.specs.Layout.{first_fitting, gaps, IsWellLaid};
 ghost use Rattle.mc_nvm.specs.Probe.{probed};
+ghost use Rattle.mc_blocks.specs.Chains.{looked_at};
 
 use crate::header::number_of;
 use crate::link::{Link, link_of};
@@ -11,8 +12,8 @@ use mc_nvm::{Nvm, Probe};
 use std::sync::ledger::Ledger;
 
 /// The place of the first hole of at least so many words, 1 or more, on a well laid image with no open journal; `None`
-/// where there is none. It follows the chain of holes and reads through the probe alone: one step for each read, at
-/// most two more than there are holes.
+/// where there is none. It follows the chain of holes and reads through the probe alone, one step for each read: the
+/// root, and the holes up to the one that it finds.
 pub fn first_fit<N: Nvm, L: Ledger>(
     device: &Probe<'_, N, L>,
     need: u16,
@@ -22,8 +23,7 @@ pub fn first_fit<N: Nvm, L: Ledger>(
     requires laid { IsWellLaid (N.state (probed device.now)).words }
     requires some { 1 ≤ need }
     ensures found { result ≡ first_fitting need (gaps (means (N.state (probed device.now)).words)) }
-    ensures rises { steps.old ≤ steps.new }
-    ensures ticks { steps.new ≤ steps.old + length (gaps (means (N.state (probed device.now)).words)) + 2 }
+    ensures ticks { steps.new ≡ steps.old + (1 + looked_at need (gaps (means (N.state (probed device.now)).words))) }
 {
     // The length is asked for what it says of the words.
     let _size = device.len();

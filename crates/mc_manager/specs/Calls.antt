@@ -1,5 +1,4 @@
 -- When each command can be done, and what of the bank it takes.
--- This project's profile.
 use Rattle.std.specs.Prelude.{◌≡◌, ℕ, Bool, true, false, not, ◌==◌, List, [], ◌∷◌, bytes_eq, is_none, unwrap_or, option_map, Option, Some, None, Ok}
 use Rattle.mc_model.specs.Apdu.{ApduParts}
 use Rattle.mc_model.specs.Bytes.{lookup}

@@ -1,5 +1,5 @@
 -- What a command is due by the routing and the manager's table, and how it is answered.
--- This project's profile; status words are those of ISO/IEC 7816-4.
+-- Status words are those of ISO/IEC 7816-4.
 use Rattle.std.specs.Prelude.{◌≡◌, ◌⊎◌, ℕ, Bool, cond, ◌&&◌, ◌==◌, List, [], option_map, Option, Some, None}
 use Rattle.mc_model.specs.Apdu.{ApduParts}
 use Rattle.mc_model.specs.Bytes.{zeros, lookup}

@@ -1,5 +1,4 @@
 -- How a command ends over a bank.
--- This project's profile.
 use Rattle.std.specs.Prelude.{◌≡◌, ℕ, false, List, Result, IfOk, OnOk}
 use Rattle.mc_model.specs.declared.device.Stop.{Stop}
 use Rattle.mc_model.specs.Orders.{Answer, answer_of, InOrder}

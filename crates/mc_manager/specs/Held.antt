@@ -1,5 +1,4 @@
 -- What the manager holds, the definition's seat that it stands for over a bank, and when it fits the bank.
--- This project's profile.
 use Rattle.std.specs.Prelude.{◌≡◌, ℕ, ◌≤◌, List, length, take, option_map, Option, Some, IsSome}
 use Rattle.std.specs.Option.{ForSome}
 use Rattle.mc_model.specs.declared.card.Part.{Part}

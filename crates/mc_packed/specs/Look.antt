@@ -1,9 +1,9 @@
 -- What the code found in a journal, as a look.
--- This project's profile.
 use Rattle.mc_model.specs.Image.{Two, Look, Refused, Closed, Pending}
 use Rattle.mc_packed.specs.declared.look.Found.{Found}
 use Rattle.mc_packed.specs.declared.look.Found.TheVariants.{Closed as FoundClosed, Bad as FoundBad, Pending as FoundPending}
 
+-- what was found of the journal
 abbrev pub look_of : Found → Look
 look_of FoundClosed = Closed
 look_of (FoundBad place) = Refused place

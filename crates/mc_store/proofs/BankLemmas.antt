@@ -6,11 +6,13 @@ use Rattle.mc_model.specs.Bytes.{lookup, insert}
 use Rattle.mc_model.specs.Device.{DeviceState, IsImage, Wrote}
 use Rattle.mc_model.specs.Card.{App, means}
 use Rattle.mc_model.specs.Items.{BankItem, Commit, Remove}
-use Rattle.mc_bank.specs.Bank.{no_app, app_of, with_words, committed, item_done}
+use Rattle.mc_bank.specs.Bank.{no_app, app_of, sizes_of, with_words, committed, item_done}
+use Rattle.mc_bank.specs.Slots.{slot_place, name_of_slot}
+use Rattle.mc_bank.specs.SlotLaws.{commit_sized, slot_stays}
 use Rattle.mc_blocks.proofs.Maps.{OneAt}
 use Rattle.mc_blocks.proofs.Applications.{found-application}
 use Rattle.mc_store.specs.declared.store.Store.{Store}
-use Rattle.mc_store.specs.Store.{apps_in, is_going, store_named, store_standing, name_of_place}
+use Rattle.mc_store.specs.Store.{apps_in, is_going, place_named, store_named, store_standing, name_of_place}
 use Rattle.mc_store.specs.Going.{Going, going_is}
 use Rattle.mc_store.specs.Places.{place-changed}
 use Rattle.mc_store.specs.Turns.{Standing, standing-of, some-is}
@@ -49,13 +51,26 @@ module _ {N : Type 0} (state : N → DeviceState) (wrote : N → ℕ → List �
       ∙ place-changed (means m).apps n x.place k x (with_words ws x) refl one found.1
       ∙ ap (λ (es : List (List ℕ × App)). name_of_place es k) (sym same)
 
-  -- a commit keeps all slots
-  pub commit_slots : (s e : Store N) (n : List ℕ) (ws : List (ℕ × List ℕ)) (a : Answer) → store_did state wrote s (Commit n ws) a e → (k : ℕ) → store_named (state e.device) k ≡ store_named (state s.device) k
-  commit_slots s e n ws a did k =
+  commit_sizes : (s e : Store N) (n : List ℕ) (ws : List (ℕ × List ℕ)) (a : Answer) → store_did state wrote s (Commit n ws) a e → (l : List ℕ)
+      → sizes_of (app_of (apps_in (state e.device).words) (Some l)) ≡ sizes_of (app_of (apps_in (state s.device).words) (Some l))
+  commit_sizes s e n ws a did l =
+      elim (map_either s e (Commit n ws) a did) [
+        | inl old ↦ ap (λ (es : List (List ℕ × App)). sizes_of (app_of es (Some l))) old
+        | inr new ↦ ap (λ (es : List (List ℕ × App)). sizes_of (app_of es (Some l))) new ∙ commit_sized (apps_in (state s.device).words) n ws l
+      ]
+
+  commit_places : (s e : Store N) (n : List ℕ) (ws : List (ℕ × List ℕ)) (a : Answer) → store_did state wrote s (Commit n ws) a e → (k : ℕ) → place_named (state e.device) k ≡ place_named (state s.device) k
+  commit_places s e n ws a did k =
       elim (map_either s e (Commit n ws) a did) [
         | inl old ↦ ap (λ (es : List (List ℕ × App)). name_of_place es k) old
         | inr new ↦ ap (λ (es : List (List ℕ × App)). name_of_place es k) new ∙ places_stay s n ws k did.image did.going did.allowed.0
       ]
+
+  -- a commit keeps all slots
+  pub commit_slots : (s e : Store N) (n : List ℕ) (ws : List (ℕ × List ℕ)) (a : Answer) → store_did state wrote s (Commit n ws) a e → (k : ℕ) → store_named (state e.device) k ≡ store_named (state s.device) k
+  commit_slots s e n ws a did k =
+      slot_stays (apps_in (state s.device).words) (apps_in (state e.device).words) k (place_named (state e.device) (slot_place k)) (commit_sizes s e n ws a did)
+      ∙ ap (λ (o : Option (List ℕ)). name_of_slot (apps_in (state s.device).words) k o) (commit_places s e n ws a did (slot_place k))
 
   -- a deletion keeps those of all others
   pub delete_slots : (s e : Store N) (n : List ℕ) (a : Answer) → store_did state wrote s (Remove n) a e → (k : ℕ) (l : List ℕ) → store_named (state s.device) k ≡ Some l → l ≢ n → store_named (state e.device) k ≡ Some l

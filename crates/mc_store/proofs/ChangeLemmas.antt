@@ -1,5 +1,5 @@
 -- A commit and a deletion as items of a store: what their calls ask, and what they made.
-use Rattle.std.proofs.Common.{◌≡◌, ℕ, suc, ◌+◌, ◌*◌, ◌<◌, ◌≤◌, true, false, List, [], ◌∷◌, length, Option, Some, refl, sym, ◌∙◌, ap, subst, arith}
+use Rattle.std.proofs.Common.{◌≡◌, ℕ, suc, ◌+◌, ◌*◌, ◌<◌, ◌≤◌, true, false, not, List, [], ◌∷◌, length, get_or, Option, Some, refl, sym, ◌∙◌, ap, subst, arith}
 use Rattle.std.specs.Prelude.{IsSome, is_some, unwrap_or}
 use Rattle.std.specs.List.{AllByRecursion}
 use Rattle.mc_model.specs.Orders.{Answer}
@@ -12,7 +12,7 @@ use Rattle.mc_model.specs.Layout.{spans, step_of, IsWellLaid}
 use Rattle.mc_model.specs.Items.{Commit, Remove}
 use Rattle.mc_bank.specs.Bank.{CanCommit, no_app, app_of, name_or}
 use Rattle.mc_blocks.specs.Plans.{plan, without, has_span}
-use Rattle.mc_store.specs.Store.{apps_in, is_going, store_named, static_writes, card_without, count_after, StoreDid}
+use Rattle.mc_store.specs.Store.{apps_in, is_going, place_named, store_named, part_from, static_writes, card_without, count_after, StoreDid}
 use Rattle.mc_store.specs.Slots.{IsBlock}
 use Rattle.mc_store.specs.Going.{Going, going_is}
 use Rattle.mc_store.specs.Alike.{gates}
@@ -23,6 +23,11 @@ use Rattle.mc_store.specs.Statics.{static_from, StaticIn, static-in}
 use Rattle.mc_store.specs.Commits.{Committed, commits}
 use Rattle.mc_store.specs.Turns.{Standing, standing-of, some-is}
 use Rattle.mc_store.specs.Did.{SlotIs, slot_is}
+use Rattle.mc_bank.specs.Slots.{slot_place, slot_sizes}
+use Rattle.mc_bank.specs.SlotLaws.{name_there, some_there}
+use Rattle.mc_model.specs.declared.card.Part.TheVariants.{Data}
+use Rattle.mc_model.specs.declared.card.Sizes.{Sizes}
+use Rattle.mc_store.proofs.ReadLemmas.{of_slot}
 use Rattle.mc_store.proofs.RecordLemmas.{RecordIs, record_is}
 
 -- ---- a deletion
@@ -38,17 +43,17 @@ pub record DeleteIs (d : DeviceState) (c p : ℕ) : Type 0 where
   pub gate : is_open Two d.words ≡ false
   pub span : has_span p (spans (means d.words)) ≡ true
   pub some : 1 ≤ c
-  pub there : IsSome (lookup (means d.words).apps (name_or (store_named d p)))
-  pub writes : plan (means d.words) (without p (spans (means d.words))) ≡ item_plan d.words (name_or (store_named d p))
+  pub there : IsSome (lookup (means d.words).apps (name_or (place_named d p)))
+  pub writes : plan (means d.words) (without p (spans (means d.words))) ≡ item_plan d.words (name_or (place_named d p))
 
-pub delete-is : (d : DeviceState) (c p : ℕ) → IsImage d.words → is_going d c ≡ true → IsSome (store_named d p) → DeleteIs d c p
+pub delete-is : (d : DeviceState) (c p : ℕ) → IsImage d.words → is_going d c ≡ true → IsSome (place_named d p) → DeleteIs d c p
 delete-is d c p image going there =
     let m = d.words in
     let g : Going d c = going_is d c going in
     let s : Standing m = standing-of d c g in
-    let named = some-is (store_named d p) there in
+    let named = some-is (place_named d p) there in
     let n = named.0 in
-    let name : name_or (store_named d p) ≡ n = ap (λ (o : Option (List ℕ)). unwrap_or o []) named.1 in
+    let name : name_or (place_named d p) ≡ n = ap (λ (o : Option (List ℕ)). unwrap_or o []) named.1 in
     let slot : SlotIs m p n = slot_is d c p n image g named.1 in
     let del : Deletes m n slot.app = deletes-plan m n slot.app image g.closed s.well slot.there in
     let count : length (means m).apps ≡ suc (length (remove (means m).apps n)) = deletes-count m n slot.app image g.closed s.well slot.there in
@@ -65,8 +70,8 @@ delete-is d c p image going there =
     }
 
 module _ {D : Type 0} (state : D → DeviceState) (wrote : D → ℕ → List ℕ → Answer → D → Type 0) where
-  pub delete-did : (d e : D) (c p : ℕ) (items : List (ℕ × List ℕ)) (a : Answer) → IsImage (state d).words → is_going (state d) c ≡ true → IsSome (store_named (state d) p) → items ≡ plan (means (state d).words) (without p (spans (means (state d).words)))
-      → Makes wrote d (writes Two items) a e → StoreDid state wrote d c (Remove (name_or (store_named (state d) p))) a e (count_after (Remove (name_or (store_named (state d) p))) a c)
+  pub delete-did : (d e : D) (c p : ℕ) (items : List (ℕ × List ℕ)) (a : Answer) → IsImage (state d).words → is_going (state d) c ≡ true → IsSome (place_named (state d) p) → items ≡ plan (means (state d).words) (without p (spans (means (state d).words)))
+      → Makes wrote d (writes Two items) a e → StoreDid state wrote d c (Remove (name_or (place_named (state d) p))) a e (count_after (Remove (name_or (place_named (state d) p))) a c)
   delete-did d e c p items a image going there is made =
       let k : DeleteIs (state d) c p = delete-is (state d) c p image going there in
       record {
@@ -95,22 +100,22 @@ pub record CommitIs (d : DeviceState) (p : ℕ) (ws : List (ℕ × List ℕ)) : 
   pub atomic : IsAtomic (length d.words) (placed_words (p + 5 + up (be2 (record_at d.words p) 20) 8) ws)
   pub few : length ws ≤ 64
   pub within : AllByRecursion (λ w. p + 5 + up (be2 (record_at d.words p) 20) 8 + w.0 ≤ 65535) ws
-  pub there : IsSome (lookup (means d.words).apps (name_or (store_named d p)))
-  pub can : CanCommit (app_of (means d.words).apps (Some (name_or (store_named d p)))).fixed ws
-  pub is : placed_words (p + 5 + up (be2 (record_at d.words p) 20) 8) ws ≡ static_writes (app_of (means d.words).apps (Some (name_or (store_named d p)))) ws
+  pub there : IsSome (lookup (means d.words).apps (name_or (place_named d p)))
+  pub can : CanCommit (app_of (means d.words).apps (Some (name_or (place_named d p)))).fixed ws
+  pub is : placed_words (p + 5 + up (be2 (record_at d.words p) 20) 8) ws ≡ static_writes (app_of (means d.words).apps (Some (name_or (place_named d p)))) ws
 
 small : (size q n : ℕ) (ws : List (ℕ × List ℕ)) → size ≤ 16384 → q + up n 8 ≤ size → AllByRecursion (λ w. 8 * w.0 < n) ws → AllByRecursion (λ w. q + w.0 ≤ 65535) ws
 small size q n [] high ends a = tt
 small size q n (w ∷ ws) high ends a = let lt : 8 * w.0 < n = a.0 in (omega arith, small size q n ws high ends a.1)
 
-pub commit-is : (d : DeviceState) (c p : ℕ) (ws : List (ℕ × List ℕ)) → IsImage d.words → is_going d c ≡ true → IsSome (store_named d p) → CanCommit (app_of (apps_in d.words) (store_named d p)).fixed ws → CommitIs d p ws
+pub commit-is : (d : DeviceState) (c p : ℕ) (ws : List (ℕ × List ℕ)) → IsImage d.words → is_going d c ≡ true → IsSome (place_named d p) → CanCommit (app_of (apps_in d.words) (place_named d p)).fixed ws → CommitIs d p ws
 commit-is d c p ws image going there can =
     let m = d.words in
     let g : Going d c = going_is d c going in
     let s : Standing m = standing-of d c g in
-    let named = some-is (store_named d p) there in
+    let named = some-is (place_named d p) there in
     let n = named.0 in
-    let name : name_or (store_named d p) ≡ n = ap (λ (o : Option (List ℕ)). unwrap_or o []) named.1 in
+    let name : name_or (place_named d p) ≡ n = ap (λ (o : Option (List ℕ)). unwrap_or o []) named.1 in
     let slot : SlotIs m p n = slot_is d c p n image g named.1 in
     let a = slot.app in
     let found : lookup (card_of m).apps n ≡ Some a = ap (λ (es : List (List ℕ × App)). lookup es n) (sym s.apps) ∙ slot.there in
@@ -118,8 +123,8 @@ commit-is d c p ws image going there can =
     let block : IsBlock m p = subst (λ (q : ℕ). IsBlock m q) slot.place st.block in
     let self : app_at m p ≡ a = subst (λ (q : ℕ). app_at m q ≡ a) slot.place st.self in
     let first : static_from a ≡ p + 5 + up (be2 (record_at m p) 20) 8 = static-first m p a image block self in
-    let app : app_of (means m).apps (Some (name_or (store_named d p))) ≡ a = ap (λ (k : List ℕ). unwrap_or (lookup (means m).apps k) no_app) name ∙ ap (λ (o : Option App). unwrap_or o no_app) slot.there in
-    let here : app_of (apps_in m) (store_named d p) ≡ a =
+    let app : app_of (means m).apps (Some (name_or (place_named d p))) ≡ a = ap (λ (k : List ℕ). unwrap_or (lookup (means m).apps k) no_app) name ∙ ap (λ (o : Option App). unwrap_or o no_app) slot.there in
+    let here : app_of (apps_in m) (place_named d p) ≡ a =
     ap (λ (o : Option (List ℕ)). app_of (apps_in m) o) named.1 ∙ ap (λ (es : List (List ℕ × App)). unwrap_or (lookup es n) no_app) (s.map ∙ sym s.apps) ∙ ap (λ (o : Option App). unwrap_or o no_app) slot.there in
     let ok : CanCommit a.fixed ws = subst (λ (x : App). CanCommit x.fixed ws) here can in
     let t : Committed m n a ws = commits m n a ws image g.laid found ok in
@@ -136,8 +141,8 @@ commit-is d c p ws image going there can =
     }
 
 module _ {D : Type 0} (state : D → DeviceState) (wrote : D → ℕ → List ℕ → Answer → D → Type 0) where
-  pub commit-did : (d e : D) (c p : ℕ) (ws items : List (ℕ × List ℕ)) (a : Answer) → IsImage (state d).words → is_going (state d) c ≡ true → IsSome (store_named (state d) p) → CanCommit (app_of (apps_in (state d).words) (store_named (state d) p)).fixed ws
-      → items ≡ placed_words (p + 5 + up (be2 (record_at (state d).words p) 20) 8) ws → Makes wrote d (writes Two items) a e → StoreDid state wrote d c (Commit (name_or (store_named (state d) p)) ws) a e c
+  pub commit-did : (d e : D) (c p : ℕ) (ws items : List (ℕ × List ℕ)) (a : Answer) → IsImage (state d).words → is_going (state d) c ≡ true → IsSome (place_named (state d) p) → CanCommit (app_of (apps_in (state d).words) (place_named (state d) p)).fixed ws
+      → items ≡ placed_words (p + 5 + up (be2 (record_at (state d).words p) 20) 8) ws → Makes wrote d (writes Two items) a e → StoreDid state wrote d c (Commit (name_or (place_named (state d) p)) ws) a e c
   commit-did d e c p ws items a image going there can is made =
       let k : CommitIs (state d) p ws = commit-is (state d) c p ws image going there can in
       record {
@@ -147,3 +152,69 @@ module _ {D : Type 0} (state : D → DeviceState) (wrote : D → ℕ → List �
         makes = subst (λ (l : List (ℕ × List ℕ)). Makes wrote d (writes Two l) a e) (is ∙ k.is) made;
         count = refl;
       }
+
+pub one-placed : (q : ℕ) (ws : List (ℕ × List ℕ)) → length ws ≡ 1 → (q + (get_or ws 0 (0, [])).0, (get_or ws 0 (0, [])).1) ∷ [] ≡ placed_words q ws
+one-placed q [] h = absurd (omega (arith, h))
+one-placed q (w ∷ []) h = refl
+one-placed q (w ∷ x ∷ ws) h = absurd (omega (arith, h))
+
+-- ---- the same for slots
+
+first-small : (q : ℕ) (ws : List (ℕ × List ℕ)) → 1 ≤ length ws → AllByRecursion (λ w. q + w.0 ≤ 65535) ws → q ≤ 65535
+first-small q [] some a = absurd (omega arith)
+first-small q (w ∷ ws) some a = let low = a.0 in omega (arith, low)
+
+pub delete-at : (d : DeviceState) (c j p : ℕ) → p ≡ slot_place j → IsImage d.words → is_going d c ≡ true → IsSome (store_named d j) → DeleteIs d c p
+delete-at d c j p at image going there =
+    delete-is d c p image going (subst (λ (q : ℕ). IsSome (place_named d q)) (sym at) (some_there (apps_in d.words) j (place_named d (slot_place j)) there))
+
+-- words of a slot's static bytes, which begin in word `first`
+pub record CommitAt (d : DeviceState) (first : ℕ) (ws : List (ℕ × List ℕ)) : Type 0 where
+  pub on : d.on ≡ true
+  pub gate : is_open Two d.words ≡ false
+  pub small : first ≤ 65535
+  pub atomic : IsAtomic (length d.words) (placed_words first ws)
+  pub within : AllByRecursion (λ w. first + w.0 ≤ 65535) ws
+
+module _ (d : DeviceState) (c j first : ℕ) (image : IsImage d.words) (going : is_going d c ≡ true) (there : IsSome (store_named d j)) (at : first ≡ part_from Data (slot_sizes j) (slot_place j)) where
+  named-at : store_named d j ≡ place_named d (slot_place j)
+  named-at = name_there (apps_in d.words) j (place_named d (slot_place j)) there
+
+  some-at : IsSome (place_named d (slot_place j))
+  some-at = some_there (apps_in d.words) j (place_named d (slot_place j)) there
+
+  first-at : first ≡ slot_place j + 5 + up (be2 (record_at d.words (slot_place j)) 20) 8
+  first-at = at ∙ ap (λ (z : Sizes). part_from Data z (slot_place j)) (of_slot d c j image (ap not going) there).sizes
+
+  can-at : (ws : List (ℕ × List ℕ)) → CanCommit (app_of (apps_in d.words) (store_named d j)).fixed ws → CanCommit (app_of (apps_in d.words) (place_named d (slot_place j))).fixed ws
+  can-at ws can = subst (λ (o : Option (List ℕ)). CanCommit (app_of (apps_in d.words) o).fixed ws) named-at can
+
+  pub commit-at : (ws : List (ℕ × List ℕ)) → CanCommit (app_of (apps_in d.words) (store_named d j)).fixed ws → CommitAt d first ws
+  commit-at ws can =
+      let k : CommitIs d (slot_place j) ws = commit-is d c (slot_place j) ws image going some-at (can-at ws can) in
+      let within : AllByRecursion (λ w. first + w.0 ≤ 65535) ws = subst (λ (q : ℕ). AllByRecursion (λ (w : ℕ × List ℕ). q + w.0 ≤ 65535) ws) (sym first-at) k.within in
+      record {
+        on = k.on;
+        gate = k.gate;
+        small = first-small first ws can.some within;
+        atomic = subst (λ (q : ℕ). IsAtomic (length d.words) (placed_words q ws)) (sym first-at) k.atomic;
+        within = within;
+      }
+
+module _ {D : Type 0} (state : D → DeviceState) (wrote : D → ℕ → List ℕ → Answer → D → Type 0) where
+  pub commit-done : (d e : D) (c j first : ℕ) (ws items : List (ℕ × List ℕ)) (a : Answer) → IsImage (state d).words → is_going (state d) c ≡ true → IsSome (store_named (state d) j)
+      → CanCommit (app_of (apps_in (state d).words) (store_named (state d) j)).fixed ws → first ≡ part_from Data (slot_sizes j) (slot_place j) → items ≡ placed_words first ws
+      → Makes wrote d (writes Two items) a e → StoreDid state wrote d c (Commit (name_or (store_named (state d) j)) ws) a e c
+  commit-done d e c j first ws items a image going there can at is made =
+      subst (λ (o : Option (List ℕ)). StoreDid state wrote d c (Commit (name_or o) ws) a e c) (sym (named-at (state d) c j first image going there at))
+      (commit-did state wrote d e c (slot_place j) ws items a image going (some-at (state d) c j first image going there at) (can-at (state d) c j first image going there at ws can)
+      (is ∙ ap (λ (q : ℕ). placed_words q ws) (first-at (state d) c j first image going there at)) made)
+
+  pub delete-done : (d e : D) (c j p : ℕ) (items : List (ℕ × List ℕ)) (a : Answer) → p ≡ slot_place j → IsImage (state d).words → is_going (state d) c ≡ true → IsSome (store_named (state d) j)
+      → items ≡ plan (means (state d).words) (without p (spans (means (state d).words))) → Makes wrote d (writes Two items) a e
+      → StoreDid state wrote d c (Remove (name_or (store_named (state d) j))) a e (count_after (Remove (name_or (store_named (state d) j))) a c)
+  delete-done d e c j p items a at image going there is made =
+      let same : store_named (state d) j ≡ place_named (state d) p =
+      name_there (apps_in (state d).words) j (place_named (state d) (slot_place j)) there ∙ ap (λ (q : ℕ). place_named (state d) q) (sym at) in
+      subst (λ (o : Option (List ℕ)). StoreDid state wrote d c (Remove (name_or o)) a e (count_after (Remove (name_or o)) a c)) (sym same)
+      (delete-did state wrote d e c p items a image going (subst (λ (o : Option (List ℕ)). IsSome o) same there) is made)

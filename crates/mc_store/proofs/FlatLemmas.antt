@@ -1,10 +1,10 @@
 -- The bytes of words of eight bytes, joined.
-use Rattle.std.proofs.Common.{◌≡◌, ℕ, zero, suc, ◌+◌, ◌-◌, ◌*◌, ◌/◌, ◌%◌, ◌<◌, ◌≤◌, List, [], ◌∷◌, ◌++◌, length, take, drop, refl, sym, ◌∙◌, ap, arith, min, length-take, length-drop, length-append, append-nil}
+use Rattle.std.proofs.Common.{◌≡◌, subst, ℕ, zero, suc, ◌+◌, ◌-◌, ◌*◌, ◌<◌, ◌≤◌, List, [], ◌++◌, length, take, drop, refl, sym, ◌∙◌, ap, arith, length-drop, length-append}
 use Rattle.std.specs.List.{concat}
-use Rattle.std.proofs.lemmas.List.{drop_more, drop-drop, drop-take, drop_at, take-take, take-append-drop, take-append-le, drop-append-le, take_at, take_all, length-take-le}
+use Rattle.std.proofs.lemmas.List.{drop_more, drop-drop, drop-take, drop_at, take-take, take-append-drop, take-append-le, drop-append-le, take_all, length-take-le}
 use borrow.Rule.Slice.PartMut.{put_mid}
-use Rattle.std.proofs.lemmas.Slice.{put_mid-paste}
-use Rattle.mc_model.specs.Bytes.{splice, up}
+use Rattle.std.proofs.lemmas.Slice.{put_mid-paste, take-put_mid}
+use Rattle.mc_model.specs.Bytes.{up}
 use Rattle.mc_model.specs.Device.{IsImage}
 use Rattle.mc_model.specs.Card.{word, cells, section}
 use Rattle.std.proofs.lemmas.List.Folds.{concat-append}
@@ -16,24 +16,6 @@ take_sum a b l =
     sym (take-append-drop a (take (a + b) l))
     ∙ ap (λ (x : List ℕ). x ++ drop a (take (a + b) l)) (take-take a (a + b) l (omega arith))
     ∙ ap (λ (x : List ℕ). take a l ++ x) (drop-take a b l)
-
-take_none : {A : Type 0} (l : List A) → drop (length l) l ≡ []
-take_none [] = refl
-take_none (x ∷ xs) = take_none xs
-
--- the bytes of a slice from a place on
-pub length-drop-take : (l : List ℕ) (a : ℕ) → length (take (length l - a) (drop a l)) ≡ length l - a
-length-drop-take l a = let e = length-drop a l in ap length (take_all (length l - a) (drop a l) (omega (arith, e))) ∙ e
-
--- what is put from a place up to the end
-put_end : (a : ℕ) (into new : List ℕ) → a ≤ length into → length new ≡ length into - a → put_mid a (length into - a) into new ≡ take a into ++ new
-put_end a into new low long =
-    let end : a + (length into - a) ≡ length into = omega arith in
-    put_mid-paste a (length into - a) into new new (length into - a) refl refl (sym long)
-    ∙ ap (λ (l : List ℕ). take a into ++ l ++ drop (a + (length into - a)) into) (take_all (length into - a) new (omega (arith, long)))
-    ∙ ap (λ (n : ℕ). take a into ++ new ++ drop n into) end
-    ∙ ap (λ (l : List ℕ). take a into ++ new ++ l) (take_none into)
-    ∙ append-nil (take a into ++ new)
 
 module _ (m : List (List ℕ)) (image : IsImage m) where
   -- a word before the words behind it
@@ -63,69 +45,37 @@ module _ (m : List (List ℕ)) (image : IsImage m) where
       ∙ take-append-le count (drop skip (word m q)) (concat (drop (q + 1) m)) (omega (arith, eight, left))
       )
 
-  -- bytes of the word that holds a place
-  pub word_bytes : (at count : ℕ) → at < 8 * length m → count ≤ 8 - at % 8 → take count (drop (at % 8) (word m (at / 8))) ≡ take count (drop at (flat m))
-  word_bytes at count lt few =
-      let is : 8 * (at / 8) + at % 8 ≡ at = omega arith in
-      in_word (at / 8) (at % 8) count (omega arith) (omega arith) ∙ ap (λ (n : ℕ). take count (drop n (flat m))) is
+  -- bytes of one word, put behind those that were copied before
+  pub word_put : (base a q skip count : ℕ) (into ys : List ℕ) → a ≤ length into → 8 * q + skip ≡ base + a → skip + count ≤ 8 → q < length m → ys ≡ take count (drop skip (word m q)) → length ys ≡ count
+      → take a into ≡ take a (drop base (flat m)) → take (a + count) (put_mid a count into ys) ≡ take (a + count) (drop base (flat m))
+  word_put base a q skip count into ys low at few lt is size before =
+      take-put_mid a count into ys (a + count) (omega (arith, size)) low
+      ∙ ap (λ (l : List ℕ). take a into ++ l) (is ∙ in_word q skip count lt few ∙ ap (λ (n : ℕ). take count (drop n (flat m))) at ∙ ap (λ (l : List ℕ). take count l) (sym (drop-drop a base (flat m))))
+      ∙ ap (λ (l : List ℕ). l ++ take count (drop a (drop base (flat m)))) before
+      ∙ sym (take_sum a count (drop base (flat m)))
 
-  pub all_flat : length (flat m) ≡ 8 * length m
-  all_flat = flat_length (length m) refl
-    where
-      upto : (q : ℕ) → q ≤ length m → length (take (8 * q) (flat m)) ≡ 8 * q
-      upto zero h = refl
-      upto (suc q) h =
-          let lt : q < length m = omega arith in
-          let more : 8 * suc q ≡ 8 * q + 8 = omega arith in
-          let eight : length (word m q) ≡ 8 = image.words q lt in
-          let rest : drop (8 * q) (flat m) ≡ word m q ++ concat (drop (q + 1) m) = from_word q (omega arith) ∙ behind q lt in
-          let long : length (take 8 (drop (8 * q) (flat m))) ≡ 8 = ap (λ (l : List ℕ). length (take 8 l)) rest ∙ ap length (take_at (word m q) (concat (drop (q + 1) m)) 8 eight) ∙ eight in
-          let both : length (take (8 * q + 8) (flat m)) ≡ length (take (8 * q) (flat m)) + length (take 8 (drop (8 * q) (flat m))) = ap length (take_sum (8 * q) 8 (flat m)) ∙ length-append (take (8 * q) (flat m)) (take 8 (drop (8 * q) (flat m))) in
-          let before : length (take (8 * q) (flat m)) ≡ 8 * q = upto q (omega arith) in
-          ap (λ (n : ℕ). length (take n (flat m))) more ∙ omega (arith, both, before, long)
+  -- the same as the loop has it
+  pub record WordPut (base a count : ℕ) (into new : List ℕ) : Type 0 where
+    pub size : length new ≡ length into
+    pub bytes : take (a + count) new ≡ take (a + count) (drop base (flat m))
 
-      flat_length : (n : ℕ) → length m ≡ n → length (flat m) ≡ 8 * length m
-      flat_length n e =
-          let whole : length (take (8 * length m) (flat m)) ≡ 8 * length m = upto (length m) (omega arith) in
-          let cut : length (take (8 * length m) (flat m)) ≡ min (8 * length m) (length (flat m)) = length-take (8 * length m) (flat m) in
-          let split : length (flat m) ≡ length (take (8 * length m) (flat m)) + length (drop (8 * length m) (flat m)) = sym (ap length (take-append-drop (8 * length m) (flat m))) ∙ length-append (take (8 * length m) (flat m)) (drop (8 * length m) (flat m)) in
-          let none : length (drop (8 * length m) (flat m)) ≡ 0 = ap length (from_word (length m) (omega arith) ∙ ap concat (take_none m)) in
-          omega (arith, whole, split, none)
-
-  -- the front of a piece was copied from a word
-  pub part_copied : (at count k : ℕ) (w new old : List ℕ) → at + length old ≤ 8 * length m → 1 ≤ length old → count ≡ min (8 - at % 8) (length old) → w ≡ word m (at / 8) → k ≡ count → new ≡ take k (drop (at % 8) w)
-      → new ++ drop count old ≡ splice old 0 (take count (drop at (flat m)))
-  part_copied at count k w new old inside some few is same copied =
-      let whole : length (flat m) ≡ 8 * length m = all_flat in
-      let left : length (drop at (flat m)) ≡ length (flat m) - at = length-drop at (flat m) in
-      let size : length (take count (drop at (flat m))) ≡ count = length-take-le count (drop at (flat m)) (omega (arith, whole, left, few)) in
-      let bytes : new ≡ take count (drop at (flat m)) = copied ∙ ap (λ (n : ℕ). take n (drop (at % 8) w)) same ∙ ap (λ (x : List ℕ). take count (drop (at % 8) x)) is ∙ word_bytes at count (omega arith) (omega (arith, few)) in
-      ap (λ (x : List ℕ). x ++ drop count old) bytes ∙ ap (λ (n : ℕ). take count (drop at (flat m)) ++ drop n old) (omega (arith, size))
-
-  -- a piece of which the front was copied before a place, and now up to another
-  pub part_done : (from a r : ℕ) (into new sub : List ℕ) → a ≤ length into → r ≤ length into - a → from + length into ≤ 8 * length m → length sub ≡ length into - a
-      → new ≡ splice sub 0 (take r (drop (from + a) (flat m))) → take a into ≡ take a (drop from (flat m))
-      → (length (put_mid a (length into - a) into new) ≡ length into) × (take (a + r) (put_mid a (length into - a) into new) ≡ take (a + r) (drop from (flat m)))
-  part_done from a r into new sub low high inside left copied before =
-      let piece = take r (drop (from + a) (flat m)) in
-      let whole : length (flat m) ≡ 8 * length m = all_flat in
-      let rest : length (drop (from + a) (flat m)) ≡ length (flat m) - (from + a) = length-drop (from + a) (flat m) in
-      let size : length piece ≡ r = length-take-le r (drop (from + a) (flat m)) (omega (arith, whole, rest)) in
-      let front : length (take a into) ≡ a = length-take-le a into low in
-      let behind-it : length (drop (0 + length piece) sub) ≡ length sub - (0 + length piece) = length-drop (0 + length piece) sub in
-      let long : length new ≡ length into - a = ap length copied ∙ length-append piece (drop (0 + length piece) sub) ∙ omega (arith, size, behind-it, left) in
-      let is : put_mid a (length into - a) into new ≡ take a into ++ new = put_end a into new low long in (
-        ap length is ∙ length-append (take a into) new ∙ omega (arith, front, long),
-        ap (λ (l : List ℕ). take (a + r) l) is
-            ∙ take_sum a r (take a into ++ new)
-            ∙ ap (λ (l : List ℕ). l ++ take r (drop a (take a into ++ new))) (take_at (take a into) new a front)
-            ∙ ap (λ (l : List ℕ). take a into ++ take r l) (drop_at (take a into) new a front)
-            ∙ ap (λ (l : List ℕ). take a into ++ take r l) copied
-            ∙ ap (λ (l : List ℕ). take a into ++ l) (take_at piece (drop (0 + length piece) sub) r size)
-            ∙ ap (λ (l : List ℕ). l ++ piece) before
-            ∙ ap (λ (l : List ℕ). take a (drop from (flat m)) ++ take r l) (sym (drop-drop a from (flat m)))
-            ∙ sym (take_sum a r (drop from (flat m))),
-      )
+  pub word_step : (base a q skip count : ℕ) (into ys : List ℕ) → a + count ≤ length into → 8 * q + skip ≡ base + a → skip + count ≤ 8 → q < length m → ys ≡ take ((skip + count) - skip) (drop skip (word m q))
+      → take a into ≡ take a (drop base (flat m)) → WordPut base a count into (put_mid a ((a + count) - a) into ys)
+  word_step base a q skip count into ys low at few lt is before =
+      let k : (a + count) - a ≡ count = omega arith in
+      let d : (skip + count) - skip ≡ count = omega arith in
+      let eight : length (word m q) ≡ 8 = image.words q lt in
+      let left : length (drop skip (word m q)) ≡ length (word m q) - skip = length-drop skip (word m q) in
+      let piece : ys ≡ take count (drop skip (word m q)) = is ∙ ap (λ (n : ℕ). take n (drop skip (word m q))) d in
+      let size : length ys ≡ count = ap length piece ∙ length-take-le count (drop skip (word m q)) (omega (arith, left, eight, few)) in
+      let all : put_mid a count into ys ≡ take a into ++ ys ++ drop (a + count) into =
+      put_mid-paste a count into ys ys count refl refl (sym size) ∙ ap (λ (l : List ℕ). take a into ++ l ++ drop (a + count) into) (take_all count ys (omega (arith, size))) in
+      let front : length (take a into) ≡ a = length-take-le a into (omega (arith, low)) in
+      let rest : length (drop (a + count) into) ≡ length into - (a + count) = length-drop (a + count) into in
+      let long : length (put_mid a count into ys) ≡ length into =
+      ap length all ∙ length-append (take a into ++ ys) (drop (a + count) into) ∙ omega (arith, length-append (take a into) ys, front, rest, size, low) in
+      subst (λ (n : ℕ). WordPut base a count into (put_mid a n into ys)) (sym k)
+      (record { size = long; bytes = word_put base a q skip count into ys (omega (arith, low)) at few lt piece size before })
 
   -- a section as a part of all bytes
   section_flat : (q n : ℕ) → q + up n 8 ≤ length m → section m q n ≡ take n (drop (8 * q) (flat m))

@@ -19,6 +19,7 @@ use Rattle.mc_model.specs.Items.{Site, BankItem, Piece, Blank, Note, Commit, Ent
 use Rattle.mc_model.proofs.ImageLemmas.{all-map}
 use Rattle.mc_bank.specs.Bank.{BankState, IsGood, StayGood, entered, item_done, part_len, IsChanged, IsStopped, StopRose, Changes}
 use Rattle.mc_store.specs.declared.store.Store.{Store}
+use Rattle.mc_bank.specs.Slots.{slot_place, name_of_slot}
 use Rattle.mc_store.specs.Store.{apps_in, is_going, store_state, store_named, store_room, store_standing, name_of_place, part_in, needed_by, IsGoodIn, IsInWord, item_writes}
 use Rattle.mc_store.specs.Going.{Going, going_is, closed_means, closed_settled, closed_apps, laid_apps}
 use Rattle.mc_store.specs.Gaps.{just-one}
@@ -165,7 +166,7 @@ module _ {N : Type 0} (state : N → DeviceState) (wrote : N → ℕ → List �
       }
 
   pub kept_slots : (s e : Store N) → Kept s e → (k : ℕ) → store_named (state e.device) k ≡ store_named (state s.device) k
-  kept_slots s e k q = ap (λ (es : List (List ℕ × App)). name_of_place es q) k.apps
+  kept_slots s e k q = ap (λ (es : List (List ℕ × App)). name_of_slot es q (name_of_place es (slot_place q))) k.apps
 
   -- ---- the bytes at a site
 

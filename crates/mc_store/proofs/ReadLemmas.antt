@@ -1,6 +1,6 @@
 -- What the calls of a store that read answer.
-use Rattle.std.proofs.Common.{◌≡◌, ℕ, ◌+◌, ◌*◌, ◌<◌, ◌≤◌, Bool, true, false, not, List, length, take, drop, Option, Some, None, Ok, Err, refl, sym, ◌∙◌, ap, subst, arith}
-use Rattle.std.specs.Prelude.{IsSome, IfOk, Result, is_some, nat_le, slice_index}
+use Rattle.std.proofs.Common.{◌≡◌, ℕ, suc, cond, ◌+◌, ◌*◌, ◌<◌, ◌≤◌, Bool, true, false, not, List, [], ◌∷◌, length, take, drop, Option, Some, None, Ok, Err, refl, sym, ◌∙◌, ap, subst, arith}
+use Rattle.std.specs.Prelude.{IsSome, IfSome, option_map, IfOk, Result, is_some, nat_le, slice_index}
 use Rattle.std.proofs.lemmas.Bool.{leb-false}
 use Rattle.mc_model.specs.declared.card.Part.{Part}
 use Rattle.mc_model.specs.declared.card.Part.TheVariants.{Code, Data, Dir, Fci}
@@ -9,18 +9,21 @@ use Rattle.mc_model.specs.declared.card.OpenRefusal.{OpenRefusal}
 use Rattle.mc_model.specs.Bytes.{be2, up, lookup}
 use Rattle.mc_model.specs.Device.{DeviceState, IsImage}
 use Rattle.mc_model.specs.Card.{App, Card, record_at, name_at, app_at, section, needed_of, blocks, means}
-use Rattle.mc_model.specs.Layout.{words_fault, IsWellLaid}
+use Rattle.mc_model.specs.Layout.{words_fault, gaps, IsWellLaid}
 use Rattle.mc_model.specs.Image.{look, Closed}
 use Rattle.mc_model.specs.Items.{Site}
 use Rattle.mc_bank.specs.Bank.{app_of, sizes_of, FitsLimits, AreApps, opened, IsGood, HasParts, part_len}
-use Rattle.mc_store.specs.Store.{apps_in, is_going, store_named, store_room, store_standing, name_of_place, part_from, part_in, needed_by}
+use Rattle.mc_bank.specs.Slots.{slot_place, slot_sizes}
+use Rattle.mc_bank.specs.SlotLaws.{name_there, some_there, slot_sized, slot_named}
+use Rattle.mc_blocks.specs.Chains.{looked_at}
+use Rattle.mc_store.specs.Store.{apps_in, search_steps, is_going, place_named, store_named, store_room, store_standing, name_of_place, part_from, part_in, needed_by}
 use Rattle.mc_store.specs.Slots.{first_named, record_sizes, IsBlock, part_of_app, flat}
 use Rattle.mc_store.specs.Going.{Going, closed_means, closed_fault, closed_settled}
 use Rattle.mc_store.specs.Sections.{length-section}
 use Rattle.mc_store.specs.Creation.{AtSite, at-site}
-use Rattle.mc_store.proofs.RecordLemmas.{RecordIs, record_is, block_fits}
+use Rattle.mc_store.proofs.RecordLemmas.{RecordIs, record_is}
 use Rattle.mc_store.proofs.FlatLemmas.{section_bytes}
-use Rattle.mc_store.proofs.SlotLemmas.{runs, map_is, name_there, name_slot, are_apps, sizes_are, fits_limits, Slot, slot}
+use Rattle.mc_store.proofs.SlotLemmas.{runs, map_is, name_there as found_there, name_slot, are_apps, sizes_are, fits_limits, Slot, slot}
 
 -- ---- sections
 
@@ -49,25 +52,44 @@ pub record Reads (d : DeviceState) (k : ℕ) (p : Part) (at count from : ℕ) : 
   pub inside : 8 * from + at + count ≤ 8 * length d.words
   pub bytes : take count (drop (8 * from + at) (flat d.words)) ≡ take count (drop at (part_of_app p (app_of (apps_in d.words) (store_named d k))))
 
+-- the application of a slot, at its place
+pub record OfSlot (d : DeviceState) (j : ℕ) : Type 0 where
+  pub at : Slot d (slot_place j)
+  pub name : store_named d j ≡ Some (name_at d.words (slot_place j))
+  pub app : app_of (apps_in d.words) (store_named d j) ≡ app_at d.words (slot_place j)
+  pub sizes : slot_sizes j ≡ record_sizes (record_at d.words (slot_place j))
+
+pub of_slot : (d : DeviceState) (c j : ℕ) → IsImage d.words → not (is_going d c) ≡ false → IsSome (store_named d j) → OfSlot d j
+of_slot d c j image h some =
+    let k = slot_place j in
+    let same : store_named d j ≡ place_named d k = name_there (apps_in d.words) j (place_named d k) some in
+    let s : Slot d k = slot d c k image h (some_there (apps_in d.words) j (place_named d k) some) in
+    let app : app_of (apps_in d.words) (store_named d j) ≡ app_at d.words k = ap (λ (o : Option (List ℕ)). app_of (apps_in d.words) o) same ∙ s.app in
+    record {
+      at = s;
+      name = same ∙ s.name;
+      app = app;
+      sizes = slot_sized (apps_in d.words) j (place_named d k) some ∙ ap sizes_of app ∙ sizes_are d.words image (runs d c h).laid k s.block;
+    }
+
 pub reads : (d : DeviceState) (c k : ℕ) (p : Part) (at count from : ℕ) → IsImage d.words → not (is_going d c) ≡ false → IsSome (store_named d k)
-    → at + count ≤ length (part_of_app p (app_of (apps_in d.words) (store_named d k))) → from ≡ part_from p (record_sizes (record_at d.words k)) k → Reads d k p at count from
-reads d c k p at count from image h some range is =
+    → at + count ≤ length (part_of_app p (app_of (apps_in d.words) (store_named d k))) → from ≡ part_from p (slot_sizes k) (slot_place k) → Reads d k p at count from
+reads d c k p at count from image h some range place =
     let m = d.words in
-    let s : Slot d k = slot d c k image h some in
-    let sizes = record_sizes (record_at m k) in
-    let q = part_from p sizes k in
+    let s : OfSlot d k = of_slot d c k image h some in
+    let sizes = record_sizes (record_at m (slot_place k)) in
+    let q = part_from p sizes (slot_place k) in
     let n = part_len p sizes in
-    let ends : q + up n 8 ≤ length m = part_ends m k p s.block in
-    let long : length (part_of_app p (app_of (apps_in m) (store_named d k))) ≡ n = ap (λ (a : App). length (part_of_app p a)) s.app ∙ ap length (part_is m k p) ∙ length-section m q n image ends in
+    let is : from ≡ q = place ∙ ap (λ (z : Sizes). part_from p z (slot_place k)) s.sizes in
+    let ends : q + up n 8 ≤ length m = part_ends m (slot_place k) p s.at.block in
+    let part : part_of_app p (app_of (apps_in m) (store_named d k)) ≡ section m q n = ap (λ (a : App). part_of_app p a) s.app ∙ part_is m (slot_place k) p in
+    let long : length (part_of_app p (app_of (apps_in m) (store_named d k))) ≡ n = ap length part ∙ length-section m q n image ends in
     record {
       inside = omega (arith, is, ends, long, range);
       bytes = ap (λ (x : ℕ). take count (drop (8 * x + at) (flat m))) is
           ∙ section_bytes m image q n at count ends (omega (arith, long, range))
-          ∙ ap (λ (l : List ℕ). take count (drop at l)) (sym (ap (λ (a : App). part_of_app p a) s.app ∙ part_is m k p));
+          ∙ ap (λ (l : List ℕ). take count (drop at l)) (sym part);
     }
-
-pub slot_fits : (d : DeviceState) (c k : ℕ) → IsImage d.words → not (is_going d c) ≡ false → IsSome (store_named d k) → k + 5 ≤ length d.words
-slot_fits d c k image h some = block_fits d.words k (slot d c k image h some).block
 
 -- ---- names and facts
 
@@ -75,10 +97,30 @@ pub good_words : (d : DeviceState) (c : ℕ) → not (is_going d c) ≡ false �
 good_words d c h = (runs d c h).laid
 
 pub is_there : (d : DeviceState) (c : ℕ) (n : List ℕ) (o : Option ℕ) → IsImage d.words → not (is_going d c) ≡ false → o ≡ first_named d.words (blocks d.words) n → is_some o ≡ is_some (lookup (apps_in d.words) n)
-is_there d c n o image h is = name_there d.words image (good_words d c h) n o is ∙ ap (λ (es : List (List ℕ × App)). is_some (lookup es n)) (sym (map_is d c h))
+is_there d c n o image h is = found_there d.words image (good_words d c h) n o is ∙ ap (λ (es : List (List ℕ × App)). is_some (lookup es n)) (sym (map_is d c h))
 
-pub is_slot : (d : DeviceState) (c : ℕ) (n : List ℕ) (p : ℕ) → IsImage d.words → not (is_going d c) ≡ false → Some p ≡ first_named d.words (blocks d.words) n → store_named d p ≡ Some n
-is_slot d c n p image h is = ap (λ (es : List (List ℕ × App)). name_of_place es p) (map_is d c h) ∙ name_slot d.words image (good_words d c h) n p is
+is_place : (d : DeviceState) (c : ℕ) (n : List ℕ) (p : ℕ) → IsImage d.words → not (is_going d c) ≡ false → Some p ≡ first_named d.words (blocks d.words) n → place_named d p ≡ Some n
+is_place d c n p image h is = ap (λ (es : List (List ℕ × App)). name_of_place es p) (map_is d c h) ∙ name_slot d.words image (good_words d c h) n p is
+
+is_slot : (d : DeviceState) (c : ℕ) (n : List ℕ) (k : ℕ) → IsImage d.words → not (is_going d c) ≡ false → Some (slot_place k) ≡ first_named d.words (blocks d.words) n
+    → slot_sizes k ≡ record_sizes (record_at d.words (slot_place k)) → store_named d k ≡ Some n
+is_slot d c n k image h is sizes =
+    let p = slot_place k in
+    let named : place_named d p ≡ Some n = is_place d c n p image h is in
+    let s : Slot d p = slot d c p image h (ap (λ (o : Option (List ℕ)). is_some o) named) in
+    slot_named (apps_in d.words) k (place_named d p) n named
+    (sizes ∙ sym (sizes_are d.words image (good_words d c h) p s.block) ∙ ap sizes_of (sym s.app) ∙ ap (λ (o : Option (List ℕ)). sizes_of (app_of (apps_in d.words) o)) named)
+
+-- the slot that a search for a name found
+pub record FindsSlot (d : DeviceState) (n : List ℕ) (r : Option ℕ) : Type 0 where
+  pub there : is_some r ≡ is_some (lookup (apps_in d.words) n)
+  pub slot : IfSome r (λ k. store_named d k ≡ Some n)
+
+pub finds_slot : (d : DeviceState) (c : ℕ) (n : List ℕ) (r : Option ℕ) → IsImage d.words → not (is_going d c) ≡ false → option_map slot_place r ≡ first_named d.words (blocks d.words) n
+    → IfSome r (λ k. slot_sizes k ≡ record_sizes (record_at d.words (slot_place k))) → FindsSlot d n r
+finds_slot d c n None image h is sizes = record { there = is_there d c n None image h is; slot = tt }
+finds_slot d c n (Some k) image h is sizes =
+    record { there = is_there d c n (Some (slot_place k)) image h is; slot = is_slot d c n k image h is sizes }
 
 -- what is told of the application of a slot
 pub record Told (d : DeviceState) (k : ℕ) (n : List ℕ) (z : Sizes) : Type 0 where
@@ -87,15 +129,16 @@ pub record Told (d : DeviceState) (k : ℕ) (n : List ℕ) (z : Sizes) : Type 0 
   pub sizes : z ≡ sizes_of (app_of (apps_in d.words) (store_named d k))
   pub limits : FitsLimits z
 
-pub told : (d : DeviceState) (c k : ℕ) (n : List ℕ) (z : Sizes) → IsImage d.words → not (is_going d c) ≡ false → IsSome (store_named d k) → n ≡ name_at d.words k → z ≡ record_sizes (record_at d.words k) → Told d k n z
+pub told : (d : DeviceState) (c k : ℕ) (n : List ℕ) (z : Sizes) → IsImage d.words → not (is_going d c) ≡ false → IsSome (store_named d k) → n ≡ name_at d.words (slot_place k) → z ≡ slot_sizes k → Told d k n z
 told d c k n z image h some named sized =
     let m = d.words in
-    let s : Slot d k = slot d c k image h some in
+    let s : OfSlot d k = of_slot d c k image h some in
+    let known : z ≡ record_sizes (record_at m (slot_place k)) = sized ∙ s.sizes in
     record {
       name = s.name ∙ ap (λ (x : List ℕ). Some x) (sym named);
-      app = subst (λ (o : Option App). IsSome o) (sym (ap (λ (x : List ℕ). lookup (apps_in m) x) named ∙ s.there)) refl;
-      sizes = sized ∙ sym (sizes_are m image (good_words d c h) k s.block) ∙ ap sizes_of (sym s.app);
-      limits = subst (λ (x : Sizes). FitsLimits x) (sym sized) (fits_limits m image (good_words d c h) k s.block);
+      app = subst (λ (o : Option App). IsSome o) (sym (ap (λ (x : List ℕ). lookup (apps_in m) x) named ∙ s.at.there)) refl;
+      sizes = known ∙ sym (sizes_are m image (good_words d c h) (slot_place k) s.at.block) ∙ ap sizes_of (sym s.app);
+      limits = subst (λ (x : Sizes). FitsLimits x) (sym known) (fits_limits m image (good_words d c h) (slot_place k) s.at.block);
     }
 
 pub counted : (d : DeviceState) (c : ℕ) → not (is_going d c) ≡ false → c ≡ length (apps_in d.words)
@@ -114,6 +157,31 @@ well_laid d c h = closed_fault d.words (no_journal d c h) ∙ good_words d c h
 
 pub answers : (d : DeviceState) (c : ℕ) (s : Sizes) (r : Result Site OpenRefusal) → not (is_going d c) ≡ false → r ≡ opened s (nat_le 32 c) (store_room d s) → r ≡ opened s (nat_le 32 (length (apps_in d.words))) (store_room d s)
 answers d c s r h is = is ∙ ap (λ (n : ℕ). opened s (nat_le 32 n) (store_room d s)) (counted d c h)
+
+looked-few : (n : ℕ) (gs : List (ℕ × ℕ)) → looked_at n gs ≤ length gs
+looked-few n [] = omega arith
+looked-few n (g ∷ gs) = by_test (nat_le n g.1) (looked-few n gs)
+  where
+    by_test : (t : Bool) → looked_at n gs ≤ length gs → suc (cond t 0 (looked_at n gs)) ≤ suc (length gs)
+    by_test true h = omega arith
+    by_test false h = omega arith
+
+-- the steps of a search for room
+pub record OpenSteps (d : DeviceState) (old new : ℕ) : Type 0 where
+  pub rises : old ≤ new
+  pub ticks : new ≤ old + (2 + length (gaps (means d.words)))
+  pub full : 32 ≤ length (apps_in d.words) → new ≡ old
+
+pub open_steps : (d : DeviceState) (c n old new : ℕ) → not (is_going d c) ≡ false → new ≡ old + search_steps c n (gaps (means d.words)) → OpenSteps d old new
+open_steps d c n old new h is = by_test (nat_le 32 c) refl is
+  where
+    by_test : (t : Bool) → nat_le 32 c ≡ t → new ≡ old + cond t 0 (1 + looked_at n (gaps (means d.words))) → OpenSteps d old new
+    by_test true e k = record { rises = omega arith; ticks = omega arith; full = λ many. omega (arith, k) }
+    by_test false e k =
+        let few = looked-few n (gaps (means d.words)) in
+        let past = leb-false 32 c e in
+        let count = counted d c h in
+        record { rises = omega arith; ticks = omega (arith, k, few); full = λ many. absurd (omega (arith, many, past, count)) }
 
 site_by : (apps : List (List ℕ × App)) (room : Sizes → Option ℕ) (s : Sizes) (t : Bool) (o : Option ℕ) → FitsLimits s → nat_le 32 (length apps) ≡ t → room s ≡ o → IfOk (opened s t o) (λ site. IsGood apps room site)
 site_by apps room s true o limits e f = tt

@@ -1,10 +1,13 @@
 -- What a good record says, and the block that it stands in.
-use Rattle.std.proofs.Common.{◌≡◌, ℕ, ◌+◌, ◌≤◌, true, ◌&&◌, List, length, take, drop, arith, min, length-take}
+use Rattle.std.proofs.Common.{◌≡◌, ℕ, ◌+◌, ◌≤◌, Bool, true, false, ◌&&◌, List, [], ◌++◌, refl, sym, ap, ◌∙◌, length, take, drop, arith, min, length-take}
 use Rattle.std.specs.Prelude.{nat_le, ◌==◌, slice_index, bytes_eq, ◌-◌}
-use Rattle.std.proofs.lemmas.Bool.{and_parts, leb-true, eqb-true}
+use Rattle.std.proofs.lemmas.Bool.{and_parts, leb-true, eqb-true, false_from_ne_true}
+use Rattle.std.proofs.lemmas.List.{take-take, take-append-le}
 use Rattle.mc_model.specs.Bytes.{be2, up, zeros}
-use Rattle.mc_model.specs.Card.{needed_of, record_at, name_in}
+use Rattle.mc_model.specs.Card.{word, needed_of, record_at, name_in, name_at}
 use Rattle.mc_model.specs.Layout.{is_record}
+use Rattle.mc_bank.specs.Names.{same_name, name_is_itself}
+use Rattle.mc_blocks.proofs.Records.{record_is as record_bytes_are}
 use Rattle.mc_store.specs.Slots.{IsBlock}
 
 -- the limits that a good record keeps, and the words of its block
@@ -83,3 +86,27 @@ name_size r w size h =
     let high : slice_index r 16 ≤ 16 = k.name_high in
     let e : length (name_in r) ≡ min (slice_index r 16) (length r) = length-take (slice_index r 16) r in
     (omega (arith, e, size), omega (arith, e, size))
+
+-- a name begins with the bytes of the record's first word
+name-front : (m : List (List ℕ)) (p : ℕ) (w n : List ℕ) → p + 5 ≤ length m → length w ≡ 8 → w ≡ word m (p + 1) → 5 ≤ length n → name_at m p ≡ n → take 5 n ≡ take 5 w
+name-front m p w n fits eight is long same =
+    let r = record_at m p in
+    let k = slice_index r 16 in
+    let size : length (name_at m p) ≡ min k (length r) = length-take k r in
+    let count : length (name_at m p) ≡ length n = ap length same in
+    let enough : 5 ≤ k = omega (arith, size, count, long) in
+    let rest = word m (p + 2) ++ (word m (p + 3) ++ (word m (p + 4) ++ [])) in
+    let bytes : r ≡ w ++ rest = record_bytes_are m p fits ∙ ap (λ (x : List ℕ). x ++ rest) (sym is) in
+    ap (λ (x : List ℕ). take 5 x) (sym same)
+    ∙ take-take 5 k r enough
+    ∙ ap (λ (x : List ℕ). take 5 x) bytes
+    ∙ take-append-le 5 w rest (omega (arith, eight))
+
+pub other_name : (m : List (List ℕ)) (p : ℕ) (w n : List ℕ) → p + 5 ≤ length m → length w ≡ 8 → w ≡ word m (p + 1) → 5 ≤ length n → bytes_eq (take 5 w) (take 5 n) ≡ false → bytes_eq (name_at m p) n ≡ false
+other_name m p w n fits eight is long differ =
+    false_from_ne_true (bytes_eq (name_at m p) n)
+    (λ e. cc (sym differ ∙ ap (λ (x : List ℕ). bytes_eq (take 5 w) x) (name-front m p w n fits eight is long (same_name (name_at m p) n e)) ∙ name_is_itself (take 5 w)))
+
+pub neither : (x b : Bool) → b ≡ false → false ≡ x && b
+neither true b h = sym h
+neither false b h = refl

@@ -17,7 +17,7 @@ use Rattle.mc_blocks.proofs.Steps.{blocks_all}
 use Rattle.mc_blocks.proofs.Tiles.{AreRead}
 use Rattle.mc_blocks.proofs.Bridge.{some-apps, no-apps, with-block, fault-closed}
 use Rattle.mc_blocks.proofs.Applications.{few-applications}
-use Rattle.mc_store.specs.Store.{apps_in, is_going, name_of_place, store_named}
+use Rattle.mc_store.specs.Store.{apps_in, is_going, name_of_place, place_named}
 use Rattle.mc_store.specs.Slots.{first_named, record_sizes, IsBlock}
 use Rattle.mc_store.specs.Going.{Going, going_is, closed_apps, closed_means}
 use Rattle.mc_store.specs.Sections.{length-cells, length-section}
@@ -207,21 +207,21 @@ runs d c h = going_is d c (by_test (is_going d c) h)
 pub map_is : (d : DeviceState) (c : ℕ) → not (is_going d c) ≡ false → apps_in d.words ≡ (card_of d.words).apps
 map_is d c h = let g : Going d c = runs d c h in closed_apps d.words g.closed g.laid
 
--- what a slot of a store that runs holds
+-- what a place of a store that runs holds
 pub record Slot (d : DeviceState) (k : ℕ) : Type 0 where
-  pub name : store_named d k ≡ Some (name_at d.words k)
+  pub name : place_named d k ≡ Some (name_at d.words k)
   pub there : lookup (apps_in d.words) (name_at d.words k) ≡ Some (app_at d.words k)
-  pub app : app_of (apps_in d.words) (store_named d k) ≡ app_at d.words k
+  pub app : app_of (apps_in d.words) (place_named d k) ≡ app_at d.words k
   pub block : IsBlock d.words k
 
-pub slot : (d : DeviceState) (c k : ℕ) → IsImage d.words → not (is_going d c) ≡ false → IsSome (store_named d k) → Slot d k
+pub slot : (d : DeviceState) (c k : ℕ) → IsImage d.words → not (is_going d c) ≡ false → IsSome (place_named d k) → Slot d k
 slot d c k image h some =
     let m = d.words in
     let g : Going d c = runs d c h in
     let apps : apps_in m ≡ (card_of m).apps = closed_apps m g.closed g.laid in
-    let n = some-is (store_named d k) some in
+    let n = some-is (place_named d k) some in
     let held : IsHeld m (card_of m).apps k n.0 = slot_held m image g.laid k n.0 (sym (ap (λ (es : List (List ℕ × App)). name_of_place es k) apps) ∙ n.1) in
-    let name : store_named d k ≡ Some (name_at m k) = n.1 ∙ ap (λ (x : List ℕ). Some x) held.name in
+    let name : place_named d k ≡ Some (name_at m k) = n.1 ∙ ap (λ (x : List ℕ). Some x) held.name in
     let there : lookup (apps_in m) (name_at m k) ≡ Some (app_at m k) = ap (λ (es : List (List ℕ × App)). lookup es (name_at m k)) apps ∙ ap (λ (x : List ℕ). lookup (card_of m).apps x) (sym held.name) ∙ held.app in
     record {
       name = name;

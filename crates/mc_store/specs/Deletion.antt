@@ -1,5 +1,4 @@
 -- What the atomic write of a deletion makes of a card: the application is gone.
--- This project's profile.
 use Rattle.std.proofs.Common.{◌≡◌, ℕ, suc, ◌≤◌, true, false, List, [], ◌∷◌, length, Some, refl, sym, ◌∙◌, ap, subst}
 use Rattle.mc_model.specs.Bytes.{lookup, insert, remove}
 use Rattle.mc_model.specs.Device.{IsImage}

@@ -62,6 +62,7 @@ agree-in m n p need at q a (b ∷ bs) end s t room low high =
 
 -- ---- the card stays
 
+-- other words of the same card, without a fault
 pub record Keeps (m n : List (List ℕ)) : Type 0 where
   pub size : length n ≡ length m
   pub closed : look n ≡ Closed

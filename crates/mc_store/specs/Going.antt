@@ -1,4 +1,4 @@
--- A store that runs, fact by fact. This project's profile.
+-- A store that runs, fact by fact.
 use Rattle.std.specs.Prelude.{◌≡◌, ℕ, Bool, true, false, ◌&&◌, cond, ◌==◌, List, [], length, Option, Some, None, is_none}
 use Rattle.std.proofs.Common.{refl, sym, ◌∙◌, ap}
 use Rattle.std.proofs.lemmas.Bool.{and_parts, eqb-true, eq-eqb}

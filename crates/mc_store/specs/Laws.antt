@@ -1,7 +1,6 @@
 -- The laws of a bank for the items of a store, over any device that keeps the rules of writes.
--- This project's profile.
 use Rattle.std.proofs.Common.{◌≡◌, ◌⊎◌, ℕ, ◌+◌, ◌<◌, ◌≤◌, true, not, List, length, Option, Some, Ok, Err, refl, sym, ◌∙◌, ap, subst, inl, inr, arith}
-use Rattle.std.specs.Prelude.{unwrap_or}
+use Rattle.std.specs.Prelude.{unwrap_or, None, IsSome}
 use Rattle.mc_model.specs.declared.card.Part.{Part}
 use Rattle.mc_model.specs.declared.card.Part.TheVariants.{Code, Data, Dir, Fci}
 use Rattle.mc_model.specs.declared.device.Stop.{Stop}
@@ -15,11 +14,13 @@ use Rattle.mc_model.specs.Card.{App, Card, word, card_of, means}
 use Rattle.mc_model.specs.Layout.{gaps, first_fitting}
 use Rattle.mc_model.specs.Items.{Site, BankItem, Piece, Blank, Note, Commit, Enter, Remove}
 use Rattle.mc_model.proofs.ImageLemmas.{length-laid}
-use Rattle.mc_bank.specs.Bank.{FitsLimits, StayGood, BytesStay, CanCommit, part_len, no_app, app_of, with_words, entered, committed, item_done, Spares, StopRose, Changes}
+use Rattle.mc_bank.specs.Bank.{FitsLimits, StayGood, BytesStay, CanCommit, part_len, no_app, app_of, sizes_of, with_words, entered, committed, item_done, Spares, StopRose, Changes}
+use Rattle.mc_bank.specs.Slots.{slot_place}
+use Rattle.mc_bank.specs.SlotLaws.{HasSizes, EntersNot, has_sizes, slot_named, item_sized}
 use Rattle.mc_blocks.specs.Plans.{has_room}
 use Rattle.mc_blocks.proofs.Maps.{OneAt}
 use Rattle.mc_blocks.proofs.Applications.{found-application}
-use Rattle.mc_store.specs.Store.{settled, apps_in, store_state, store_named, store_room, store_standing, needed_by, part_from, part_in, static_writes, name_of_place, IsGoodIn, StoreDid}
+use Rattle.mc_store.specs.Store.{settled, apps_in, store_state, place_named, store_named, store_room, store_standing, needed_by, part_from, part_in, static_writes, name_of_place, IsGoodIn, StoreDid}
 use Rattle.mc_store.specs.Going.{Going, going_is, is_going_of, closed_settled, closed_means, closed_apps, laid_apps}
 use Rattle.mc_store.specs.Alike.{Alike, means-after}
 use Rattle.mc_store.specs.Atomic.{AtomicEnds, atomic-ends}
@@ -27,6 +28,7 @@ use Rattle.mc_store.specs.Sections.{same-section}
 use Rattle.mc_store.specs.Creation.{AtSite, at-site, Creates, creates-plan}
 use Rattle.mc_store.specs.Commits.{Committed, commits}
 use Rattle.mc_store.specs.Places.{place-changed, place-new, place-removed}
+use Rattle.mc_store.specs.Did.{named-there}
 use Rattle.mc_store.specs.Turns.{Turns, Standing, standing-of, some-is, turns}
 
 -- ---- the applications
@@ -102,20 +104,20 @@ module _ {D : Type 0} (state : D → DeviceState) (wrote : D → ℕ → List �
       let there : lookup (card_of m).apps n ≡ Some x = sym (ap (λ (es : List (List ℕ × App)). lookup es n) s.apps) ∙ found.1 in
       (x, app, found.1, commits m n x ws did.image g.laid there (subst (λ (y : App). CanCommit y.fixed ws) app did.allowed.1))
 
-  slots-by : (d e : D) (c k : ℕ) (i : BankItem) (a : Answer) (q : ℕ) (n : List ℕ) → StoreDid state wrote d c i a e k → store_named (state d) q ≡ Some n
-      → name_of_place (item_done (store_standing (state d)) i (apps_in (state d).words)) q ≡ Some n → store_named (state e) q ≡ Some n
+  slots-by : (d e : D) (c k : ℕ) (i : BankItem) (a : Answer) (q : ℕ) (n : List ℕ) → StoreDid state wrote d c i a e k → place_named (state d) q ≡ Some n
+      → name_of_place (item_done (store_standing (state d)) i (apps_in (state d).words)) q ≡ Some n → place_named (state e) q ≡ Some n
   slots-by d e c k i a q n did is new =
       elim (map-of (state d) (state e) c k _ a (going_is (state d) c did.going) (turns state wrote obeys i d e c k a did)) [
         | inl old ↦ ap (λ (es : List (List ℕ × App)). name_of_place es q) old ∙ is
         | inr later ↦ ap (λ (es : List (List ℕ × App)). name_of_place es q) later ∙ new
       ]
 
-  -- and keeps the slots of all applications but the one that it deletes
-  pub store_keeps : (d e : D) (c k : ℕ) (i : BankItem) (a : Answer) → StoreDid state wrote d c i a e k → (q : ℕ) (n : List ℕ) → store_named (state d) q ≡ Some n → Spares n i → store_named (state e) q ≡ Some n
-  store_keeps d e c k (Piece s p at b) a did q n is spares = slots-by d e c k (Piece s p at b) a q n did is is
-  store_keeps d e c k (Blank s at x) a did q n is spares = slots-by d e c k (Blank s at x) a q n did is is
-  store_keeps d e c k (Note s m i) a did q n is spares = slots-by d e c k (Note s m i) a q n did is is
-  store_keeps d e c k (Commit m ws) a did q n is spares =
+  -- and keeps the places of all applications but the one that it deletes
+  places-keep : (d e : D) (c k : ℕ) (i : BankItem) (a : Answer) → StoreDid state wrote d c i a e k → (q : ℕ) (n : List ℕ) → place_named (state d) q ≡ Some n → Spares n i → place_named (state e) q ≡ Some n
+  places-keep d e c k (Piece s p at b) a did q n is spares = slots-by d e c k (Piece s p at b) a q n did is is
+  places-keep d e c k (Blank s at x) a did q n is spares = slots-by d e c k (Blank s at x) a q n did is is
+  places-keep d e c k (Note s m i) a did q n is spares = slots-by d e c k (Note s m i) a q n did is is
+  places-keep d e c k (Commit m ws) a did q n is spares =
       slots-by d e c k (Commit m ws) a q n did is (place-of-commit d e c k m ws a did q ∙ is)
     where
       place-of-commit : (d e : D) (c k : ℕ) (n : List ℕ) (ws : List (ℕ × List ℕ)) (a : Answer) → StoreDid state wrote d c (Commit n ws) a e k → (q : ℕ) → name_of_place (committed (apps_in (state d).words) n ws) q ≡ name_of_place (apps_in (state d).words) q
@@ -131,7 +133,7 @@ module _ {D : Type 0} (state : D → DeviceState) (wrote : D → ℕ → List �
           ∙ ap (λ (y : App). name_of_place (insert (means m).apps n (with_words ws y)) q) t.1
           ∙ place-changed (means m).apps n x.place q x (with_words ws x) refl one t.2
           ∙ ap (λ (es : List (List ℕ × App)). name_of_place es q) (sym same)
-  store_keeps d e c k (Enter s m) a did q n is spares =
+  places-keep d e c k (Enter s m) a did q n is spares =
       let w = (state d).words in
       let g : Going (state d) c = going_is (state d) c did.going in
       let t : Standing w = standing-of (state d) c g in
@@ -140,7 +142,40 @@ module _ {D : Type 0} (state : D → DeviceState) (wrote : D → ℕ → List �
       slots-by d e c k (Enter s m) a q n did is
       (ap (λ (es : List (List ℕ × App)). name_of_place (insert es m (entered s (store_standing (state d) s))) q) same
       ∙ place-new (means w).apps m n s.place q (entered s (store_standing (state d) s)) refl p.free (ap (λ (es : List (List ℕ × App)). name_of_place es q) (sym same) ∙ is))
-  store_keeps d e c k (Remove m) a did q n is spares = slots-by d e c k (Remove m) a q n did is (place-removed (apps_in (state d).words) m n q spares is)
+  places-keep d e c k (Remove m) a did q n is spares = slots-by d e c k (Remove m) a q n did is (place-removed (apps_in (state d).words) m n q spares is)
+
+  -- no item enters a name that is there
+  enters-other : (d e : D) (c k : ℕ) (i : BankItem) (a : Answer) → StoreDid state wrote d c i a e k → (q : ℕ) (n : List ℕ) → place_named (state d) q ≡ Some n → EntersNot n i
+  enters-other d e c k (Piece s p at b) a did q n is = tt
+  enters-other d e c k (Blank s at x) a did q n is = tt
+  enters-other d e c k (Note s m i) a did q n is = tt
+  enters-other d e c k (Commit m ws) a did q n is = tt
+  enters-other d e c k (Enter s m) a did q n is = λ same.
+      let w = (state d).words in
+      let t : Standing w = standing-of (state d) c (going_is (state d) c did.going) in
+      let there : IsSome (lookup (means w).apps n) = subst (λ (es : List (List ℕ × App)). IsSome (lookup es n)) (t.map ∙ sym t.apps) (named-there (apps_in w) q n is) in
+      let fresh : lookup (means w).apps n ≡ None = subst (λ (x : List ℕ). lookup (means w).apps x ≡ None) same did.allowed.fresh in
+      cc (sym (some-is (lookup (means w).apps n) there).1 ∙ fresh)
+  enters-other d e c k (Remove m) a did q n is = tt
+
+  -- the sizes of an application after an item that spares it
+  sizes-keep : (d e : D) (c k : ℕ) (i : BankItem) (a : Answer) → StoreDid state wrote d c i a e k → (q : ℕ) (n : List ℕ) → place_named (state d) q ≡ Some n → Spares n i
+      → sizes_of (app_of (apps_in (state e).words) (Some n)) ≡ sizes_of (app_of (apps_in (state d).words) (Some n))
+  sizes-keep d e c k i a did q n is spares =
+      elim (map-of (state d) (state e) c k _ a (going_is (state d) c did.going) (turns state wrote obeys i d e c k a did)) [
+        | inl old ↦ ap (λ (es : List (List ℕ × App)). sizes_of (app_of es (Some n))) old
+        | inr later ↦
+            ap (λ (es : List (List ℕ × App)). sizes_of (app_of es (Some n))) later
+            ∙ item_sized (store_standing (state d)) i (apps_in (state d).words) n spares (enters-other d e c k i a did q n is)
+      ]
+
+  -- and keeps the slots of all applications but the one that it deletes
+  pub store_keeps : (d e : D) (c k : ℕ) (i : BankItem) (a : Answer) → StoreDid state wrote d c i a e k → (q : ℕ) (n : List ℕ) → store_named (state d) q ≡ Some n → Spares n i → store_named (state e) q ≡ Some n
+  store_keeps d e c k i a did q n is spares =
+      let s : HasSizes (apps_in (state d).words) q (place_named (state d) (slot_place q)) n = has_sizes (apps_in (state d).words) q (place_named (state d) (slot_place q)) n is in
+      slot_named (apps_in (state e).words) q (place_named (state e) (slot_place q)) n
+      (places-keep d e c k i a did (slot_place q) n s.name spares)
+      (s.sizes ∙ sym (sizes-keep d e c k i a did (slot_place q) n s.name spares))
 
   -- a commit keeps the holes
   holes-stay : (d e : D) (c k : ℕ) (n : List ℕ) (ws : List (ℕ × List ℕ)) (a : Answer) → StoreDid state wrote d c (Commit n ws) a e k → (gaps (means (state e).words) ≡ gaps (means (state d).words)) × (length (apps_in (state e).words) ≡ length (apps_in (state d).words))

@@ -1,5 +1,4 @@
 -- Slots of applications by the places of their blocks, as the map of applications changes.
--- This project's profile.
 use Rattle.std.proofs.Common.{◌≡◌, ◌≢◌, ℕ, Bool, true, false, List, [], ◌∷◌, Option, Some, None, cond, refl, sym, ◌∙◌, ap}
 use Rattle.std.specs.Prelude.{◌==◌, bytes_eq}
 use Rattle.std.proofs.lemmas.Bool.{eqb-true, eq-eqb, ne_eqb}

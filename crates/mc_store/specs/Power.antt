@@ -1,5 +1,4 @@
 -- What a power-up does: the writes that it owes, then the migration of a card of layout 1, and what a stop leaves.
--- This project's profile.
 use Rattle.std.specs.Prelude.{◌≡◌, ◌≢◌, ℕ, ◌+◌, ◌-◌, ◌<◌, ◌≤◌, true, cond, ◌==◌, List, [], ◌∷◌, ◌++◌, length, slice_set, Some, None, Result, Ok, Err}
 use Rattle.mc_model.specs.declared.card.Cause.{Cause}
 use Rattle.mc_model.specs.declared.card.Cause.TheVariants.{BadJournal}
@@ -158,3 +157,8 @@ powered (Err p) = failed p.1
 abbrev pub device_after : {N : Type 0} → Result (Store N × ℕ) (N × Up) → N
 device_after (Ok p) = device_of p.0
 device_after (Err p) = p.0
+
+-- the end of a restart of a store, by the store after it
+abbrev pub restarted : {N : Type 0} → Store N → Result ℕ Up → Powered
+restarted s (Ok n) = Runs n (count_of s)
+restarted s (Err u) = failed u

@@ -1,5 +1,4 @@
 -- The used blocks of a card by their names, and what their records say.
--- This project's profile.
 use Rattle.std.specs.Prelude.{◌≡◌, ℕ, ◌+◌, ◌≤◌, true, cond, ◌&&◌, List, [], ◌∷◌, length, slice_index, bytes_eq, Option, Some, None}
 use Rattle.std.specs.List.{concat}
 use Rattle.mc_model.specs.declared.card.Part.{Part}

@@ -1,5 +1,4 @@
 -- What a stop in the device writes of an item leaves of a card.
--- This project's profile.
 use Rattle.std.specs.Prelude.{ℕ, cond, List, length}
 use Rattle.mc_model.specs.Image.{Two}
 use Rattle.mc_model.specs.Stopped.{stands, owes}

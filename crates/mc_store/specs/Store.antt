@@ -1,6 +1,5 @@
 -- A card in the words of a device, as a bank: its state, slots, room and sites, and the device writes of its items.
--- This project's profile.
-use Rattle.std.specs.Prelude.{◌≡◌, ℕ, ◌+◌, ◌-◌, ◌*◌, ◌%◌, ◌<◌, ◌≤◌, Bool, true, false, cond, not, ◌&&◌, ◌==◌, List, [], ◌∷◌, ◌++◌, length, take, drop, map, is_none, Option, Some, None, Ok, IsSome}
+use Rattle.std.specs.Prelude.{◌≡◌, ℕ, ◌+◌, ◌-◌, ◌*◌, ◌%◌, ◌<◌, ◌≤◌, Bool, true, false, cond, not, nat_le, ◌&&◌, ◌==◌, List, [], ◌∷◌, ◌++◌, length, take, drop, map, is_none, Option, Some, None, Ok, IsSome}
 use Rattle.mc_model.specs.declared.card.Part.{Part}
 use Rattle.mc_model.specs.declared.card.Part.TheVariants.{Code, Data, Dir, Fci}
 use Rattle.mc_model.specs.declared.card.Sizes.{Sizes}
@@ -14,6 +13,8 @@ use Rattle.mc_model.specs.Layout.{gaps, first_fitting, words_fault, fault, step_
 use Rattle.mc_model.specs.Items.{Site, BankItem, Piece, Blank, Note, Commit, Enter, Remove}
 use Rattle.mc_base.specs.Name.{IsName}
 use Rattle.mc_bank.specs.Bank.{BankState, app_of, part_len, IsGood, CanCommit, entered}
+use Rattle.mc_bank.specs.Slots.{slot_place, name_of_slot}
+use Rattle.mc_blocks.specs.Chains.{looked_at}
 
 -- ---- what the words hold
 
@@ -41,16 +42,20 @@ abbrev pub store_state : DeviceState → ℕ → BankState
 store_state d count =
     record { apps = apps_in d.words; cuts = d.cuts; faults = d.faults; stopped = not (is_going d count); ticks = 2 + length (gaps (means d.words)) }
 
--- ---- slots: an application is known by the place of its block
+-- ---- slots: an application is known by the place of its block, and by its sizes
 
 -- the name of the application whose block begins at a place
 abbrev pub name_of_place : List (List ℕ × App) → ℕ → Option (List ℕ)
 name_of_place [] k = None
 name_of_place (e ∷ es) k = cond ((e.1).place == k) (Some e.0) (name_of_place es k)
 
--- the name of a slot
+-- the name of the application whose block begins at a place
+abbrev pub place_named : DeviceState → ℕ → Option (List ℕ)
+place_named d p = name_of_place (apps_in d.words) p
+
+-- the name of a slot, which has the place of a block and the sizes of its application
 abbrev pub store_named : DeviceState → ℕ → Option (List ℕ)
-store_named d k = name_of_place (apps_in d.words) k
+store_named d k = name_of_slot (apps_in d.words) k (place_named d (slot_place k))
 
 -- ---- sites: a load is known by the place of its hole
 
@@ -61,6 +66,10 @@ needed_by s = needed_of s.code s.fixed s.dir s.fci
 -- the place of the first hole with the needed words
 abbrev pub store_room : DeviceState → Sizes → Option ℕ
 store_room d s = first_fitting (needed_by s) (gaps (means d.words))
+
+-- the steps of a search for n words on a card with so many applications and these holes
+abbrev pub search_steps : ℕ → ℕ → List (ℕ × ℕ) → ℕ
+search_steps count n gs = cond (nat_le 32 count) 0 (1 + looked_at n gs)
 
 -- the word in which a section begins, of a block at p with sections of these lengths
 abbrev pub part_from : Part → Sizes → ℕ → ℕ

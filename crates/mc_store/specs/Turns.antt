@@ -1,5 +1,4 @@
 -- What an item of a store leaves of its words, done or stopped at any write.
--- This project's profile.
 use Rattle.std.proofs.Common.{◌≡◌, ◌⊎◌, ℕ, suc, ◌+◌, ◌-◌, ◌<◌, true, List, [], ◌∷◌, length, Option, Some, None, Ok, Err, refl, sym, ◌∙◌, ap, subst, inl, inr, arith}
 use Rattle.std.specs.Prelude.{IsSome, unwrap_or}
 use Rattle.mc_model.specs.declared.card.Part.{Part}
@@ -45,6 +44,7 @@ pub record Halted (d : DeviceState) (apps : List (List ℕ × App)) (s : Stop) (
   pub card : (means e.words ≡ card_of d.words) ⊎ (means e.words ≡ record (card_of d.words) { apps = apps })
   pub ended : Ended (Err s) d e
 
+-- words that become others by the atomic write of a change of the card
 abbrev pub Turns : DeviceState → List (List ℕ × App) → Answer → DeviceState → ℕ → Type 0
 Turns d apps (Ok u) e c = Turned d apps e c
 Turns d apps (Err s) e c = Halted d apps s e

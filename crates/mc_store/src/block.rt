@@ -1,13 +1,14 @@
 // The used blocks of a card and their records, read by their places.
-ghost use Rattle.std.specs.Prelude.{◌≡◌, ◌+◌, ◌*◌, ◌<◌, ◌≤◌, ◌&&◌, ◌==◌, None, length, slice_index, bytes_eq, true};
+ghost use Rattle.std.specs.Prelude.{◌≡◌, ◌+◌, ◌*◌, ◌<◌, ◌≤◌, ◌&&◌, ◌==◌, None, IfSome, is_some, option_map, length, take, slice_index, bytes_eq, true};
 ghost use Rattle.mc_model.specs.Bytes.{be2};
 ghost use Rattle.mc_model.specs.Device.{IsImage};
 ghost use Rattle.mc_model.specs.Card.{word, blocks, used_tag, record_at, name_at, name_in};
 ghost use Rattle.mc_model.specs.Layout.{words_fault};
+ghost use Rattle.mc_bank.specs.Slots.{slot_place, slot_sizes};
 ghost use Rattle.mc_store.specs.Slots.{first_named, record_sizes, IsBlock};
 
-use mc_bank::{Facts, Sizes};
-use mc_base::Aid;
+use mc_bank::{Sizes, Slot};
+use mc_base::{Aid, Word};
 use mc_nvm::Nvm;
 
 /// The first word of the heap.
@@ -26,18 +27,19 @@ pub struct Header {
     pub words: u16,
 }
 
-/// The place of the used block that has this name, on words without a fault.
-pub fn find_block<N: Nvm>(device: &N, aid: &Aid) -> Option<u16>
+/// The slot of the used block that has this name, on words without a fault.
+pub fn find_block<N: Nvm>(device: &N, aid: &Aid) -> Option<Slot>
     requires laid { words_fault (N.state device.now).words ≡ None }
-    ensures place { result ≡ first_named (N.state device.now).words (blocks (N.state device.now).words) aid.now }
+    ensures place { option_map slot_place result ≡ first_named (N.state device.now).words (blocks (N.state device.now).words) aid.now }
+    ensures sizes { IfSome result (λ slot. slot_sizes slot ≡ record_sizes (record_at (N.state device.now).words (slot_place slot))) }
     ensures image { IsImage (N.state device.now).words }
 {
     let size = device.len();
     let mut place = HEAP;
     while place < size {
         let header = read_header(device, place);
-        if has_name(device, place, &header, aid) {
-            return Some(place as u16);
+        if let Some(sizes) = sizes_of_name(device, place, &header, aid) {
+            return Some(Slot::new(place as u16, sizes));
         }
         place += header.words as u32;
     }
@@ -57,48 +59,57 @@ fn read_header<N: Nvm>(device: &N, place: u32) -> Header
     }
 }
 
-// Whether a block is used and has this name.
-fn has_name<N: Nvm>(device: &N, place: u32, header: &Header, aid: &Aid) -> bool
+// The sizes of a block that is used and has this name.
+fn sizes_of_name<N: Nvm>(device: &N, place: u32, header: &Header, aid: &Aid) -> Option<Sizes>
     requires { header.now.used ≡ true → place + 5 ≤ length (N.state device.now).words }
-    ensures { result ≡ (header.now.used && bytes_eq (name_at (N.state device.now).words place) aid.now) }
+    ensures name { is_some result ≡ (header.now.used && bytes_eq (name_at (N.state device.now).words place) aid.now) }
+    ensures sizes { IfSome result (λ sizes. sizes ≡ record_sizes (record_at (N.state device.now).words place)) }
 {
     if !header.used {
-        return false;
+        return None;
     }
-    let entry = read_record(device, place);
-    name_of(&entry) == aid.bytes()
-}
-
-/// The name and the sizes in the record of the used block at a place.
-pub fn facts_at<N: Nvm>(device: &N, place: u16) -> Facts
-    requires block { IsBlock (N.state device.now).words place }
-    ensures aid { result.aid ≡ name_at (N.state device.now).words place }
-    ensures sizes { result.sizes ≡ record_sizes (record_at (N.state device.now).words place) }
-{
-    let entry = read_record(device, place as u32);
-    Facts {
-        aid: Aid::new(name_of(&entry)).unwrap(),
-        sizes: sizes_of(&entry),
+    let _size = device.len();
+    let first = device.read(place + 1);
+    if !begins(aid, &first) {
+        return None;
+    }
+    let entry = read_record(device, place, first);
+    if name_of(&entry) == aid.bytes() {
+        Some(sizes_of(&entry))
+    } else {
+        None
     }
 }
 
-/// The sizes in the record of the used block at a place.
-pub fn sizes_at<N: Nvm>(device: &N, place: u16) -> Sizes
-    requires { place + 5 ≤ length (N.state device.now).words }
-    ensures { result ≡ record_sizes (record_at (N.state device.now).words place) }
+// Whether a name, which has five bytes or more, has the first five of this word.
+fn begins(aid: &Aid, first: &Word) -> bool
+    ensures same { result ≡ bytes_eq (take 5 first.now) (take 5 aid.now) }
+    ensures name { 5 ≤ length aid.now }
 {
-    sizes_of(&read_record(device, place as u32))
+    first[..5] == aid.bytes()[..5]
 }
 
-// The record of the block at a place: the four words behind its header.
+/// The name in the record of the used block at a place.
+pub fn name_of_block<N: Nvm>(device: &N, place: u16) -> Aid
+    requires { IsBlock (N.state device.now).words place }
+    ensures { result ≡ name_at (N.state device.now).words place }
+{
+    let _size = device.len();
+    let place = place as u32;
+    let entry = read_record(device, place, device.read(place + 1));
+    Aid::new(name_of(&entry)).unwrap()
+}
+
+// The record of the block at a place, whose first word was read: the four words behind its header.
 #[tactic(auto, using(mc_blocks::proofs::Records::record_words))]
-fn read_record<N: Nvm>(device: &N, place: u32) -> Record
-    requires { place + 5 ≤ length (N.state device.now).words }
+fn read_record<N: Nvm>(device: &N, place: u32, first: Word) -> Record
+    requires place { place + 5 ≤ length (N.state device.now).words }
+    requires first { first ≡ word (N.state device.now).words (place + 1) }
     ensures { result ≡ record_at (N.state device.now).words place }
 {
     let _size = device.len();
     let words = [
-        device.read(place + 1),
+        first,
         device.read(place + 2),
         device.read(place + 3),
         device.read(place + 4),

@@ -1,44 +1,63 @@
 // Changes of the applications of a store: a commit of static words and a deletion, one atomic write each.
-ghost use Rattle.std.specs.Prelude.{◌≡◌, ◌+◌, ◌≤◌, true, length, IsSome};
+ghost use Rattle.std.specs.Prelude.{◌≡◌, ◌+◌, ◌≤◌, true, false, length, IsSome};
 ghost use Rattle.std.specs.List.{AllByRecursion};
-ghost use Rattle.mc_model.specs.Bytes.{up, be2};
-ghost use Rattle.mc_model.specs.Card.{record_at};
+ghost use Rattle.mc_model.specs.Device.{Makes};
+ghost use Rattle.mc_model.specs.Image.{Two, is_open};
+ghost use Rattle.mc_model.specs.Stopped.{IsAtomic, writes};
 ghost use Rattle.mc_model.specs.Items.{Commit, Remove};
 ghost use Rattle.mc_bank.specs.Bank.{CanCommit, app_of, name_or};
 ghost use Rattle.mc_store.specs.Store.{is_going, apps_in, store_named};
-ghost use Rattle.mc_store.specs.Slots.{IsBlock};
 ghost use Rattle.mc_store.specs.Splices.{placed_words};
 ghost use Rattle.mc_store.specs.Did.{store_did};
 
-use crate::block::sizes_at;
+use crate::place::part_place;
 use crate::store::Store;
 use arrayvec::ArrayVec;
+use mc_bank::{Part, Slot};
 use mc_base::{Stop, Word};
 use mc_blocks::free_plan;
 use mc_nvm::Nvm;
 use mc_packed::write_words;
 
-/// Sets words of the static bytes of the application whose block begins at a place.
-pub fn commit<N: Nvm>(store: &mut Store<N>, place: u16, list: &[(u16, Word)]) -> Result<(), Stop>
+/// Sets words of the static bytes of the application of a slot.
+pub fn commit<N: Nvm>(store: &mut Store<N>, slot: Slot, list: &[(u16, Word)]) -> Result<(), Stop>
     requires going { is_going (N.state store.old.device) store.old.count ≡ true }
-    requires there { IsSome (store_named (N.state store.old.device) place) }
-    requires list { CanCommit (app_of (apps_in (N.state store.old.device).words) (store_named (N.state store.old.device) place)).fixed list.now }
-    ensures did { store_did N.state N.wrote store.old (Commit (name_or (store_named (N.state store.old.device) place)) list.now) result store.new }
+    requires there { IsSome (store_named (N.state store.old.device) slot) }
+    requires list { CanCommit (app_of (apps_in (N.state store.old.device).words) (store_named (N.state store.old.device) slot)).fixed list.now }
+    ensures did { store_did N.state N.wrote store.old (Commit (name_or (store_named (N.state store.old.device) slot)) list.now) result store.new }
 {
     let _size = store.device.len();
-    let first = first_static(&store.device, place);
-    let targets = shifted(first, list);
-    write_words(&mut store.device, targets.as_slice())
+    let first = part_place(Part::Data, &slot.sizes(), slot.index());
+    write_shifted(&mut store.device, first as u16, list)
 }
 
-// The word in which the static bytes of the application begin whose block is at a place.
-fn first_static<N: Nvm>(device: &N, place: u16) -> u16
-    requires { IsBlock (N.state device.now).words place }
-    ensures { result ≡ place + 5 + up (be2 (record_at (N.state device.now).words place) 20) 8 }
+// Writes words at once, with so much added to each number. One word, which is the most common, pays for no room of 64.
+fn write_shifted<N: Nvm>(device: &mut N, first: u16, list: &[(u16, Word)]) -> Result<(), Stop>
+    requires power { (N.state device.old).on ≡ true }
+    requires few { length list.now ≤ 64 }
+    requires within { AllByRecursion (λ w. first + w.0 ≤ 65535) list.now }
+    requires list { IsAtomic (length (N.state device.old).words) (placed_words first list.now) }
+    requires gate { is_open Two (N.state device.old).words ≡ false }
+    ensures { Makes N.wrote device.old (writes Two (placed_words first list.now)) result device.new }
 {
-    let _size = device.len();
-    let code = sizes_at(device, place).code;
-    place + 5 + (code + 7) / 8
+    if list.len() == 1 {
+        let (number, word) = list[0];
+        return write_words(device, &[(first + number, word)]);
+    }
+    write_list(device, first, list)
+}
+
+// The same by a list of their places.
+fn write_list<N: Nvm>(device: &mut N, first: u16, list: &[(u16, Word)]) -> Result<(), Stop>
+    requires power { (N.state device.old).on ≡ true }
+    requires few { length list.now ≤ 64 }
+    requires within { AllByRecursion (λ w. first + w.0 ≤ 65535) list.now }
+    requires list { IsAtomic (length (N.state device.old).words) (placed_words first list.now) }
+    requires gate { is_open Two (N.state device.old).words ≡ false }
+    ensures { Makes N.wrote device.old (writes Two (placed_words first list.now)) result device.new }
+{
+    let targets = shifted(first, list);
+    write_words(device, targets.as_slice())
 }
 
 // The words with so much added to each number.
@@ -54,14 +73,14 @@ fn shifted(first: u16, list: &[(u16, Word)]) -> ArrayVec<(u16, Word), 64>
     targets
 }
 
-/// Takes out the application whose block begins at a place.
-pub fn delete<N: Nvm>(store: &mut Store<N>, place: u16) -> Result<(), Stop>
+/// Takes out the application of a slot.
+pub fn delete<N: Nvm>(store: &mut Store<N>, slot: Slot) -> Result<(), Stop>
     requires going { is_going (N.state store.old.device) store.old.count ≡ true }
-    requires there { IsSome (store_named (N.state store.old.device) place) }
-    ensures did { store_did N.state N.wrote store.old (Remove (name_or (store_named (N.state store.old.device) place))) result store.new }
+    requires there { IsSome (store_named (N.state store.old.device) slot) }
+    ensures did { store_did N.state N.wrote store.old (Remove (name_or (store_named (N.state store.old.device) slot))) result store.new }
 {
     let _size = store.device.len();
-    let plan = free_plan(&store.device, place);
+    let plan = free_plan(&store.device, slot.index());
     write_words(&mut store.device, plan.as_slice())?;
     store.count -= 1;
     Ok(())

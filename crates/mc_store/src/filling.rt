@@ -69,7 +69,7 @@ fn put_part<N: Nvm>(
     write_part(&mut store.device, place, at, bytes)
 }
 
-/// Writes bytes into one word of those from a place on; its other bytes stay.
+/// Writes bytes into one word of those from a place on; its other bytes stay. A whole word is not read first.
 pub fn write_part<N: Nvm>(device: &mut N, from: u32, at: u16, bytes: &[u8]) -> Result<(), Stop>
     requires power { (N.state device.old).on ≡ true }
     requires place { from + at / 8 < length (N.state device.old).words }
@@ -78,8 +78,21 @@ pub fn write_part<N: Nvm>(device: &mut N, from: u32, at: u16, bytes: &[u8]) -> R
 {
     let _size = device.len();
     let place = from + (at / 8) as u32;
+    if bytes.len() == 8 {
+        return device.write(place, whole_word(bytes));
+    }
     let word = with_bytes(device.read(place), (at % 8) as usize, bytes);
     device.write(place, word)
+}
+
+// Eight bytes as a word.
+fn whole_word(bytes: &[u8]) -> Word
+    requires { length bytes.now ≡ 8 }
+    ensures { result ≡ bytes.now }
+{
+    let mut word = [0; 8];
+    word.copy_from_slice(bytes);
+    word
 }
 
 // A word with bytes in the place of what stood there.

@@ -4,7 +4,6 @@ ghost use Rattle.mc_bank.specs.Bank.{app_of};
 ghost use Rattle.mc_store.specs.Store.{store_state, store_named};
 ghost use Rattle.mc_store.specs.Slots.{part_of_app};
 
-use crate::block::sizes_at;
 use crate::place::part_place;
 use crate::section::read_bytes;
 use crate::store::Store;
@@ -19,7 +18,6 @@ pub fn read_section<N: Nvm>(store: &Store<N>, slot: Slot, part: Part, at: u16, i
     ensures { into.new ≡ take (length into.old) (drop at (part_of_app part (app_of (store_state (N.state store.now.device) store.now.count).apps (store_named (N.state store.now.device) slot)))) }
 {
     let _size = store.device.len();
-    let place = slot.index();
-    let sizes = sizes_at(&store.device, place);
-    read_bytes(&store.device, part_place(part, &sizes, place), at, into);
+    let from = part_place(part, &slot.sizes(), slot.index());
+    read_bytes(&store.device, from, at, into);
 }

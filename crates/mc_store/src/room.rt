@@ -1,11 +1,12 @@
 // The search for room for a load.
-ghost use Rattle.std.specs.Prelude.{◌≡◌, ◌+◌, ◌≤◌, ◌-◌, false, nat_le, length};
+ghost use Rattle.std.specs.Prelude.{◌≡◌, ◌+◌, ◌≤◌, ◌-◌, false, nat_le};
 ghost use Rattle.mc_model.specs.Image.{Closed, look};
 ghost use Rattle.mc_model.specs.Card.{means};
 ghost use Rattle.mc_model.specs.Layout.{gaps, IsWellLaid};
 ghost use Rattle.mc_model.specs.Device.{IsImage};
 ghost use Rattle.mc_bank.specs.Bank.{FitsLimits, opened};
-ghost use Rattle.mc_store.specs.Store.{store_state, store_room};
+ghost use Rattle.mc_blocks.specs.Chains.{looked_at};
+ghost use Rattle.mc_store.specs.Store.{store_state, store_room, needed_by, search_steps};
 
 use crate::place::needed_words;
 use mc_bank::{OpenRefusal, Site, Sizes};
@@ -17,8 +18,8 @@ use std::sync::ledger::Ledger;
 /// How many applications a card may have.
 const APPS: u16 = 32;
 
-/// Looks for a hole with the words that a load of these sizes takes, on a card with so many applications. It reads
-/// along the chain of holes alone.
+/// Looks for a hole with the words that a load of these sizes takes, on a card with so many applications. It reads the
+/// root and the holes up to the one that it finds, and nothing where 32 applications are there.
 pub fn find_room<N: Nvm, L: Ledger>(
     device: &N,
     count: u16,
@@ -29,8 +30,7 @@ pub fn find_room<N: Nvm, L: Ledger>(
     requires limits { FitsLimits sizes.now }
     ensures answer { result ≡ opened sizes.now (nat_le 32 count) (store_room (N.state device.now) sizes.now) }
     ensures image { IsImage (N.state device.now).words }
-    ensures rises { steps.old ≤ steps.new }
-    ensures ticks { steps.new ≤ steps.old + (2 + length (gaps (means (N.state device.now).words))) }
+    ensures ticks { steps.new ≡ steps.old + search_steps count (needed_by sizes.now) (gaps (means (N.state device.now).words)) }
 {
     let _size = device.len();
     if count >= APPS {
@@ -50,8 +50,7 @@ fn first_room<N: Nvm, L: Ledger>(
     requires laid { IsWellLaid (N.state device.now).words }
     requires limits { FitsLimits sizes.now }
     ensures answer { result ≡ opened sizes.now false (store_room (N.state device.now) sizes.now) }
-    ensures rises { steps.old ≤ steps.new }
-    ensures ticks { steps.new ≤ steps.old + (2 + length (gaps (means (N.state device.now).words))) }
+    ensures ticks { steps.new ≡ steps.old + (1 + looked_at (needed_by sizes.now) (gaps (means (N.state device.now).words))) }
 {
     match first_fit(&Probe::new(device), needed_words(sizes), steps) {
         Some(place) => Ok(Site::new(*sizes, place)),

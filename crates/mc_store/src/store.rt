@@ -1,10 +1,10 @@
-ghost use Rattle.std.specs.Prelude.{◌≡◌, true};
-ghost use Rattle.mc_model.specs.Device.{Makes};
+ghost use Rattle.std.specs.Prelude.{◌≡◌, true, length};
+ghost use Rattle.mc_model.specs.Device.{Makes, IsImage};
 ghost use Rattle.std.specs.Borrow.{Lends, sem};
-ghost use Rattle.mc_store.specs.Power.{power_writes, power_answer, powered, device_of, device_after, over, PowersUp};
+ghost use Rattle.mc_store.specs.Power.{power_writes, power_answer, powered, restarted, device_of, device_after, over, PowersUp};
 ghost use Rattle.mc_store.specs.contracts.store.Store.{the_row};
 
-use crate::block::{facts_at, find_block};
+use crate::block::{find_block, name_of_block};
 use crate::power::{Ready, Up, prepare};
 use crate::reads::read_section;
 use crate::room::find_room;
@@ -39,6 +39,41 @@ impl<N: Nvm> Store<N> {
         }
     }
 
+    /// A store over a device that holds no card yet: nothing but its device is good until it is restarted.
+    pub fn asleep(dev: N) -> Store<N>
+        ensures { device_of result ≡ dev }
+    {
+        Store {
+            device: dev,
+            count: 0,
+        }
+    }
+
+    /// The same as `power_up`, in place, of a device whose power was turned on: the number of writes that it took. Where it fails, the
+    /// store is good for its device and for another restart alone.
+    pub fn restart(&mut self) -> Result<u16, Up>
+        requires power { (N.state (device_of self.old)).on ≡ true }
+        ensures makes { Makes N.wrote (device_of self.old) (power_writes (N.state (device_of self.old)).words) (power_answer (restarted self.new result)) (device_of self.new) }
+        ensures ends { PowersUp (N.state (device_of self.old)) (restarted self.new result) (N.state (device_of self.new)) }
+        ensures lent { N.same (device_of self.old) (device_of self.new) }
+    {
+        match prepare(&mut self.device) {
+            Ok(Ready { writes, count }) => {
+                self.count = count;
+                Ok(writes)
+            }
+            Err(up) => Err(up),
+        }
+    }
+
+    /// The number of words of the device, which never changes.
+    pub fn device_len(&self) -> u32
+        ensures len { result ≡ length (N.state (device_of self.now)).words }
+        ensures image { IsImage (N.state (device_of self.now)).words }
+    {
+        self.device.len()
+    }
+
     /// The device as a bench sees it, for its fuses alone: what changes its words or its power leaves no card that the store knows.
     pub fn device_mut(&mut self) -> &mut N
         ensures value { result.now ≡ device_of self.old }
@@ -57,7 +92,9 @@ impl<N: Nvm> Store<N> {
 }
 
 impl<N: Nvm> Bank for Store<N> {
-    ghost use Rattle.mc_store.specs.Store.{store_state, store_named, store_room, store_standing, StoreDid};
+    ghost use Rattle.mc_bank.specs.Slots.{slot_place};
+    ghost use Rattle.mc_bank.specs.SlotLaws.{slot_sized};
+    ghost use Rattle.mc_store.specs.Store.{apps_in, place_named, store_state, store_named, store_room, store_standing, StoreDid};
     ghost use Rattle.mc_store.specs.Laws.{store_obeys, store_keeps, store_spares, store_leaves};
 
     ghost state = { λ s. store_state (N.state s.device) s.count };
@@ -70,6 +107,8 @@ impl<N: Nvm> Bank for Store<N> {
 
     ghost did = { λ s i a e. StoreDid N.state N.wrote s.device s.count i a e.device e.count };
 
+    ghost sized = { λ s k there. slot_sized (apps_in (N.state s.device).words) k (place_named (N.state s.device) (slot_place k)) there };
+
     ghost obeys = { λ s i a e did. store_obeys N.state N.wrote N.obeys s.device e.device s.count e.count i a did };
 
     ghost keeps = { λ s i a e did. store_keeps N.state N.wrote N.obeys s.device e.device s.count e.count i a did };
@@ -79,10 +118,7 @@ impl<N: Nvm> Bank for Store<N> {
     ghost leaves = { λ s n ws a e did. store_leaves N.state N.wrote N.obeys s.device e.device s.count e.count n ws a did };
 
     fn find(&self, aid: &Aid) -> Option<Slot> {
-        match find_block(&self.device, aid) {
-            Some(place) => Some(Slot::new(place)),
-            None => None,
-        }
+        find_block(&self.device, aid)
     }
 
     fn count(&self) -> u16 {
@@ -92,7 +128,10 @@ impl<N: Nvm> Bank for Store<N> {
 
     fn facts(&self, slot: Slot) -> Facts {
         let _size = self.device.len();
-        facts_at(&self.device, slot.index())
+        Facts {
+            aid: name_of_block(&self.device, slot.index()),
+            sizes: slot.sizes(),
+        }
     }
 
     fn code(&self, slot: Slot, at: u16, into: &mut [u8]) {
@@ -108,7 +147,7 @@ impl<N: Nvm> Bank for Store<N> {
     }
 
     fn commit(&mut self, slot: Slot, list: &[(u16, Word)]) -> Result<(), Stop> {
-        changes::commit(self, slot.index(), list)
+        changes::commit(self, slot, list)
     }
 
     fn open<L: Ledger>(&self, sizes: &Sizes, steps: &mut Steps<L>) -> Result<Site, OpenRefusal> {
@@ -124,6 +163,6 @@ impl<N: Nvm> Bank for Store<N> {
     }
 
     fn delete(&mut self, slot: Slot) -> Result<(), Stop> {
-        changes::delete(self, slot.index())
+        changes::delete(self, slot)
     }
 }

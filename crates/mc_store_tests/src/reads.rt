@@ -23,12 +23,21 @@ use std::marker::Brand;
 use std::sync::ledger::{Blank, Ledger};
 use std::test::Fail;
 
-/// The reads of a search for room, of the creation there, and of a deletion.
+/// The reads of a search for room, of the creation there, and of a deletion; and those of bytes of the new application.
 #[derive(Clone, Copy, Debug, PartialEq, Eq, Drop)]
 struct Reads {
     open: u32,
     create: u32,
     delete: u32,
+    bytes: Fetches,
+}
+
+/// The reads of a fetch of six bytes that lie in one word, and in two, and of two static bytes in one word.
+#[derive(Clone, Copy, Debug, PartialEq, Eq, Drop)]
+struct Fetches {
+    one: u32,
+    two: u32,
+    fixed: u32,
 }
 
 /// The reads of a search for 13 words and its answer, of the plan to take them there, and of the plan to free a block.
@@ -114,6 +123,8 @@ fn count_reads<B: Bank, L: Ledger>(
     reads.set(0);
     bank.create(&site, &aid).ok()?;
     let create = reads.get();
+    let made = slot_of(bank, &loaded.name)?;
+    let bytes = count_fetches(bank, made, reads)?;
     let slot = slot_of(bank, &deleted.name)?;
     reads.set(0);
     bank.delete(slot).ok()?;
@@ -121,6 +132,32 @@ fn count_reads<B: Bank, L: Ledger>(
         open,
         create,
         delete: reads.get(),
+        bytes,
+    })
+}
+
+// The reads of bytes of an application with at least nine bytes of code and two static bytes.
+fn count_fetches<B: Bank>(bank: &B, slot: Slot, reads: &Cell<u32>) -> Option<Fetches>
+    requires going { (B.state bank.now).stopped ≡ false }
+    requires there { IsSome (B.named bank.now slot) }
+{
+    let sizes = bank.facts(slot).sizes;
+    if sizes.code < 9 || sizes.fixed < 2 {
+        return None;
+    }
+    let mut window = [0; 6];
+    reads.set(0);
+    bank.code(slot, 1, &mut window);
+    let one = reads.get();
+    reads.set(0);
+    bank.code(slot, 3, &mut window);
+    let two = reads.get();
+    reads.set(0);
+    bank.fixed(slot, 0, &mut window[..2]);
+    Some(Fetches {
+        one,
+        two,
+        fixed: reads.get(),
     })
 }
 
@@ -282,7 +319,8 @@ fn plan_reads(alloc: Global, deleted: &[(Change, Came)]) -> Result<Option<Plans>
 }
 
 // Along the chain of holes alone: at most two more reads than there are holes to find room, and eight more to create
-// or to delete, on a card that is full then as on one with twenty.
+// or to delete, on a card that is full then as on one with twenty. Bytes of an application take the reads of the
+// words that they lie in.
 #[test]
 fn reads_of_a_store(rt: HostRuntime) -> Result<(), Fail> {
     for (count, deleted, holes) in [
@@ -301,12 +339,15 @@ fn reads_of_a_store(rt: HostRuntime) -> Result<(), Fail> {
                 open,
                 create,
                 delete,
+                bytes,
             },
         ) = reads
         {
             assert!(rt; open <= holes + 2, "{open} reads, {holes} holes");
             assert!(rt; create <= holes + 8, "{create} reads, {holes} holes");
             assert!(rt; delete <= holes + 8, "{delete} reads, {holes} holes");
+            let Fetches { one, two, fixed } = bytes;
+            assert_eq!(rt; (one, two, fixed), (1, 2, 1));
         }
     }
     Ok(())

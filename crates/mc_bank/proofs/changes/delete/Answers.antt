@@ -1,15 +1,17 @@
-use Rattle.std.proofs.Common.{ap, subst, sym, ◌<◌, ℕ}
+use Rattle.std.proofs.Common.{ap, subst, sym, ◌<◌, ℕ, slice_set}
 use Rattle.mc_bank.specs.Memory.{freed}
-use Rattle.mc_bank.proofs.ShownLemmas.{slot_within, entry_is}
+use Rattle.mc_bank.specs.Left.{DeleteLeft}
+use Rattle.mc_bank.proofs.ShownLemmas.{place_is_within, slot_entry}
 use Rattle.mc_bank.proofs.LeftLemmas.{delete_left}
 use Rattle.mc_bank.proofs.changes.delete.Goals as goal
 
 pub index_mut-requires : goal.index_mut-requires
-index_mut-requires c = subst (λ (n : ℕ). c.args.index < n) (sym c.check_len.ensures) (slot_within c.args.entries.now.items c.args.index c.requires.there)
+index_mut-requires c = subst (λ (n : ℕ). c.index.result < n) (sym c.check_len.ensures) (place_is_within c.args.entries.now.items c.args.slot c.index.result c.requires.there c.index.ensures)
 
 pub returns : goal.returns
 returns c =
     record {
-      left = delete_left c.args.entries.now.items c.args.index (freed c.index_mut.result.now) c.requires.memory c.requires.there
-          (ap freed (entry_is c.args.entries.now.items c.args.index c.index_mut.result.now (slot_within c.args.entries.now.items c.args.index c.requires.there) c.index_mut.ensures.value));
+      left = subst (λ (k : ℕ). DeleteLeft c.args.entries.now.items c.args.slot (slice_set c.args.entries.now.items k (freed c.index_mut.result.now))) (sym c.index.ensures)
+          (delete_left c.args.entries.now.items c.args.slot (freed c.index_mut.result.now) c.requires.memory c.requires.there
+          (ap freed (slot_entry c.args.entries.now.items c.args.slot c.index.result c.index_mut.result.now c.requires.there c.index.ensures c.index_mut.ensures.value)));
     }

@@ -17,24 +17,25 @@ loop-place-init g c =
       left = ap (λ (bs : List Block). first_named m bs c.args.aid.now) (blocks_all m);
     }
 
-pub has_name-requires : goal.has_name-requires
-has_name-requires g c =
+pub sizes_of_name-requires : goal.sizes_of_name-requires
+sizes_of_name-requires g c =
     let m = (g.N.Nvm.state c.args.device.now).words in
     let lt : c.loop-place.place < length m = subst (λ (n : ℕ). c.loop-place.place < n) c.len-size.ensures.len c.loop-place-test.true in
     let s : Stands m c.loop-place.place c.read_header-header.result.used c.read_header-header.result.words =
     header_stands m c.loop-place.place c.read_header-header.result.used c.read_header-header.result.words lt c.loop-place.invariant.walk c.read_header-header.ensures.used c.read_header-header.ensures.words in
     λ h. block_fits m c.loop-place.place (s.block h)
 
-pub returns-then-has_name-clause-place : goal.returns-then-has_name-clause-place
-returns-then-has_name-clause-place g c =
+pub returns-in-Some-clause-place : goal.returns-in-Some-clause-place
+returns-in-Some-clause-place g c =
     let m = (g.N.Nvm.state c.args.device.now).words in
     let p = c.loop-place.place in
     let lt : p < length m = subst (λ (n : ℕ). p < n) c.len-size.ensures.len c.loop-place-test.true in
     let s : Stands m p c.read_header-header.result.used c.read_header-header.result.words =
     header_stands m p c.read_header-header.result.used c.read_header-header.result.words lt c.loop-place.invariant.walk c.read_header-header.ensures.used c.read_header-header.ensures.words in
-    sym (
+    ap (λ (k : ℕ). Some k) c.new.ensures.place
+    ∙ sym (
     c.loop-place.invariant.left ∙ s.first c.args.aid.now
-    ∙ ap (λ (t : Bool). cond t (Some p) (first_named m (blocks_at m (p + c.read_header-header.result.words)) c.args.aid.now)) (sym c.has_name.ensures ∙ c.if-has_name.true)
+    ∙ ap (λ (t : Bool). cond t (Some p) (first_named m (blocks_at m (p + c.read_header-header.result.words)) c.args.aid.now)) (sym c.in-Some.ensures.name)
     )
 
 pub loop-place-smaller : goal.loop-place-smaller
@@ -60,7 +61,7 @@ loop-place-preserved g c =
       high = s.high;
       walk = s.next;
       left = c.loop-place.invariant.left ∙ s.first c.args.aid.now
-          ∙ ap (λ (t : Bool). cond t (Some p) (first_named m (blocks_at m (p + c.read_header-header.result.words)) c.args.aid.now)) (sym c.has_name.ensures ∙ c.if-has_name.false);
+          ∙ ap (λ (t : Bool). cond t (Some p) (first_named m (blocks_at m (p + c.read_header-header.result.words)) c.args.aid.now)) (sym c.in_default.ensures.name);
     }
 
 pub returns-clause-place : goal.returns-clause-place

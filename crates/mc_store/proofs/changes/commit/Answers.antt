@@ -1,32 +1,30 @@
-use Rattle.std.proofs.Common.{◌+◌, ◌≤◌, ℕ, List, length, ap, sym, subst, ◌∙◌}
-use Rattle.std.specs.List.{AllByRecursion}
-use Rattle.mc_model.specs.Stopped.{IsAtomic}
+use Rattle.std.proofs.Common.{refl, ℕ, arith, ap, ◌∙◌}
+use Rattle.mc_model.specs.declared.card.Part.TheVariants.{Data}
+use Rattle.mc_model.specs.declared.card.Sizes.{Sizes}
 use Rattle.mc_store.specs.Splices.{placed_words}
-use Rattle.mc_store.proofs.ChangeLemmas.{commit-is, commit-did}
+use Rattle.mc_bank.specs.Slots.{slot_sizes}
+use Rattle.mc_store.specs.Store.{part_from}
+use Rattle.mc_store.proofs.ChangeLemmas.{commit-at, commit-done}
 use Rattle.mc_store.proofs.changes.commit.Goals as goal
 
-pub first_static-first-requires : goal.first_static-first-requires
-first_static-first-requires g c = (commit-is (g.N.Nvm.state c.args.store.now.device) c.args.store.now.count c.args.place c.args.list.now c.len-size.ensures.image c.requires.going c.requires.there c.requires.list).block
+pub overflow_cast-first : goal.overflow_cast-first
+overflow_cast-first g c =
+    let at = c.part_place-first.ensures ∙ ap (λ (z : Sizes). part_from Data z c.index.result) c.sizes.ensures ∙ ap (λ (k : ℕ). part_from Data (slot_sizes c.args.slot) k) c.index.ensures in
+    let small =
+    (commit-at (g.N.Nvm.state c.args.store.now.device) c.args.store.now.count c.args.slot c.part_place-first.result c.len-size.ensures.image c.requires.going c.requires.there at c.args.list.now c.requires.list).small in
+    omega (arith, small)
 
-pub shifted-targets-requires-clause-within : goal.shifted-targets-requires-clause-within
-shifted-targets-requires-clause-within g c =
-    subst (λ (q : ℕ). AllByRecursion (λ (w : ℕ × List ℕ). q + w.0 ≤ 65535) c.args.list.now) (sym c.first_static-first.ensures)
-    (commit-is (g.N.Nvm.state c.args.store.now.device) c.args.store.now.count c.args.place c.args.list.now c.len-size.ensures.image c.requires.going c.requires.there c.requires.list).within
-
-pub write_words-requires-clause-power : goal.write_words-requires-clause-power
-write_words-requires-clause-power g c = (commit-is (g.N.Nvm.state c.args.store.now.device) c.args.store.now.count c.args.place c.args.list.now c.len-size.ensures.image c.requires.going c.requires.there c.requires.list).on
-
-pub write_words-requires-clause-list : goal.write_words-requires-clause-list
-write_words-requires-clause-list g c =
-    subst (λ (l : List (ℕ × List ℕ)). IsAtomic (length (g.N.Nvm.state c.args.store.now.device).words) l) (sym (c.as_slice.ensures.value ∙ c.shifted-targets.ensures ∙ ap (λ (q : ℕ). placed_words q c.args.list.now) c.first_static-first.ensures))
-    (commit-is (g.N.Nvm.state c.args.store.now.device) c.args.store.now.count c.args.place c.args.list.now c.len-size.ensures.image c.requires.going c.requires.there c.requires.list).atomic
-
-pub write_words-requires-clause-gate : goal.write_words-requires-clause-gate
-write_words-requires-clause-gate g c = (commit-is (g.N.Nvm.state c.args.store.now.device) c.args.store.now.count c.args.place c.args.list.now c.len-size.ensures.image c.requires.going c.requires.there c.requires.list).gate
+pub write_shifted-requires : goal.write_shifted-requires
+write_shifted-requires g c =
+    let at = c.part_place-first.ensures ∙ ap (λ (z : Sizes). part_from Data z c.index.result) c.sizes.ensures ∙ ap (λ (k : ℕ). part_from Data (slot_sizes c.args.slot) k) c.index.ensures in
+    let k =
+    commit-at (g.N.Nvm.state c.args.store.now.device) c.args.store.now.count c.args.slot c.part_place-first.result c.len-size.ensures.image c.requires.going c.requires.there at c.args.list.now c.requires.list in
+    record { power = k.on; few = c.requires.list.few; within = k.within; list = k.atomic; gate = k.gate }
 
 pub returns : goal.returns
 returns g c =
+    let at = c.part_place-first.ensures ∙ ap (λ (z : Sizes). part_from Data z c.index.result) c.sizes.ensures ∙ ap (λ (k : ℕ). part_from Data (slot_sizes c.args.slot) k) c.index.ensures in
     record {
-      did = commit-did g.N.Nvm.state g.N.Nvm.wrote c.args.store.now.device c.write_words.new.device c.args.store.now.count c.args.place c.args.list.now c.as_slice.result.now c.write_words.result c.len-size.ensures.image c.requires.going c.requires.there c.requires.list
-          (c.as_slice.ensures.value ∙ c.shifted-targets.ensures ∙ ap (λ (q : ℕ). placed_words q c.args.list.now) c.first_static-first.ensures) c.write_words.ensures.makes;
+      did = commit-done g.N.Nvm.state g.N.Nvm.wrote c.args.store.now.device c.write_shifted.new.device c.args.store.now.count c.args.slot c.part_place-first.result c.args.list.now
+          (placed_words c.part_place-first.result c.args.list.now) c.write_shifted.result c.len-size.ensures.image c.requires.going c.requires.there c.requires.list at refl c.write_shifted.ensures;
     }

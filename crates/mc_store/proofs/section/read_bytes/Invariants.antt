@@ -1,8 +1,8 @@
-use Rattle.std.proofs.Common.{◌-◌, ◌≡◌, ◌+◌, ◌*◌, ◌≤◌, length, take, drop}
+use Rattle.std.proofs.Common.{◌-◌, ◌≡◌, ◌+◌, ◌*◌, ◌<◌, ◌≤◌, length, take, drop}
 use Rattle.mc_store.specs.Slots.{flat}
 use Rattle.mc_store.proofs.section.read_bytes.Given as goal
 
--- the bytes up to here are copied
+-- the bytes up to here are copied, and the next one stands at `skip` in word `place`
 abbrev pub invariant-loop-done : goal.invariant-loop-done
 invariant-loop-done g l =
     let m = (g.N.Nvm.state l.device).words in
@@ -10,6 +10,8 @@ invariant-loop-done g l =
       size : length l.into ≡ length l.fn.into;
       high : l.done ≤ length l.into;
       bytes : take l.done l.into ≡ take l.done (drop (8 * l.from + l.at) (flat m));
+      here : l.done < length l.into → 8 * l.place + l.skip ≡ 8 * l.from + l.at + l.done;
+      skip : l.skip < 8;
     }
 
 abbrev pub decreases-loop-done : goal.decreases-loop-done

@@ -1,4 +1,3 @@
-use Rattle.std.proofs.Common.{ℕ, subst}
 use Rattle.mc_bank.specs.Bank.{name_or}
 use Rattle.mc_model.specs.Items.{Commit}
 use Rattle.mc_store.specs.Store.{store_named}
@@ -13,8 +12,7 @@ returns-clause-items g c =
     let s = c.args.self.now in
     let e = c.commit.new.store in
     let n = name_or (store_named (state s.device) c.args.slot) in
-    let did : store_did state g.N.Nvm.wrote s (Commit n c.args.list.now) c.commit.result e = subst (λ (k : ℕ). store_did state g.N.Nvm.wrote s (Commit (name_or (store_named (state s.device) k)) c.args.list.now) c.commit.result e) c.index.ensures c.commit.ensures.did in
-    one_item (store_did state g.N.Nvm.wrote) s e (Commit n c.args.list.now) c.commit.result did
+    one_item (store_did state g.N.Nvm.wrote) s e (Commit n c.args.list.now) c.commit.result c.commit.ensures.did
 
 pub returns-clause-apps : goal.returns-clause-apps
 returns-clause-apps g c =
@@ -22,8 +20,7 @@ returns-clause-apps g c =
     let s = c.args.self.now in
     let e = c.commit.new.store in
     let n = name_or (store_named (state s.device) c.args.slot) in
-    let did : store_did state g.N.Nvm.wrote s (Commit n c.args.list.now) c.commit.result e = subst (λ (k : ℕ). store_did state g.N.Nvm.wrote s (Commit (name_or (store_named (state s.device) k)) c.args.list.now) c.commit.result e) c.index.ensures c.commit.ensures.did in
-    store_obeys state g.N.Nvm.wrote g.met.N.Nvm.obeys s.device e.device s.count e.count (Commit n c.args.list.now) c.commit.result did
+    store_obeys state g.N.Nvm.wrote g.met.N.Nvm.obeys s.device e.device s.count e.count (Commit n c.args.list.now) c.commit.result c.commit.ensures.did
 
 pub returns-clause-slots : goal.returns-clause-slots
 returns-clause-slots g c =
@@ -31,8 +28,7 @@ returns-clause-slots g c =
     let s = c.args.self.now in
     let e = c.commit.new.store in
     let n = name_or (store_named (state s.device) c.args.slot) in
-    let did : store_did state g.N.Nvm.wrote s (Commit n c.args.list.now) c.commit.result e = subst (λ (k : ℕ). store_did state g.N.Nvm.wrote s (Commit (name_or (store_named (state s.device) k)) c.args.list.now) c.commit.result e) c.index.ensures c.commit.ensures.did in
-    commit_slots state g.N.Nvm.wrote g.met.N.Nvm.obeys s e n c.args.list.now c.commit.result did
+    commit_slots state g.N.Nvm.wrote g.met.N.Nvm.obeys s e n c.args.list.now c.commit.result c.commit.ensures.did
 
 pub returns-clause-good : goal.returns-clause-good
 returns-clause-good g c =
@@ -40,8 +36,7 @@ returns-clause-good g c =
     let s = c.args.self.now in
     let e = c.commit.new.store in
     let n = name_or (store_named (state s.device) c.args.slot) in
-    let did : store_did state g.N.Nvm.wrote s (Commit n c.args.list.now) c.commit.result e = subst (λ (k : ℕ). store_did state g.N.Nvm.wrote s (Commit (name_or (store_named (state s.device) k)) c.args.list.now) c.commit.result e) c.index.ensures c.commit.ensures.did in
-    store_spares state g.N.Nvm.wrote g.met.N.Nvm.obeys s.device e.device s.count e.count n c.args.list.now c.commit.result did
+    store_spares state g.N.Nvm.wrote g.met.N.Nvm.obeys s.device e.device s.count e.count n c.args.list.now c.commit.result c.commit.ensures.did
 
 pub returns-clause-bytes : goal.returns-clause-bytes
 returns-clause-bytes g c =
@@ -49,5 +44,4 @@ returns-clause-bytes g c =
     let s = c.args.self.now in
     let e = c.commit.new.store in
     let n = name_or (store_named (state s.device) c.args.slot) in
-    let did : store_did state g.N.Nvm.wrote s (Commit n c.args.list.now) c.commit.result e = subst (λ (k : ℕ). store_did state g.N.Nvm.wrote s (Commit (name_or (store_named (state s.device) k)) c.args.list.now) c.commit.result e) c.index.ensures c.commit.ensures.did in
-    store_leaves state g.N.Nvm.wrote g.met.N.Nvm.obeys s.device e.device s.count e.count n c.args.list.now c.commit.result did
+    store_leaves state g.N.Nvm.wrote g.met.N.Nvm.obeys s.device e.device s.count e.count n c.args.list.now c.commit.result c.commit.ensures.did

@@ -1,4 +1,3 @@
-use Rattle.std.proofs.Common.{ℕ, subst}
 use Rattle.mc_bank.specs.Bank.{name_or}
 use Rattle.mc_model.specs.Items.{Remove}
 use Rattle.mc_store.specs.Store.{store_named}
@@ -13,8 +12,7 @@ returns-clause-items g c =
     let s = c.args.self.now in
     let e = c.delete.new.store in
     let n = name_or (store_named (state s.device) c.args.slot) in
-    let did : store_did state g.N.Nvm.wrote s (Remove n) c.delete.result e = subst (λ (k : ℕ). store_did state g.N.Nvm.wrote s (Remove (name_or (store_named (state s.device) k))) c.delete.result e) c.index.ensures c.delete.ensures.did in
-    one_item (store_did state g.N.Nvm.wrote) s e (Remove n) c.delete.result did
+    one_item (store_did state g.N.Nvm.wrote) s e (Remove n) c.delete.result c.delete.ensures.did
 
 pub returns-clause-apps : goal.returns-clause-apps
 returns-clause-apps g c =
@@ -22,8 +20,7 @@ returns-clause-apps g c =
     let s = c.args.self.now in
     let e = c.delete.new.store in
     let n = name_or (store_named (state s.device) c.args.slot) in
-    let did : store_did state g.N.Nvm.wrote s (Remove n) c.delete.result e = subst (λ (k : ℕ). store_did state g.N.Nvm.wrote s (Remove (name_or (store_named (state s.device) k))) c.delete.result e) c.index.ensures c.delete.ensures.did in
-    store_obeys state g.N.Nvm.wrote g.met.N.Nvm.obeys s.device e.device s.count e.count (Remove n) c.delete.result did
+    store_obeys state g.N.Nvm.wrote g.met.N.Nvm.obeys s.device e.device s.count e.count (Remove n) c.delete.result c.delete.ensures.did
 
 pub returns-clause-slots : goal.returns-clause-slots
 returns-clause-slots g c =
@@ -31,5 +28,4 @@ returns-clause-slots g c =
     let s = c.args.self.now in
     let e = c.delete.new.store in
     let n = name_or (store_named (state s.device) c.args.slot) in
-    let did : store_did state g.N.Nvm.wrote s (Remove n) c.delete.result e = subst (λ (k : ℕ). store_did state g.N.Nvm.wrote s (Remove (name_or (store_named (state s.device) k))) c.delete.result e) c.index.ensures c.delete.ensures.did in
-    delete_slots state g.N.Nvm.wrote g.met.N.Nvm.obeys s e n c.delete.result did
+    delete_slots state g.N.Nvm.wrote g.met.N.Nvm.obeys s e n c.delete.result c.delete.ensures.did

@@ -1,5 +1,5 @@
-use Rattle.mc_store.specs.Store.{store_room, apps_in}
-use Rattle.mc_store.proofs.ReadLemmas.{answers, good_site, open_parts}
+use Rattle.mc_store.specs.Store.{store_room, apps_in, needed_by}
+use Rattle.mc_store.proofs.ReadLemmas.{answers, good_site, open_parts, open_steps}
 use Rattle.mc_store.proofs.store.StoreBank.open.Goals as goal
 
 pub returns-clause-answer : goal.returns-clause-answer
@@ -16,3 +16,15 @@ returns-clause-parts g c =
     let d = g.N.Nvm.state c.args.self.now.device in
     open_parts d c.args.self.now.count c.find_room.result c.find_room.ensures.image c.requires.going
     (good_site (apps_in d.words) (store_room d) c.args.sizes.now c.find_room.result c.requires.limits (answers d c.args.self.now.count c.args.sizes.now c.find_room.result c.requires.going c.find_room.ensures.answer))
+
+pub returns-clause-rises : goal.returns-clause-rises
+returns-clause-rises g c =
+    (open_steps (g.N.Nvm.state c.args.self.now.device) c.args.self.now.count (needed_by c.args.sizes.now) c.args.steps.now c.find_room.new.steps c.requires.going c.find_room.ensures.ticks).rises
+
+pub returns-clause-ticks : goal.returns-clause-ticks
+returns-clause-ticks g c =
+    (open_steps (g.N.Nvm.state c.args.self.now.device) c.args.self.now.count (needed_by c.args.sizes.now) c.args.steps.now c.find_room.new.steps c.requires.going c.find_room.ensures.ticks).ticks
+
+pub returns-clause-full : goal.returns-clause-full
+returns-clause-full g c =
+    (open_steps (g.N.Nvm.state c.args.self.now.device) c.args.self.now.count (needed_by c.args.sizes.now) c.args.steps.now c.find_room.new.steps c.requires.going c.find_room.ensures.ticks).full
