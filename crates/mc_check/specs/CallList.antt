@@ -1,5 +1,4 @@
 -- The calls between the routines of code as a list, and what they say of bases.
--- This project's profile.
 use Rattle.std.specs.Prelude.{◌≡◌, ◌<◌, ◌≤◌, ◌+◌, ℕ, List, length, slice_get, slice_index, Option, Some, None, Result, Ok, Err}
 use Rattle.mc_model.specs.declared.instruction.Ins.{Ins}
 use Rattle.mc_model.specs.declared.instruction.DecodeFault.{DecodeFault}

@@ -1,4 +1,4 @@
--- What accepted code keeps to in every run. This project's profile.
+-- What accepted code keeps to in every run.
 use Rattle.std.specs.Prelude.{◌≡◌, ◌≤◌, ◌+◌, ℕ, zero, suc, Bool, true, false, List, length, Option, Some, None}
 use Rattle.mc_model.specs.declared.machine.Abend.{Abend}
 use Rattle.mc_model.specs.declared.machine.Abend.TheVariants.{A01, A02, A04, A05}

@@ -1,5 +1,4 @@
 -- The search for all facts: what its tables say while it runs, and what of them is still to be followed.
--- This project's profile.
 use Rattle.std.specs.Prelude.{◌≡◌, ◌⊎◌, ◌<◌, ◌≤◌, ◌+◌, ◌-◌, ◌*◌, ℕ, true, List, [], ◌∷◌, length, slice_get, Option, Some, None}
 use Rattle.mc_model.specs.declared.instruction.Ins.{Ins}
 use Rattle.mc_model.specs.Code.{Shaped}

@@ -1,5 +1,4 @@
 -- What the last pass over the table finds.
--- This project's profile.
 use Rattle.std.specs.Prelude.{ℕ, ◌≡◌, ◌+◌, ◌<◌, Bool, true, false, cond, nat_lt, List, slice_get, Option, Some, Result, Ok, Err}
 use Rattle.mc_model.specs.declared.checker.CheckCause.TheVariants.{Deep, Wild}
 use Rattle.mc_model.specs.declared.instruction.DecodeFault.{DecodeFault}

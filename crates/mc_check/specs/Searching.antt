@@ -1,5 +1,4 @@
 -- A search along calls, from routines to their callers: what it knows of bases, and which routines are open.
--- This project's profile.
 use Rattle.std.specs.Prelude.{◌≡◌, ◌<◌, ◌≤◌, ◌+◌, ◌-◌, ◌*◌, ℕ, Bool, true, false, List, length, slice_get, count_by, Option, Some, None}
 use Rattle.mc_model.specs.StackShape.{At}
 use Rattle.mc_check.specs.CallList.{IsCalled, EntersIn, IsBaseIn}

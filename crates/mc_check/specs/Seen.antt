@@ -1,5 +1,4 @@
 -- What is seen of an instruction, in the definition's words.
--- This project's profile.
 use Rattle.std.specs.Prelude.{ℕ, Result, Ok, Err}
 use Rattle.mc_model.specs.declared.checker.CheckCause.{CheckCause}
 use Rattle.mc_model.specs.declared.checker.CheckCause.TheVariants.{Undefined, Past}

@@ -1,4 +1,4 @@
--- A frame that runs accepted code: where it stands, and its open calls. This project's profile.
+-- A frame that runs accepted code: where it stands, and its open calls.
 use Rattle.std.specs.Prelude.{◌≡◌, ◌≤◌, ◌+◌, ◌-◌, ℕ, List, length, take, drop, Some}
 use Rattle.mc_model.specs.declared.instruction.Ins.{Ins}
 use Rattle.mc_model.specs.Bytes.{bytes2}

@@ -1,5 +1,4 @@
 -- The checker's table of facts, one a place, against the facts of the stack shape.
--- This project's profile.
 use Rattle.std.specs.Prelude.{◌≡◌, ℕ, List, length, slice_get, slice_index, Option, Some}
 use Rattle.mc_model.specs.declared.instruction.Ins.{Ins}
 use Rattle.mc_model.specs.StackShape.{Routine, Main, At, Fact, fact, Stands, look, Reached, Refuses, Differs, TakesMore, NoRecursion, IsBase}

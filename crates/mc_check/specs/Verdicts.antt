@@ -1,4 +1,4 @@
--- What a verdict of the checker says of code, and of every run of it. This project's profile.
+-- What a verdict of the checker says of code, and of every run of it.
 use Rattle.std.specs.Prelude.{ℕ, List, ⊤}
 use Rattle.mc_model.specs.StackShape.{Accepts, Refuses}
 use Rattle.mc_check.specs.declared.verdict.Verdict.{Verdict}

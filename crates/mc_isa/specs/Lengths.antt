@@ -1,5 +1,4 @@
 -- How long instructions are, by their first byte.
--- This project's profile.
 use Rattle.std.specs.Prelude.{ℕ, ◌+◌, ◌*◌, List, [], ◌∷◌, map, option_map, unwrap_or}
 use Rattle.mc_model.specs.Code.{kinds, total}
 

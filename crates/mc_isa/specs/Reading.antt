@@ -1,5 +1,4 @@
 -- Operands that are read from the bytes behind an instruction byte.
--- This project's profile.
 use Rattle.std.specs.Prelude.{◌≡◌, ℕ, true, false, nat_le, List, length, Result, Ok, Err}
 use Rattle.mc_model.specs.declared.instruction.DecodeFault.{DecodeFault}
 use Rattle.mc_model.specs.declared.instruction.DecodeFault.TheVariants.{Past}

@@ -1,5 +1,4 @@
 -- The operands of a row as bytes and as text.
--- This project's profile.
 use Rattle.std.specs.Prelude.{ℕ, ◌<◌, List, [], ◌∷◌, ◌++◌, take, codes, decimal}
 use Rattle.std.specs.Int.{w8, cast_unsigned}
 use Rattle.std.specs.Fmt.{signed_decimal}

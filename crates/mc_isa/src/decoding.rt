@@ -10,6 +10,7 @@ use crate::reading::{
 use mc_model::{DecodeFault, Ins};
 
 // Op 00: the status registers and exits.
+#[inline(always)]
 fn register_row(tag: u8, rest: &[u8]) -> Result<(Ins, u16), DecodeFault>
     ensures { result ≡ made_of (row_at tag register_rows) rest.now }
 {
@@ -33,6 +34,7 @@ fn register_row(tag: u8, rest: &[u8]) -> Result<(Ins, u16), DecodeFault>
 }
 
 // Op 01: a branch, which has no condition 0.
+#[inline(always)]
 fn branch_row(cond: u8, rest: &[u8]) -> Result<(Ins, u16), DecodeFault>
     ensures { result ≡ made_of (near_row (λ c d. Branch c d) cond) rest.now }
 {
@@ -49,6 +51,7 @@ fn branch_row(cond: u8, rest: &[u8]) -> Result<(Ins, u16), DecodeFault>
 }
 
 // Op 02: a jump.
+#[inline(always)]
 fn jump_row(cond: u8, rest: &[u8]) -> Result<(Ins, u16), DecodeFault>
     ensures { result ≡ made_of (target_row (λ c to. Jump c to) cond) rest.now }
 {
@@ -62,6 +65,7 @@ fn jump_row(cond: u8, rest: &[u8]) -> Result<(Ins, u16), DecodeFault>
 }
 
 // Op 03: a call.
+#[inline(always)]
 fn call_row(cond: u8, rest: &[u8]) -> Result<(Ins, u16), DecodeFault>
     ensures { result ≡ made_of (target_row (λ c to. Call c to) cond) rest.now }
 {
@@ -75,6 +79,7 @@ fn call_row(cond: u8, rest: &[u8]) -> Result<(Ins, u16), DecodeFault>
 }
 
 // Op 04: pushes and pops.
+#[inline(always)]
 fn stack_row(tag: u8, rest: &[u8]) -> Result<(Ins, u16), DecodeFault>
     ensures { result ≡ made_of (row_at tag stack_rows) rest.now }
 {
@@ -90,6 +95,7 @@ fn stack_row(tag: u8, rest: &[u8]) -> Result<(Ins, u16), DecodeFault>
 }
 
 // Op 05: primitives and returns.
+#[inline(always)]
 fn return_row(tag: u8, rest: &[u8]) -> Result<(Ins, u16), DecodeFault>
     requires { tag < 8 }
     ensures { result ≡ made_of (row_at tag call_rows) rest.now }
@@ -126,6 +132,7 @@ macro_rules! with_word {
 }
 
 // Ops 07 to 1F: the rows with an address.
+#[inline(always)]
 fn addressed_row(op: u8, tag: u8, rest: &[u8]) -> Result<(Ins, u16), DecodeFault>
     requires { 6 ≤ op }
     ensures { result ≡ made_of (row_of op tag) rest.now }
@@ -167,6 +174,7 @@ fn addressed_row(op: u8, tag: u8, rest: &[u8]) -> Result<(Ins, u16), DecodeFault
 }
 
 // The row of an instruction byte, with the bytes behind it.
+#[inline(always)]
 fn instruction(byte: u8, rest: &[u8]) -> Result<(Ins, u16), DecodeFault>
     ensures { result ≡ made_of (form byte) rest.now }
 {
@@ -185,6 +193,7 @@ fn instruction(byte: u8, rest: &[u8]) -> Result<(Ins, u16), DecodeFault>
 /// The instruction at a place of code, and the place behind it. The code has at most 8,192 bytes; the place may lie anywhere.
 /// The answer is `Undefined` where the byte there begins no instruction, and else `Past` where the place is not in the code
 /// or the instruction ends behind the code's end.
+#[inline(always)]
 pub fn decode(code: &[u8], at: u16) -> Result<(Ins, u16), DecodeFault>
     requires { length code.now ≤ 8192 }
     ensures exact { result ≡ decoded code.now at }

@@ -8,6 +8,7 @@ ghost use Rattle.mc_isa.specs.Reading.{Reads};
 use mc_model::DecodeFault;
 
 // One byte.
+#[inline(always)]
 pub fn byte(rest: &[u8]) -> Result<u8, DecodeFault>
     ensures { Reads result 1 rest.now (slice_index rest.now 0) }
 {
@@ -18,6 +19,7 @@ pub fn byte(rest: &[u8]) -> Result<u8, DecodeFault>
 }
 
 // Two bytes.
+#[inline(always)]
 pub fn bytes(rest: &[u8]) -> Result<(u8, u8), DecodeFault>
     ensures { Reads result 2 rest.now (slice_index rest.now 0, slice_index rest.now 1) }
 {
@@ -28,6 +30,7 @@ pub fn bytes(rest: &[u8]) -> Result<(u8, u8), DecodeFault>
 }
 
 // A word.
+#[inline(always)]
 pub fn word(rest: &[u8]) -> Result<u16, DecodeFault>
     ensures { Reads result 2 rest.now (be2 rest.now 0) }
 {
@@ -38,6 +41,7 @@ pub fn word(rest: &[u8]) -> Result<u16, DecodeFault>
 }
 
 // Two words.
+#[inline(always)]
 pub fn words(rest: &[u8]) -> Result<(u16, u16), DecodeFault>
     ensures { Reads result 4 rest.now (be2 rest.now 0, be2 rest.now 2) }
 {
@@ -48,6 +52,7 @@ pub fn words(rest: &[u8]) -> Result<(u16, u16), DecodeFault>
 }
 
 // A displacement.
+#[inline(always)]
 pub fn displacement(rest: &[u8]) -> Result<i8, DecodeFault>
     ensures { Reads result 1 rest.now (cast_signed w8 (slice_index rest.now 0)) }
 {
@@ -58,6 +63,7 @@ pub fn displacement(rest: &[u8]) -> Result<i8, DecodeFault>
 }
 
 // The address of a jump or call: none with condition 0.
+#[inline(always)]
 pub fn target(condition: u8, rest: &[u8]) -> Result<u16, DecodeFault>
     ensures { Reads result (total (behind condition U16)) rest.now (target_in condition rest.now) }
 {
@@ -68,6 +74,7 @@ pub fn target(condition: u8, rest: &[u8]) -> Result<u16, DecodeFault>
 }
 
 // How many bytes the address behind a condition takes.
+#[inline(always)]
 pub fn target_size(condition: u8) -> u16
     ensures { result ≡ total (behind condition U16) }
 {
@@ -75,6 +82,7 @@ pub fn target_size(condition: u8) -> u16
 }
 
 // The offset of an address: none with tag 0.
+#[inline(always)]
 pub fn offset(tag: u8, rest: &[u8]) -> Result<i16, DecodeFault>
     ensures { Reads result (total (behind tag I16)) rest.now (offset_in tag rest.now 0) }
 {
@@ -102,6 +110,7 @@ pub fn arguments(set: u8, rest: &[u8]) -> Result<(u8, [u8; 3]), DecodeFault>
 }
 
 // How many bytes the offset behind a tag takes.
+#[inline(always)]
 pub fn offset_size(tag: u8) -> u16
     ensures { result ≡ total (behind tag I16) }
 {
@@ -109,6 +118,7 @@ pub fn offset_size(tag: u8) -> u16
 }
 
 // A byte, and the offset behind it.
+#[inline(always)]
 pub fn byte_and_offset(tag: u8, rest: &[u8]) -> Result<(u8, i16), DecodeFault>
     ensures { Reads result (total (U8 ∷ behind tag I16)) rest.now (slice_index rest.now 0, offset_in tag rest.now 1) }
 {
@@ -120,6 +130,7 @@ pub fn byte_and_offset(tag: u8, rest: &[u8]) -> Result<(u8, i16), DecodeFault>
 }
 
 // A word, and the offset behind it.
+#[inline(always)]
 pub fn word_and_offset(tag: u8, rest: &[u8]) -> Result<(u16, i16), DecodeFault>
     ensures { Reads result (total (U16 ∷ behind tag I16)) rest.now (be2 rest.now 0, offset_in tag rest.now 2) }
 {

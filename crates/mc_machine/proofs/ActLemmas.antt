@@ -51,7 +51,7 @@ ends_exit k Goes o is = absurd (cc is)
 ends_exit k Exits o is = refl
 ends_exit k (Delegates n) o is = absurd (cc is)
 
-one_less : (n : ℕ) → n ≢ 0 → n - 1 + 1 ≡ n
+pub one_less : (n : ℕ) → n ≢ 0 → n - 1 + 1 ≡ n
 one_less n some = omega arith
 
 -- ---- the turn of a chain with a budget
@@ -79,7 +79,7 @@ module _ {B : Type 0} (did : B → BankItem → Answer → B → Type 0) (state 
       ∙ ap (λ (at : ℕ). fetched ch (decoded (app_under (state b) (named b) c.running).code at)) (sym (ap (λ (t : Seen). t.at) r.running.same)) ∙ ap (λ (x : Result (Ins × ℕ) DecodeFault). fetched ch x) (sym is)
 
   -- the running frame's static bytes are those of its application
-  own_fixed : (b : B) (c : Chained) (ch : Chain) → Runs (state b) (named b) c ch → (app_under (state b) (named b) c.running).fixed ≡ (app_of (state b).apps (Some ch.frame.name)).fixed
+  pub own_fixed : (b : B) (c : Chained) (ch : Chain) → Runs (state b) (named b) c ch → (app_under (state b) (named b) c.running).fixed ≡ (app_of (state b).apps (Some ch.frame.name)).fixed
   own_fixed b c ch r = ap (λ (o : Option (List ℕ)). (app_of (state b).apps o).fixed) (name_is (state b) (named b) c.running ch.frame r.running)
 
   -- the turn tells the frame as it was
@@ -160,7 +160,7 @@ module _ {B : Type 0} (did : B → BankItem → Answer → B → Type 0) (state 
 
     -- ---- the instruction is done
 
-    mid_runs : (d x : Effect) → SameEffect (app_under (state b) (named b) c.running).fixed d x → KeepsEffect (stepped ch.frame next) ch.public x
+    pub mid_runs : (d x : Effect) → SameEffect (app_under (state b) (named b) c.running).fixed d x → KeepsEffect (stepped ch.frame next) ch.public x
         → Left did state named (scene b e (advanced c next).running mid.running c.public mid.public) d → Runs (state e) (named e) mid (settled ch x)
     mid_runs d x same keeps left =
         subst (λ (k : Chained). Runs (state e) (named e) k (settled ch x)) (sym others) (

@@ -13,3 +13,4 @@ pub mod TurnLemmas
 pub mod SoundRows
 pub mod SoundChains
 pub mod SoundRuns
+pub mod LoneLemmas

@@ -1,25 +1,27 @@
 -- A run by its turns: what is left to run leads where the whole leads.
-use Rattle.std.proofs.Common.{◌≡◌, ℕ, zero, suc, ◌+◌, ◌-◌, ◌≤◌, false, List, [], ◌∷◌, take, Option, Some, None, Result, Ok, Err, arith, refl, sym, ap, subst, ◌∙◌}
-use Rattle.std.specs.Prelude.{option_map}
+use Rattle.std.proofs.Common.{◌≡◌, ℕ, zero, suc, ◌+◌, ◌-◌, ◌≤◌, ◌<◌, ◌≢◌, false, List, [], ◌∷◌, take, Option, Some, None, Result, Ok, Err, arith, refl, sym, ap, subst, ◌∙◌}
+use Rattle.std.specs.Prelude.{option_map, IfOk, OnOk, OnErr}
 use Rattle.mc_model.specs.declared.instruction.Ins.{Ins}
 use Rattle.mc_model.specs.declared.instruction.DecodeFault.{DecodeFault}
 use Rattle.mc_model.specs.declared.instruction.DecodeFault.TheVariants.{Undefined, Past}
 use Rattle.mc_model.specs.declared.machine.Abend.TheVariants.{A07}
 use Rattle.mc_model.specs.declared.device.Stop.{Stop}
-use Rattle.mc_model.specs.Orders.{Answer, InOrder}
+use Rattle.mc_model.specs.Orders.{Answer, InOrder, answer_of}
 use Rattle.mc_model.proofs.OrdersLemmas.{InOrder-append, InOrder-stopped}
 use Rattle.mc_model.specs.Items.{BankItem}
 use Rattle.mc_model.specs.Code.{decoded}
 use Rattle.mc_model.specs.Bytes.{lookup}
 use Rattle.mc_model.specs.Frame.{Frame, session_of}
 use Rattle.mc_model.specs.Row.{RowEnd, Abends, Does, row}
-use Rattle.mc_model.specs.Chain.{Chain, Outcome, Abended, Acted, Ran, Follows, Continues, Ends, around, code_in, stepped, first_frame, chain_session, row_turn, fetched, acted, spent, turn_of, end_of, ends_with, goes_on, ran_on, ran}
+use Rattle.mc_model.specs.Chain.{Chain, Outcome, Abended, Acted, Ran, Follows, Continues, Ends, around, code_in, stepped, first_frame, chain_session, row_turn, fetched, acted, spent, turn_of, end_of, ends_with, goes_on, ran_on, ran, called}
 use Rattle.mc_bank.specs.Bank.{BankState}
 use Rattle.mc_segs.specs.Held.{Held, Seen}
 use Rattle.mc_machine.specs.declared.outcome.End.{End}
 use Rattle.mc_machine.specs.declared.outcome.Step.{Step}
 use Rattle.mc_machine.specs.Chains.{Chained, Reads, ReadAll, Runs, Wrote, first_held, session_in}
-use Rattle.mc_machine.specs.Turns.{Follow, Acts, ActDone, end_value}
+use Rattle.mc_machine.specs.Lone.{EndDone, Delegated, Finished, Halted, RanDone}
+use Rattle.mc_machine.specs.declared.outcome.Outcome.{Outcome as CodeOutcome}
+use Rattle.mc_machine.specs.Turns.{Follow, Acts, ActDone, end_value, outcome_value}
 
 -- ---- turns of the definition
 
@@ -113,14 +115,6 @@ pub record Underway {B : Type 0} (did : B → BankItem → Answer → B → Type
   pub session : (ran c.left chain).session ≡ whole.session
   pub outcome : (ran c.left chain).outcome ≡ whole.outcome
 
--- the end of a run, after a turn that ended it
-pub record Finished {B : Type 0} (did : B → BankItem → Answer → B → Type 0) (state : B → BankState) (start : B) (whole : Ran) (ticks : ℕ) (end : B) (bytes : List ℕ) (told : Outcome) (steps : ℕ) : Type 0 where
-  pub writes : InOrder (Wrote did state) start whole.writes (Ok tt) end
-  pub going : (state end).stopped ≡ false
-  pub count : steps ≡ ticks + whole.count
-  pub session : bytes ≡ whole.session
-  pub outcome : told ≡ whole.outcome
-
 module _ {B : Type 0} (did : B → BankItem → Answer → B → Type 0) (state : B → BankState) (named : B → ℕ → Option (List ℕ)) where
   -- a chain before its first turn
   pub underway : (start : B) (c : Chained) (ch : Chain) (budget steps : ℕ) → (state start).stopped ≡ false → Runs (state start) (named start) c ch → c.left ≡ budget → Underway did state named start (ran budget ch) steps budget 0 start c steps
@@ -161,16 +155,19 @@ module _ {B : Type 0} (did : B → BankItem → Answer → B → Type 0) (state 
         }
 
     -- a turn after which the chain goes on
+    pub end_goes : EndDone did state named here e c d u.chain (turn_of c.left u.chain) None → now ≡ steps + (turn_of c.left u.chain).count → Underway did state named start whole ticks budget (turn + 1) e d now
+    end_goes done count = goes_by (turn_of c.left u.chain).follows refl (sym (turn_told c.left u.chain).end ∙ done.1) done.0 count
+
     pub underway_goes : (step : Step) → step.end ≡ None → ActDone did state named here e c d u.chain (turn_of c.left u.chain) (Ok step) → now ≡ steps + (turn_of c.left u.chain).count → Underway did state named start whole ticks budget (turn + 1) e d now
     underway_goes step none done count =
-        goes_by (turn_of c.left u.chain).follows refl (sym (turn_told c.left u.chain).end ∙ ap (λ t. t.end) done.1 ∙ ap (option_map (end_value d.public d.le)) none) done.0 count
+        end_goes (done.0, ap (λ t. t.end) done.1 ∙ ap (option_map (end_value d.public d.le)) none) count
 
     -- a turn that ended it
-    pub underway_ends : (step : Step) (end : End) → step.end ≡ Some end → ActDone did state named here e c d u.chain (turn_of c.left u.chain) (Ok step) → now ≡ steps + (turn_of c.left u.chain).count → Finished did state start whole ticks e (session_in d) (end_value d.public d.le end) now
-    underway_ends step end some done count =
+    pub end_ends : (end : End) → EndDone did state named here e c d u.chain (turn_of c.left u.chain) (Some end) → now ≡ steps + (turn_of c.left u.chain).count → Finished did state start whole ticks e (session_in d) (end_value d.public d.le end) now
+    end_ends end done count =
         let t = turn_of c.left u.chain in
         let o = end_value d.public d.le end in
-        let told : Some o ≡ end_of t.follows = sym (ap (option_map (end_value d.public d.le)) some) ∙ sym (ap (λ t. t.end) done.1) ∙ (turn_told c.left u.chain).end in
+        let told : Some o ≡ end_of t.follows = sym done.1 ∙ (turn_told c.left u.chain).end in
         let ends = ended_of t.follows o told in
         let same : ran c.left u.chain ≡ ends_with t (chain_session u.chain) o = ran_ends c.left u.chain o ends in
         record {
@@ -180,6 +177,48 @@ module _ {B : Type 0} (did : B → BankItem → Answer → B → Type 0) (state 
           session = subst (λ (f : Follows). Follow (state e) (named e) d u.chain f) ends done.0.follows ∙ ap (λ (r : Ran). r.session) (sym same) ∙ u.session;
           outcome = ap (λ (r : Ran). r.outcome) (sym same) ∙ u.outcome;
         }
+
+    pub underway_ends : (step : Step) (end : End) → step.end ≡ Some end → ActDone did state named here e c d u.chain (turn_of c.left u.chain) (Ok step) → now ≡ steps + (turn_of c.left u.chain).count → Finished did state start whole ticks e (session_in d) (end_value d.public d.le end) now
+    underway_ends step end some done count =
+        end_ends end (done.0, ap (λ t. t.end) done.1 ∙ ap (option_map (end_value d.public d.le)) some) count
+
+    -- a turn that delegates: the rest of the run is that of the chain in which the name is called
+    module _ (name : List ℕ) (g : Delegated did state named here e c d (turn_of c.left u.chain) name) (count : now ≡ steps + (turn_of c.left u.chain).count) where
+      abbrev pub next_chain : Chain
+      next_chain = called g.chain name (lookup g.chain.map name)
+
+      rest_is : ran c.left u.chain ≡ goes_on (turn_of c.left u.chain) (ran d.left next_chain)
+      rest_is =
+          let t = turn_of c.left u.chain in
+          let one : t.count ≡ 1 = subst (λ (f : Follows). Counts f t.count) g.follows (turn_told c.left u.chain).count in
+          let left = g.left in
+          ran_goes c.left d.left u.chain next_chain g.follows (omega (arith, left, one))
+
+      pub delegated_ends : (end : B) (bytes after : List ℕ) (last : ℕ) (result : Result CodeOutcome Stop) → RanDone did state e end bytes after now last (ran d.left next_chain) result → RanDone did state start end bytes after ticks last whole result
+      delegated_ends end bytes after last (Ok o) f =
+          let t = turn_of c.left u.chain in
+          let same = rest_is in
+          let rest = ran d.left next_chain in
+          let total : steps + (t.count + rest.count) ≡ ticks + whole.count = ap (λ (r : Ran). steps + r.count) (sym same) ∙ u.count in
+          let more = f.count in
+          record {
+            writes = u.writes (Ok tt) end (subst (λ (r : Ran). InOrder (Wrote did state) here r.writes (Ok tt) end) (sym same) (InOrder-append (Wrote did state) t.writes rest.writes here e end (Ok tt) g.writes f.writes));
+            going = f.going;
+            count = omega (arith, count, total, more);
+            session = f.session ∙ ap (λ (r : Ran). r.session) (sym same) ∙ u.session;
+            outcome = f.outcome ∙ ap (λ (r : Ran). r.outcome) (sym same) ∙ u.outcome;
+          }
+      delegated_ends end bytes after last (Err s) h =
+          let t = turn_of c.left u.chain in
+          let same = rest_is in
+          let rest = ran d.left next_chain in
+          let total : steps + (t.count + rest.count) ≡ ticks + whole.count = ap (λ (r : Ran). steps + r.count) (sym same) ∙ u.count in
+          let more = h.count in
+          record {
+            writes = u.writes (Err s) end (subst (λ (r : Ran). InOrder (Wrote did state) here r.writes (Err s) end) (sym same) (InOrder-append (Wrote did state) t.writes rest.writes here e end (Err s) g.writes h.writes));
+            count = omega (arith, count, total, more);
+            session = h.session;
+          }
 
   stops_by : (n : ℕ) (ch : Chain) (b e : B) (s : Stop) (f : Follows) → (turn_of n ch).follows ≡ f → InOrder (Wrote did state) b (turn_of n ch).writes (Err s) e → InOrder (Wrote did state) b (ran n ch).writes (Err s) e
   stops_by n ch b e s (Ends o) ends w = subst (λ (r : Ran). InOrder (Wrote did state) b r.writes (Err s) e) (sym (ran_ends n ch o ends)) w
@@ -212,3 +251,40 @@ module _ {B : Type 0} (did : B → BankItem → Answer → B → Type 0) (state 
         session = session_runs (state here) (named here) c u.chain u.runs ∙ ap (λ (r : Ran). r.session) (sym same) ∙ u.session;
         outcome = ap (λ (r : Ran). r.outcome) (sym same) ∙ u.outcome;
       }
+
+-- ---- runs by their results
+
+pub something_left : (budget turn : ℕ) → turn < budget → budget - turn ≢ 0
+something_left budget turn lt = omega (arith, lt)
+
+pub lone_left : (n turn budget : ℕ) → n + turn ≡ budget → n ≡ budget - turn
+lone_left n turn budget e = omega (arith, e)
+
+module _ {B : Type 0} (did : B → BankItem → Answer → B → Type 0) (state : B → BankState) (b e : B) (bytes left : List ℕ) (ticks steps : ℕ) (whole : Ran) where
+  pub ran_writes : (r : Result CodeOutcome Stop) → RanDone did state b e bytes left ticks steps whole r → InOrder (Wrote did state) b whole.writes (answer_of r) e
+  ran_writes (Ok o) f = f.writes
+  ran_writes (Err s) h = h.writes
+
+  pub ran_outcome : (r : Result CodeOutcome Stop) → RanDone did state b e bytes left ticks steps whole r → IfOk r (λ o. outcome_value o ≡ whole.outcome)
+  ran_outcome (Ok o) f = f.outcome
+  ran_outcome (Err s) h = tt
+
+  pub ran_session : (r : Result CodeOutcome Stop) → RanDone did state b e bytes left ticks steps whole r → OnOk r (left ≡ whole.session)
+  ran_session (Ok o) f = f.session
+  ran_session (Err s) h = tt
+
+  pub ran_ticks : (r : Result CodeOutcome Stop) → RanDone did state b e bytes left ticks steps whole r → OnOk r (steps ≡ ticks + whole.count)
+  ran_ticks (Ok o) f = f.count
+  ran_ticks (Err s) h = tt
+
+  pub ran_most : (r : Result CodeOutcome Stop) → RanDone did state b e bytes left ticks steps whole r → OnErr r (steps ≤ ticks + whole.count)
+  ran_most (Ok o) f = tt
+  ran_most (Err s) h = h.count
+
+  pub ran_going : (r : Result CodeOutcome Stop) → RanDone did state b e bytes left ticks steps whole r → OnOk r ((state e).stopped ≡ false)
+  ran_going (Ok o) f = f.going
+  ran_going (Err s) h = tt
+
+  pub ran_unchanged : (r : Result CodeOutcome Stop) → RanDone did state b e bytes left ticks steps whole r → OnErr r (left ≡ bytes)
+  ran_unchanged (Ok o) f = tt
+  ran_unchanged (Err s) h = h.session

@@ -1,5 +1,4 @@
 -- What a row sees of a frame: its pending bytes, and not the pieces that they come from.
--- This project's profile.
 use Rattle.std.specs.Prelude.{◌≡◌, ℕ, true, false, List, length, option_map, Option}
 use Rattle.mc_model.specs.declared.machine.Abend.{Abend}
 use Rattle.mc_model.specs.Pieces.{laid_pieces, touched}

@@ -1,14 +1,15 @@
 -- A chain as the code holds it, the chain of the definitions that it runs, and what a turn and a run do to it.
--- This project's profile.
 use Rattle.std.specs.Prelude.{◌≡◌, ℕ, ◌≤◌, false, List, [], ◌∷◌, length, bytes_eq, unwrap_or, Option, Some}
 use Rattle.std.specs.List.{AllByRecursion}
 use Rattle.mc_model.specs.Orders.{Answer}
 use Rattle.mc_model.specs.Items.{BankItem, Commit}
 use Rattle.mc_model.specs.Pieces.{HoldPieces}
 use Rattle.mc_model.specs.Apdu.{apdu_case}
-use Rattle.mc_model.specs.Frame.{Frame, session_of}
-use Rattle.mc_model.specs.Chain.{Chain, Ran, Write, run}
+use Rattle.mc_model.specs.Frame.{Frame, new_frame, session_of}
+use Rattle.mc_model.specs.Chain.{Chain, Ran, Write, no_app, run}
 use Rattle.mc_bank.specs.Bank.{BankState, app_of, name_or}
+use Rattle.mc_model.specs.Bytes.{lookup}
+use Rattle.mc_model.specs.Card.{App}
 use Rattle.mc_apdu.specs.declared.command.Apdu.{Apdu}
 use Rattle.mc_apdu.specs.Command.{parts_of}
 use Rattle.mc_segs.specs.Held.{Held, Fits, shown, seen}
@@ -75,6 +76,12 @@ abbrev pub Wrote : {B : Type 0} → (B → BankItem → Answer → B → Type 0)
 Wrote did state b w a e = (ws : List (ℕ × List ℕ)) × HoldPieces (app_of (state b).apps (Some w.name)).fixed w.pieces ws × did b (Commit w.name ws) a e
 
 -- ---- runs
+
+-- the first frame of a command to an application of a name
+abbrev pub first_of : List (List ℕ × App) → List ℕ → List ℕ → Frame
+first_of apps name session =
+    let a = unwrap_or (lookup apps name) no_app in
+    new_frame name (length a.code) a.deny a.fixed session
 
 -- the run of a command to the application of a slot
 abbrev pub ran_of : BankState → (ℕ → Option (List ℕ)) → ℕ → List ℕ → Apdu → ℕ → Ran

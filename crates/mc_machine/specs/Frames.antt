@@ -1,5 +1,4 @@
 -- The frames that wait in a chain, as a list.
--- This project's profile.
 use Rattle.std.specs.Prelude.{◌≡◌, ℕ, List, [], ◌∷◌, Option, Some, None}
 use Rattle.mc_segs.specs.Held.{Held}
 use Rattle.mc_machine.specs.declared.waiting.Waiting.{Waiting}

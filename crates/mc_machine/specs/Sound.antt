@@ -1,5 +1,4 @@
 -- Chains whose frames stand on their applications as a run begins them: what they have pending lies in their static segments.
--- This project's profile.
 use Rattle.std.specs.Prelude.{◌≡◌, ℕ, ◌+◌, ◌≤◌, List, ◌∷◌, length, Some}
 use Rattle.std.specs.List.{AllByRecursion}
 use Rattle.mc_model.specs.Card.{App}

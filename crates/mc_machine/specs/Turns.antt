@@ -1,5 +1,4 @@
 -- What a turn of the code tells, and what it leaves.
--- This project's profile.
 use Rattle.std.specs.Prelude.{◌≡◌, ℕ, ◌+◌, ◌-◌, Bool, false, cond, nat_lt, ◌||◌, ◌≤◌, bytes_eq, min, List, [], ◌∷◌, length, take, option_map, Option, Some, None, Result, Ok, Err}
 use Rattle.std.specs.List.{AllByRecursion}
 use Rattle.mc_model.specs.declared.machine.Abend.TheVariants.{A09}

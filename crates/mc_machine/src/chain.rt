@@ -3,7 +3,7 @@ ghost use Rattle.std.specs.Prelude.{◌≡◌, ◌≤◌, length, false, IsSome}
 ghost use Rattle.mc_model.specs.Chain.{start};
 ghost use Rattle.mc_apdu.specs.Command.{parts_of};
 ghost use Rattle.mc_bank.specs.Bank.{app_of, name_or};
-ghost use Rattle.mc_machine.specs.Chains.{Runs, session_in};
+ghost use Rattle.mc_machine.specs.Chains.{Reads, Runs, first_of, session_in};
 
 use crate::waiting::Waiting;
 use mc_apdu::Apdu;
@@ -48,13 +48,23 @@ pub fn begin<B: Bank>(bank: &B, first: Slot, session: &Session, apdu: &Apdu, bud
     ensures left { result.left ≡ budget }
 {
     Chain {
-        running: Frame::new(first, &bank.facts(first), session),
+        running: first_frame(bank, first, session),
         waiting: Waiting::None,
         public: Public::new(apdu),
         case: apdu.case(),
         le: apdu.le.unwrap_or(0),
         left: budget,
     }
+}
+
+/// The frame of the application of a slot, with the session bytes of its selection, before its first turn.
+pub fn first_frame<B: Bank>(bank: &B, first: Slot, session: &Session) -> Frame
+    requires going { (B.state bank.now).stopped ≡ false }
+    requires there { IsSome (B.named bank.now first) }
+    requires session { length session.now ≡ (app_of (B.state bank.now).apps (B.named bank.now first)).session }
+    ensures { Reads (B.state bank.now) (B.named bank.now) result (first_of (B.state bank.now).apps (name_or (B.named bank.now first)) session.now) }
+{
+    Frame::new(first, &bank.facts(first), session)
 }
 
 impl Chain {

@@ -11,6 +11,7 @@ use mc_segs::Frame;
 const LONGEST: u16 = 6;
 
 /// The instruction at the frame's code address, and the place behind it.
+#[inline(always)]
 pub fn fetch<B: Bank>(bank: &B, frame: &Frame) -> Result<(Ins, u16), DecodeFault>
     requires going { (B.state bank.now).stopped ≡ false }
     requires fits { Fits (B.state bank.now) (B.named bank.now) frame.now }

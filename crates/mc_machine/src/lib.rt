@@ -1,9 +1,11 @@
 #![tactic(auto)]
 
 // Chains of applications: turns, runs, delegation and exit.
+
 mod chain;
 mod fetch;
 mod laws;
+mod lone;
 mod outcome;
 mod running;
 mod turning;

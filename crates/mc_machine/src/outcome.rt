@@ -1,14 +1,14 @@
 // How turns and chains end.
 ghost use Rattle.std.specs.Prelude.{◌≡◌, ◌≤◌, ℕ, min, take, Some, None};
 ghost use Rattle.mc_model.specs.Frame.{la_of, sw_of};
-ghost use Rattle.mc_machine.specs.Turns.{end_value, outcome_value, EndFits};
+ghost use Rattle.mc_machine.specs.Turns.{end_value, last_end, outcome_value, EndFits};
 
 use crate::chain::Chain;
 use arrayvec::ArrayVec;
 use mc_apdu::Reply;
 use mc_arith::Flags;
 use mc_isa::Ins;
-use mc_segs::{Abend, Frame};
+use mc_segs::{Abend, Frame, Public};
 
 /// How a command to an application ends: with its reply, or by an abend.
 #[derive(Clone, Debug, Drop)]
@@ -73,48 +73,67 @@ pub fn told(frame: &Frame, ins: Option<Ins>, end: Option<End>) -> Step
     }
 }
 
+/// La, the length of the reply's data.
+pub fn la(public: &Public) -> u16
+    ensures { result ≡ la_of public.now }
+{
+    let bytes = public.bytes();
+    bytes[1037] as u16 * 256 + bytes[1038] as u16
+}
+
+// SW, the status of the reply.
+fn sw(public: &Public) -> u16
+    ensures { result ≡ sw_of public.now }
+{
+    let bytes = public.bytes();
+    bytes[1039] as u16 * 256 + bytes[1040] as u16
+}
+
+/// How the exit of a chain's first frame ends it: 09 where its reply would be too long.
+pub fn last_exit(public: &Public) -> End
+    ensures value { result ≡ last_end public.now }
+    ensures fits { EndFits public.now result }
+{
+    if la(public) > 1024 {
+        End::Abend(Abend::A09)
+    } else {
+        End::Reply
+    }
+}
+
+// The reply that stands in a public segment.
+fn reply_in(public: &Public, le: u16) -> Reply
+    requires { la_of public.now ≤ 1024 }
+    ensures body { result.body.items ≡ take (min (la_of public.now) le) public.now }
+    ensures sw { result.sw ≡ sw_of public.now }
+{
+    let mut body = ArrayVec::new();
+    let count = la(public).min(le) as usize;
+    body.try_extend_from_slice(&public.bytes()[..count])
+        .unwrap();
+    Reply {
+        body,
+        sw: sw(public),
+    }
+}
+
+/// The outcome of an end: the reply is the first bytes of the public segment, at most La and Le, with the status.
+pub fn final_outcome(public: &Public, le: u16, end: End) -> Outcome
+    requires { EndFits public.now end }
+    ensures { outcome_value result ≡ end_value public.now le end }
+{
+    match end {
+        End::Reply => Outcome::Reply(reply_in(public, le)),
+        End::Abend(abend) => Outcome::Abend(abend),
+    }
+}
+
 impl Chain {
-    /// La, the length of the reply's data.
-    pub fn la(&self) -> u16
-        ensures { result ≡ la_of self.now.public }
-    {
-        let bytes = self.public.bytes();
-        bytes[1037] as u16 * 256 + bytes[1038] as u16
-    }
-
-    // SW, the status of the reply.
-    fn sw(&self) -> u16
-        ensures { result ≡ sw_of self.now.public }
-    {
-        let bytes = self.public.bytes();
-        bytes[1039] as u16 * 256 + bytes[1040] as u16
-    }
-
-    // The reply that stands in the public segment.
-    fn reply(&self) -> Reply
-        requires { la_of self.now.public ≤ 1024 }
-        ensures body { result.body.items ≡ take (min (la_of self.now.public) self.now.le) self.now.public }
-        ensures sw { result.sw ≡ sw_of self.now.public }
-    {
-        let mut body = ArrayVec::new();
-        let count = self.la().min(self.le) as usize;
-        for byte in &self.public.bytes()[..count] {
-            body.push(*byte);
-        }
-        Reply {
-            body,
-            sw: self.sw(),
-        }
-    }
-
-    /// The outcome of an end: the reply is the first bytes of the public segment, at most La and Le, with the status.
+    /// The outcome of an end of the chain.
     pub fn outcome(&self, end: End) -> Outcome
         requires { EndFits self.now.public end }
         ensures { outcome_value result ≡ end_value self.now.public self.now.le end }
     {
-        match end {
-            End::Reply => Outcome::Reply(self.reply()),
-            End::Abend(abend) => Outcome::Abend(abend),
-        }
+        final_outcome(&self.public, self.le, end)
     }
 }

@@ -1,17 +1,22 @@
 // A command to an application, from its first turn to its end.
 ghost use Rattle.std.specs.Prelude.{◌≡◌, ◌+◌, ◌≤◌, length, false, IsSome, IfOk, OnOk, OnErr};
 ghost use Rattle.mc_model.specs.Orders.{InOrder, answer_of};
+ghost use Rattle.mc_model.specs.Bytes.{lookup};
+ghost use Rattle.mc_model.specs.Chain.{Chain as ModelChain, called, ran};
 ghost use Rattle.mc_bank.specs.Bank.{app_of};
-ghost use Rattle.mc_machine.specs.Chains.{Wrote, ran_of};
+ghost use Rattle.mc_machine.specs.Chains.{FitsChain, Runs, Wrote, ran_of};
+ghost use Rattle.mc_machine.specs.Lone.{lone_chain, RanDone};
 ghost use Rattle.mc_machine.specs.Turns.{outcome_value};
 
-use crate::chain::begin;
-use crate::outcome::Outcome;
+use crate::chain::{Chain, first_frame};
+use crate::lone::{Lone, lone_turn};
+use crate::outcome::{Outcome, final_outcome};
 use crate::turning::act;
+use crate::waiting::Waiting;
 use mc_apdu::Apdu;
 use mc_bank::{Bank, Slot};
-use mc_base::{Steps, Stop};
-use mc_segs::{Abend, Session};
+use mc_base::{Aid, Steps, Stop};
+use mc_segs::{Abend, Frame, Public, Session};
 use std::sync::ledger::Ledger;
 
 /// A command to the application of a slot: all turns of its chain, under a budget of 1 to 65,536 instructions. It begins with
@@ -40,9 +45,75 @@ pub fn run<B: Bank, L: Ledger>(
     ensures going { OnOk result ((B.state bank.new).stopped ≡ false) }
     ensures unchanged { OnErr result (session.new ≡ session.old) }
 {
-    let mut chain = begin(bank, first, session, apdu, budget);
-    for _turn in 0..budget {
-        if let Some(end) = act(&mut chain, bank, steps)?.end {
+    // Until it delegates, an application runs without a chain: a chain has room for three more frames, and making it takes longer
+    // than a short command.
+    let mut frame = first_frame(bank, first, session);
+    let mut public = Public::new(apdu);
+    let case = apdu.case();
+    let le = apdu.le.unwrap_or(0);
+    for turn in 0..budget {
+        match lone_turn(&mut frame, &mut public, case, bank, steps)? {
+            Lone::Goes => {}
+            Lone::Ends(end) => {
+                *session = frame.session();
+                return Ok(final_outcome(&public, le, end));
+            }
+            Lone::Delegates(aid) => {
+                let left = budget - turn - 1;
+                return run_chain(frame, public, case, le, left, &aid, bank, session, steps);
+            }
+        }
+    }
+    *session = frame.session();
+    Ok(Outcome::Abend(Abend::A07))
+}
+
+// The rest of a command, from the first delegation on: the application that runs delegates to a name.
+#[cold]
+#[inline(never)]
+fn run_chain<B: Bank, L: Ledger>(
+    frame: Frame,
+    public: Public,
+    case: u8,
+    le: u16,
+    left: u32,
+    aid: &Aid,
+    bank: &mut B,
+    session: &mut Session,
+    steps: &mut Steps<L>,
+) -> Result<Outcome, Stop>
+    requires going { (B.state bank.old).stopped ≡ false }
+    requires fits { FitsChain (B.state bank.old) (B.named bank.old) (lone_chain frame public case le left) }
+    requires left { left ≤ 65536 }
+    ensures { (ch : ModelChain) → Runs (B.state bank.old) (B.named bank.old) (lone_chain frame public case le left) ch → RanDone B.did B.state bank.old bank.new session.old session.new steps.old steps.new (ran left (called ch aid.now (lookup ch.map aid.now))) result }
+{
+    let mut chain = Chain {
+        running: frame,
+        waiting: Waiting::None,
+        public,
+        case,
+        le,
+        left,
+    };
+    chain.call(bank, aid);
+    finish(&mut chain, left, bank, session, steps)
+}
+
+// The turns of a chain to its end.
+fn finish<B: Bank, L: Ledger>(
+    chain: &mut Chain,
+    left: u32,
+    bank: &mut B,
+    session: &mut Session,
+    steps: &mut Steps<L>,
+) -> Result<Outcome, Stop>
+    requires going { (B.state bank.old).stopped ≡ false }
+    requires fits { FitsChain (B.state bank.old) (B.named bank.old) chain.old }
+    requires left { chain.old.left ≡ left }
+    ensures { (ch : ModelChain) → Runs (B.state bank.old) (B.named bank.old) chain.old ch → RanDone B.did B.state bank.old bank.new session.old session.new steps.old steps.new (ran left ch) result }
+{
+    for _turn in 0..left {
+        if let Some(end) = act(chain, bank, steps)?.end {
             *session = chain.session();
             return Ok(chain.outcome(end));
         }

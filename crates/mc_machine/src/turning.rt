@@ -8,11 +8,11 @@ ghost use Rattle.mc_segs.specs.Held.{Fits};
 ghost use Rattle.mc_segs.specs.Ends.{scene, RowActs, then_of};
 ghost use Rattle.mc_machine.specs.Chains.{Runs, FitsChain};
 ghost use Rattle.mc_machine.specs.Frames.{waiting_frames};
-ghost use Rattle.mc_machine.specs.Turns.{ActDone, TurnDone, EndFits, Followed, Leaves, advanced, halted, delegator_of, last_end, has_frame, AllFit, outcome_value, end_value};
+ghost use Rattle.mc_machine.specs.Turns.{ActDone, TurnDone, EndFits, Followed, Leaves, advanced, halted, delegator_of, has_frame, AllFit, outcome_value, end_value};
 
 use crate::chain::Chain;
 use crate::fetch::fetch;
-use crate::outcome::{End, Outcome, Step, Turn, told};
+use crate::outcome::{End, Outcome, Step, Turn, last_exit, told};
 use crate::waiting::Waiting;
 use mc_bank::Bank;
 use mc_base::{Aid, Steps, Stop};
@@ -215,18 +215,7 @@ impl Chain {
                 self.waiting = waiting;
                 None
             }
-            None => Some(self.last_exit()),
-        }
-    }
-
-    // The first frame's exit: 09 where its reply would be too long.
-    fn last_exit(&self) -> End
-        ensures { result ≡ last_end self.now.public }
-    {
-        if self.la() > 1024 {
-            End::Abend(Abend::A09)
-        } else {
-            End::Reply
+            None => Some(last_exit(&self.public)),
         }
     }
 
@@ -252,7 +241,7 @@ impl Chain {
 
     // A delegation to a name: a status where it is not on the card, where it runs already, or where the chain is full; else
     // its application runs on top, with zero session bytes.
-    fn call<B: Bank>(&mut self, bank: &B, aid: &Aid)
+    pub(crate) fn call<B: Bank>(&mut self, bank: &B, aid: &Aid)
         requires going { (B.state bank.now).stopped ≡ false }
         requires fits { FitsChain (B.state bank.now) (B.named bank.now) self.old }
         ensures runs { (ch : ModelChain) → Runs (B.state bank.now) (B.named bank.now) self.old ch → Runs (B.state bank.now) (B.named bank.now) self.new (called ch aid.now (lookup ch.map aid.now)) }

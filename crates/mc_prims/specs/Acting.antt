@@ -1,5 +1,4 @@
 -- How primitives act, and how the calls that they share end.
--- This project's profile.
 use Rattle.std.specs.Prelude.{◌≡◌, ℕ, ◌+◌, ◌≤◌, Bool, true, false, List, [], ◌∷◌, length, ◌||◌, Option, None, Result, Ok, Err}
 use Rattle.mc_model.specs.declared.machine.Abend.{Abend}
 use Rattle.mc_model.specs.declared.machine.Abend.TheVariants.{A03, A04, A06}
@@ -58,5 +57,6 @@ IsLength (Err e) len = (in_range 1 255 len ≡ false) × (e ≡ A06)
 abbrev pub compare_causes : Frame → ℕ → ℕ → ℕ → List (Abend × Bool)
 compare_causes g n first second = (A03, is_outside g first n || is_outside g second n) ∷ []
 
+-- the flags of two blocks that are compared
 abbrev pub flags_compared : Frame → List ℕ → ℕ → ℕ → ℕ → Done
 flags_compared g public n first second = going (compared g public (sub_blocks (bytes_at g public first n) (bytes_at g public second n)))

@@ -1,5 +1,4 @@
 -- The primitives, ciphers and surroundings of the code in the definition's words.
--- This project's profile.
 use Rattle.std.specs.Prelude.{ℕ, List}
 use Rattle.mc_model.specs.Blocks.{Worked, shift_left_block, shift_right_block}
 use Rattle.mc_model.specs.Primitives as model

@@ -1,5 +1,4 @@
 -- How the rows of a family end, whatever their operation and the length of their operands.
--- This project's profile.
 use Rattle.std.specs.Prelude.{◌≡◌, ℕ, ◌+◌, ◌*◌, Bool, true, false, not, ◌==◌, ℤ, List, ◌∷◌, length, Option, Some, None, Result, Ok, Err}
 use Rattle.mc_model.specs.declared.machine.Abend.{Abend}
 use Rattle.mc_model.specs.declared.machine.Abend.TheVariants.{A02, A03, A04, A06}

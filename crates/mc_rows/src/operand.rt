@@ -12,6 +12,7 @@ use mc_bank::Bank;
 use mc_segs::{Abend, Frame, Public, load, pop, resolve};
 
 /// Abend 04 where fewer than so many bytes are on the stack.
+#[inline(always)]
 pub fn need(frame: &Frame, count: u16) -> Result<(), Abend>
     requires { count ≤ 512 }
     ensures { IfDue result (is_under frame.now.frame count) Abend.A04 }
@@ -23,6 +24,7 @@ pub fn need(frame: &Frame, count: u16) -> Result<(), Abend>
 }
 
 /// How many bytes an operand takes of the stack: with tag 0 these, else those.
+#[inline(always)]
 pub fn on_stack(tag: u8, with: u16, without: u16) -> u16
     ensures { result ≡ on_stack tag with without }
 {
@@ -30,6 +32,7 @@ pub fn on_stack(tag: u8, with: u16, without: u16) -> u16
 }
 
 /// The address of an operand: with tag 0 it begins so many bytes below the top of the stack.
+#[inline(always)]
 pub fn operand(frame: &Frame, tag: u8, off: i16, below: u16) -> Result<u16, Abend>
     requires tag { tag ≤ 7 }
     requires below { below ≤ 512 }
@@ -43,6 +46,7 @@ pub fn operand(frame: &Frame, tag: u8, off: i16, below: u16) -> Result<u16, Aben
 
 /// The address of an operand of so many bytes; with tag 0 it is the top of the stack. Abend 04 where the stack has fewer,
 /// 03 where the address is none.
+#[inline(always)]
 pub fn place(frame: &Frame, tag: u8, off: i16, count: u16) -> Result<u16, Abend>
     requires tag { tag ≤ 7 }
     requires count { count ≤ 255 }

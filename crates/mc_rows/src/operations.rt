@@ -26,6 +26,7 @@ pub enum Unary {
 }
 
 /// Sets the first block to the result with the second, of the same length. C stays as it was where bits alone change.
+#[inline(always)]
 pub fn combine(kind: Binary, c: bool, a: &mut [u8], b: &[u8]) -> Flags
     requires same { length a.old ≡ length b.now }
     requires low { 1 ≤ length a.old }
@@ -42,6 +43,7 @@ pub fn combine(kind: Binary, c: bool, a: &mut [u8], b: &[u8]) -> Flags
 }
 
 /// Sets a block to what the change makes of it. C stays as it was where bits alone change.
+#[inline(always)]
 pub fn change(kind: Unary, c: bool, a: &mut [u8]) -> Flags
     requires low { 1 ≤ length a.old }
     requires high { length a.old ≤ most_unary kind }
@@ -56,6 +58,7 @@ pub fn change(kind: Unary, c: bool, a: &mut [u8]) -> Flags
 
 /// Abend 06 where operands of so many bytes are too short or too long to be combined: 1 to 16 bytes are added and
 /// subtracted, 1 to 255 otherwise.
+#[inline(always)]
 pub fn check_binary(kind: Binary, count: u8) -> Result<(), Abend>
     ensures due { IfDue result (bad_binary kind count) Abend.A06 }
     ensures low { OnOk result (1 ≤ count) }
@@ -69,6 +72,7 @@ pub fn check_binary(kind: Binary, count: u8) -> Result<(), Abend>
 
 /// Abend 06 where an operand of so many bytes is too short or too long to be changed: 1 to 16 bytes are counted up and
 /// down, 1 to 255 inverted.
+#[inline(always)]
 pub fn check_unary(kind: Unary, count: u8) -> Result<(), Abend>
     ensures due { IfDue result (bad_unary kind count) Abend.A06 }
     ensures low { OnOk result (1 ≤ count) }
@@ -81,6 +85,7 @@ pub fn check_unary(kind: Unary, count: u8) -> Result<(), Abend>
 }
 
 /// Abend 06 where a block has no bytes.
+#[inline(always)]
 pub fn check_block(count: u8) -> Result<(), Abend>
     ensures due { IfDue result (count == 0) Abend.A06 }
     ensures low { OnOk result (1 ≤ count) }

@@ -25,6 +25,7 @@ use mc_segs::{Frame, Halt, Next, Public};
 /// place behind it. What comes next; an abend exactly by the first cause of its row, and then no byte at an address
 /// changes; a stop of the bank where one hits the change of static bytes.
 #[tactic(auto, unfolding(mc_model::specs::Row::row, mc_model::specs::Row::causes, mc_model::specs::Row::effect))]
+#[inline(always)]
 pub fn step<B: Bank>(
     ins: &Ins,
     frame: &mut Frame,
@@ -65,6 +66,7 @@ pub fn step<B: Bank>(
 
 // The rows that have an operand with an address tag: those of bytes and words, and then those of blocks.
 #[tactic(auto, unfolding(mc_model::specs::Row::row, mc_model::specs::Row::causes, mc_model::specs::Row::effect))]
+#[inline(always)]
 fn step_tagged<B: Bank>(
     ins: &Ins,
     frame: &mut Frame,
@@ -114,6 +116,7 @@ fn step_tagged<B: Bank>(
 
 // The rows of blocks of n bytes.
 #[tactic(auto, unfolding(mc_model::specs::Row::row, mc_model::specs::Row::causes, mc_model::specs::Row::effect))]
+#[inline(always)]
 fn step_block<B: Bank>(
     ins: &Ins,
     frame: &mut Frame,

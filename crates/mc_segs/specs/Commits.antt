@@ -1,5 +1,4 @@
 -- A frame on a bank that has made a commit.
--- This project's profile.
 use Rattle.std.specs.Prelude.{◌≡◌, ℕ, List, Option}
 use Rattle.mc_bank.specs.Bank.{BankState, name_or}
 use Rattle.mc_segs.specs.Held.{Held, Fits, app_under}

@@ -1,5 +1,4 @@
 -- How calls on frames end, and what they leave.
--- This project's profile.
 use Rattle.std.specs.Prelude.{◌≡◌, ◌⊎◌, ℕ, Bool, true, false, List, [], ◌∷◌, Option, Some, None, Result, Ok, Err}
 use Rattle.mc_model.specs.declared.instruction.Ins.{Ins}
 use Rattle.mc_model.specs.declared.machine.Abend.{Abend}
@@ -62,6 +61,7 @@ pub record Scene (B : Type 0) : Type 0 where
 abbrev pub before : {B : Type 0} → (B → BankState) → (B → ℕ → Option (List ℕ)) → Scene B → Frame
 before state named s = shown (state s.bank) (named s.bank) s.held
 
+-- the frame on the bank after a call
 abbrev pub after : {B : Type 0} → (B → BankState) → (B → ℕ → Option (List ℕ)) → Scene B → Frame
 after state named s = shown (state s.bank_after) (named s.bank_after) s.held_after
 

@@ -1,5 +1,4 @@
 -- A frame as the code holds it, the frame that it is on a bank, and when it fits that bank.
--- This project's profile.
 use Rattle.std.specs.Prelude.{◌≡◌, ℕ, ◌-◌, ◌*◌, ◌<◌, ◌≤◌, Bool, true, false, List, [], ◌∷◌, length, take, map, Option, IsSome}
 use Rattle.std.specs.List.{AllByRecursion}
 use Rattle.mc_model.specs.declared.card.Sizes.{Sizes}
@@ -78,6 +77,7 @@ pub record Seen : Type 0 where
   pub z : Bool
   pub protected : Bool
 
+-- what a frame reads like
 abbrev pub seen : Frame → Seen
 seen f =
     record {

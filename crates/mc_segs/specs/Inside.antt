@@ -1,5 +1,4 @@
 -- What the fields of a frame stand for.
--- This project's profile.
 use Rattle.std.specs.Prelude.{[]}
 use Rattle.mc_model.specs.Bytes.{zeros}
 use Rattle.mc_segs.specs.Held.{Held, pieces_of, ArePendingIn, KeepsFrame}

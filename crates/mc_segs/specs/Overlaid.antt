@@ -1,5 +1,4 @@
 -- Bytes of a segment that a word is laid over.
--- This project's profile.
 use Rattle.std.specs.Prelude.{◌≡◌, ◌<◌, ◌+◌, ℕ, List, [], ◌∷◌, length, slice_index, unwrap_or}
 use Rattle.mc_model.specs.Pieces.{covered}
 

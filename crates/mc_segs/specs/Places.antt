@@ -1,5 +1,4 @@
 -- Places of the code as places of the definitions.
--- This project's profile.
 use Rattle.mc_model.specs.Frame.{Place}
 use Rattle.mc_model.specs.Frame as model
 use Rattle.mc_segs.specs.declared.access.Place.{Place as CodePlace}

@@ -1,5 +1,4 @@
 -- Bytes that are put into the words of a static segment.
--- This project's profile.
 use Rattle.std.specs.Prelude.{◌≡◌, ℕ, ◌+◌, ◌-◌, ◌*◌, ◌/◌, ◌<◌, List, [], ◌∷◌, ◌++◌, length, slice_index, None, IfSome}
 use Rattle.mc_model.specs.Bytes.{splice}
 use Rattle.mc_model.specs.Pieces.{pending_at, put_word, not_pending, HoldPieces, LieIn}

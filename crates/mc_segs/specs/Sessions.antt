@@ -1,5 +1,4 @@
 -- What session bytes are.
--- This project's profile.
 use Rattle.std.specs.Prelude.{◌≡◌, ℕ, ◌-◌, ◌≤◌, List, ◌++◌, length, take, replicate}
 use Rattle.mc_segs.specs.declared.session.Session.TheInside.{Inside}
 

@@ -30,6 +30,7 @@ pub enum Place {
 
 /// Register plus offset, as the registers stand: tags 1 to 7 are SB, ST, DB, LB, DT, PB and PT. Abend 03 where that is
 /// no address from 0000 to FFFF.
+#[inline]
 pub fn resolve(frame: &Frame, tag: u8, off: i16) -> Result<u16, Abend>
     requires low { 1 ≤ tag }
     requires high { tag ≤ 7 }
@@ -41,6 +42,7 @@ pub fn resolve(frame: &Frame, tag: u8, off: i16) -> Result<u16, Abend>
 }
 
 // The register with a number from 1 to 7.
+#[inline]
 fn register(frame: &Frame, tag: u8) -> u16
     requires low { 1 ≤ tag }
     requires high { tag ≤ 7 }
@@ -58,6 +60,7 @@ fn register(frame: &Frame, tag: u8) -> u16
 }
 
 // Where so many bytes at an address lie whole, if they do.
+#[inline]
 pub fn place_of(frame: &Frame, at: u16, len: usize) -> Option<Place>
     requires { len < 2 ^ 63 }
     ensures { option_map place_value result ≡ model.where_is frame.now.frame at len }
@@ -77,6 +80,7 @@ pub fn place_of(frame: &Frame, at: u16, len: usize) -> Option<Place>
 
 /// Reads the bytes at an address, which lie whole in a segment; static bytes as protection shows them. Abend 03 where they
 /// do not, and then nothing changes. An access of no bytes never abends.
+#[inline]
 pub fn load<B: Bank>(
     bank: &B,
     frame: &Frame,
@@ -131,6 +135,7 @@ fn overlay(bytes: &mut [u8], at: usize, place: usize, word: &[u8; 8])
 /// Writes 1 to 255 bytes at an address, where they lie whole in a segment. A static write is one commit of the words that
 /// it touches; while protection is on they go to the frame's pending words instead. Abend 03 where the bytes lie in no
 /// segment, 08 where more than 64 words would be pending, and then nothing changes.
+#[inline]
 pub fn store<B: Bank>(
     bank: &mut B,
     frame: &mut Frame,

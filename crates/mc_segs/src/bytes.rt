@@ -3,6 +3,7 @@ ghost use Rattle.std.specs.Prelude.{◌≡◌, ◌+◌, ◌≤◌, ◌<◌, leng
 ghost use Rattle.mc_model.specs.Bytes.{be2, bytes2, splice};
 
 /// Copies bytes from a place on.
+#[inline(always)]
 pub fn read(bytes: &[u8], at: usize, into: &mut [u8])
     requires { at + length into.old ≤ length bytes.now }
     ensures { into.new ≡ take (length into.old) (drop at bytes.now) }
@@ -11,6 +12,7 @@ pub fn read(bytes: &[u8], at: usize, into: &mut [u8])
 }
 
 /// Sets bytes from a place on.
+#[inline(always)]
 pub fn write(into: &mut [u8], at: usize, piece: &[u8])
     requires { at + length piece.now ≤ length into.old }
     ensures { into.new ≡ splice into.old at piece.now }

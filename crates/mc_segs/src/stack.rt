@@ -8,6 +8,7 @@ use crate::frame::{DYNAMIC, Frame};
 use mc_model::Abend;
 
 /// Puts bytes on top of the stack. Abend 05 where they would pass its end, and then nothing changes.
+#[inline]
 pub fn push(frame: &mut Frame, bytes: &[u8]) -> Result<(), Abend>
     ensures abend { IfDue result (model.is_over frame.old.frame (length bytes.now)) Abend.A05 }
     ensures pushed { OnOk result (frame.new ≡ record frame.old { frame = model.pushed frame.old.frame bytes.now }) }
@@ -23,6 +24,7 @@ pub fn push(frame: &mut Frame, bytes: &[u8]) -> Result<(), Abend>
 }
 
 /// The bytes on top of the stack, so many, which are above the floor.
+#[inline]
 pub fn top(frame: &Frame, count: u8) -> &[u8]
     requires { model.is_under frame.now.frame count ≡ false }
     ensures bytes { result.now ≡ model.top frame.now.frame count }
@@ -33,6 +35,7 @@ pub fn top(frame: &Frame, count: u8) -> &[u8]
 }
 
 /// Takes so many bytes from the top of the stack, unread. Abend 04 where fewer are above the floor, and then nothing changes.
+#[inline]
 pub fn discard(frame: &mut Frame, count: u8) -> Result<(), Abend>
     ensures abend { IfDue result (model.is_under frame.old.frame count) Abend.A04 }
     ensures popped { OnOk result (frame.new ≡ record frame.old { frame = model.popped frame.old.frame count }) }
@@ -47,6 +50,7 @@ pub fn discard(frame: &mut Frame, count: u8) -> Result<(), Abend>
 }
 
 /// Takes bytes from the top of the stack. Abend 04 where fewer are above the floor, and then nothing changes.
+#[inline]
 pub fn pop(frame: &mut Frame, into: &mut [u8]) -> Result<(), Abend>
     ensures abend { IfDue result (model.is_under frame.old.frame (length into.old)) Abend.A04 }
     ensures bytes { OnOk result (into.new ≡ model.top frame.old.frame (length into.old)) }

@@ -1,0 +1,84 @@
+-- An application that nobody waits for: its chain, what its turns leave, and the end of a run.
+use Rattle.std.specs.Prelude.{◌≡◌, ℕ, ◌+◌, ◌-◌, ◌≤◌, false, List, [], option_map, Option, Some, None, Result, Ok, Err}
+use Rattle.mc_model.specs.declared.device.Stop.{Stop}
+use Rattle.mc_model.specs.Orders.{Answer, InOrder}
+use Rattle.mc_model.specs.Items.{BankItem}
+use Rattle.mc_model.specs.Bytes.{lookup}
+use Rattle.mc_model.specs.Chain.{Chain, Acted, Continues, Ran, called}
+use Rattle.mc_model.specs.Chain as model
+use Rattle.mc_bank.specs.Bank.{BankState}
+use Rattle.mc_segs.specs.Held.{Held}
+use Rattle.mc_segs.specs.declared.ends.Halt.{Halt}
+use Rattle.mc_segs.specs.declared.ends.Halt.TheVariants as halt
+use Rattle.mc_segs.specs.declared.ends.Next.{Next}
+use Rattle.mc_segs.specs.declared.ends.Next.TheVariants as go
+use Rattle.mc_machine.specs.Chains.{Chained, Runs, Wrote}
+use Rattle.mc_machine.specs.Turns.{Acts, EndFits, end_value, last_end, outcome_value}
+use Rattle.mc_machine.specs.declared.outcome.End.{End}
+use Rattle.mc_machine.specs.declared.outcome.End.TheVariants as end
+use Rattle.mc_machine.specs.declared.outcome.Outcome.{Outcome}
+use Rattle.mc_machine.specs.declared.lone.Lone.{Lone}
+use Rattle.mc_machine.specs.declared.lone.Lone.TheVariants.{Goes, Ends, Delegates}
+
+-- the chain of a frame that nobody waits for, with so much of the budget left
+abbrev pub lone_chain : Held → List ℕ → ℕ → ℕ → ℕ → Chained
+lone_chain h public case le left = record { running = h; below = []; public = public; case = case; le = le; left = left }
+
+-- a turn that no stop hit, and its end
+abbrev pub EndDone : {B : Type 0} → (B → BankItem → Answer → B → Type 0) → (B → BankState) → (B → ℕ → Option (List ℕ)) → B → B → Chained → Chained → Chain → Acted → Option End → Type 0
+EndDone did state named b e c d ch t end = Acts did state named b e c d ch t × (t.turn.end ≡ option_map (end_value d.public d.le) end)
+
+-- a turn whose instruction delegates to a name: the chain as the instruction leaves it, in which the name is called next
+pub record Delegated {B : Type 0} (did : B → BankItem → Answer → B → Type 0) (state : B → BankState) (named : B → ℕ → Option (List ℕ)) (b e : B) (c d : Chained) (t : Acted) (name : List ℕ) : Type 0 where
+  pub chain : Chain
+  pub runs : Runs (state e) (named e) d chain
+  pub writes : InOrder (Wrote did state) b t.writes (Ok tt) e
+  pub going : (state e).stopped ≡ false
+  pub left : d.left + t.count ≡ c.left
+  pub follows : t.follows ≡ Continues (called chain name (lookup chain.map name))
+
+-- a turn of a frame that nobody waits for, by its result: its chain afterwards has something left of the budget
+abbrev pub LoneDone : {B : Type 0} → (B → BankItem → Answer → B → Type 0) → (B → BankState) → (B → ℕ → Option (List ℕ)) → B → B → Chained → (ℕ → Chained) → Chain → Acted → Result Lone Stop → Type 0
+LoneDone did state named b e c d ch t (Ok Goes) = (n : ℕ) × EndDone did state named b e c (d n) ch t None
+LoneDone did state named b e c d ch t (Ok (Ends end)) = (n : ℕ) × EndDone did state named b e c (d n) ch t (Some end)
+LoneDone did state named b e c d ch t (Ok (Delegates name)) = Delegated did state named b e c (d (c.left - 1)) t name
+LoneDone did state named b e c d ch t (Err stop) = InOrder (Wrote did state) b t.writes (Err stop) e
+
+-- a reply fits where the turn ends with one
+abbrev pub LoneFits : List ℕ → Result Lone Stop → Type 0
+LoneFits public (Ok Goes) = Unit {0}
+LoneFits public (Ok (Ends end)) = EndFits public end
+LoneFits public (Ok (Delegates name)) = Unit {0}
+LoneFits public (Err stop) = Unit {0}
+
+-- what comes after an instruction that was done, with these public bytes
+abbrev pub lone_next_of : Next → List ℕ → Lone
+lone_next_of go.Go public = Goes
+lone_next_of go.Exit public = Ends (last_end public)
+lone_next_of (go.Delegate name) public = Delegates name
+
+-- what comes after one that was not done
+abbrev pub lone_halt_of : Halt → Result Lone Stop
+lone_halt_of (halt.Abend a) = Ok (Ends (end.Abend a))
+lone_halt_of (halt.Stop stop) = Err stop
+
+-- ---- runs
+
+-- the end of a run: all its writes were done, it counted its steps from these on, and left these session bytes
+pub record Finished {B : Type 0} (did : B → BankItem → Answer → B → Type 0) (state : B → BankState) (start : B) (whole : Ran) (ticks : ℕ) (end : B) (bytes : List ℕ) (told : model.Outcome) (steps : ℕ) : Type 0 where
+  pub writes : InOrder (Wrote did state) start whole.writes (Ok tt) end
+  pub going : (state end).stopped ≡ false
+  pub count : steps ≡ ticks + whole.count
+  pub session : bytes ≡ whole.session
+  pub outcome : told ≡ whole.outcome
+
+-- a run that a stop hit: it counted no more than all of its steps, and left the session bytes as they were
+pub record Halted {B : Type 0} (did : B → BankItem → Answer → B → Type 0) (state : B → BankState) (start : B) (whole : Ran) (ticks : ℕ) (end : B) (bytes left : List ℕ) (stop : Stop) (steps : ℕ) : Type 0 where
+  pub writes : InOrder (Wrote did state) start whole.writes (Err stop) end
+  pub count : steps ≤ ticks + whole.count
+  pub session : left ≡ bytes
+
+-- a run by its result: from a bank to another, from session bytes to others, and from so many steps to so many
+abbrev pub RanDone : {B : Type 0} → (B → BankItem → Answer → B → Type 0) → (B → BankState) → B → B → List ℕ → List ℕ → ℕ → ℕ → Ran → Result Outcome Stop → Type 0
+RanDone did state b e bytes left ticks steps whole (Ok outcome) = Finished did state b whole ticks e left (outcome_value outcome) steps
+RanDone did state b e bytes left ticks steps whole (Err stop) = Halted did state b whole ticks e bytes left stop steps
