@@ -19,6 +19,8 @@ use Rattle.mc_model.specs.Chain.{Reply}
 use Rattle.mc_model.specs.Play.{Command, managed, passed, by_route}
 use Rattle.mc_bank.specs.Bank.{no_app, app_of}
 use Rattle.mc_bank.specs.Names.{name_is_itself, same_name, lookup-beside}
+use Rattle.mc_bank.specs.Slots.{slot_place}
+use Rattle.mc_bank.specs.SlotLaws.{has_sizes}
 use Rattle.mc_apdu.specs.declared.reply.Reply.{Reply as CardReply}
 use Rattle.mc_manager.specs.declared.selection.Selection.{Selection}
 use Rattle.mc_manager.specs.declared.routed.Routed.{Routed}
@@ -29,7 +31,7 @@ use Rattle.mc_manager.specs.Ends.{Ends}
 use Rattle.mc_machine.specs.declared.outcome.Outcome.TheVariants as outcome
 use Rattle.mc_machine.specs.Turns.{outcome_value}
 use Rattle.mc_store.specs.declared.store.Store.{Store}
-use Rattle.mc_store.specs.Store.{apps_in, is_going, store_named, store_standing}
+use Rattle.mc_store.specs.Store.{apps_in, is_going, place_named, store_named, store_standing}
 use Rattle.mc_store.specs.Did.{store_did, named-there}
 use Rattle.mc_store.proofs.BankLemmas.{running}
 use Rattle.mc_card.specs.declared.card.Card.{Card}
@@ -281,7 +283,10 @@ module _ {N : Type 0} (state : N → DeviceState) (wrote : N → ℕ → List �
 
   -- a selected application is there
   selected-there : (c : Card N) (t : Selection) → Fits (view_in state c) c.manager → c.manager.selected ≡ Some t → is_some (lookup (apps_in (state c.store.device).words) t.aid) ≡ true
-  selected-there c t fits is = named-there (apps_in (state c.store.device).words) t.slot t.aid (fits.selected t is)
+  selected-there c t fits is =
+      let apps = apps_in (state c.store.device).words in
+      let sized = has_sizes apps t.slot (place_named (state c.store.device) (slot_place t.slot)) t.aid (fits.selected t is) in
+      named-there apps (slot_place t.slot) t.aid sized.name
 
   -- a command that is answered
   pub answered-done : (a : ApduParts) (c d : Card N) (reply : CardReply) → IsReady state c → d.session ≡ c.session → d.chain ≡ c.chain → DirectEnds state wrote c a (Ok (Answers reply)) d

@@ -1,5 +1,4 @@
 -- How the calls of a card end: a power-up, a command that is answered or passed on, and a turn.
--- This project's profile.
 use Rattle.std.specs.Prelude.{◌≡◌, ℕ, ◌+◌, ◌-◌, ◌≤◌, Bool, true, false, List, length, Option, Some, None, Result, Ok, Err, IfOk, OnOk}
 use Rattle.mc_model.specs.declared.device.Stop.{Stop}
 use Rattle.mc_model.specs.Orders.{Answer, answer_of}
@@ -54,6 +53,11 @@ BeginSteps c (ToApplication a) old new = new ≡ old
 abbrev pub powered : {N : Type 0} → Result (Card N × ℕ) (N × Up) → Powered
 powered (Ok p) = Runs_with p.1 (count_of (p.0).store)
 powered (Err p) = failed p.1
+
+-- the end of a restart of a card, by the card after it
+abbrev pub restarted : {N : Type 0} → Card N → Result ℕ Up → Powered
+restarted c (Ok n) = Runs_with n (count_of c.store)
+restarted c (Err u) = failed u
 
 -- the device after a power-up
 abbrev pub device_after : {N : Type 0} → Result (Card N × ℕ) (N × Up) → N

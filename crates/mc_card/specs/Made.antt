@@ -1,5 +1,4 @@
 -- The device writes of items on a card, what words they leave wherever one of them stops, and where none does.
--- This project's profile.
 use Rattle.std.specs.Prelude.{◌≡◌, ℕ, ◌≤◌, List, length, Ok, Err}
 use Rattle.mc_model.specs.Orders.{Answer}
 use Rattle.mc_model.specs.Image.{Two}

@@ -1,5 +1,4 @@
 -- How the manager of a card deals with a command.
--- This project's profile.
 use Rattle.std.specs.Prelude.{◌≡◌, ℕ, false, List, Some, Result, Ok, Err}
 use Rattle.mc_model.specs.declared.device.Stop.{Stop}
 use Rattle.mc_model.specs.Orders.{Answer}

@@ -1,5 +1,4 @@
 -- What a card is made of, and what it shows: the card in its device's words, its selection and open load, and the chain that runs on it.
--- This project's profile.
 use Rattle.std.specs.Prelude.{◌≡◌, ℕ, true, List, length, option_map, Some, None}
 use Rattle.std.specs.Option.{ForSome}
 use Rattle.mc_model.specs.Device.{DeviceState}

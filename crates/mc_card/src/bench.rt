@@ -1,6 +1,6 @@
-// A card over a bench: its fuses.
-ghost use Rattle.std.specs.Prelude.{◌≡◌, ◌≤◌, Some, None};
-ghost use Rattle.mc_model.specs.Device.{next_count};
+// A card over a bench: its size, its power, its words before a power-up, and its fuses.
+ghost use Rattle.std.specs.Prelude.{◌≡◌, ◌≤◌, ◌<◌, length, slice_set, true, Some, None};
+ghost use Rattle.mc_model.specs.Device.{next_count, IsImage};
 ghost use Rattle.mc_card.specs.Parts.{device_in, with_device};
 
 use crate::card::Card;
@@ -8,6 +8,33 @@ use mc_base::Word;
 use mc_nvm::Bench;
 
 impl<N: Bench> Card<N> {
+    /// The number of words of the device.
+    pub fn len(&self) -> u32
+        ensures len { result ≡ length (N.state (device_in self.now)).words }
+        ensures image { IsImage (N.state (device_in self.now)).words }
+    {
+        self.store.device_len()
+    }
+
+    /// Turns the power of the device on. A card that ran is good for `restart` alone.
+    pub fn power(&mut self)
+        ensures state { N.state (device_in self.new) ≡ record (N.state (device_in self.old)) { on = true } }
+        ensures bench { N.bench (device_in self.new) ≡ record (N.bench (device_in self.old)) { powers = next_count (N.bench (device_in self.old)).powers } }
+        ensures lent { N.same (device_in self.old) (device_in self.new) }
+    {
+        self.store.device_mut().power();
+    }
+
+    /// Sets a word of the device. A card that ran is good for `restart` alone.
+    pub fn poke(&mut self, at: u32, word: Word)
+        requires { at < length (N.state (device_in self.old)).words }
+        ensures state { N.state (device_in self.new) ≡ record (N.state (device_in self.old)) { words = slice_set (N.state (device_in self.old)).words at word } }
+        ensures bench { N.bench (device_in self.new) ≡ record (N.bench (device_in self.old)) { pokes = next_count (N.bench (device_in self.old)).pokes } }
+        ensures lent { N.same (device_in self.old) (device_in self.new) }
+    {
+        self.store.device_mut().poke(at, word);
+    }
+
     /// Cuts the k-th device write from now, which leaves `fill` in its word. It takes the place of an earlier fuse.
     pub fn arm(&mut self, k: u32, fill: Word)
         requires { 1 ≤ k }

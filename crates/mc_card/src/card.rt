@@ -10,7 +10,7 @@ ghost use Rattle.mc_bank.specs.Bank.{app_of};
 ghost use Rattle.mc_machine.specs.Turns.{outcome_value};
 ghost use Rattle.mc_store.specs.Power.{power_writes, power_answer, PowersUp};
 ghost use Rattle.mc_card.specs.Parts.{device_in, card_in, seat_in, due, IsUp, IsReady, RunsChain, IsRunning};
-ghost use Rattle.mc_card.specs.Ends.{powered, device_after, Commanded, Begun, Turned, RouteSteps, BeginSteps};
+ghost use Rattle.mc_card.specs.Ends.{powered, restarted, device_after, Commanded, Begun, Turned, RouteSteps, BeginSteps};
 
 use crate::managing::Directed;
 use arrayvec::ArrayVec;
@@ -58,6 +58,35 @@ impl<N: Nvm> Card<N> {
                 writes,
             )),
         }
+    }
+
+    /// A card in a device that holds none yet: it is good for its device alone until it is restarted.
+    pub fn asleep(dev: N) -> Card<N>
+        ensures { device_in result ≡ dev }
+    {
+        Card {
+            store: Store::asleep(dev),
+            manager: Manager::new(),
+            session: Session::new(0),
+            chain: None,
+        }
+    }
+
+    /// The same as `power_up`, in place, of a card whose device's power was turned on: the number of device writes that it took. Where it
+    /// fails, the card is good for its device and for another restart alone.
+    pub fn restart(&mut self) -> Result<u16, Up>
+        requires power { (N.state (device_in self.old)).on ≡ true }
+        ensures makes { Makes N.wrote (device_in self.old) (power_writes (N.state (device_in self.old)).words) (power_answer (restarted self.new result)) (device_in self.new) }
+        ensures ends { PowersUp (N.state (device_in self.old)) (restarted self.new result) (N.state (device_in self.new)) }
+        ensures ready { IfOk result (λ n. IsReady N.state self.new) }
+        ensures seat { IfOk result (λ n. seat_in N.state self.new ≡ empty_seat) }
+        ensures lent { N.same (device_in self.old) (device_in self.new) }
+    {
+        let writes = self.store.restart()?;
+        self.manager = Manager::new();
+        self.session = Session::new(0);
+        self.chain = None;
+        Ok(writes)
     }
 
     /// One command, as its bytes come (ISO/IEC 7816-4), with a budget of 1 to 65,536 instructions for an application that runs it. A

@@ -27,10 +27,10 @@ use Rattle.mc_script.specs.declared.commands.Command.{Command}
 use Rattle.mc_script.specs.declared.player.Power.{Power}
 use Rattle.mc_script.specs.declared.player.Power.TheVariants as power
 use Rattle.mc_script.specs.declared.player.Player.{Player}
-use Rattle.mc_script.specs.Players.{answer_value, device_by, IsCard, LiveIs, IsAt}
+use Rattle.mc_script.specs.Players.{answer_value, device_of, IsCard, LiveIs, IsAt}
 use Rattle.mc_script.specs.Arming.{armed_bench, power_after_stop, answer_after_stop}
 use Rattle.mc_script.specs.Commands.{command_line}
-use Rattle.mc_script.specs.Lines.{CardDone}
+use Rattle.mc_script.specs.Lines.{LineDone}
 use Rattle.mc_script.specs.Runs.{Ran}
 use Rattle.mc_script.proofs.AccountLemmas.{base_card, stands_hot, StopsStand}
 use Rattle.mc_script.proofs.HitLemmas.{HitBy}
@@ -52,20 +52,20 @@ module _ {N R : Type 0} (state : N → DeviceState) (bench : N → BenchState) (
   asked c w cmd = line_command (card_in state c) (seat_in state c) w.budget (command_line cmd)
 
   -- the step of the line
-  step_is : (c : Card N) (w : Warm) (n : ℕ) (cmd : Command) (x : Option WornAt) → IsCard state bench c w.base w.live
+  step_is : (c : Card N) (w : Warm) (n : ℕ) (cmd : Command) (x : Option WornAt) → IsCard state c w.base w.live
       → step (Hot w) (n, command_line cmd) x ≡ command_step n (command_line cmd) w (card_in state c) (asked c w cmd) (hit_of w.armed (moves (asked c w cmd).items) x)
   unfolding asked
   step_is c w n cmd x on =
       hot_is cmd w n x ∙ ap (λ (v : Live). card_line n (command_line cmd) w v w.base x) on.live ∙ ap (λ (b : Base). card_line n (command_line cmd) w (Running (seat_in state c)) b x) on.base
 
-  moves_are : (c : Card N) (w : Warm) (n : ℕ) (cmd : Command) → IsCard state bench c w.base w.live → moves_of (Hot w) (n, command_line cmd) ≡ moves (asked c w cmd).items
+  moves_are : (c : Card N) (w : Warm) (n : ℕ) (cmd : Command) → IsCard state c w.base w.live → moves_of (Hot w) (n, command_line cmd) ≡ moves (asked c w cmd).items
   unfolding asked
   moves_are c w n cmd on =
       moves_hot cmd w n ∙ ap (λ (v : Live). moves (card_line n (command_line cmd) w v w.base None).items) on.live
       ∙ ap (λ (b : Base). moves (card_line n (command_line cmd) w (Running (seat_in state c)) b None).items) on.base
 
   -- wherever a write of the line stops, the words stand for the play
-  command_stands : (c : Card N) (w : Warm) (n : ℕ) (cmd : Command) (ws : List (ℕ × List ℕ)) → IsCard state bench c w.base w.live → StopsAtEach (card_in state c) (asked c w cmd).items (state (device_in c)).words ws
+  command_stands : (c : Card N) (w : Warm) (n : ℕ) (cmd : Command) (ws : List (ℕ × List ℕ)) → IsCard state c w.base w.live → StopsAtEach (card_in state c) (asked c w cmd).items (state (device_in c)).words ws
       → StopsStand (state (device_in c)).words (Hot w) (n, command_line cmd) 0 ws
   command_stands c w n cmd ws on stops k x low high size =
       let m = torn (state (device_in c)).words ws k x in
@@ -104,17 +104,19 @@ module _ {N R : Type 0} (state : N → DeviceState) (bench : N → BenchState) (
 
   -- ---- a command that was answered
 
-  pub command_done : (c u e f : Card N) (k : ℕ) (a : Armed) (cmd : Command) (o : Outcome) (before after : R) → IsReady state c → state (device_in u) ≡ state (device_in c)
-      → bench (device_in u) ≡ armed_bench a (bench (device_in c)) → u ≡ with_device c (device_in u)
-      → Ran state wrote told u (line_command (card_in state u) (seat_in state u) k (command_line cmd)) (Ok o) e before after
+  pub command_done : (p : Player N) (u e f : Card N) (cmd : Command) (o : Outcome) (before after : R) → p.power ≡ power.On → IsReady state p.card → state (device_in u) ≡ state (device_of p)
+      → bench (device_in u) ≡ armed_bench p.armed (bench (device_of p)) → u ≡ with_device p.card (device_in u)
+      → Ran state wrote told u (line_command (card_in state u) (seat_in state u) p.budget (command_line cmd)) (Ok o) e before after
       → state (device_in f) ≡ state (device_in e) → bench (device_in f) ≡ record (bench (device_in e)) { cut = None; worn = None } → f ≡ with_device e (device_in f)
-      → CardDone state bench told (power.On c) k a (command_line cmd) before after (power.On f) (answer.Outcome o)
-  command_done c u e f k a cmd o before after ready same is rest ran kept free over (Cold m b r) n at = absurd at.stands.0
-  command_done c u e f k a cmd o before after ready same is rest ran kept free over (Hot w) n at =
-      let p : Player N = record { power = power.On c; budget = k; armed = a } in
-      let q : Player N = record { power = power.On f; budget = k; armed = armed.Not } in
+      → LineDone state bench told p (command_line cmd) before after (Some answer.Outcome) (record p { card = f; armed = armed.Not; outcome = o })
+  command_done p u e f cmd o before after on_is ready same is rest ran kept free over (Cold m b r) n at = absurd (cc (sym at.stands.0 ∙ on_is))
+  command_done p u e f cmd o before after on_is ready same is rest ran kept free over (Hot w) n at =
+      let c = p.card in
+      let k = p.budget in
+      let a = p.armed in
+      let q : Player N = record p { card = f; armed = armed.Not; outcome = o } in
       let l = command_line cmd in
-      let on = at.stands.0 in
+      let on : IsCard state c w.base w.live = subst (λ (y : Power). LiveIs state y c w.base w.live) on_is at.stands.0 in
       let r = asked c w cmd in
       let card = card_in state c in
       let done : Ran state wrote told u r (Ok o) e before after = asked_over c u k w cmd (Ok o) e before after rest same at.budget ran in
@@ -132,7 +134,7 @@ module _ {N R : Type 0} (state : N → DeviceState) (bench : N → BenchState) (
       let seat : seat_in state f ≡ r.seat = seat_over state e f over kept ∙ done.commanded.seat in
       let base : IsBase (OnCard new) w.owed w.by (state (device_in f)).words = record { base = ap found words ∙ whole.base; owed = ap owed words ∙ whole.owed ∙ sym none; by = λ some. absurd (some none) } in
       let then : IsAt state bench q (Hot v) = record {
-        stands = (record { ready = ready_over state e f over kept done.commanded.ready; base = ap OnCard (sym means_new ∙ ap means (sym words)); live = ap Running (sym seat) }, base);
+        stands = (subst (λ (y : Power). LiveIs state y f v.base v.live) (sym on_is) (record { ready = ready_over state e f over kept done.commanded.ready; base = ap OnCard (sym means_new ∙ ap means (sym words)); live = ap Running (sym seat) }), base);
         budget = at.budget;
         armed = refl;
         some = at.some;
@@ -141,45 +143,48 @@ module _ {N R : Type 0} (state : N → DeviceState) (bench : N → BenchState) (
         unfused = did.unfused;
       } in
       let stands : StopsStand (state (device_in c)).words (Hot w) (n, l) 0 ws = command_stands c w n cmd ws on (stops_over c u r.items ws same made.stops) in
-      let stepped = went_stepped state bench wrote obeys burns fits p q (Hot w) n 0 l (Answered r.outcome) r.items r.items r.pairs r.turns v (answer.Outcome o) ws m at (worth cmd (Hot w)) refl did made.number (moves_are c w n cmd on) then
+      let stepped = went_stepped state bench wrote obeys burns fits p q (Hot w) n 0 l (Answered r.outcome) r.items r.items r.pairs r.turns v answer.Outcome ws m at (worth cmd (Hot w)) refl did made.number (moves_are c w n cmd on) then
       (ap Answered done.commanded.outcome) stands in
       let misses : hit_of w.armed m None ≡ None = subst (λ (i : ℕ). hit_of w.armed i None ≡ None) made.number (subst (λ (y : play.Armed). hit_of y (length ws) None ≡ None) at.armed did.missed.hit) in
       let step_on : step (Hot w) (n, l) None ≡ command_step n l w card r None = step_is c w n cmd None on ∙ ap (λ (y : Option StopAt). command_step n l w card r y) misses in
-      (None, lined state bench told p q (Hot w) (n, l) None (command_step n l w card r None) (Some (answer.Outcome o)) before after step_on stepped done.tells)
+      (None, lined state bench told p q (Hot w) (n, l) None (command_step n l w card r None) (Some answer.Outcome) before after step_on stepped done.tells)
 
   -- ---- a command that was stopped
 
-  pub command_stopped : (c u e : Card N) (k : ℕ) (a : Armed) (cmd : Command) (how : Stop) (pw : Power N) (ans : Answer) (before after : R) → IsReady state c → state (device_in u) ≡ state (device_in c)
-      → bench (device_in u) ≡ armed_bench a (bench (device_in c)) → u ≡ with_device c (device_in u)
-      → Ran state wrote told u (line_command (card_in state u) (seat_in state u) k (command_line cmd)) (Err how) e before after
-      → pw ≡ power_after_stop how (device_by pw) → ans ≡ answer_after_stop how a → state (device_by pw) ≡ state (device_in e) → bench (device_by pw) ≡ record (bench (device_in e)) { cut = None; worn = None }
-      → CardDone state bench told (power.On c) k a (command_line cmd) before after pw ans
-  command_stopped c u e k a cmd how pw ans before after ready same is rest ran gone says kept free (Cold m b r) n at = absurd at.stands.0
-  command_stopped c u e k a cmd how pw ans before after ready same is rest ran gone says kept free (Hot w) n at =
-      let p : Player N = record { power = power.On c; budget = k; armed = a } in
-      let q : Player N = record { power = pw; budget = k; armed = armed.Not } in
+  pub command_stopped : (p : Player N) (u e f : Card N) (cmd : Command) (how : Stop) (before after : R) → p.power ≡ power.On → IsReady state p.card → state (device_in u) ≡ state (device_of p)
+      → bench (device_in u) ≡ armed_bench p.armed (bench (device_of p)) → u ≡ with_device p.card (device_in u)
+      → Ran state wrote told u (line_command (card_in state u) (seat_in state u) p.budget (command_line cmd)) (Err how) e before after
+      → state (device_in f) ≡ state (device_in e) → bench (device_in f) ≡ record (bench (device_in e)) { cut = None; worn = None }
+      → LineDone state bench told p (command_line cmd) before after (Some (answer_after_stop how p.armed)) (record p { card = f; power = power_after_stop how; armed = armed.Not })
+  command_stopped p u e f cmd how before after on_is ready same is rest ran kept free (Cold m b r) n at = absurd (cc (sym at.stands.0 ∙ on_is))
+  command_stopped p u e f cmd how before after on_is ready same is rest ran kept free (Hot w) n at =
+      let c = p.card in
+      let k = p.budget in
+      let a = p.armed in
+      let d = device_in f in
+      let ans = answer_after_stop how a in
+      let q : Player N = record p { card = f; power = power_after_stop how; armed = armed.Not } in
       let l = command_line cmd in
-      let on = at.stands.0 in
+      let on : IsCard state c w.base w.live = subst (λ (y : Power). LiveIs state y c w.base w.live) on_is at.stands.0 in
       let r = asked c w cmd in
       let card = card_in state c in
-      let f = device_by pw in
       let done : Ran state wrote told u r (Err how) e before after = asked_over c u k w cmd (Err how) e before after rest same at.budget ran in
       let made = done.commanded.made in
       let ws = made.writes in
       let m = moves r.items in
       let tells = done.tells in
       let i : ℕ = tells.0 in
-      let found_stop = hit state bench wrote obeys burns fits (device_in c) (device_in u) (device_in e) f a 0 ws i how at.can_arm at.unfused (handed c u a ready same is) tells.1 (record { state = kept; bench = free }) in
+      let found_stop = hit state bench wrote obeys burns fits (device_in c) (device_in u) (device_in e) d a 0 ws i how at.can_arm at.unfused (handed c u a ready same is) tells.1 (record { state = kept; bench = free }) in
       let x : List ℕ = found_stop.0 in
-      let did : Hit state bench wrote obeys burns fits (device_in c) f a 0 ws i how x = found_stop.1 in
+      let did : Hit state bench wrote obeys burns fits (device_in c) d a 0 ws i how x = found_stop.1 in
       let t : StopAt = record { kind = how; at = i; left = x } in
       let high : i ≤ m = let h = did.high in let j : length ws ≤ m = made.number in omega (arith, h, j) in
       let by : HitBy w.armed m (bench (device_in c)).steady how i x (worn_entry i x (Some how)) = subst (λ (y : play.Armed). HitBy y m (bench (device_in c)).steady how i x (worn_entry i x (Some how))) at.armed (did.by m high) in
       let stops : StopsAtEach card r.items (state (device_in c)).words ws = stops_over c u r.items ws same made.stops in
       let v : Warm = stopped_line w card t (at_stop r.items i x) in
-      let base : IsBase v.base v.owed v.by (state f).words = subst (λ (y : List (List ℕ)). IsBase v.base v.owed v.by y) (sym did.words) (stops i x did.low did.high did.size) in
+      let base : IsBase v.base v.owed v.by (state d).words = subst (λ (y : List (List ℕ)). IsBase v.base v.owed v.by y) (sym did.words) (stops i x did.low did.high did.size) in
       let then : IsAt state bench q (Hot v) = record {
-        stands = (subst (λ (y : Power N). LiveIs state bench y v.base v.live) (sym gone) (live_stopped state bench wrote obeys burns fits how f v.base v.live refl), base);
+        stands = (live_stopped state bench wrote obeys burns fits how f v.base v.live refl, base);
         budget = at.budget;
         armed = refl;
         some = at.some;
@@ -187,8 +192,19 @@ module _ {N R : Type 0} (state : N → DeviceState) (bench : N → BenchState) (
         can_arm = tt;
         unfused = did.unfused;
       } in
-      let answers : answer_value ans ≡ result_of_stop t how = ap answer_value says ∙ answer_stopped state bench wrote obeys burns fits how p t refl did.place in
+      let answers : answer_value state q ans ≡ result_of_stop t how = answer_stopped state bench wrote obeys burns fits how p q t refl did.place in
       let stepped = hit_stepped state bench wrote obeys burns fits p q (Hot w) n 0 l (result_of_stop t how) r.items (at_stop r.items i x).whole r.pairs r.turns v ans ws m i how x at (worth cmd (Hot w)) refl did made.number (moves_are c w n cmd on) then answers
       (command_stands c w n cmd ws on stops) in
       let step_on : step (Hot w) (n, l) (worn_entry i x (Some how)) ≡ command_step n l w card r (Some t) = step_is c w n cmd (worn_entry i x (Some how)) on ∙ ap (λ (y : Option StopAt). command_step n l w card r y) by.hit in
       (worn_entry i x (Some how), lined state bench told p q (Hot w) (n, l) (worn_entry i x (Some how)) (command_step n l w card r (Some t)) (Some ans) before after step_on stepped tells.2)
+
+  -- the same, of the power and the answer that are these
+  pub command_stopped_as : (p : Player N) (u e f : Card N) (cmd : Command) (how : Stop) (pw : Power) (ans : Answer) (before after : R) → p.power ≡ power.On → IsReady state p.card → state (device_in u) ≡ state (device_of p)
+      → bench (device_in u) ≡ armed_bench p.armed (bench (device_of p)) → u ≡ with_device p.card (device_in u)
+      → Ran state wrote told u (line_command (card_in state u) (seat_in state u) p.budget (command_line cmd)) (Err how) e before after
+      → state (device_in f) ≡ state (device_in e) → bench (device_in f) ≡ record (bench (device_in e)) { cut = None; worn = None } → pw ≡ power_after_stop how → ans ≡ answer_after_stop how p.armed
+      → LineDone state bench told p (command_line cmd) before after (Some ans) (record p { card = f; power = pw; armed = armed.Not })
+  command_stopped_as p u e f cmd how pw ans before after on_is ready same is rest ran kept free goes says =
+      subst (λ (x : Power). LineDone state bench told p (command_line cmd) before after (Some ans) (record p { card = f; power = x; armed = armed.Not })) (sym goes)
+      (subst (λ (x : Answer). LineDone state bench told p (command_line cmd) before after (Some x) (record p { card = f; power = power_after_stop how; armed = armed.Not })) (sym says)
+      (command_stopped p u e f cmd how before after on_is ready same is rest ran kept free))

@@ -13,11 +13,11 @@ use Rattle.mc_text.specs.Texts.{Sunk, Puts}
 use Rattle.mc_script.specs.declared.answer.Answer.{Answer}
 use Rattle.mc_script.specs.declared.player.Player.{Player}
 use Rattle.mc_script.specs.Players.{answer_value, IsAt}
-use Rattle.mc_script.specs.Lines.{Lined, LineDone}
+use Rattle.mc_script.specs.Lines.{bench_of, Lined, LineDone}
 use Rattle.mc_script.specs.Scripts.{ended, text_by}
 use Rattle.mc_script.specs.Plays.{Bench, PlaysFrom}
 use Rattle.mc_script.proofs.PlayLemmas.{step_number, from_on, from_cut, from_none}
-use Rattle.mc_script.proofs.LineLemmas.{player_stands, bench_of, line_did}
+use Rattle.mc_script.proofs.LineLemmas.{player_stands}
 
 module _ {N : Type 0} (state : N → DeviceState) (bench : N → BenchState) where
   -- a player at a state of a play, with these lines left: whatever they play from there, all lines play from the start
@@ -32,53 +32,53 @@ module _ {N : Type 0} (state : N → DeviceState) (bench : N → BenchState) whe
 
   -- all lines were played
   pub reached_end : (f : Step → List ℕ) (s : State) (ls : List (ℕ × DeckLine)) (a : Bench) (x y : Sunk) (p : Player N) → Reached f s ls a x [] p y → PlaysFrom f s ls a x (Ok tt) (bench_of state bench p) y
-  reached_end f s ls a x y p h = h.rest (Ok tt) (bench_of state bench p) y (from_none f h.here (bench_of state bench p) y (player_stands state bench p h.here h.at))
+  reached_end f s ls a x y p h = h.rest (Ok tt) (bench_of state bench p) y (from_none f h.here (bench_of state bench p) y (player_stands state bench p h.here h.at) h.at.unfused)
 
   module _ {R : Type 0} (told : R → List Turn → R → Type 0) (text : List Turn → List ℕ) where
     -- what is written of a line, whatever turns were told in it
-    abbrev pub TellsLine : R → R → ℕ → Option Answer → Sunk → Result (Unit {0}) WriteFault → Sunk → Type 0
-    TellsLine before after n answer y r z = (ts : List Turn) → told before ts after → Puts y (text ts ++ line_text n (option_map answer_value answer)) r z
+    abbrev pub TellsLine : Player N → R → R → ℕ → Option Answer → Sunk → Result (Unit {0}) WriteFault → Sunk → Type 0
+    TellsLine q before after n answer y r z = (ts : List Turn) → told before ts after → Puts y (text ts ++ line_text n (option_map (answer_value state q) answer)) r z
 
     -- the text of a line is that of its step
     line_puts : (p q : Player N) (s : State) (l : ℕ × DeckLine) (w : Option WornAt) (before after : R) (answer : Option Answer) (y z : Sunk) (r : Result (Unit {0}) WriteFault)
-        → Lined state bench told p s l w before after answer q → TellsLine before after l.0 answer y r z → Puts y (text_by text (step s l w)) r z
+        → Lined state bench told p s l w before after answer q → TellsLine q before after l.0 answer y r z → Puts y (text_by text (step s l w)) r z
     line_puts p q s l w before after answer y z r lined tells =
         let t = step s l w in
-        let is : line_text l.0 (option_map answer_value answer) ≡ line_text t.number t.result = ap (λ o. line_text l.0 o) lined.answers ∙ ap (λ n. line_text n t.result) (sym (step_number s l w)) in
+        let is : line_text l.0 (option_map (answer_value state q) answer) ≡ line_text t.number t.result = ap (λ o. line_text l.0 o) lined.stepped.answers ∙ ap (λ n. line_text n t.result) (sym (step_number s l w)) in
         subst (λ (bs : List ℕ). Puts y (text (shown_turns t.turns t.stop) ++ bs) r z) is (tells (shown_turns t.turns t.stop) lined.tells)
 
     -- a line whose text was written
     pub reached_on : (s : State) (ls : List (ℕ × DeckLine)) (a : Bench) (x y z : Sunk) (left : List (ℕ × DeckLine)) (n : ℕ) (l : DeckLine) (p q : Player N) (before after : R) (answer : Option Answer)
-        → Reached (text_by text) s ls a x ((n, l) ∷ left) p y → LineDone state bench told p l before after answer q → TellsLine before after n answer y (Ok tt) z → Reached (text_by text) s ls a x left q z
+        → Reached (text_by text) s ls a x ((n, l) ∷ left) p y → LineDone state bench told p l before after answer q → TellsLine q before after n answer y (Ok tt) z → Reached (text_by text) s ls a x left q z
     reached_on s ls a x y z left n l p q before after answer h done tells =
         let line = done h.here n h.at in
         let puts = line_puts p q h.here (n, l) line.0 before after answer y z (Ok tt) line.1 tells in
         record {
           here = (step h.here (n, l) line.0).after;
-          at = line.1.at;
+          at = line.1.stepped.at;
           rest = λ r c u rest.
-              h.rest r c u (from_on (text_by text) h.here (n, l) line.0 left (bench_of state bench p) (bench_of state bench q) c y z u r (line_did state bench told p q h.here (n, l) line.0 before after answer line.1) puts rest);
+              h.rest r c u (from_on (text_by text) h.here (n, l) line.0 left (bench_of state bench p) (bench_of state bench q) c y z u r line.1.stepped.played puts rest);
         }
 
     -- a line whose text failed
     pub reached_cut : (s : State) (ls : List (ℕ × DeckLine)) (a : Bench) (x y z : Sunk) (left : List (ℕ × DeckLine)) (n : ℕ) (l : DeckLine) (p q : Player N) (before after : R) (answer : Option Answer) (e : WriteFault)
-        → Reached (text_by text) s ls a x ((n, l) ∷ left) p y → LineDone state bench told p l before after answer q → TellsLine before after n answer y (Err e) z → PlaysFrom (text_by text) s ls a x (Err e) (bench_of state bench q) z
+        → Reached (text_by text) s ls a x ((n, l) ∷ left) p y → LineDone state bench told p l before after answer q → TellsLine q before after n answer y (Err e) z → PlaysFrom (text_by text) s ls a x (Err e) (bench_of state bench q) z
     reached_cut s ls a x y z left n l p q before after answer e h done tells =
         let line = done h.here n h.at in
         let puts = line_puts p q h.here (n, l) line.0 before after answer y z (Err e) line.1 tells in
-        let did = line_did state bench told p q h.here (n, l) line.0 before after answer line.1 in
+        let end = line.1.stepped in
         h.rest (Err e) (bench_of state bench q) z
-        (from_cut (text_by text) h.here (n, l) line.0 left (bench_of state bench p) (bench_of state bench q) y z e did (player_stands state bench q (step h.here (n, l) line.0).after line.1.at) puts)
+        (from_cut (text_by text) h.here (n, l) line.0 left (bench_of state bench p) (bench_of state bench q) y z e end.played (player_stands state bench q (step h.here (n, l) line.0).after end.at) end.at.unfused puts)
 
     -- a line whose text failed, by what the script says
     pub reached_failed : (s : State) (ls : List (ℕ × DeckLine)) (a : Bench) (x y z : Sunk) (left : List (ℕ × DeckLine)) (n : ℕ) (l : DeckLine) (p q : Player N) (before after : R) (answer : Option Answer) (r : Result (Unit {0}) WriteFault)
-        → is_err r ≡ true → Reached (text_by text) s ls a x ((n, l) ∷ left) p y → LineDone state bench told p l before after answer q → TellsLine before after n answer y r z → PlaysFrom (text_by text) s ls a x r (bench_of state bench q) z
+        → is_err r ≡ true → Reached (text_by text) s ls a x ((n, l) ∷ left) p y → LineDone state bench told p l before after answer q → TellsLine q before after n answer y r z → PlaysFrom (text_by text) s ls a x r (bench_of state bench q) z
     reached_failed s ls a x y z left n l p q before after answer (Ok u) failed h done tells = absurd (cc failed)
     reached_failed s ls a x y z left n l p q before after answer (Err e) failed h done tells = reached_cut s ls a x y z left n l p q before after answer e h done tells
 
     -- a line whose text was written, by what the script says
     pub reached_written : (s : State) (ls : List (ℕ × DeckLine)) (a : Bench) (x y z : Sunk) (left : List (ℕ × DeckLine)) (n : ℕ) (l : DeckLine) (p q : Player N) (before after : R) (answer : Option Answer) (r : Result (Unit {0}) WriteFault)
-        → is_err r ≡ false → Reached (text_by text) s ls a x ((n, l) ∷ left) p y → LineDone state bench told p l before after answer q → TellsLine before after n answer y r z → Reached (text_by text) s ls a x left q z
+        → is_err r ≡ false → Reached (text_by text) s ls a x ((n, l) ∷ left) p y → LineDone state bench told p l before after answer q → TellsLine q before after n answer y r z → Reached (text_by text) s ls a x left q z
     reached_written s ls a x y z left n l p q before after answer (Ok u) written h done tells = reached_on s ls a x y z left n l p q before after answer h done tells
     reached_written s ls a x y z left n l p q before after answer (Err e) written h done tells = absurd (cc written)
 

@@ -12,6 +12,7 @@ pub mod LoadLemmas
 pub mod TapeLemmas
 pub mod PlayLemmas
 pub mod LawLemmas
+pub mod Composing
 pub mod SumLemmas
 pub mod FuseLemmas
 pub mod EntryLemmas

@@ -1,19 +1,21 @@
 -- One line of a player as one line of a play.
-use Rattle.std.proofs.Common.{◌≡◌, ℕ, List, Option, Some, None, refl, ap}
+use Rattle.std.specs.Prelude.{option_map}
+use Rattle.std.proofs.Common.{◌≡◌, ℕ, List, Option, Some, None, refl, sym, subst, ◌∙◌, ap}
 use Rattle.mc_model.specs.declared.card.Cause.{Cause}
 use Rattle.mc_model.specs.Device.{DeviceState, BenchState}
-use Rattle.mc_model.specs.Chain.{Turn}
 use Rattle.mc_model.specs.Card.{means}
 use Rattle.mc_model.specs.Layout.{fault}
-use Rattle.mc_model.specs.DeckGrammar.{DeckLine}
-use Rattle.mc_model.specs.Play.{Base, OnCard, AtFault, Warm, State, Cold, Hot, WornAt, Stands, StandsForBase, base_of, owing}
+use Rattle.mc_model.specs.Play.{Base, OnCard, AtFault, Warm, State, Cold, Hot, Stands, StandsForBase, base_of, owing, static_of, Static}
 use Rattle.mc_store.specs.Power.{IsBase}
-use Rattle.mc_script.specs.declared.answer.Answer.{Answer}
 use Rattle.mc_script.specs.declared.player.Player.{Player}
-use Rattle.mc_script.specs.Players.{device_of, IsAt}
-use Rattle.mc_script.specs.Lines.{Lined}
-use Rattle.mc_script.specs.Plays.{Bench}
-use Rattle.mc_script.proofs.PlayLemmas.{Did}
+use Rattle.mc_card.specs.Parts.{card_in, IsReady}
+use Rattle.mc_script.specs.declared.player.Power.{Power}
+use Rattle.mc_script.specs.declared.player.Power.TheVariants as power
+use Rattle.mc_model.specs.Bytes.{lookup}
+use Rattle.mc_model.specs.Card.{App}
+use Rattle.mc_card.specs.declared.card.Card.{Card}
+use Rattle.mc_script.specs.declared.answer.Answer.TheVariants as answer
+use Rattle.mc_script.specs.Players.{answer_value, device_of, dump_value, statics_by, statics_in, LiveIs, IsAt}
 
 -- words that are a card, and words that are a fault
 on_card : (f : Option (Cause × ℕ)) (m : List (List ℕ)) (c : _) → base_of f m ≡ OnCard c → (f ≡ None) × (means m ≡ c)
@@ -35,21 +37,25 @@ player_stands state bench p (Hot w) at =
     let is = at.stands.1 in
     (stands_base w.base (state (device_of p)).words w is, λ some. ap owing (is.by some))
 
--- the bench of a player
-abbrev pub bench_of : {N : Type 0} → (N → DeviceState) → (N → BenchState) → Player N → Bench
-bench_of state bench p = record { device = state (device_of p); bench = bench (device_of p) }
+-- the card of a player whose card runs
+pub player_ready : {N : Type 0} (state : N → DeviceState) (bench : N → BenchState) (p : Player N) (s : State) → IsAt state bench p s → p.power ≡ power.On → IsReady state p.card
+player_ready state bench p (Cold m b a) at on = absurd (cc (sym at.stands.0 ∙ on))
+player_ready state bench p (Hot w) at on = (subst (λ (x : Power). LiveIs state x p.card w.base w.live) on at.stands.0).ready
 
--- what a line of a player did to its bench
-pub line_did : {N R : Type 0} (state : N → DeviceState) (bench : N → BenchState) (told : R → List Turn → R → Type 0) (p q : Player N) (s : State) (l : ℕ × DeckLine) (w : Option WornAt) (before after : R) (answer : Option Answer)
-    → Lined state bench told p s l w before after answer q → Did s l w (bench_of state bench p) (bench_of state bench q)
-line_did state bench told p q s l w before after answer h =
-    record {
-      may = h.may;
-      counts = h.counts;
-      steady = h.steady;
-      entries = h.tape.entries;
-      grows = h.tape.grows;
-      accounts = h.tape.accounts;
-      worn = h.tape.worn;
-      left = h.tape.left;
-    }
+-- a card whose static bytes are shown runs, and has the application
+pub statics_on : {N : Type 0} (state : N → DeviceState) (w : Power) (c : Card N) (aid fixed : List ℕ) → statics_by state w c aid ≡ Some fixed
+    → (w ≡ power.On) × (a : App) × (lookup (card_in state c).apps aid ≡ Some a) × (a.fixed ≡ fixed)
+statics_on state power.Cold c aid fixed h = absurd (cc h)
+statics_on state power.Off c aid fixed h = absurd (cc h)
+statics_on state power.Mute c aid fixed h = absurd (cc h)
+statics_on state power.On c aid fixed h = let f = found (lookup (card_in state c).apps aid) h in (refl, f.0, f.1, f.2)
+  where
+    found : (o : Option App) → option_map {T = App} (λ a. a.fixed) o ≡ Some fixed → (a : App) × (o ≡ Some a) × (a.fixed ≡ fixed)
+    found None h = absurd (cc h)
+    found (Some a) h = (a, refl, cc)
+
+-- what a `dump` line tells of static bytes that are shown
+pub statics_told : {N : Type 0} (state : N → DeviceState) (p : Player N) (aid fixed : List ℕ) → statics_in state p aid ≡ Some fixed → answer_value state p (answer.Dump aid) ≡ Static fixed
+statics_told state p aid fixed h =
+    let on = statics_on state p.power p.card aid fixed h in
+    ap (λ (w : Power). dump_value state w p.card aid) on.0 ∙ ap static_of on.2 ∙ ap Static on.3

@@ -6,11 +6,9 @@ use Rattle.mc_model.specs.Chain.{Turn}
 use Rattle.mc_model.specs.Play.{State, Cold, Hot, WornAt, Step, step, Stands}
 use Rattle.mc_model.specs.TraceText.{shown_turns}
 use Rattle.mc_script.specs.declared.answer.Answer.{Answer}
-use Rattle.mc_script.specs.declared.armed.Armed.{Armed}
-use Rattle.mc_script.specs.declared.player.Power.{Power}
 use Rattle.mc_script.specs.declared.player.Player.{Player}
 use Rattle.mc_script.specs.Players.{device_of, IsAt}
-use Rattle.mc_script.specs.Lines.{Stepped, SilentDone, Lined, LineDone, CardDone}
+use Rattle.mc_script.specs.Lines.{Stepped, SilentDone, Lined, LineDone}
 use Rattle.mc_script.proofs.AccountLemmas.{stands_hot}
 
 -- the words of a player stand for the state of its play
@@ -24,15 +22,7 @@ module _ {N R : Type 0} (state : N → DeviceState) (bench : N → BenchState) (
       → told before (shown_turns t.turns t.stop) after → Lined state bench told p s l w before after r q
   lined p q s l w t r before after is stepped tells =
       let h : Stepped state bench p s l w (step s l w) r q = subst (λ (u : Step). Stepped state bench p s l w u r q) (sym is) stepped in
-      record {
-        may = h.may;
-        at = h.at;
-        answers = h.answers;
-        tells = subst (λ (u : Step). told before (shown_turns u.turns u.stop) after) (sym is) tells;
-        counts = h.counts;
-        steady = h.steady;
-        tape = let r = h.tape in record { entries = r.entries; grows = r.grows; accounts = r.accounts; worn = r.worn; left = r.left };
-      }
+      record { stepped = h; tells = subst (λ (u : Step). told before (shown_turns u.turns u.stop) after) (sym is) tells }
 
   -- a line without turns, of which nothing is told
   pub silent_line : ((r : R) → told r [] r) → (p q : Player N) (l : DeckLine) (x : Option Answer) (r : R) → SilentDone state bench p l x q → LineDone state bench told p l r r x q
@@ -45,13 +35,7 @@ module _ {N R : Type 0} (state : N → DeviceState) (bench : N → BenchState) (
   pub given_line : (p q : Player N) (l k : DeckLine) (x : Option Answer) (before after : R) → l ≡ k → LineDone state bench told p k before after x q → LineDone state bench told p l before after x q
   given_line p q l k x before after is done = subst (λ (y : DeckLine). LineDone state bench told p y before after x q) (sym is) done
 
-  -- a line that always answers
-  pub answered_line : (p q e : Player N) (l k : DeckLine) (x : Answer) (y : Option Answer) (before after : R) → l ≡ k → LineDone state bench told p k before after (Some x) q → e ≡ q → y ≡ Some x
-      → LineDone state bench told p l before after y e
-  answered_line p q e l k x y before after is done same says =
-      subst (λ (z : Player N). LineDone state bench told p l before after y z) (sym same)
-      (subst (λ (z : Option Answer). LineDone state bench told p l before after z q) (sym says) (given_line p q l k (Some x) before after is done))
-
-  -- the power of the line is the one that was found
-  pub with_power : (w v : Power N) (k : ℕ) (a : Armed) (l : DeckLine) (before after : R) (q : Power N) (r : Answer) → w ≡ v → CardDone state bench told v k a l before after q r → CardDone state bench told w k a l before after q r
-  with_power w v k a l before after q r is done = subst (λ (x : Power N). CardDone state bench told x k a l before after q r) (sym is) done
+  -- a line of a player that is left as it was but for one step, and its answer
+  pub same_line : (p q e : Player N) (l : DeckLine) (x y : Answer) (before after : R) → LineDone state bench told p l before after (Some x) q → e ≡ q → y ≡ x → LineDone state bench told p l before after (Some y) e
+  same_line p q e l x y before after done same says =
+      subst (λ (z : Player N). LineDone state bench told p l before after (Some y) z) (sym same) (subst (λ (z : Answer). LineDone state bench told p l before after (Some z) q) (sym says) done)

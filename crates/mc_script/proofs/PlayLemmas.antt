@@ -1,15 +1,16 @@
 -- A play of one line and a play of the lines behind it are one play.
-use Rattle.std.proofs.Common.{◌≡◌, ℕ, zero, suc, ◌+◌, true, List, [], ◌∷◌, ◌++◌, Option, Some, None, Result, Ok, Err, refl, arith, sym, ap, subst, ◌∙◌, append_assoc}
+use Rattle.std.proofs.Common.{◌≡◌, ℕ, zero, suc, ◌+◌, List, [], ◌∷◌, ◌++◌, Option, Some, None, Result, Ok, Err, refl, arith, sym, ap, subst, ◌∙◌, append_assoc}
 use Rattle.std.proofs.lemmas.List.{append-nil}
-use Rattle.mc_model.specs.Device.{DeviceState, BenchState, Entry, GrowsBy, next_count}
+use Rattle.mc_model.specs.Device.{DeviceState, BenchState, Entry, next_count}
 use Rattle.mc_model.specs.DeckGrammar.{DeckLine}
 use Rattle.mc_model.specs.DeckGrammar as line
-use Rattle.mc_model.specs.Play.{Armed, Live, Running, Unpowered, Muted, Base, OnCard, AtFault, Warm, State, Cold, Hot, WornAt, Step, plays, step, card_line, armed_in, last_state, MayHit, Stands, moves_of, steady_at, steady_worn, tape_worn, AccountsForLine, words_left, worn_in}
+use Rattle.mc_model.specs.Play.{Armed, Live, Running, Unpowered, Muted, Base, OnCard, AtFault, Warm, State, Cold, Hot, WornAt, Step, plays, step, card_line, armed_in, last_state, Stands, moves_of, steady_at, steady_worn, tape_worn}
 use Rattle.mc_base.specs.Streams.{Grew}
 use Rattle.mc_base.specs.declared.refusals.WriteFault.{WriteFault}
 use Rattle.mc_base.proofs.StreamsLemmas.{Grew-append, Grew-none, Rose-later}
 use Rattle.mc_script.specs.Counting.{raised, Counts, LineCounts, PlayCounts}
-use Rattle.mc_script.specs.Plays.{Bench, TapeTells, TapeIs, Played, texts, Ends, PlaysFrom}
+use Rattle.mc_script.specs.Players.{IsUnfused}
+use Rattle.mc_script.specs.Plays.{Bench, PlayedLine, TapeTells, TapeIs, Played, texts, Ends, PlaysFrom}
 use Rattle.mc_text.specs.Texts.{Sunk, Writes, Fails}
 use Rattle.mc_script.proofs.TapeLemmas.{tape_on}
 
@@ -50,17 +51,6 @@ counts_none a due =
     }
 
 -- ---- a line, and the lines behind it
-
--- what one line did to a bench, as far as a play speaks of it
-pub record Did (s : State) (l : ℕ × DeckLine) (w : Option WornAt) (a b : Bench) : Type 0 where
-  pub may : MayHit s l w
-  pub counts : LineCounts a.bench a.device (step s l w) b.bench b.device
-  pub steady : a.bench.steady ≡ true → w ≡ steady_at (armed_in s) l.1 (moves_of s l)
-  pub entries : List Entry
-  pub grows : GrowsBy a.device.tape entries b.device.tape
-  pub accounts : AccountsForLine a.device.words s l (step s l w) entries
-  pub worn : worn_in 0 entries ≡ w
-  pub left : words_left a.device.words entries (step s l w).after ≡ b.device.words
 
 -- the state before a line of a card
 card_before : (n : ℕ) (l : DeckLine) (s : Warm) (live : Live) (base : Base) (w : Option WornAt) → (card_line n l s live base w).before ≡ Hot s
@@ -153,7 +143,7 @@ counts_from s l w ts a b c one rest =
     subst (λ (u : State). PlayCounts a.bench a.device (armed_in u) (step s l w ∷ ts) c.bench c.device) (step_before s l w) (play_counts_on a b c (step s l w) ts one rest)
 
 -- a play of a line and of the lines behind it
-pub played_on : (s : State) (l : ℕ × DeckLine) (w : Option WornAt) (ls : List (ℕ × DeckLine)) (ws : List (Option WornAt)) (a b c : Bench) → Did s l w a b → Played (step s l w).after ls ws b c → Played s (l ∷ ls) (w ∷ ws) a c
+pub played_on : (s : State) (l : ℕ × DeckLine) (w : Option WornAt) (ls : List (ℕ × DeckLine)) (ws : List (Option WornAt)) (a b c : Bench) → PlayedLine s l w (step s l w) a b → Played (step s l w).after ls ws b c → Played s (l ∷ ls) (w ∷ ws) a c
 played_on s l w ls ws a b c did rest =
     let e = plays_on s l w ls ws in
     record {
@@ -161,7 +151,8 @@ played_on s l w ls ws a b c did rest =
       words = subst (λ (ts : List Step). Stands c.device.words (last_state s ts)) (sym e) rest.words;
       counts = subst (λ (ts : List Step). PlayCounts a.bench a.device (armed_in s) ts c.bench c.device) (sym e) (counts_from s l w _ a b c did.counts rest.counts);
       steady = λ steady. steady_on s l w ls ws (did.steady steady) (rest.steady (did.counts.counts.steady ∙ steady));
-      tape = tape_on a.device.words b.device.words s l ls w ws did.entries a.device.tape b.device.tape c.device.tape did.may did.accounts did.worn did.left did.grows rest.tape;
+      tape = let t = did.tape in tape_on a.device.words b.device.words s l ls w ws t.entries a.device.tape b.device.tape c.device.tape did.may t.accounts t.worn t.left t.grows rest.tape;
+      unfused = rest.unfused;
     }
 
 -- the worn stops of no line
@@ -179,14 +170,15 @@ tape_none m s None = tt
 tape_none m s (Some t) = ([], sym (append-nil t), tells_none m s)
 
 -- a play of no line
-pub played_none : (s : State) (a : Bench) → Stands a.device.words s → Played s [] [] a a
-played_none s a stands =
+pub played_none : (s : State) (a : Bench) → Stands a.device.words s → IsUnfused a.bench → Played s [] [] a a
+played_none s a stands unfused =
     record {
       possible = tt;
       words = subst (λ (ts : List Step). Stands a.device.words (last_state s ts)) (sym (plays_none s)) stands;
       counts = subst (λ (ts : List Step). PlayCounts a.bench a.device (armed_in s) ts a.bench a.device) (sym (plays_none s)) (counts_none a (armed_in s));
       steady = λ steady. steady_none s;
       tape = tape_none a.device.words s a.device.tape;
+      unfused = unfused;
     }
 
 -- ---- texts
@@ -227,7 +219,7 @@ ends_cut f x y rest t e h =
 -- ---- plays
 
 -- a line that was played and written, and the play of the lines behind it
-pub from_on : (f : Step → List ℕ) (s : State) (l : ℕ × DeckLine) (w : Option WornAt) (ls : List (ℕ × DeckLine)) (a b c : Bench) (x y z : Sunk) (r : Result (Unit {0}) WriteFault) → Did s l w a b → Writes x (f (step s l w)) y → PlaysFrom f (step s l w).after ls b y r c z → PlaysFrom f s (l ∷ ls) a x r c z
+pub from_on : (f : Step → List ℕ) (s : State) (l : ℕ × DeckLine) (w : Option WornAt) (ls : List (ℕ × DeckLine)) (a b c : Bench) (x y z : Sunk) (r : Result (Unit {0}) WriteFault) → PlayedLine s l w (step s l w) a b → Writes x (f (step s l w)) y → PlaysFrom f (step s l w).after ls b y r c z → PlaysFrom f s (l ∷ ls) a x r c z
 from_on f s l w ls a b c x y z r did wrote h =
     record {
       lines = l ∷ h.lines;
@@ -239,26 +231,26 @@ from_on f s l w ls a b c x y z r did wrote h =
     }
 
 -- a line that was played, and whose text failed
-pub from_cut : (f : Step → List ℕ) (s : State) (l : ℕ × DeckLine) (w : Option WornAt) (ls : List (ℕ × DeckLine)) (a b : Bench) (x y : Sunk) (e : WriteFault) → Did s l w a b → Stands b.device.words (step s l w).after → Fails x (f (step s l w)) y → PlaysFrom f s (l ∷ ls) a x (Err e) b y
-from_cut f s l w ls a b x y e did stands failed =
+pub from_cut : (f : Step → List ℕ) (s : State) (l : ℕ × DeckLine) (w : Option WornAt) (ls : List (ℕ × DeckLine)) (a b : Bench) (x y : Sunk) (e : WriteFault) → PlayedLine s l w (step s l w) a b → Stands b.device.words (step s l w).after → IsUnfused b.bench → Fails x (f (step s l w)) y → PlaysFrom f s (l ∷ ls) a x (Err e) b y
+from_cut f s l w ls a b x y e did stands unfused failed =
     let steps = plays_on s l w [] [] ∙ ap (λ (ts : List Step). step s l w ∷ ts) (plays_none (step s l w).after) in
     record {
       lines = l ∷ [];
       rest = ls;
       are = refl;
       worn = w ∷ [];
-      played = played_on s l w [] [] a b b did (played_none (step s l w).after b stands);
+      played = played_on s l w [] [] a b b did (played_none (step s l w).after b stands unfused);
       text = subst (λ (ts : List Step). Ends f x ls ts (Err e) y) (sym steps) (ends_cut f x y ls (step s l w) e failed);
     }
 
 -- no line is left
-pub from_none : (f : Step → List ℕ) (s : State) (a : Bench) (x : Sunk) → Stands a.device.words s → PlaysFrom f s [] a x (Ok tt) a x
-from_none f s a x stands =
+pub from_none : (f : Step → List ℕ) (s : State) (a : Bench) (x : Sunk) → Stands a.device.words s → IsUnfused a.bench → PlaysFrom f s [] a x (Ok tt) a x
+from_none f s a x stands unfused =
     record {
       lines = [];
       rest = [];
       are = refl;
       worn = [];
-      played = played_none s a stands;
+      played = played_none s a stands unfused;
       text = (refl, subst (λ (ts : List Step). Grew x.taken x.taken (texts f ts)) (sym (plays_none s)) (Grew-none x.taken));
     }

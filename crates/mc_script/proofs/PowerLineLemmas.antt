@@ -29,7 +29,7 @@ use Rattle.mc_script.specs.declared.armed.Armed.{Armed}
 use Rattle.mc_script.specs.declared.armed.Armed.TheVariants as armed
 use Rattle.mc_script.specs.declared.player.Power.TheVariants as power
 use Rattle.mc_script.specs.declared.player.Player.{Player}
-use Rattle.mc_script.specs.Players.{answer_value, armed_value, cut_place, device_by, device_of, CanArm, IsUnfused, LiveIs, StateIs, IsAt}
+use Rattle.mc_script.specs.Players.{answer_value, armed_value, cut_place, device_of, CanArm, LiveIs, StateIs, IsAt}
 use Rattle.mc_script.specs.Arming.{power_after_stop, answer_after_stop}
 use Rattle.mc_script.specs.Lines.{Stepped, Silent}
 use Rattle.mc_script.specs.Runs.{StoppedAt}
@@ -150,7 +150,7 @@ module _ {N : Type 0} (state : N → DeviceState) (bench : N → BenchState) (wr
   no_stop : (p q : Player N) (s : State) (n : ℕ) (u e : N) (r : Answer) → IsAt state bench p s → IsImage (state (device_of p)).words
       → Handed (state (device_of p)) (bench (device_of p)) 1 p.armed (state u) (bench u) → Makes wrote u (power_writes (state u).words) (Ok tt) e
       → Freed (state e) (bench e) (state (device_of q)) (bench (device_of q)) → q.budget ≡ p.budget → q.armed ≡ armed.Not
-      → (let w = warm_of s in StateIs state bench q.power (Hot (power_after w None))) → answer_value r ≡ power_result (power_moves (warm_of s)) (warm_of s).base
+      → (let w = warm_of s in StateIs state q.power q.card (Hot (power_after w None))) → answer_value state q r ≡ power_result (power_moves (warm_of s)) (warm_of s).base
       → (x : Option WornAt) × Silent state bench p s (n, line.Power) x (Some r) q
   no_stop p q s n u e r at image handed made freed budget free stands answers =
       let w = warm_of s in
@@ -191,11 +191,11 @@ module _ {N : Type 0} (state : N → DeviceState) (bench : N → BenchState) (wr
   pub runs_done : (p : Player N) (s : State) (n : ℕ) (u e : N) (c : Card N) (number count : ℕ) → IsAt state bench p s → IsImage (state (device_of p)).words
       → Handed (state (device_of p)) (bench (device_of p)) 1 p.armed (state u) (bench u) → Makes wrote u (power_writes (state u).words) (Ok tt) e → IsPowered (state u) number count (state e)
       → Freed (state e) (bench e) (state (device_in c)) (bench (device_in c)) → IsReady state c → seat_in state c ≡ empty_seat
-      → (x : Option WornAt) × Silent state bench p s (n, line.Power) x (Some (answer.Ready number)) (record p { power = power.On c; armed = armed.Not })
+      → (x : Option WornAt) × Silent state bench p s (n, line.Power) x (Some (answer.Ready number)) (record p { card = c; power = power.On; armed = armed.Not })
   runs_done p s n u e c number count at image handed made powered freed ready seat =
       let w = warm_of s in
       let m = (state (device_of p)).words in
-      let q : Player N = record p { power = power.On c; armed = armed.Not } in
+      let q : Player N = record p { card = c; power = power.On; armed = armed.Not } in
       let base : IsBase w.base w.owed w.by m = base_at p s at in
       let same : (state u).words ≡ m = handed.words in
       let after : (state (device_in c)).words ≡ (state e).words = ap (λ (x : DeviceState). x.words) freed.state in
@@ -213,14 +213,15 @@ module _ {N : Type 0} (state : N → DeviceState) (bench : N → BenchState) (wr
       no_stop p q s n u e (answer.Ready number) at image handed made freed refl refl (record { ready = ready; base = card; live = live }, is) (ap Ready many ∙ on.2 (power_moves w))
 
   -- the words are no card
-  pub unusable_done : (p : Player N) (s : State) (n : ℕ) (u e f : N) (r : Unusable) → IsAt state bench p s → IsImage (state (device_of p)).words
+  pub unusable_done : (p : Player N) (s : State) (n : ℕ) (u e : N) (c : Card N) (r : Unusable) → IsAt state bench p s → IsImage (state (device_of p)).words
       → Handed (state (device_of p)) (bench (device_of p)) 1 p.armed (state u) (bench u) → Makes wrote u (power_writes (state u).words) (Ok tt) e → IsUnusable (state u) r.cause r.place (state e)
-      → Freed (state e) (bench e) (state f) (bench f)
-      → (x : Option WornAt) × Silent state bench p s (n, line.Power) x (Some (answer.Unusable r)) (record p { power = power.Off f; armed = armed.Not })
-  unusable_done p s n u e f r at image handed made unusable freed =
+      → Freed (state e) (bench e) (state (device_in c)) (bench (device_in c))
+      → (x : Option WornAt) × Silent state bench p s (n, line.Power) x (Some (answer.Unusable r)) (record p { card = c; power = power.Off; armed = armed.Not })
+  unusable_done p s n u e c r at image handed made unusable freed =
       let w = warm_of s in
       let m = (state (device_of p)).words in
-      let q : Player N = record p { power = power.Off f; armed = armed.Not } in
+      let f = device_in c in
+      let q : Player N = record p { card = c; power = power.Off; armed = armed.Not } in
       let base : IsBase w.base w.owed w.by m = base_at p s at in
       let same : (state u).words ≡ m = handed.words in
       let after : (state f).words ≡ (state e).words = ap (λ (x : DeviceState). x.words) freed.state in
@@ -235,26 +236,23 @@ module _ {N : Type 0} (state : N → DeviceState) (bench : N → BenchState) (wr
 
   -- ---- a power line that a stop hit
 
-  pub live_stopped : (how : Stop) (f : N) (base : Base) (l : Live) → l ≡ live_after how → LiveIs state bench (power_after_stop how f) base l
-  live_stopped Off f base l h = h
-  live_stopped Worn f base l h = h
+  pub live_stopped : (how : Stop) (c : Card N) (base : Base) (l : Live) → l ≡ live_after how → LiveIs state (power_after_stop how) c base l
+  live_stopped Off c base l h = h
+  live_stopped Worn c base l h = h
 
-  pub device_stopped : (how : Stop) (f : N) → device_by (power_after_stop how f) ≡ f
-  device_stopped Off f = refl
-  device_stopped Worn f = refl
+  pub answer_stopped : (how : Stop) (p q : Player N) (t : StopAt) → t.kind ≡ how → (how ≡ Off → cut_place p.armed ≡ t.at) → answer_value state q (answer_after_stop how p.armed) ≡ result_of_stop t t.kind
+  answer_stopped Off p q t is place = ap play.OffAt (place refl) ∙ ap (λ (y : Stop). result_of_stop t y) (sym is)
+  answer_stopped Worn p q t is place = ap (λ (y : Stop). result_of_stop t y) (sym is)
 
-  pub answer_stopped : (how : Stop) (p : Player N) (t : StopAt) → t.kind ≡ how → (how ≡ Off → cut_place p.armed ≡ t.at) → answer_value (answer_after_stop how p.armed) ≡ result_of_stop t t.kind
-  answer_stopped Off p t is place = ap play.OffAt (place refl) ∙ ap (λ (y : Stop). result_of_stop t y) (sym is)
-  answer_stopped Worn p t is place = ap (λ (y : Stop). result_of_stop t y) (sym is)
-
-  pub stop_done : (p : Player N) (s : State) (n : ℕ) (u e f : N) (k : ℕ) (how : Stop) → IsAt state bench p s → IsImage (state (device_of p)).words
-      → Handed (state (device_of p)) (bench (device_of p)) 1 p.armed (state u) (bench u) → StoppedAt wrote u (power_writes (state u).words) k how e → Freed (state e) (bench e) (state f) (bench f)
-      → (x : Option WornAt) × Silent state bench p s (n, line.Power) x (Some (answer_after_stop how p.armed)) (record p { power = power_after_stop how f; armed = armed.Not })
-  stop_done p s n u e f k how at image handed stop freed =
+  pub stop_done : (p : Player N) (s : State) (n : ℕ) (u e : N) (c : Card N) (k : ℕ) (how : Stop) → IsAt state bench p s → IsImage (state (device_of p)).words
+      → Handed (state (device_of p)) (bench (device_of p)) 1 p.armed (state u) (bench u) → StoppedAt wrote u (power_writes (state u).words) k how e → Freed (state e) (bench e) (state (device_in c)) (bench (device_in c))
+      → (x : Option WornAt) × Silent state bench p s (n, line.Power) x (Some (answer_after_stop how p.armed)) (record p { card = c; power = power_after_stop how; armed = armed.Not })
+  stop_done p s n u e c k how at image handed stop freed =
       let w = warm_of s in
       let d = device_of p in
       let m = (state d).words in
-      let q : Player N = record p { power = power_after_stop how f; armed = armed.Not } in
+      let f = device_in c in
+      let q : Player N = record p { card = c; power = power_after_stop how; armed = armed.Not } in
       let stop_on : StoppedAt wrote u (power_writes m) k how e = subst (λ (y : List (List ℕ)). StoppedAt wrote u (power_writes y) k how e) handed.words stop in
       let found_stop = hit state bench wrote obeys burns fits d u e f p.armed 1 (power_writes m) k how at.can_arm at.unfused handed stop_on freed in
       let x : List ℕ = found_stop.0 in
@@ -270,18 +268,16 @@ module _ {N : Type 0} (state : N → DeviceState) (bench : N → BenchState) (wr
       let count : length (power_writes m) ≡ power_count m = count_writes m image.low image.high in
       let halted : IsHalted m k x (torn m (power_writes m) k x) = power_halted m image.low image.high k x did.low (let h = did.high in omega (arith, h, count)) in
       let torn_base : IsBase v.base v.owed v.by (torn m (power_writes m) k x) = halted_base m w t (torn m (power_writes m) k x) base did.low halted in
-      let is : IsBase v.base v.owed v.by (state (device_of q)).words =
-      subst (λ (y : N). IsBase v.base v.owed v.by (state y).words) (sym (device_stopped how f)) (subst (λ (y : List (List ℕ)). IsBase v.base v.owed v.by y) (sym did.words) torn_base) in
+      let is : IsBase v.base v.owed v.by (state f).words = subst (λ (y : List (List ℕ)). IsBase v.base v.owed v.by y) (sym did.words) torn_base in
       let at_end : IsAt state bench q (Hot v) = record {
-        stands = (live_stopped how f v.base v.live then.live, is);
+        stands = (live_stopped how c v.base v.live then.live, is);
         budget = at.budget ∙ sym (warm_budget s) ∙ sym then.budget;
         armed = sym then.armed;
         some = at.some;
         most = at.most;
         can_arm = tt;
-        unfused = subst (λ (y : N). IsUnfused (bench y)) (sym (device_stopped how f)) did.unfused;
+        unfused = did.unfused;
       } in
-      let did_to : Hit state bench wrote obeys burns fits d (device_of q) p.armed 1 (power_writes m) k how x = subst (λ (y : N). Hit state bench wrote obeys burns fits d y p.armed 1 (power_writes m) k how x) (sym (device_stopped how f)) did in
-      let stepped = hit_stepped state bench wrote obeys burns fits p q s n 1 line.Power (power_says w (Some t)) [] [] [] [] v (answer_after_stop how p.armed) (power_writes m) (power_moves w) k how x at (worth s) then.armed did_to
-      (omega (arith, many)) (moves_power s n) at_end (answer_stopped how p t refl did.place) (power_stands m s n image base) in
+      let stepped = hit_stepped state bench wrote obeys burns fits p q s n 1 line.Power (power_says w (Some t)) [] [] [] [] v (answer_after_stop how p.armed) (power_writes m) (power_moves w) k how x at (worth s) then.armed did
+      (omega (arith, many)) (moves_power s n) at_end (answer_stopped how p q t refl did.place) (power_stands m s n image base) in
       (worn_entry k x (Some how), silently p q s n (worn_entry k x (Some how)) (Some t) (Some (answer_after_stop how p.armed)) by.hit stepped refl)

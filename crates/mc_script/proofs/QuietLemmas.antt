@@ -1,7 +1,6 @@
 -- Lines that make no device write.
 use Rattle.std.proofs.Common.{◌≡◌, ℕ, ◌≤◌, false, List, [], Option, Some, None, refl, sym, ◌∙◌, ap, subst, arith, append-nil}
 use Rattle.std.specs.Prelude.{option_map, length}
-use Rattle.mc_model.specs.Bytes.{lookup}
 use Rattle.mc_model.specs.Device.{DeviceState, BenchState, Entry, GrowsBy}
 use Rattle.mc_model.specs.DeckGrammar.{DeckLine}
 use Rattle.mc_model.specs.DeckGrammar as line
@@ -10,7 +9,7 @@ use Rattle.mc_model.specs.Play as play
 use Rattle.mc_model.specs.Play.{WornAt, Unarmed, ArmedCut, ArmedFail, Live, Running, Unpowered, Muted, Base, LineResult, NoCard, Silenced, Warm, State, Cold, Hot, Step, step, quiet, card_line, dumped, static_of, is_card_line, armed_in, moves_of, steady_at, words_left}
 use Rattle.mc_model.specs.TraceText.{shown_turns}
 use Rattle.mc_card.specs.declared.card.Card.{Card}
-use Rattle.mc_card.specs.Parts.{card_in, seat_in}
+use Rattle.mc_card.specs.Parts.{seat_in}
 use Rattle.mc_script.specs.declared.answer.Answer.{Answer}
 use Rattle.mc_script.specs.declared.answer.Answer.TheVariants as answer
 use Rattle.mc_script.specs.declared.armed.Armed.{Armed}
@@ -19,11 +18,12 @@ use Rattle.mc_script.specs.declared.commands.Command.{Command}
 use Rattle.mc_script.specs.declared.player.Power.{Power}
 use Rattle.mc_script.specs.declared.player.Power.TheVariants as power
 use Rattle.mc_script.specs.declared.player.Player.{Player}
-use Rattle.mc_script.specs.Players.{answer_value, armed_value, device_of, CanArm, IsAt}
+use Rattle.mc_script.specs.Players.{answer_value, armed_value, dump_value, device_of, CanArm, LiveIs, IsAt}
 use Rattle.mc_script.specs.Counting.{raised, line_powers, line_pokes, line_cuts, line_fails, Arms, LineCounts}
 use Rattle.mc_script.specs.Arming.{armed_bench}
 use Rattle.mc_script.specs.Commands.{command_line}
-use Rattle.mc_script.specs.Lines.{StepTape, Stepped, Silent, SilentDone}
+use Rattle.mc_script.specs.Plays.{StepTape}
+use Rattle.mc_script.specs.Lines.{Stepped, Silent, SilentDone}
 use Rattle.mc_script.proofs.FuseLemmas.{past_none}
 use Rattle.mc_script.proofs.HitLemmas.{NotHit, not_hit}
 use Rattle.mc_script.proofs.CommandStepLemmas.{hot_is, cold_is, no_powers, no_pokes, no_cuts, no_fails, moves_hot, moves_cold}
@@ -65,20 +65,22 @@ module _ {N : Type 0} (state : N → DeviceState) (bench : N → BenchState) whe
 
   -- a line that leaves its device as it is
   pub quietly : (p q : Player N) (s : State) (n : ℕ) (l : DeckLine) (result : Option LineResult) (after : State) (r : Option Answer) → device_of q ≡ device_of p → IsAt state bench q after
-      → option_map answer_value r ≡ result → line_powers l ≡ 0 → line_pokes s l ≡ 0 → Arms (bench (device_of p)) (armed_in s) (line_cuts l) (line_fails l) (bench (device_of p)) (armed_in after)
+      → option_map (answer_value state q) r ≡ result → line_powers l ≡ 0 → line_pokes s l ≡ 0 → Arms (bench (device_of p)) (armed_in s) (line_cuts l) (line_fails l) (bench (device_of p)) (armed_in after)
       → None ≡ steady_at (armed_in s) l (moves_of s (n, l)) → (state (device_of p)).words ≡ words_left (state (device_of p)).words [] after
       → Stepped state bench p s (n, l) None (quiet n l s result after) r q
   quietly p q s n l result after r same at answers powers pokes arms steady words =
       let t = quiet n l s result after in
       let d = device_of p in
       record {
-        may = tt;
         at = at;
         answers = answers;
-        counts = subst (λ (e : N). LineCounts (bench d) (state d) t (bench e) (state e)) (sym same) (counts_same (bench d) (state d) s n l result after powers pokes arms);
-        steady = λ h. steady;
-        tape = subst (λ (e : N). StepTape s (n, l) None t (state d) (state e)) (sym same)
-            (record { entries = []; grows = grows_none (state d).tape; accounts = record { count = refl; each = tt; ends = refl }; worn = refl; left = sym words });
+        played = record {
+          may = tt;
+          counts = subst (λ (e : N). LineCounts (bench d) (state d) t (bench e) (state e)) (sym same) (counts_same (bench d) (state d) s n l result after powers pokes arms);
+          steady = λ h. steady;
+          tape = subst (λ (e : N). StepTape s (n, l) None t (state d) (state e)) (sym same)
+              (record { entries = []; grows = grows_none (state d).tape; accounts = record { count = refl; each = tt; ends = refl }; worn = refl; left = sym words });
+        };
       }
 
   -- ---- lines of a play's own state
@@ -156,7 +158,7 @@ module _ {N : Type 0} (state : N → DeviceState) (bench : N → BenchState) whe
   -- ---- lines from the first power line on, which leave their player as it is
 
   -- a line that is quiet in a play that has begun
-  pub still : (p : Player N) (w : Warm) (n : ℕ) (l : DeckLine) (result : Option LineResult) (r : Option Answer) → IsAt state bench p (Hot w) → option_map answer_value r ≡ result → line_powers l ≡ 0
+  pub still : (p : Player N) (w : Warm) (n : ℕ) (l : DeckLine) (result : Option LineResult) (r : Option Answer) → IsAt state bench p (Hot w) → option_map (answer_value state p) r ≡ result → line_powers l ≡ 0
       → line_pokes (Hot w) l ≡ 0 → line_cuts l ≡ 0 → line_fails l ≡ 0 → is_card_line l ≡ false → Stepped state bench p (Hot w) (n, l) None (quiet n l (Hot w) result (Hot w)) r p
   still p w n l result r at answers powers pokes cuts fails card =
       let b = bench (device_of p) in
@@ -166,37 +168,27 @@ module _ {N : Type 0} (state : N → DeviceState) (bench : N → BenchState) whe
 
   -- ---- dumps
 
-  pub dump_cold : (d : N) (k : ℕ) (a : Armed) (aid : List ℕ) → let p : Player N = record { power = power.Cold d; budget = k; armed = a } in SilentDone state bench p (line.Dump aid) (Some answer.NoCard) p
+  -- what a player tells of a name is what the play does, from the first power line on
+  dump_live : (pw : Power) (c : Card N) (w : Warm) (aid : List ℕ) → LiveIs state pw c w.base w.live → dump_value state pw c aid ≡ dumped w.live w.base aid
+  dump_live power.Cold c w aid h = absurd h
+  dump_live power.Off c w aid h = ap (λ (v : Live). dumped v w.base aid) (sym h)
+  dump_live power.Mute c w aid h = ap (λ (v : Live). dumped v w.base aid) (sym h)
+  dump_live power.On c w aid h = ap (λ (b : Base). dumped (Running (seat_in state c)) b aid) (sym h.base) ∙ ap (λ (v : Live). dumped v w.base aid) (sym h.live)
+
+  pub dump_done : (p : Player N) (aid : List ℕ) → SilentDone state bench p (line.Dump aid) (Some (answer.Dump aid)) p
   unfolding step
-  dump_cold d k a aid (Cold m b r) n at =
-      let p : Player N = record { power = power.Cold d; budget = k; armed = a } in
-      (None, record { stepped = quietly p p (Cold m b r) n (line.Dump aid) (Some NoCard) (Cold m b r) (Some answer.NoCard) refl at refl refl refl (arms_same (bench d) r) (steady_none r (line.Dump aid) (moves_of (Cold m b r) (n, line.Dump aid)) refl) at.stands.1; silent = refl })
-  dump_cold d k a aid (Hot w) n at = absurd at.stands.0
-
-  -- a dump from the first power line on
-  dump_hot : (p : Player N) (w : Warm) (n : ℕ) (aid : List ℕ) (r : Answer) → IsAt state bench p (Hot w) → answer_value r ≡ dumped w.live w.base aid → Silent state bench p (Hot w) (n, line.Dump aid) None (Some r) p
-  unfolding step
-  dump_hot p w n aid r at is = record { stepped = still p w n (line.Dump aid) (Some (dumped w.live w.base aid)) (Some r) at (ap (λ (x : LineResult). Some x) is) refl refl refl refl refl; silent = refl }
-
-  pub dump_off : (d : N) (k : ℕ) (a : Armed) (aid : List ℕ) → let p : Player N = record { power = power.Off d; budget = k; armed = a } in SilentDone state bench p (line.Dump aid) (Some answer.NoCard) p
-  dump_off d k a aid (Cold m b r) n at = absurd at.stands.0
-  dump_off d k a aid (Hot w) n at =
-      let p : Player N = record { power = power.Off d; budget = k; armed = a } in
-      (None, dump_hot p w n aid answer.NoCard at (ap (λ (v : Live). dumped v w.base aid) (sym at.stands.0)))
-
-  pub dump_mute : (d : N) (k : ℕ) (a : Armed) (aid : List ℕ) → let p : Player N = record { power = power.Mute d; budget = k; armed = a } in SilentDone state bench p (line.Dump aid) (Some answer.Mute) p
-  dump_mute d k a aid (Cold m b r) n at = absurd at.stands.0
-  dump_mute d k a aid (Hot w) n at =
-      let p : Player N = record { power = power.Mute d; budget = k; armed = a } in
-      (None, dump_hot p w n aid answer.Mute at (ap (λ (v : Live). dumped v w.base aid) (sym at.stands.0)))
-
-  pub dump_on : (c : Card N) (k : ℕ) (a : Armed) (aid : List ℕ) (r : Answer) → answer_value r ≡ static_of (lookup (card_in state c).apps aid)
-      → let p : Player N = record { power = power.On c; budget = k; armed = a } in SilentDone state bench p (line.Dump aid) (Some r) p
-  dump_on c k a aid r is (Cold m b v) n at = absurd at.stands.0
-  dump_on c k a aid r is (Hot w) n at =
-      let p : Player N = record { power = power.On c; budget = k; armed = a } in
-      let on = at.stands.0 in
-      (None, dump_hot p w n aid r at (is ∙ ap (λ (b : Base). dumped (Running (seat_in state c)) b aid) (sym on.base) ∙ ap (λ (v : Live). dumped v w.base aid) (sym on.live)))
+  dump_done p aid (Cold m b r) n at =
+      let is : dump_value state p.power p.card aid ≡ NoCard = ap (λ (x : Power). dump_value state x p.card aid) at.stands.0 in (
+        None,
+        record {
+          stepped = quietly p p (Cold m b r) n (line.Dump aid) (Some NoCard) (Cold m b r) (Some (answer.Dump aid)) refl at (ap (λ (x : LineResult). Some x) is) refl refl (arms_same (bench (device_of p)) r)
+              (steady_none r (line.Dump aid) (moves_of (Cold m b r) (n, line.Dump aid)) refl) at.stands.1;
+          silent = refl;
+        },
+      )
+  dump_done p aid (Hot w) n at =
+      let is : dump_value state p.power p.card aid ≡ dumped w.live w.base aid = dump_live p.power p.card w aid at.stands.0 in
+      (None, record { stepped = still p w n (line.Dump aid) (Some (dumped w.live w.base aid)) (Some (answer.Dump aid)) at (ap (λ (x : LineResult). Some x) is) refl refl refl refl refl; silent = refl })
 
   -- what a dump answers, whatever worn stop is given
   same_dump : (s : State) (n : ℕ) (aid : List ℕ) (w : Option WornAt) → (step s (n, line.Dump aid) None).result ≡ (step s (n, line.Dump aid) w).result
@@ -204,16 +196,8 @@ module _ {N : Type 0} (state : N → DeviceState) (bench : N → BenchState) whe
   same_dump (Cold m b r) n aid w = refl
   same_dump (Hot v) n aid w = refl
 
-  pub dump_answer : (p : Player N) (aid : List ℕ) (r : Answer) → SilentDone state bench p (line.Dump aid) (Some r) p
-      → (s : State) (n : ℕ) → IsAt state bench p s → (step s (n, line.Dump aid) None).result ≡ Some (answer_value r)
-  dump_answer p aid r done s n at = let h = done s n at in same_dump s n aid h.0 ∙ sym (h.1).stepped.answers
-
-  -- a line of a player with this power is one of the player
-  pub by_power : (p : Player N) (pw : Power N) (l : DeckLine) (r : Option Answer) → p.power ≡ pw
-      → (let q : Player N = record { power = pw; budget = p.budget; armed = p.armed } in SilentDone state bench q l r q) → SilentDone state bench p l r p
-  by_power p pw l r is h =
-      let same : ◌≡◌ {A = Player N} (record p { power = pw }) p = ap (λ (x : Power N). record p { power = x }) (sym is) in
-      subst (λ (q : Player N). SilentDone state bench q l r q) same h
+  pub dump_answer : (p : Player N) (aid : List ℕ) (s : State) (n : ℕ) → IsAt state bench p s → (step s (n, line.Dump aid) None).result ≡ Some (answer_value state p (answer.Dump aid))
+  dump_answer p aid s n at = let h = dump_done p aid s n at in same_dump s n aid h.0 ∙ sym (h.1).stepped.answers
 
   -- ---- lines of commands without a card
 
@@ -231,23 +215,22 @@ module _ {N : Type 0} (state : N → DeviceState) (bench : N → BenchState) whe
   quiet_silent p q s n l result after r is stepped =
       record { stepped = subst (λ (t : Step). Stepped state bench p s (n, l) None t r q) (sym is) stepped; silent = subst (λ (t : Step). shown_turns t.turns t.stop ≡ []) (sym is) refl }
 
-  pub none_cold : (d : N) (k : ℕ) (a : Armed) (c : Command)
-      → SilentDone state bench (record { power = power.Cold d; budget = k; armed = a }) (command_line c) (Some answer.NoCard) (record { power = power.Cold d; budget = k; armed = armed.Not })
-  none_cold d k a c (Hot w) n at = absurd at.stands.0
-  none_cold d k a c (Cold m b r) n at =
-      let p : Player N = record { power = power.Cold d; budget = k; armed = a } in
-      let q : Player N = record { power = power.Cold d; budget = k; armed = armed.Not } in
+  pub none_cold : (p : Player N) (c : Command) → p.power ≡ power.Cold → SilentDone state bench p (command_line c) (Some answer.NoCard) (record p { armed = armed.Not })
+  none_cold p c cold (Hot w) n at = absurd (subst (λ (x : Power). LiveIs state x p.card w.base w.live) cold at.stands.0)
+  none_cold p c cold (Cold m b r) n at =
+      let q : Player N = record p { armed = armed.Not } in
+      let d = device_of p in
       let l = command_line c in
       let then : IsAt state bench q (Cold m b Unarmed) = record { stands = at.stands; budget = at.budget; armed = refl; some = at.some; most = at.most; can_arm = tt; unfused = at.unfused } in (
         None,
         quiet_silent p q (Cold m b r) n l (Some NoCard) (Cold m b Unarmed) (Some answer.NoCard) (cold_is c m b r n None)
             (quietly p q (Cold m b r) n l (Some NoCard) (Cold m b Unarmed) (Some answer.NoCard) refl then refl (no_powers c) (no_pokes c (Cold m b r)) (no_arms c (bench d) r)
-            (no_steady a (bench d) r l (moves_of (Cold m b r) (n, l)) at.can_arm at.armed (moves_cold c m b r n)) at.stands.1),
+            (no_steady p.armed (bench d) r l (moves_of (Cold m b r) (n, l)) at.can_arm at.armed (moves_cold c m b r n)) at.stands.1),
       )
 
   -- a line of commands in a play that has begun, where no card runs
   none_hot : (p q : Player N) (w : Warm) (n : ℕ) (c : Command) (v : Live) (result : LineResult) (r : Answer) → device_of q ≡ device_of p → IsAt state bench p (Hot w) → IsAt state bench q (Hot (record w { armed = Unarmed }))
-      → w.live ≡ v → card_line n (command_line c) w v w.base None ≡ quiet n (command_line c) (Hot w) (Some result) (Hot (record w { armed = Unarmed })) → answer_value r ≡ result
+      → w.live ≡ v → card_line n (command_line c) w v w.base None ≡ quiet n (command_line c) (Hot w) (Some result) (Hot (record w { armed = Unarmed })) → answer_value state q r ≡ result
       → Silent state bench p (Hot w) (n, command_line c) None (Some r) q
   none_hot p q w n c v result r same at then live quiet_is answers =
       let l = command_line c in
@@ -257,20 +240,18 @@ module _ {N : Type 0} (state : N → DeviceState) (bench : N → BenchState) whe
       (quietly p q (Hot w) n l (Some result) (Hot (record w { armed = Unarmed })) (Some r) same then (ap (λ (x : LineResult). Some x) answers) (no_powers c) (no_pokes c (Hot w)) (no_arms c (bench (device_of p)) w.armed)
       (no_steady p.armed (bench (device_of p)) w.armed l (moves_of (Hot w) (n, l)) at.can_arm at.armed none) refl)
 
-  pub none_off : (d : N) (k : ℕ) (a : Armed) (c : Command)
-      → SilentDone state bench (record { power = power.Off d; budget = k; armed = a }) (command_line c) (Some answer.NoCard) (record { power = power.Off d; budget = k; armed = armed.Not })
-  none_off d k a c (Cold m b r) n at = absurd at.stands.0
-  none_off d k a c (Hot w) n at =
-      let p : Player N = record { power = power.Off d; budget = k; armed = a } in
-      let q : Player N = record { power = power.Off d; budget = k; armed = armed.Not } in
+  pub none_off : (p : Player N) (c : Command) → p.power ≡ power.Off → SilentDone state bench p (command_line c) (Some answer.NoCard) (record p { armed = armed.Not })
+  none_off p c off (Cold m b r) n at = absurd (cc (sym at.stands.0 ∙ off))
+  none_off p c off (Hot w) n at =
+      let q : Player N = record p { armed = armed.Not } in
+      let live : w.live ≡ Unpowered = subst (λ (x : Power). LiveIs state x p.card w.base w.live) off at.stands.0 in
       let then : IsAt state bench q (Hot (record w { armed = Unarmed })) = record { stands = at.stands; budget = at.budget; armed = refl; some = at.some; most = at.most; can_arm = tt; unfused = at.unfused } in
-      (None, none_hot p q w n c Unpowered NoCard answer.NoCard refl at then at.stands.0 refl refl)
+      (None, none_hot p q w n c Unpowered NoCard answer.NoCard refl at then live refl refl)
 
-  pub none_mute : (d : N) (k : ℕ) (a : Armed) (c : Command)
-      → SilentDone state bench (record { power = power.Mute d; budget = k; armed = a }) (command_line c) (Some answer.Mute) (record { power = power.Mute d; budget = k; armed = armed.Not })
-  none_mute d k a c (Cold m b r) n at = absurd at.stands.0
-  none_mute d k a c (Hot w) n at =
-      let p : Player N = record { power = power.Mute d; budget = k; armed = a } in
-      let q : Player N = record { power = power.Mute d; budget = k; armed = armed.Not } in
+  pub none_mute : (p : Player N) (c : Command) → p.power ≡ power.Mute → SilentDone state bench p (command_line c) (Some answer.Mute) (record p { armed = armed.Not })
+  none_mute p c mute (Cold m b r) n at = absurd (cc (sym at.stands.0 ∙ mute))
+  none_mute p c mute (Hot w) n at =
+      let q : Player N = record p { armed = armed.Not } in
+      let live : w.live ≡ Muted = subst (λ (x : Power). LiveIs state x p.card w.base w.live) mute at.stands.0 in
       let then : IsAt state bench q (Hot (record w { armed = Unarmed })) = record { stands = at.stands; budget = at.budget; armed = refl; some = at.some; most = at.most; can_arm = tt; unfused = at.unfused } in
-      (None, none_hot p q w n c Muted Silenced answer.Mute refl at then at.stands.0 refl refl)
+      (None, none_hot p q w n c Muted Silenced answer.Mute refl at then live refl refl)

@@ -9,16 +9,16 @@ use Rattle.mc_model.specs.DeckGrammar.{DeckLine}
 use Rattle.mc_model.specs.DeckGrammar as line
 use Rattle.mc_model.specs.Play.{Live, Running, Unpowered, Muted, Base, OnCard, AtFault, Warm, State, Cold, Hot, WornAt, LineResult, Step, plays, step, card_line, first_worn, last_state}
 use Rattle.mc_model.specs.Transcript.{shown}
-use Rattle.mc_model.specs.Generator.{is_dump, results, count, dump_lines, count_line, summary}
+use Rattle.mc_model.specs.Generator.{is_dump, results, count, dump_lines, count_line, summary, is_reply, is_abend, is_cut, is_off, is_ready}
 use Rattle.mc_script.specs.declared.answer.Answer.{Answer}
 use Rattle.mc_script.specs.declared.player.Player.{Player}
 use Rattle.mc_script.specs.declared.summary.Counts.{Counts}
 use Rattle.mc_script.specs.Players.{answer_value, IsAt}
-use Rattle.mc_script.specs.Lines.{LineDone}
+use Rattle.mc_script.specs.Lines.{bench_of, LineDone}
 use Rattle.mc_script.specs.Plays.{Bench, Played}
 use Rattle.mc_script.specs.Sums.{Counted, listed, DumpsLast, result_line, dump_text, dumps_text, Tallied}
 use Rattle.mc_script.proofs.PlayLemmas.{plays_on, plays_none, played_on, played_none}
-use Rattle.mc_script.proofs.LineLemmas.{player_stands, bench_of, line_did}
+use Rattle.mc_script.proofs.LineLemmas.{player_stands}
 
 -- ---- counts
 
@@ -34,6 +34,19 @@ count_by test (q ∷ rs) r = more (test q) (count_by test rs r)
     more : (b : Bool) → count test (rs ++ r ∷ []) ≡ count test rs + cond (test r) 1 0 → length (cond b (q ∷ filter test (rs ++ r ∷ [])) (filter test (rs ++ r ∷ []))) ≡ length (cond b (q ∷ filter test rs) (filter test rs)) + cond (test r) 1 0
     more true h = omega (arith, h)
     more false h = h
+
+-- the counts of one more result
+pub counted_on : (c d : Counts) (rs : List LineResult) (r : LineResult) → Counted c rs → d.lines ≡ c.lines + 1 → d.replies ≡ c.replies + cond (is_reply r) 1 0 → d.abends ≡ c.abends + cond (is_abend r) 1 0
+    → d.cuts ≡ c.cuts + cond (is_cut r) 1 0 → d.offs ≡ c.offs + cond (is_off r) 1 0 → d.readies ≡ c.readies + cond (is_ready r) 1 0 → Counted d (rs ++ r ∷ [])
+counted_on c d rs r are lines replies abends cuts offs readies =
+    record {
+      lines = lines ∙ ap (λ (k : ℕ). k + 1) are.lines ∙ sym (length-append rs (r ∷ []));
+      replies = replies ∙ ap (λ (k : ℕ). k + cond (is_reply r) 1 0) are.replies ∙ sym (count_by is_reply rs r);
+      abends = abends ∙ ap (λ (k : ℕ). k + cond (is_abend r) 1 0) are.abends ∙ sym (count_by is_abend rs r);
+      cuts = cuts ∙ ap (λ (k : ℕ). k + cond (is_cut r) 1 0) are.cuts ∙ sym (count_by is_cut rs r);
+      offs = offs ∙ ap (λ (k : ℕ). k + cond (is_off r) 1 0) are.offs ∙ sym (count_by is_off rs r);
+      readies = readies ∙ ap (λ (k : ℕ). k + cond (is_ready r) 1 0) are.readies ∙ sym (count_by is_ready rs r);
+    }
 
 -- no more results pass a test than there are
 pub count_most : (test : LineResult → Bool) (rs : List LineResult) → count test rs ≤ length rs
@@ -211,7 +224,7 @@ module _ {N : Type 0} (state : N → DeviceState) (bench : N → BenchState) whe
 
   pub counting_end : (s : State) (ls : List (ℕ × DeckLine)) (a : Bench) (p : Player N) (c : Counts) (i : ℕ) → Counting s ls a [] p c i → Tallied state bench s ls a p c
   counting_end s ls a p c i h =
-      let all = h.rest [] (bench_of state bench p) (played_none h.here (bench_of state bench p) (player_stands state bench p h.here h.at)) in
+      let all = h.rest [] (bench_of state bench p) (played_none h.here (bench_of state bench p) (player_stands state bench p h.here h.at) h.at.unfused) in
       let none = plays_none h.here in
       let are : results (plays s ls all.0) ≡ h.done = all.2 ∙ ap (λ (ts : List Step). h.done ++ results ts) none ∙ append-nil h.done in
       let end : last_state s (plays s ls all.0) ≡ h.here = all.3 ∙ ap (λ (ts : List Step). last_state h.here ts) none in
@@ -222,20 +235,20 @@ module _ {N : Type 0} (state : N → DeviceState) (bench : N → BenchState) whe
   few_on (Some r) rs i h = let e : length (rs ++ r ∷ []) ≡ length rs + 1 = length-append rs (r ∷ []) in omega (arith, h, e)
 
   pub counting_on : {R : Type 0} (told : R → List Turn → R → Type 0) (s : State) (ls : List (ℕ × DeckLine)) (a : Bench) (left : List (ℕ × DeckLine)) (n : ℕ) (l : DeckLine) (p q : Player N) (c d : Counts) (i : ℕ) (before after : R) (answer : Option Answer)
-      → (h : Counting s ls a ((n, l) ∷ left) p c i) → LineDone state bench told p l before after answer q → Counted d (h.done ++ listed (option_map answer_value answer)) → Counting s ls a left q d (i + 1)
+      → (h : Counting s ls a ((n, l) ∷ left) p c i) → LineDone state bench told p l before after answer q → Counted d (h.done ++ listed (option_map (answer_value state q) answer)) → Counting s ls a left q d (i + 1)
   counting_on told s ls a left n l p q c d i before after answer h done counted =
       let line = done h.here n h.at in
       let w = line.0 in
       let t = step h.here (n, l) w in
-      let did = line_did state bench told p q h.here (n, l) w before after answer line.1 in
+      let end = line.1.stepped in
       record {
         here = t.after;
-        at = line.1.at;
+        at = end.at;
         done = h.done ++ listed t.result;
-        counted = subst (λ (o : Option LineResult). Counted d (h.done ++ listed o)) line.1.answers counted;
+        counted = subst (λ (o : Option LineResult). Counted d (h.done ++ listed o)) end.answers counted;
         few = few_on t.result h.done i h.few;
         rest = λ ws b played.
-            let all = h.rest (w ∷ ws) b (played_on h.here (n, l) w left ws (bench_of state bench p) (bench_of state bench q) b did played) in
+            let all = h.rest (w ∷ ws) b (played_on h.here (n, l) w left ws (bench_of state bench p) (bench_of state bench q) b end.played played) in
             let one = plays_on h.here (n, l) w left ws in (
               all.0,
               all.1,

@@ -155,23 +155,25 @@ module _ {N : Type 0} (state : N → DeviceState) (bench : N → BenchState) (wr
   -- the line that made them, with the step that its play takes
   pub went_stepped : (p q : Player N) (s : State) (n np : ℕ) (l : DeckLine) (result : LineResult) (items whole : List Item) (pairs : List (List ℕ × List ℕ)) (turns : List Turn) (w : Warm) (r : Answer)
       (ws : List (ℕ × List ℕ)) (m : ℕ) → IsAt state bench p s → Worth s l np → w.armed ≡ Unarmed → Went (device_of p) (device_of q) p.armed np ws → length ws ≡ m → moves_of s (n, l) ≡ m → IsAt state bench q (Hot w)
-      → answer_value r ≡ result → StopsStand (state (device_of p)).words s (n, l) 0 ws
+      → answer_value state q r ≡ result → StopsStand (state (device_of p)).words s (n, l) 0 ws
       → Stepped state bench p s (n, l) None (stopped_step n l s result items whole None m pairs turns w) (Some r) q
   went_stepped p q s n np l result items whole pairs turns w r ws m at worth free did number moves then answers stands =
       let d = device_of p in
       let f = device_of q in
       record {
-        may = tt;
         at = then;
         answers = ap (λ (x : LineResult). Some x) answers;
-        counts = line_counts n l s result items whole None m pairs turns w np p.armed (bench d) (bench f) (state d) (state f) worth at.armed free did.calls did.cuts did.faults;
-        steady = λ h. subst (λ (i : ℕ). None ≡ play.steady_at (armed_in s) l i) (number ∙ sym moves) (subst (λ (x : play.Armed). None ≡ play.steady_at x l (length ws)) at.armed (did.missed.steady l));
-        tape = record {
-          entries = done_entries ws;
-          grows = did.tape;
-          accounts = record { count = length-done ws ∙ number; each = each_done (state d).words s (n, l) 0 ws stands did.sizes; ends = ends-done ws };
-          worn = worn-done 0 ws;
-          left = laid-done (state d).words ws ∙ sym did.words;
+        played = record {
+          may = tt;
+          counts = line_counts n l s result items whole None m pairs turns w np p.armed (bench d) (bench f) (state d) (state f) worth at.armed free did.calls did.cuts did.faults;
+          steady = λ h. subst (λ (i : ℕ). None ≡ play.steady_at (armed_in s) l i) (number ∙ sym moves) (subst (λ (x : play.Armed). None ≡ play.steady_at x l (length ws)) at.armed (did.missed.steady l));
+          tape = record {
+            entries = done_entries ws;
+            grows = did.tape;
+            accounts = record { count = length-done ws ∙ number; each = each_done (state d).words s (n, l) 0 ws stands did.sizes; ends = ends-done ws };
+            worn = worn-done 0 ws;
+            left = laid-done (state d).words ws ∙ sym did.words;
+          };
         };
       }
 
@@ -236,7 +238,7 @@ module _ {N : Type 0} (state : N → DeviceState) (bench : N → BenchState) (wr
   -- the line that a stop hit, with the step that its play takes
   pub hit_stepped : (p q : Player N) (s : State) (n np : ℕ) (l : DeckLine) (result : LineResult) (items whole : List Item) (pairs : List (List ℕ × List ℕ)) (turns : List Turn) (w : Warm) (r : Answer)
       (ws : List (ℕ × List ℕ)) (m k : ℕ) (how : Stop) (x : List ℕ) → IsAt state bench p s → Worth s l np → w.armed ≡ Unarmed → Hit (device_of p) (device_of q) p.armed np ws k how x → length ws ≤ m → moves_of s (n, l) ≡ m
-      → IsAt state bench q (Hot w) → answer_value r ≡ result → StopsStand (state (device_of p)).words s (n, l) 0 ws
+      → IsAt state bench q (Hot w) → answer_value state q r ≡ result → StopsStand (state (device_of p)).words s (n, l) 0 ws
       → Stepped state bench p s (n, l) (worn_entry k x (Some how)) (stopped_step n l s result items whole (Some (record { kind = how; at = k; left = x })) k pairs turns w) (Some r) q
   hit_stepped p q s n np l result items whole pairs turns w r ws m k how x at worth free did number moves then answers stands =
       let d = device_of p in
@@ -247,16 +249,18 @@ module _ {N : Type 0} (state : N → DeviceState) (bench : N → BenchState) (wr
       let rose = raised_cut how (state d) (state f) k x did.raises in
       let entries : HitEntries (state d) s (n, l) ws k how x = hit_entries (state d) s (n, l) ws k how x did.low did.high did.size did.sizes stands in
       record {
-        may = may_hit how s n l k x worth.card did.low (subst (λ (i : ℕ). k ≤ i) (sym moves) high) by.first;
         at = then;
         answers = ap (λ (y : LineResult). Some y) answers;
-        counts = line_counts n l s result items whole (Some t) k pairs turns w np p.armed (bench d) (bench f) (state d) (state f) worth at.armed free did.calls rose.0 rose.1;
-        steady = λ h. subst (λ (i : ℕ). worn_entry k x (Some how) ≡ play.steady_at (armed_in s) l i) (sym moves) (by.steady l worth.card h);
-        tape = record {
-          entries = torn_entries ws k x how;
-          grows = did.tape;
-          accounts = record { count = entries.count; each = entries.each; ends = entries.ends };
-          worn = entries.worn;
-          left = entries.left ∙ sym did.words;
+        played = record {
+          may = may_hit how s n l k x worth.card did.low (subst (λ (i : ℕ). k ≤ i) (sym moves) high) by.first;
+          counts = line_counts n l s result items whole (Some t) k pairs turns w np p.armed (bench d) (bench f) (state d) (state f) worth at.armed free did.calls rose.0 rose.1;
+          steady = λ h. subst (λ (i : ℕ). worn_entry k x (Some how) ≡ play.steady_at (armed_in s) l i) (sym moves) (by.steady l worth.card h);
+          tape = record {
+            entries = torn_entries ws k x how;
+            grows = did.tape;
+            accounts = record { count = entries.count; each = entries.each; ends = entries.ends };
+            worn = entries.worn;
+            left = entries.left ∙ sym did.words;
+          };
         };
       }

@@ -1,5 +1,4 @@
 -- An armed stop handed to a bench.
--- This project's profile.
 use Rattle.std.specs.Prelude.{Some}
 use Rattle.mc_model.specs.declared.device.Stop.{Stop}
 use Rattle.mc_model.specs.declared.device.Stop.TheVariants.{Off, Worn}
@@ -22,9 +21,9 @@ armed_bench (armed.Cut k fill) b = record b { cut = Some (record { writes = k; f
 armed_bench (armed.Fail k) b = record b { worn = Some (record { writes = k; fill = zeros 8 }); wears = next_count b.wears }
 
 -- the power after a stop: no card runs, and after a refused write it is mute
-abbrev pub power_after_stop : {N : Type 0} → Stop → N → Power N
-power_after_stop Off d = power.Off d
-power_after_stop Worn d = power.Mute d
+abbrev pub power_after_stop : Stop → Power
+power_after_stop Off = power.Off
+power_after_stop Worn = power.Mute
 
 -- what a line answers that a stop hit
 abbrev pub answer_after_stop : Stop → Armed → Answer
@@ -32,9 +31,9 @@ answer_after_stop Off a = answer.OffAt (cut_place a)
 answer_after_stop Worn a = answer.Worn
 
 -- the power after a power line that gave no card
-abbrev pub power_after_failure : {N : Type 0} → Up → N → Power N
-power_after_failure (up.Stop s) d = power_after_stop s d
-power_after_failure (up.Unusable u) d = power.Off d
+abbrev pub power_after_failure : Up → Power
+power_after_failure (up.Stop s) = power_after_stop s
+power_after_failure (up.Unusable u) = power.Off
 
 -- what a power line answers that gave no card
 abbrev pub answer_after_failure : Up → Armed → Answer

@@ -1,5 +1,4 @@
 -- The commands of a load that are still to be sent, which are for the card manager.
--- This project's profile.
 use Rattle.std.specs.Prelude.{◌≡◌, ℕ, List, [], ◌∷◌}
 
 -- a command of class BE, which the card manager answers

@@ -1,5 +1,4 @@
 -- The commands of a line, and those of a load that are still to be sent.
--- This project's profile.
 use Rattle.mc_model.specs.DeckGrammar.{DeckLine}
 use Rattle.mc_model.specs.DeckGrammar as line
 use Rattle.mc_unit.specs.Parts.{parts_of}

@@ -11,6 +11,6 @@ pub mod Players
 pub mod Counting
 pub mod Arming
 pub mod Commands
-pub mod Lines
 pub mod Plays
+pub mod Lines
 pub mod Sums

@@ -1,5 +1,4 @@
 -- The commands of a load that are still to be sent.
--- This project's profile.
 use Rattle.std.specs.Prelude.{ℕ, List, [], ◌∷◌, ◌++◌, length, Option, Some, None}
 use Rattle.mc_model.specs.Play.{piece_commands}
 use Rattle.mc_script.specs.declared.loading.LoadCommands.TheInside.{Inside as LoadFields}

@@ -1,5 +1,4 @@
 -- The log of the turns of a play.
--- This project's profile.
 use Rattle.std.specs.Prelude.{◌≡◌, ℕ, List, Option}
 use Rattle.mc_model.specs.Chain.{Turn}
 use Rattle.mc_text.specs.Texts.{sunk_in}

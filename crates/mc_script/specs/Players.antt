@@ -1,9 +1,8 @@
 -- What a player holds between two lines, and when it stands for a state of a play.
--- This project's profile.
-use Rattle.std.specs.Prelude.{◌≡◌, ℕ, ◌≤◌, length, None}
+use Rattle.std.specs.Prelude.{◌≡◌, ℕ, ◌≤◌, List, length, Option, None, option_map}
 use Rattle.mc_model.specs.Device.{DeviceState, BenchState}
 use Rattle.mc_model.specs.Play as play
-use Rattle.mc_model.specs.Play.{LineResult, Unarmed, ArmedCut, ArmedFail, Live, Running, Unpowered, Muted, Base, OnCard, State, Cold, Hot, Formatted, Ready, Unusable, OffAt, WornStop, NoCard, Silenced, Answered, Static, Absent}
+use Rattle.mc_model.specs.Play.{LineResult, Unarmed, ArmedCut, ArmedFail, Live, Running, Unpowered, Muted, Base, OnCard, State, Cold, Hot, Formatted, Ready, Unusable, OffAt, WornStop, NoCard, Silenced, Answered, static_of}
 use Rattle.mc_model.specs.Given.{budget_in}
 use Rattle.mc_store.specs.Power.{IsBase}
 use Rattle.mc_machine.specs.Turns.{outcome_value}
@@ -16,6 +15,7 @@ use Rattle.mc_script.specs.declared.answer.Answer.TheVariants as answer
 use Rattle.mc_script.specs.declared.player.Power.{Power}
 use Rattle.mc_script.specs.declared.player.Power.TheVariants as power
 use Rattle.mc_script.specs.declared.player.Player.{Player}
+use Rattle.mc_model.specs.Bytes.{lookup}
 
 -- ---- values
 
@@ -31,29 +31,9 @@ cut_place armed.Not = 0
 cut_place (armed.Cut k fill) = k
 cut_place (armed.Fail k) = 0
 
--- a result in the play's words
-abbrev pub answer_value : Answer → LineResult
-answer_value answer.Formatted = Formatted
-answer_value (answer.Ready n) = Ready n
-answer_value (answer.Unusable u) = Unusable u.cause u.place
-answer_value (answer.OffAt k) = OffAt k
-answer_value answer.Worn = WornStop
-answer_value answer.NoCard = NoCard
-answer_value answer.Mute = Silenced
-answer_value (answer.Outcome o) = Answered (outcome_value o)
-answer_value (answer.Static bytes) = Static bytes.items
-answer_value answer.Absent = Absent
-
--- the device of a player
-abbrev pub device_by : {N : Type 0} → Power N → N
-device_by (power.Cold d) = d
-device_by (power.Off d) = d
-device_by (power.Mute d) = d
-device_by (power.On c) = device_in c
-
 -- the device below a player
 abbrev pub device_of : {N : Type 0} → Player N → N
-device_of p = device_by p.power
+device_of p = device_in p.card
 
 -- a stop can be armed: its write is counted from 1
 abbrev pub CanArm : Armed → Type 0
@@ -66,7 +46,39 @@ pub record IsUnfused (b : BenchState) : Type 0 where
   pub cut : b.cut ≡ None
   pub worn : b.worn ≡ None
 
-module _ {N : Type 0} (state : N → DeviceState) (bench : N → BenchState) where
+module _ {N : Type 0} (state : N → DeviceState) where
+  -- ---- results
+
+  -- what a `dump` line tells of a name, by the power of a card
+  abbrev pub dump_value : Power → Card N → List ℕ → LineResult
+  dump_value power.Cold c aid = NoCard
+  dump_value power.Off c aid = NoCard
+  dump_value power.Mute c aid = Silenced
+  dump_value power.On c aid = static_of (lookup (card_in state c).apps aid)
+
+  -- the static bytes of an application on a card with this power, where it runs and has the application
+  abbrev pub statics_by : Power → Card N → List ℕ → Option (List ℕ)
+  statics_by power.Cold c aid = None
+  statics_by power.Off c aid = None
+  statics_by power.Mute c aid = None
+  statics_by power.On c aid = option_map (λ a. a.fixed) (lookup (card_in state c).apps aid)
+
+  -- the same of a player
+  abbrev pub statics_in : Player N → List ℕ → Option (List ℕ)
+  statics_in p aid = statics_by p.power p.card aid
+
+  -- a result in the play's words, by the player that gave it
+  abbrev pub answer_value : Player N → Answer → LineResult
+  answer_value p answer.Formatted = Formatted
+  answer_value p (answer.Ready n) = Ready n
+  answer_value p (answer.Unusable u) = Unusable u.cause u.place
+  answer_value p (answer.OffAt k) = OffAt k
+  answer_value p answer.Worn = WornStop
+  answer_value p answer.NoCard = NoCard
+  answer_value p answer.Mute = Silenced
+  answer_value p answer.Outcome = Answered (outcome_value p.outcome)
+  answer_value p (answer.Dump aid) = dump_value p.power p.card aid
+
   -- ---- states
 
   -- a card runs as the play says
@@ -76,27 +88,21 @@ module _ {N : Type 0} (state : N → DeviceState) (bench : N → BenchState) whe
     pub live : l ≡ Running (seat_in state c)
 
   -- the power is as the play says, from the first power line on
-  abbrev pub LiveIs : Power N → Base → Live → Type 0
-  LiveIs (power.Cold d) base live = ⊥
-  LiveIs (power.Off d) base live = live ≡ Unpowered
-  LiveIs (power.Mute d) base live = live ≡ Muted
-  LiveIs (power.On c) base live = IsCard c base live
-
-  -- no power line was played
-  abbrev pub IsCold : Power N → Type 0
-  IsCold (power.Cold d) = Unit {0}
-  IsCold (power.Off d) = ⊥
-  IsCold (power.Mute d) = ⊥
-  IsCold (power.On c) = ⊥
+  abbrev pub LiveIs : Power → Card N → Base → Live → Type 0
+  LiveIs power.Cold c base live = ⊥
+  LiveIs power.Off c base live = live ≡ Unpowered
+  LiveIs power.Mute c base live = live ≡ Muted
+  LiveIs power.On c base live = IsCard c base live
 
   -- the words and the power of a player are those of a state of a play
-  abbrev pub StateIs : Power N → State → Type 0
-  StateIs p (Cold m b a) = IsCold p × ((state (device_by p)).words ≡ m)
-  StateIs p (Hot w) = LiveIs p w.base w.live × IsBase w.base w.owed w.by (state (device_by p)).words
+  abbrev pub StateIs : Power → Card N → State → Type 0
+  StateIs p c (Cold m b a) = (p ≡ power.Cold) × ((state (device_in c)).words ≡ m)
+  StateIs p c (Hot w) = LiveIs p c w.base w.live × IsBase w.base w.owed w.by (state (device_in c)).words
 
+module _ {N : Type 0} (state : N → DeviceState) (bench : N → BenchState) where
   -- A player stands for a state of a play. Between two lines its device has no fuse.
   pub record IsAt (p : Player N) (s : State) : Type 0 where
-    pub stands : StateIs p.power s
+    pub stands : StateIs state p.power p.card s
     pub budget : p.budget ≡ budget_in s
     pub armed : armed_value p.armed ≡ play.armed_in s
     pub some : 1 ≤ p.budget

@@ -1,22 +1,39 @@
 -- A deck played on a device from the words that it holds: its text, the words and counts that it leaves, and the worn stops that account for all of it.
--- This project's profile.
 use Rattle.std.specs.Prelude.{◌≡◌, ℕ, ◌<◌, true, List, [], ◌∷◌, ◌++◌, length, Option, Some, None, Result, Ok, Err}
 use Rattle.mc_model.specs.Counts.{Rose}
-use Rattle.mc_model.specs.Device.{DeviceState, BenchState, Entry}
+use Rattle.mc_model.specs.Device.{DeviceState, BenchState, Entry, GrowsBy}
 use Rattle.mc_model.specs.DeckGrammar.{DeckLine}
-use Rattle.mc_model.specs.Play.{State, WornAt, Step, armed_in, plays, start, last_state, Possible, Stands, steady_worn, tape_worn, Accounts}
+use Rattle.mc_model.specs.Play.{State, WornAt, Step, armed_in, plays, start, last_state, Possible, Stands, steady_worn, tape_worn, Accounts, MayHit, moves_of, steady_at, worn_in, words_left, AccountsForLine}
 use Rattle.mc_model.specs.Laws.{HoldsOf}
 use Rattle.mc_model.specs.Transcript.{line_text}
 use Rattle.mc_model.specs.TraceText.{turn_lines, shown_turns}
 use Rattle.mc_base.specs.Streams.{Grew}
 use Rattle.mc_base.specs.declared.refusals.WriteFault.{WriteFault}
-use Rattle.mc_script.specs.Counting.{PlayCounts}
+use Rattle.mc_script.specs.Counting.{LineCounts, PlayCounts}
+use Rattle.mc_script.specs.Players.{IsUnfused}
 use Rattle.mc_text.specs.Texts.{Sunk, Puts}
 
 -- a bench at one moment
 pub record Bench : Type 0 where
   pub device : DeviceState
   pub bench : BenchState
+
+-- ---- one line that was played
+
+-- the tape of a line with this step: its entries account for it, tell its worn stop, and leave the words, whether the device tells them or not
+pub record StepTape (s : State) (l : ℕ × DeckLine) (w : Option WornAt) (t : Step) (d e : DeviceState) : Type 0 where
+  pub entries : List Entry
+  pub grows : GrowsBy d.tape entries e.tape
+  pub accounts : AccountsForLine d.words s l t entries
+  pub worn : worn_in 0 entries ≡ w
+  pub left : words_left d.words entries t.after ≡ e.words
+
+-- A line was played on a bench as this step, with this worn stop, if it had one.
+pub record PlayedLine (s : State) (l : ℕ × DeckLine) (w : Option WornAt) (t : Step) (a b : Bench) : Type 0 where
+  pub may : MayHit s l w
+  pub counts : LineCounts a.bench a.device t b.bench b.device
+  pub steady : a.bench.steady ≡ true → w ≡ steady_at (armed_in s) l.1 (moves_of s l)
+  pub tape : StepTape s l w t a.device b.device
 
 -- ---- lines that were played
 
@@ -31,13 +48,22 @@ TapeIs m s ls ws old None = Unit {0}
 TapeIs m s ls ws None (Some new) = ⊥
 TapeIs m s ls ws (Some old) (Some new) = (entries : List Entry) × (new ≡ old ++ entries) × TapeTells m s ls ws entries
 
--- Lines played from a state with these worn stops: one list of them accounts for the words, the counts and the tape together.
+-- Lines played from a state with these worn stops: one list of them accounts for the words, the counts and the tape together. A stop
+-- that was armed and hit no line goes with the player, and no fuse is left to the device.
 pub record Played (s : State) (ls : List (ℕ × DeckLine)) (ws : List (Option WornAt)) (a b : Bench) : Type 0 where
   pub possible : Possible s ls ws
   pub words : Stands b.device.words (last_state s (plays s ls ws))
   pub counts : PlayCounts a.bench a.device (armed_in s) (plays s ls ws) b.bench b.device
   pub steady : a.bench.steady ≡ true → ws ≡ steady_worn s ls
   pub tape : TapeIs a.device.words s ls ws a.device.tape b.device.tape
+  pub unfused : IsUnfused b.bench
+
+-- Lines were played from a state with these worn stops, up to another state: whatever is played from there, is played from the first
+-- state behind these lines.
+pub record LeadsTo (s : State) (ls : List (ℕ × DeckLine)) (ws : List (Option WornAt)) (a : Bench) (u : State) (b : Bench) : Type 0 where
+  pub many : length ws ≡ length ls
+  pub last : u ≡ last_state s (plays s ls ws)
+  pub rest : (ks : List (ℕ × DeckLine)) (vs : List (Option WornAt)) (c : Bench) → Played u ks vs b c → Played s (ls ++ ks) (ws ++ vs) a c
 
 -- ---- their text
 

@@ -1,5 +1,4 @@
 -- What a command did on a card, where its writes stopped, and what was told of its turns.
--- This project's profile.
 use Rattle.std.specs.Prelude.{ℕ, ◌-◌, ◌≤◌, List, [], length, take, slice_index_or, Result, Ok, Err}
 use Rattle.mc_model.specs.declared.device.Stop.{Stop}
 use Rattle.mc_model.specs.Orders.{Answer}

@@ -1,5 +1,4 @@
 -- What a script writes, and how it ended.
--- This project's profile.
 use Rattle.std.specs.Prelude.{ℕ, List, ◌++◌, Option, Some, None, Result, Ok, Err}
 use Rattle.mc_model.specs.Chain.{Turn}
 use Rattle.mc_model.specs.Play.{Step}

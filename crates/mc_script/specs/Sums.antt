@@ -1,5 +1,4 @@
 -- The summary of a play: what it counts, and the results of the dump lines that stand last.
--- This project's profile.
 use Rattle.std.specs.Prelude.{◌≡◌, ℕ, true, List, [], ◌∷◌, ◌++◌, length, codes, Option, Some, None, Result}
 use Rattle.std.specs.List.{AllByRecursion}
 use Rattle.mc_model.specs.DeckGrammar.{DeckLine}
@@ -12,8 +11,9 @@ use Rattle.mc_base.specs.declared.refusals.WriteFault.{WriteFault}
 use Rattle.mc_text.specs.Texts.{Sunk, Puts}
 use Rattle.mc_script.specs.declared.summary.Counts.{Counts}
 use Rattle.mc_script.specs.declared.player.Player.{Player}
-use Rattle.mc_script.specs.Players.{device_of, IsAt}
+use Rattle.mc_script.specs.Players.{IsAt}
 use Rattle.mc_script.specs.Plays.{Bench, Played}
+use Rattle.mc_script.specs.Lines.{bench_of}
 
 -- ---- counts
 
@@ -59,7 +59,7 @@ module _ {N : Type 0} (state : N → DeviceState) (bench : N → BenchState) whe
   -- all lines were played, and their results were counted
   pub record Tallied (s : State) (ls : List (ℕ × DeckLine)) (a : Bench) (p : Player N) (c : Counts) : Type 0 where
     pub worn : List (Option WornAt)
-    pub played : Played s ls worn a (record { device = state (device_of p); bench = bench (device_of p) })
+    pub played : Played s ls worn a (bench_of state bench p)
     pub at : IsAt state bench p (last_state s (plays s ls worn))
     pub counted : Counted c (results (plays s ls worn))
 

@@ -1,9 +1,11 @@
-use arrayvec::ArrayVec;
+use mc_base::Aid;
 use mc_blocks::Unusable;
-use mc_machine::Outcome;
 
 /// The result of a line that answers. `NoCard` and `Mute` are those of a line that wants a card where none runs.
-#[derive(Debug, Drop)]
+///
+/// `Outcome` and `Dump` are read off the player that played the line, before its next line: how the command ended, and what a `dump` line
+/// tells of the name.
+#[derive(Clone, Copy, Debug)]
 pub enum Answer {
     Formatted,
     Ready(u16),
@@ -12,7 +14,6 @@ pub enum Answer {
     Worn,
     NoCard,
     Mute,
-    Outcome(Outcome),
-    Static(ArrayVec<u8, 4096>),
-    Absent,
+    Outcome,
+    Dump(Aid),
 }

@@ -4,6 +4,7 @@
 mod answer;
 mod armed;
 mod commands;
+mod decks;
 mod line;
 mod loading;
 mod log;
@@ -13,8 +14,13 @@ mod power;
 mod quiet;
 mod runner;
 mod script;
+mod statics;
 mod summary;
 mod summing;
 mod text;
 
+pub use answer::Answer;
+pub use player::Player;
 pub use playing::{play, summarise, trace};
+pub use runner::{Runner, Silent};
+pub use text::{Text, add_result};

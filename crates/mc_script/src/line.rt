@@ -1,5 +1,5 @@
 // One line of a deck.
-ghost use Rattle.std.specs.Prelude.{◌≡◌, Some};
+ghost use Rattle.std.specs.Prelude.{◌≡◌};
 ghost use Rattle.mc_deck.specs.Lines.{line_of, GoodLine};
 ghost use Rattle.mc_script.specs.Players.{device_of, IsPlaying};
 ghost use Rattle.mc_script.specs.Lines.{LineDone};
@@ -15,21 +15,24 @@ use std::sync::ledger::Ledger;
 
 impl<N: Bench> Player<N> {
     /// Plays one line of a deck, and gives its result where it has one.
+    ///
+    /// The line meets the stop that is armed, if it is a line to the card, and the runner is told the turns that the line shows. The
+    /// result is that of the player as the line leaves it.
     pub fn line<R: Runner, L: Ledger>(
-        self,
+        &mut self,
         line: &Line<'_>,
         runner: &mut R,
         steps: &mut Steps<L>,
-    ) -> (Player<N>, Option<Answer>)
-        requires playing { IsPlaying N.state N.bench self }
+    ) -> Option<Answer>
+        requires playing { IsPlaying N.state N.bench self.old }
         requires good { GoodLine (line_of line.now) }
-        ensures done { LineDone N.state N.bench R.told self (line_of line.now) runner.old runner.new result.1 result.0 }
-        ensures lent { N.same (device_of self) (device_of result.0) }
+        ensures done { LineDone N.state N.bench R.told self.old (line_of line.now) runner.old runner.new result self.new }
+        ensures lent { N.same (device_of self.old) (device_of self.new) }
     {
         match line {
             Line::Format => self.format(),
-            Line::Power => with_answer(self.power_line()),
-            Line::Named => (self, None),
+            Line::Power => Some(self.power_line()),
+            Line::Named => None,
             Line::Load {
                 unit,
                 fixed,
@@ -40,34 +43,30 @@ impl<N: Bench> Player<N> {
                     fixed: *fixed,
                     session: *session,
                 };
-                with_answer(self.card_line(&command, runner, steps))
+                Some(self.card_line(&command, runner, steps))
             }
-            Line::Select(aid) => with_answer(self.card_line(&Command::Select(aid), runner, steps)),
-            Line::Delete(aid) => with_answer(self.card_line(&Command::Delete(aid), runner, steps)),
-            Line::Dump(aid) => {
-                let answer = self.dump(aid);
-                (self, Some(answer))
+            Line::Select(aid) => Some(self.card_line(&Command::Select(aid), runner, steps)),
+            Line::Delete(aid) => Some(self.card_line(&Command::Delete(aid), runner, steps)),
+            Line::Dump(aid) => Some(Answer::Dump(*aid)),
+            Line::Apdu(bytes) => Some(self.card_line(&Command::Apdu(bytes), runner, steps)),
+            Line::Budget(budget) => {
+                self.set_budget(*budget);
+                None
             }
-            Line::Apdu(bytes) => with_answer(self.card_line(&Command::Apdu(bytes), runner, steps)),
-            Line::Budget(budget) => (self.with_budget(*budget), None),
             Line::Cut { k, fill } => {
                 let fill = *fill;
-                (self.with_cut(*k, fill), None)
+                self.arm_cut(*k, fill);
+                None
             }
-            Line::Fail(k) => (self.with_fail(*k), None),
+            Line::Fail(k) => {
+                self.arm_fail(*k);
+                None
+            }
             Line::Poke { at, fill } => {
                 let fill = *fill;
-                (self.poke(*at, fill), None)
+                self.poke(*at, fill);
+                None
             }
         }
     }
-}
-
-// A line that always answers.
-fn with_answer<N: Bench>(played: (Player<N>, Answer)) -> (Player<N>, Option<Answer>)
-    ensures player { result.0 ≡ played.0 }
-    ensures answer { result.1 ≡ Some played.1 }
-{
-    let (player, answer) = played;
-    (player, Some(answer))
 }

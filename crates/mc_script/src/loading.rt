@@ -219,8 +219,8 @@ fn is_done(outcome: &Outcome) -> bool
     }
 }
 
-// The outcome of commands that were all answered by 9000 alone.
-fn done() -> Outcome
+/// The outcome of commands that were all answered by 9000 alone.
+pub fn done() -> Outcome
     ensures { outcome_value result ≡ status 0x9000 }
 {
     Outcome::Reply(Reply {

@@ -9,13 +9,14 @@ ghost use Rattle.mc_text.proofs.LogLemmas.{logged_none, logged_on};
 ghost use Rattle.std.proofs.Common.{refl, ◌∙◌};
 
 use crate::answer::Answer;
+use crate::player::Player;
 use crate::runner::Runner;
 use crate::script::Script;
-use crate::text::put_answer;
+use crate::text::{Text, put_answer};
 use mc_base::{Sink, Steps, Stop, WriteFault};
 use mc_card::{Card, Turn};
 use mc_machine::Outcome;
-use mc_nvm::Nvm;
+use mc_nvm::{Bench, Nvm};
 use mc_text::put;
 use mc_trace::line_of;
 use std::sync::ledger::Ledger;
@@ -25,6 +26,7 @@ use std::sync::ledger::Ledger;
 pub struct Log<'a, T: Sink> {
     pub out: &'a mut T,
     pub fault: Option<WriteFault>,
+    pub line: Text,
 }
 
 impl<'a, T: Sink> Log<'a, T> {
@@ -86,9 +88,9 @@ impl<'a, T: Sink> Script for Log<'a, T> {
 
     ghost kept = { λ l ts m told. told.same };
 
-    fn tell(&mut self, number: u32, answer: &Option<Answer>) {
+    fn tell<N: Bench>(&mut self, number: u32, player: &Player<N>, answer: &Option<Answer>) {
         if self.fault.is_none() {
-            self.fault = put_answer(self.out, number, answer).err();
+            self.fault = put_answer(self.out, &mut self.line, number, player, answer).err();
         }
     }
 

@@ -1,45 +1,36 @@
 ghost use Rattle.std.specs.Prelude.{◌≡◌};
 ghost use Rattle.mc_model.specs.Play.{start};
-ghost use Rattle.mc_script.specs.Players.{device_by, device_of, IsAt, IsUnfused};
+ghost use Rattle.mc_script.specs.Players.{device_of, IsAt, IsUnfused};
 
 use crate::armed::Armed;
+use crate::loading::done;
 use mc_card::Card;
+use mc_machine::Outcome;
 use mc_nvm::Bench;
 
 /// The budget of a command before the first `budget` line.
 const FIRST_BUDGET: u32 = 10_000;
 
-/// Where the device of a play is: before the first power line, without power or without a card, mute after a refused write, or in a card
-/// that runs.
-#[derive(Drop)]
-pub enum Power<N: Bench> {
-    Cold(N),
-    Off(N),
-    Mute(N),
-    On(Card<N>),
+/// What the device of a play is: before its first power line, without power or without a card, mute after a refused write, or a card that
+/// runs.
+#[derive(Clone, Copy, Debug, PartialEq, Eq)]
+pub enum Power {
+    Cold,
+    Off,
+    Mute,
+    On,
 }
 
-/// A play between two lines: its device, the budget of the commands to come, and the stop that is armed for the next card line. The device
-/// itself has no fuse then: a stop is handed to it with its line.
+/// A play between two lines: its card, which is good for its device alone where none runs, the budget of the commands to come, the stop
+/// that is armed for the next card line, and how the last command ended (9000 before the first). The device itself has no fuse then: a
+/// stop is handed to it with its line.
 #[derive(Drop)]
 pub struct Player<N: Bench> {
-    pub power: Power<N>,
-    pub budget: u32,
-    pub armed: Armed,
-}
-
-impl<N: Bench> Power<N> {
-    /// The device.
-    pub fn into_dev(self) -> N
-        ensures { result ≡ device_by self }
-    {
-        match self {
-            Power::Cold(device) => device,
-            Power::Off(device) => device,
-            Power::Mute(device) => device,
-            Power::On(card) => card.into_dev(),
-        }
-    }
+    pub(crate) card: Card<N>,
+    pub(crate) power: Power,
+    pub(crate) budget: u32,
+    pub(crate) armed: Armed,
+    pub(crate) outcome: Outcome,
 }
 
 impl<N: Bench> Player<N> {
@@ -50,16 +41,25 @@ impl<N: Bench> Player<N> {
         ensures device { device_of result ≡ device }
     {
         Player {
-            power: Power::Cold(device),
+            card: Card::asleep(device),
+            power: Power::Cold,
             budget: FIRST_BUDGET,
             armed: Armed::Not,
+            outcome: done(),
         }
+    }
+
+    /// How the last command ended: what an `Outcome` among the results tells, until the next line is played.
+    pub fn outcome(&self) -> &Outcome
+        ensures { result.now ≡ self.now.outcome }
+    {
+        &self.outcome
     }
 
     /// The device.
     pub fn into_dev(self) -> N
         ensures { result ≡ device_of self }
     {
-        self.power.into_dev()
+        self.card.into_dev()
     }
 }

@@ -11,6 +11,7 @@ use crate::log::Log;
 use crate::player::Player;
 use crate::script::{Plain, Script};
 use crate::summing::sum_lines;
+use arrayvec::ArrayVec;
 use mc_base::{Sink, Steps, WriteFault};
 use mc_deck::Deck;
 use mc_nvm::Bench;
@@ -32,9 +33,8 @@ fn play_lines<N: Bench, S: Script, L: Ledger>(
     let mut player = Player::new(device);
     for i in 0..deck.len() {
         let (number, line) = deck.line(i);
-        let (next, answer) = player.line(&line, script, steps);
-        player = next;
-        script.tell(number, &answer);
+        let answer = player.line(&line, script, steps);
+        script.tell(number, &player, &answer);
         if script.ended().is_err() {
             return player.into_dev();
         }
@@ -57,6 +57,7 @@ pub fn play<N: Bench, T: Sink, L: Ledger>(
     let mut script = Plain {
         out: &mut *out,
         fault: None,
+        line: ArrayVec::new(),
     };
     let _dev = play_lines(deck, &mut *dev, &mut script, steps);
     script.ended()
@@ -77,6 +78,7 @@ pub fn trace<N: Bench, T: Sink, L: Ledger>(
     let mut script = Log {
         out: &mut *out,
         fault: None,
+        line: ArrayVec::new(),
     };
     let _dev = play_lines(deck, &mut *dev, &mut script, steps);
     script.ended()
@@ -99,6 +101,7 @@ pub fn summarise<N: Bench, T: Sink, L: Ledger>(
     let mut script = Plain {
         out: &mut *out,
         fault: None,
+        line: ArrayVec::new(),
     };
     let _dev = sum_lines(deck, &mut *dev, &mut script, steps);
     script.ended()

@@ -5,16 +5,17 @@ ghost use Rattle.mc_model.specs.Chain.{Turn as ModelTurn};
 ghost use Rattle.mc_model.specs.Transcript.{line_text};
 ghost use Rattle.mc_text.specs.Texts.{Sunk, Puts, sunk_in};
 ghost use Rattle.mc_base.specs.declared.refusals.WriteFault.{WriteFault};
-ghost use Rattle.mc_script.specs.Players.{answer_value};
+ghost use Rattle.mc_script.specs.Players.{answer_value, IsPlaying};
 ghost use Rattle.mc_script.specs.Scripts.{ended};
 
 use crate::answer::Answer;
+use crate::player::Player;
 use crate::runner::Runner;
-use crate::text::put_answer;
+use crate::text::{Text, put_answer};
 use mc_base::{Sink, Steps, Stop, WriteFault};
 use mc_card::Card;
 use mc_machine::Outcome;
-use mc_nvm::Nvm;
+use mc_nvm::{Bench, Nvm};
 use std::sync::ledger::Ledger;
 
 /// Writes the text of a play, line by line, and keeps the fault of its sink.
@@ -32,8 +33,9 @@ pub trait Script: Runner {
     ghost same: { Self → Self → Type 0 };
 
     /// Writes the result of a line behind the text of the turns that were told in it, unless its sink failed before.
-    fn tell(&mut self, number: u32, answer: &Option<Answer>)
-        ensures tells { (before : Self) (ts : List ModelTurn) → fault before ≡ None → Self.told before ts self.old → Puts (out before) (text ts ++ line_text number (option_map answer_value answer.now)) (ended (fault self.new)) (out self.new) }
+    fn tell<N: Bench>(&mut self, number: u32, player: &Player<N>, answer: &Option<Answer>)
+        requires playing { IsPlaying N.state N.bench player.now }
+        ensures tells { (before : Self) (ts : List ModelTurn) → fault before ≡ None → Self.told before ts self.old → Puts (out before) (text ts ++ line_text number (option_map (answer_value N.state player.now) answer.now)) (ended (fault self.new)) (out self.new) }
         ensures same { same self.old self.new };
 
     /// Whether all was written.
@@ -55,6 +57,7 @@ pub trait Script: Runner {
 pub struct Plain<'a, T: Sink> {
     pub out: &'a mut T,
     pub fault: Option<WriteFault>,
+    pub line: Text,
 }
 
 impl<'a, T: Sink> Runner for Plain<'a, T> {
@@ -90,9 +93,9 @@ impl<'a, T: Sink> Script for Plain<'a, T> {
 
     ghost kept = { λ p ts q told. ap (λ q. q.out.ghost_name) told };
 
-    fn tell(&mut self, number: u32, answer: &Option<Answer>) {
+    fn tell<N: Bench>(&mut self, number: u32, player: &Player<N>, answer: &Option<Answer>) {
         if self.fault.is_none() {
-            self.fault = put_answer(self.out, number, answer).err();
+            self.fault = put_answer(self.out, &mut self.line, number, player, answer).err();
         }
     }
 

@@ -8,10 +8,12 @@ ghost use Rattle.mc_script.specs.Players.{answer_value};
 ghost use Rattle.mc_script.specs.Sums.{Counted, listed};
 
 use crate::answer::Answer;
+use crate::player::{Player, Power};
 use arrayvec::ArrayVec;
 use itoa::Buffer;
 use mc_base::{Sink, WriteFault};
 use mc_machine::Outcome;
+use mc_nvm::Bench;
 use mc_text::put;
 
 /// How many lines of a play answered, how many of them by a reply or a refused write, by an abend, by a cut, without a card, and by a
@@ -43,8 +45,8 @@ impl Counts {
         }
     }
 
-    /// The counts of a play with one more answer. No count is at its last value.
-    pub fn with(self, answer: &Answer) -> Counts
+    /// The counts of a play with one more answer of its player. No count is at its last value.
+    pub fn with<N: Bench>(self, player: &Player<N>, answer: &Answer) -> Counts
         requires lines { self.lines < 18446744073709551615 }
         requires replies { self.replies < 18446744073709551615 }
         requires abends { self.abends < 18446744073709551615 }
@@ -52,56 +54,80 @@ impl Counts {
         requires offs { self.offs < 18446744073709551615 }
         requires readies { self.readies < 18446744073709551615 }
         ensures lines { result.lines ≡ self.lines + 1 }
-        ensures replies { result.replies ≡ self.replies + cond (is_reply (answer_value answer.now)) 1 0 }
-        ensures abends { result.abends ≡ self.abends + cond (is_abend (answer_value answer.now)) 1 0 }
-        ensures cuts { result.cuts ≡ self.cuts + cond (is_cut (answer_value answer.now)) 1 0 }
-        ensures offs { result.offs ≡ self.offs + cond (is_off (answer_value answer.now)) 1 0 }
-        ensures readies { result.readies ≡ self.readies + cond (is_ready (answer_value answer.now)) 1 0 }
+        ensures replies { result.replies ≡ self.replies + cond (is_reply (answer_value N.state player.now answer.now)) 1 0 }
+        ensures abends { result.abends ≡ self.abends + cond (is_abend (answer_value N.state player.now answer.now)) 1 0 }
+        ensures cuts { result.cuts ≡ self.cuts + cond (is_cut (answer_value N.state player.now answer.now)) 1 0 }
+        ensures offs { result.offs ≡ self.offs + cond (is_off (answer_value N.state player.now answer.now)) 1 0 }
+        ensures readies { result.readies ≡ self.readies + cond (is_ready (answer_value N.state player.now answer.now)) 1 0 }
     {
-        let lines = self.lines + 1;
-        match answer {
-            Answer::Worn => Counts {
-                lines,
-                replies: self.replies + 1,
-                ..self
-            },
-            Answer::Outcome(Outcome::Reply(_)) => Counts {
-                lines,
-                replies: self.replies + 1,
-                ..self
-            },
-            Answer::Outcome(Outcome::Abend(_)) => Counts {
-                lines,
-                abends: self.abends + 1,
-                ..self
-            },
-            Answer::OffAt(_) => Counts {
-                lines,
-                cuts: self.cuts + 1,
-                ..self
-            },
-            Answer::NoCard => Counts {
-                lines,
-                offs: self.offs + 1,
-                ..self
-            },
-            Answer::Ready(_) => Counts {
-                lines,
-                readies: self.readies + 1,
-                ..self
-            },
-            _ => Counts { lines, ..self },
+        Counts {
+            lines: self.lines + 1,
+            replies: self.replies + one_if(is_reply(player, answer)),
+            abends: self.abends + one_if(is_abend(player, answer)),
+            cuts: self.cuts + one_if(is_cut(player, answer)),
+            offs: self.offs + one_if(is_off(player, answer)),
+            readies: self.readies + one_if(is_ready(player, answer)),
         }
     }
 }
 
-/// The counts with those of a line, where it answers.
-pub fn counted(counts: Counts, answer: &Option<Answer>) -> Counts
-    requires { (rs : List LineResult) × Counted counts rs × (length rs < 18446744073709551615) }
-    ensures { (rs : List LineResult) → Counted counts rs → Counted result (rs ++ listed (option_map answer_value answer.now)) }
+// A line that counts, or one that does not.
+fn one_if(counts: bool) -> u64
+    ensures { result ≡ cond counts 1 0 }
+{
+    if counts { 1 } else { 0 }
+}
+
+// Whether a line was answered by a reply, or by a refused write, whose status it is.
+fn is_reply<N: Bench>(player: &Player<N>, answer: &Answer) -> bool
+    ensures { result ≡ is_reply (answer_value N.state player.now answer.now) }
 {
     match answer {
-        Some(answer) => counts.with(answer),
+        Answer::Worn => true,
+        Answer::Outcome => matches!(player.outcome, Outcome::Reply(_)),
+        _ => false,
+    }
+}
+
+// Whether the application of a line abended.
+fn is_abend<N: Bench>(player: &Player<N>, answer: &Answer) -> bool
+    ensures { result ≡ is_abend (answer_value N.state player.now answer.now) }
+{
+    matches!(answer, Answer::Outcome) && matches!(player.outcome, Outcome::Abend(_))
+}
+
+// Whether a cut hit a line.
+fn is_cut<N: Bench>(player: &Player<N>, answer: &Answer) -> bool
+    ensures { result ≡ is_cut (answer_value N.state player.now answer.now) }
+{
+    matches!(answer, Answer::OffAt(_))
+}
+
+// Whether a line wanted a card where the power is off.
+fn is_off<N: Bench>(player: &Player<N>, answer: &Answer) -> bool
+    ensures { result ≡ is_off (answer_value N.state player.now answer.now) }
+{
+    match answer {
+        Answer::NoCard => true,
+        Answer::Dump(_) => matches!(player.power, Power::Cold | Power::Off),
+        _ => false,
+    }
+}
+
+// Whether a power line gave a card.
+fn is_ready<N: Bench>(player: &Player<N>, answer: &Answer) -> bool
+    ensures { result ≡ is_ready (answer_value N.state player.now answer.now) }
+{
+    matches!(answer, Answer::Ready(_))
+}
+
+/// The counts with those of a line, where it answers.
+pub fn counted<N: Bench>(counts: Counts, player: &Player<N>, answer: &Option<Answer>) -> Counts
+    requires { (rs : List LineResult) × Counted counts rs × (length rs < 18446744073709551615) }
+    ensures { (rs : List LineResult) → Counted counts rs → Counted result (rs ++ listed (option_map (answer_value N.state player.now) answer.now)) }
+{
+    match answer {
+        Some(answer) => counts.with(player, answer),
         None => counts,
     }
 }

@@ -6,40 +6,41 @@ ghost use Rattle.mc_deck.specs.Lines.{line_of};
 ghost use Rattle.mc_text.specs.Texts.{sunk_in, Puts};
 ghost use Rattle.mc_script.specs.Players.{device_of, IsAt, IsPlaying, IsUnfused};
 ghost use Rattle.mc_script.specs.Scripts.{ended};
+ghost use Rattle.mc_script.specs.Lines.{bench_of};
 ghost use Rattle.mc_script.specs.Sums.{Counted, DumpsLast, dump_text, dumps_text, Tallied, SumsFrom};
 
+use crate::answer::Answer;
 use crate::player::Player;
 use crate::runner::Silent;
 use crate::script::Plain;
 use crate::summary::{Counts, counted, put_counts};
-use crate::text::put_result;
+use crate::text::{Text, add_result};
 use mc_base::{Sink, Steps, WriteFault};
 use mc_deck::{Deck, Line};
 use mc_nvm::Bench;
-use mc_text::put;
+use mc_text::{add, put};
 use std::sync::ledger::Ledger;
 
 // Plays all lines of a deck, and counts their results.
-fn tally<N: Bench, L: Ledger>(deck: &Deck, device: N, steps: &mut Steps<L>) -> (Player<N>, Counts)
-    requires { IsUnfused (N.bench device) }
-    ensures tallied { Tallied N.state N.bench (start (N.state device).words) deck.now (record { device = N.state device; bench = N.bench device }) result.0 result.1 }
-    ensures lent { N.same device (device_of result.0) }
+fn tally<N: Bench, L: Ledger>(player: &mut Player<N>, deck: &Deck, steps: &mut Steps<L>) -> Counts
+    requires { IsPlaying N.state N.bench player.old }
+    ensures tallied { (s : State) → IsAt N.state N.bench player.old s → Tallied N.state N.bench s deck.now (bench_of N.state N.bench player.old) player.new result }
+    ensures lent { N.same (device_of player.old) (device_of player.new) }
 {
-    let mut player = Player::new(device);
     let mut counts = Counts::new();
     let mut runner = Silent;
     for i in 0..deck.len() {
         let (_number, line) = deck.line(i);
-        let (next, answer) = player.line(&line, &mut runner, steps);
-        player = next;
-        counts = counted(counts, &answer);
+        let answer = player.line(&line, &mut runner, steps);
+        counts = counted(counts, player, &answer);
     }
-    (player, counts)
+    counts
 }
 
 // Writes the result of a line on a line of its own, if it is a dump line.
 fn put_dump<N: Bench, T: Sink>(
     out: &mut T,
+    text: &mut Text,
     player: &Player<N>,
     line: &Line<'_>,
 ) -> Result<(), WriteFault>
@@ -49,13 +50,16 @@ fn put_dump<N: Bench, T: Sink>(
     let Line::Dump(aid) = line else {
         return Ok(());
     };
-    put_result(out, &player.dump(aid))?;
-    put(out, b"\n")
+    text.clear();
+    add_result(text, player, &Answer::Dump(*aid));
+    add(text, b"\n");
+    put(out, text.as_slice())
 }
 
 // Writes the results of the dump lines of a deck.
 fn put_dumps<N: Bench, T: Sink>(
     out: &mut T,
+    text: &mut Text,
     player: &Player<N>,
     deck: &Deck,
 ) -> Result<(), WriteFault>
@@ -64,7 +68,7 @@ fn put_dumps<N: Bench, T: Sink>(
 {
     for i in 0..deck.len() {
         let (_number, line) = deck.line(i);
-        put_dump(out, player, &line)?;
+        put_dump(out, text, player, &line)?;
     }
     Ok(())
 }
@@ -72,6 +76,7 @@ fn put_dumps<N: Bench, T: Sink>(
 // Writes the counts, and the results of the dump lines behind them.
 fn put_summary<N: Bench, T: Sink>(
     out: &mut T,
+    text: &mut Text,
     counts: &Counts,
     player: &Player<N>,
     deck: &Deck,
@@ -80,7 +85,7 @@ fn put_summary<N: Bench, T: Sink>(
     ensures { (s : State) (rs : List LineResult) → IsAt N.state N.bench player.now s → Counted counts.now rs → Puts (sunk_in T.taken T.faults out.old) (count_line rs ++ dumps_text s deck.now) result (sunk_in T.taken T.faults out.new) }
 {
     put_counts(out, counts)?;
-    put_dumps(out, player, deck)
+    put_dumps(out, text, player, deck)
 }
 
 /// Plays all lines of a deck on a device, and writes the summary of the play.
@@ -96,7 +101,8 @@ pub fn sum_lines<N: Bench, T: Sink, L: Ledger>(
     ensures lent { N.same device result }
     ensures same { script.new.out.ghost_name ≡ script.old.out.ghost_name }
 {
-    let (player, counts) = tally(deck, device, steps);
-    script.fault = put_summary(script.out, &counts, &player, deck).err();
+    let mut player = Player::new(device);
+    let counts = tally(&mut player, deck, steps);
+    script.fault = put_summary(script.out, &mut script.line, &counts, &player, deck).err();
     player.into_dev()
 }

@@ -1,118 +1,206 @@
 // The texts of results.
-ghost use Rattle.std.specs.Prelude.{◌≡◌, ◌<◌, ◌≤◌, ◌++◌, [], ◌∷◌, length, option_map, Some, codes, decimal};
-ghost use Rattle.mc_model.specs.Bytes.{bytes2};
-ghost use Rattle.mc_model.specs.Transcript.{abend_code, cause_text, hex_text, line_text, outcome_text, shown, static_text};
+ghost use Rattle.std.specs.Prelude.{◌≡◌, ◌+◌, ◌*◌, ◌<◌, ◌≤◌, ◌++◌, [], ◌∷◌, length, take, drop, option_map, Some, IsSome, codes, decimal};
+ghost use Rattle.arrayvec.specs.ArrayVec.{array_vec_len};
+ghost use Rattle.mc_model.specs.Bytes.{bytes2, lookup};
+ghost use Rattle.mc_model.specs.Play.{static_of};
+ghost use Rattle.mc_model.specs.Transcript.{abend_code, cause_text, hex_text, line_text, outcome_text, shown};
 ghost use Rattle.mc_machine.specs.Turns.{outcome_value};
-ghost use Rattle.mc_script.specs.Players.{answer_value};
+ghost use Rattle.mc_bank.specs.Bank.{app_of};
+ghost use Rattle.mc_card.specs.Parts.{card_in, IsUp};
+ghost use Rattle.mc_script.specs.Players.{answer_value, dump_value, IsPlaying};
 ghost use Rattle.mc_text.specs.Texts.{sunk_in, Puts};
 
 use crate::answer::Answer;
+use crate::player::{Player, Power};
+use arrayvec::ArrayVec;
 use mc_apdu::Reply;
-use mc_base::{Sink, WriteFault};
-use mc_blocks::{Cause, Unusable};
+use mc_base::{Aid, Sink, WriteFault};
+use mc_blocks::Unusable;
+use mc_card::Card;
 use mc_machine::Outcome;
 use mc_model::Abend;
-use mc_text::{put, put_decimal, put_hex, put_number};
+use mc_nvm::{Bench, Nvm};
+use mc_text::{add, add_decimal, add_hex, put};
 
-// Writes the word of a cause.
-fn put_cause<T: Sink>(out: &mut T, cause: Cause) -> Result<(), WriteFault>
-    ensures { Puts (sunk_in T.taken T.faults out.old) (cause_text cause) result (sunk_in T.taken T.faults out.new) }
+/// How many static bytes are read at a time.
+const PIECE: usize = 256;
+
+/// The text of a line, which is gathered before it is written. It has room for a number of ten digits, a blank, `static`, a blank and 4,096
+/// bytes in hexadecimal, and a line feed.
+pub type Text = ArrayVec<u8, 8211>;
+
+// Adds why an image is no card.
+fn add_unusable(text: &mut Text, unusable: &Unusable)
+    requires { array_vec_len text.old ≤ 11 }
+    ensures text { text.new.items ≡ text.old.items ++ codes "unusable " ++ cause_text unusable.now.cause ++ codes " " ++ decimal unusable.now.place }
+    ensures short { array_vec_len text.new ≤ 8210 }
 {
-    put(out, cause.word().as_bytes())
+    add(text, b"unusable ");
+    add(text, unusable.cause.word().as_bytes());
+    add(text, b" ");
+    add_decimal(text, unusable.place as u32);
 }
 
-// Writes why an image is no card.
-fn put_unusable<T: Sink>(out: &mut T, unusable: &Unusable) -> Result<(), WriteFault>
-    ensures { Puts (sunk_in T.taken T.faults out.old) (codes "unusable " ++ cause_text unusable.now.cause ++ codes " " ++ decimal unusable.now.place) result (sunk_in T.taken T.faults out.new) }
+// Adds a reply in hexadecimal.
+fn add_reply(text: &mut Text, reply: &Reply)
+    requires { array_vec_len text.old ≤ 11 }
+    ensures text { text.new.items ≡ text.old.items ++ hex_text (reply.now.body.items ++ bytes2 reply.now.sw) }
+    ensures short { array_vec_len text.new ≤ 8210 }
 {
-    put(out, b"unusable ")?;
-    put_cause(out, unusable.cause)?;
-    put(out, b" ")?;
-    put_decimal(out, unusable.place as u32)
+    add_hex(text, reply.body.as_slice());
+    add_hex(
+        text,
+        &[(reply.sw / 256 % 256) as u8, (reply.sw % 256) as u8],
+    );
 }
 
-// Writes the two bytes of a status in hexadecimal.
-fn put_status<T: Sink>(out: &mut T, sw: u16) -> Result<(), WriteFault>
-    ensures { Puts (sunk_in T.taken T.faults out.old) (hex_text (bytes2 sw)) result (sunk_in T.taken T.faults out.new) }
+// Adds the number of an abend.
+fn add_abend(text: &mut Text, abend: Abend)
+    requires { array_vec_len text.old ≤ 11 }
+    ensures text { text.new.items ≡ text.old.items ++ codes "abend " ++ hex_text (abend_code abend ∷ []) }
+    ensures short { array_vec_len text.new ≤ 8210 }
 {
-    put_hex(out, &[(sw / 256 % 256) as u8, (sw % 256) as u8])
+    add(text, b"abend ");
+    add_hex(text, &[abend.code()]);
 }
 
-// Writes a reply in hexadecimal.
-fn put_reply<T: Sink>(out: &mut T, reply: &Reply) -> Result<(), WriteFault>
-    ensures { Puts (sunk_in T.taken T.faults out.old) (hex_text (reply.now.body.items ++ bytes2 reply.now.sw)) result (sunk_in T.taken T.faults out.new) }
-{
-    put_hex(out, reply.body.as_slice())?;
-    put_status(out, reply.sw)
-}
-
-// Writes the number of an abend.
-fn put_abend<T: Sink>(out: &mut T, abend: Abend) -> Result<(), WriteFault>
-    ensures { Puts (sunk_in T.taken T.faults out.old) (codes "abend " ++ hex_text (abend_code abend ∷ [])) result (sunk_in T.taken T.faults out.new) }
-{
-    put(out, b"abend ")?;
-    put_hex(out, &[abend.code()])
-}
-
-// Writes how a command ended.
-fn put_outcome<T: Sink>(out: &mut T, outcome: &Outcome) -> Result<(), WriteFault>
-    ensures { Puts (sunk_in T.taken T.faults out.old) (outcome_text (outcome_value outcome.now)) result (sunk_in T.taken T.faults out.new) }
+// Adds how a command ended.
+fn add_outcome(text: &mut Text, outcome: &Outcome)
+    requires { array_vec_len text.old ≤ 11 }
+    ensures text { text.new.items ≡ text.old.items ++ outcome_text (outcome_value outcome.now) }
+    ensures short { array_vec_len text.new ≤ 8210 }
 {
     match outcome {
-        Outcome::Reply(reply) => put_reply(out, reply),
-        Outcome::Abend(abend) => put_abend(out, *abend),
+        Outcome::Reply(reply) => add_reply(text, reply),
+        Outcome::Abend(abend) => add_abend(text, *abend),
     }
 }
 
-// Writes static bytes.
-fn put_static<T: Sink>(out: &mut T, bytes: &[u8]) -> Result<(), WriteFault>
-    ensures { Puts (sunk_in T.taken T.faults out.old) (static_text bytes.now) result (sunk_in T.taken T.faults out.new) }
+// Adds some static bytes of an application in hexadecimal, from a place on.
+fn add_piece<N: Nvm>(text: &mut Text, card: &Card<N>, aid: &Aid, at: u16, count: usize)
+    requires up { IsUp N.state card.now }
+    requires there { IsSome (lookup (card_in N.state card.now).apps aid.now) }
+    requires range { at + count ≤ length (app_of (card_in N.state card.now).apps (Some aid.now)).fixed }
+    requires small { count ≤ 256 }
+    requires room { array_vec_len text.old + 2 * count ≤ 8211 }
+    ensures text { text.new.items ≡ text.old.items ++ hex_text (take count (drop at (app_of (card_in N.state card.now).apps (Some aid.now)).fixed)) }
+    ensures length { array_vec_len text.new ≡ array_vec_len text.old + 2 * count }
 {
-    if bytes.is_empty() {
-        return put(out, b"static");
-    }
-    put(out, b"static ")?;
-    put_hex(out, bytes)
+    let mut bytes = [0; PIECE];
+    let piece = &mut bytes[..count];
+    card.static_of(aid, at, piece);
+    add_hex(text, piece);
 }
 
-/// Writes a result.
-pub fn put_result<T: Sink>(out: &mut T, answer: &Answer) -> Result<(), WriteFault>
-    ensures { Puts (sunk_in T.taken T.faults out.old) (shown (answer_value answer.now)) result (sunk_in T.taken T.faults out.new) }
+// Adds the static bytes of an application in hexadecimal.
+fn add_bytes<N: Nvm>(text: &mut Text, card: &Card<N>, aid: &Aid, len: u16)
+    requires up { IsUp N.state card.now }
+    requires there { IsSome (lookup (card_in N.state card.now).apps aid.now) }
+    requires len { len ≡ length (app_of (card_in N.state card.now).apps (Some aid.now)).fixed }
+    requires most { len ≤ 4096 }
+    requires room { array_vec_len text.old ≤ 18 }
+    ensures text { text.new.items ≡ text.old.items ++ hex_text (app_of (card_in N.state card.now).apps (Some aid.now)).fixed }
+    ensures short { array_vec_len text.new ≤ 8210 }
+{
+    let mut at = 0;
+    while at < len {
+        let count = ((len - at) as usize).min(PIECE);
+        add_piece(text, card, aid, at, count);
+        at += count as u16;
+    }
+}
+
+// Adds what a `dump` line tells of a name on a card that runs.
+fn add_static<N: Nvm>(text: &mut Text, card: &Card<N>, aid: &Aid)
+    requires up { IsUp N.state card.now }
+    requires room { array_vec_len text.old ≤ 11 }
+    ensures text { text.new.items ≡ text.old.items ++ shown (static_of (lookup (card_in N.state card.now).apps aid.now)) }
+    ensures short { array_vec_len text.new ≤ 8210 }
+{
+    match card.static_len(aid) {
+        None => add(text, b"absent"),
+        Some(0) => add(text, b"static"),
+        Some(len) => {
+            add(text, b"static ");
+            add_bytes(text, card, aid, len);
+        }
+    }
+}
+
+// Adds what a `dump` line tells of a name.
+fn add_dump<N: Bench>(text: &mut Text, player: &Player<N>, aid: &Aid)
+    requires playing { IsPlaying N.state N.bench player.now }
+    requires room { array_vec_len text.old ≤ 11 }
+    ensures text { text.new.items ≡ text.old.items ++ shown (dump_value N.state player.now.power player.now.card aid.now) }
+    ensures short { array_vec_len text.new ≤ 8210 }
+{
+    match player.power {
+        Power::Cold => add(text, b"off"),
+        Power::Off => add(text, b"off"),
+        Power::Mute => add(text, b"mute"),
+        Power::On => add_static(text, &player.card, aid),
+    }
+}
+
+/// Adds a result of a player, as it stands in a transcript behind its number and a blank.
+pub fn add_result<N: Bench>(text: &mut Text, player: &Player<N>, answer: &Answer)
+    requires playing { IsPlaying N.state N.bench player.now }
+    requires room { array_vec_len text.old ≤ 11 }
+    ensures text { text.new.items ≡ text.old.items ++ shown (answer_value N.state player.now answer.now) }
+    ensures short { array_vec_len text.new ≤ 8210 }
 {
     match answer {
-        Answer::Formatted => put(out, b"formatted"),
-        Answer::Ready(writes) => put_number(out, b"ready ", *writes as u32),
-        Answer::Unusable(unusable) => put_unusable(out, unusable),
-        Answer::OffAt(k) => put_number(out, b"off at write ", *k),
-        Answer::Worn => put(out, b"6581"),
-        Answer::NoCard => put(out, b"off"),
-        Answer::Mute => put(out, b"mute"),
-        Answer::Outcome(outcome) => put_outcome(out, outcome),
-        Answer::Static(bytes) => put_static(out, bytes.as_slice()),
-        Answer::Absent => put(out, b"absent"),
+        Answer::Formatted => add(text, b"formatted"),
+        Answer::Ready(writes) => add_number(text, b"ready ", *writes as u32),
+        Answer::Unusable(unusable) => add_unusable(text, unusable),
+        Answer::OffAt(k) => add_number(text, b"off at write ", *k),
+        Answer::Worn => add(text, b"6581"),
+        Answer::NoCard => add(text, b"off"),
+        Answer::Mute => add(text, b"mute"),
+        Answer::Outcome => add_outcome(text, &player.outcome),
+        Answer::Dump(aid) => add_dump(text, player, aid),
     }
 }
 
-/// Writes the line of a result: its number, a blank, the result and a line feed.
-pub fn put_line<T: Sink>(out: &mut T, number: u32, answer: &Answer) -> Result<(), WriteFault>
-    ensures { Puts (sunk_in T.taken T.faults out.old) (line_text number (Some (answer_value answer.now))) result (sunk_in T.taken T.faults out.new) }
+// A number behind a word.
+fn add_number(text: &mut Text, word: &[u8], number: u32)
+    requires room { array_vec_len text.old ≤ 11 }
+    requires small { length word.now ≤ 20 }
+    ensures text { text.new.items ≡ text.old.items ++ word.now ++ decimal number }
+    ensures short { array_vec_len text.new ≤ 8210 }
 {
-    put_decimal(out, number)?;
-    put(out, b" ")?;
-    put_result(out, answer)?;
-    put(out, b"\n")
+    add(text, word);
+    add_decimal(text, number);
 }
 
-/// Writes the line of a result where there is one.
-pub fn put_answer<T: Sink>(
+// Gathers the line of a result: its number, a blank, the result and a line feed.
+fn gather<N: Bench>(text: &mut Text, number: u32, player: &Player<N>, answer: &Answer)
+    requires playing { IsPlaying N.state N.bench player.now }
+    ensures { text.new.items ≡ line_text number (Some (answer_value N.state player.now answer.now)) }
+{
+    text.clear();
+    add_decimal(text, number);
+    add(text, b" ");
+    add_result(text, player, answer);
+    add(text, b"\n");
+}
+
+/// Writes the line of a result where there is one, at once.
+pub fn put_answer<N: Bench, T: Sink>(
     out: &mut T,
+    text: &mut Text,
     number: u32,
+    player: &Player<N>,
     answer: &Option<Answer>,
 ) -> Result<(), WriteFault>
-    ensures { Puts (sunk_in T.taken T.faults out.old) (line_text number (option_map answer_value answer.now)) result (sunk_in T.taken T.faults out.new) }
+    requires playing { IsPlaying N.state N.bench player.now }
+    ensures { Puts (sunk_in T.taken T.faults out.old) (line_text number (option_map (answer_value N.state player.now) answer.now)) result (sunk_in T.taken T.faults out.new) }
 {
     match answer {
-        Some(answer) => put_line(out, number, answer),
+        Some(answer) => {
+            gather(text, number, player, answer);
+            put(out, text.as_slice())
+        }
         None => Ok(()),
     }
 }

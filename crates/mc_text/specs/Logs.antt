@@ -1,5 +1,4 @@
 -- A log of turns, line by line, which writes no more once its sink failed.
--- This project's profile.
 use Rattle.std.specs.Prelude.{◌≡◌, List, Option, Some, None}
 use Rattle.mc_model.specs.Chain.{Turn}
 use Rattle.mc_model.specs.TraceText.{turn_lines}

@@ -1,5 +1,4 @@
 -- A text written to a sink: whole, or a front of it where the sink failed.
--- This project's profile.
 use Rattle.std.specs.Prelude.{ℕ, ◌≤◌, List, Option, Result, Ok, Err}
 use Rattle.mc_model.specs.Counts.{Rose}
 use Rattle.mc_base.specs.Streams.{Grew, GrewByPart}

@@ -35,7 +35,7 @@ pub fn put_number<T: Sink>(out: &mut T, word: &[u8], number: u32) -> Result<(), 
 }
 
 // The digit of a number below 16.
-fn digit(value: u8) -> u8
+pub fn digit(value: u8) -> u8
     requires { value < 16 }
     ensures { result ≡ hex_digit value }
 {

@@ -1,4 +1,4 @@
--- What an input stands for, for rows that compute it. This project's profile.
+-- What an input stands for, for rows that compute it.
 use Rattle.std.specs.Prelude.{ℕ, List}
 use Rattle.std.specs.Fmt.{digits}
 use Rattle.hex.specs.Hex.{decode_pairs, encode_with}

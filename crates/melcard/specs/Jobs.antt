@@ -1,4 +1,4 @@
--- The jobs that the words of the command line name. This project's profile.
+-- The jobs that the words of the command line name.
 use Rattle.std.specs.Prelude.{ℕ, ◌≤◌, List, [], ◌∷◌, length, nat_le, bytes_eq, codes, cond, string_bytes, Option, Some, None}
 use Rattle.std.specs.declared.alloc.Global.{Global}
 use Rattle.std.specs.declared.string.String.{String}

@@ -1,4 +1,4 @@
--- What the code has of listed code and of rejected input, and what it stands for. This project's profile.
+-- What the code has of listed code and of rejected input, and what it stands for.
 use Rattle.std.specs.Prelude.{◌≡◌, ℕ, not, List, [], ◌∷◌, ◌++◌, filter, ok_or, Result, Ok, Err, ⊤}
 use Rattle.mc_model.specs.Text
 use Rattle.mc_model.specs.Text.{CodeFault, hex_values, is_blank}

@@ -1,4 +1,4 @@
--- What the parts of a job do, and why a job is not done. This project's profile.
+-- What the parts of a job do, and why a job is not done.
 use Rattle.std.specs.Prelude.{◌≡◌, ℕ, List, Option, Result, ⊤}
 use Rattle.mc_model.specs.Counts.{Rose}
 use Rattle.mc_model.specs.DeckGrammar.{DeckLine}

@@ -1,4 +1,4 @@
--- What the top call says of the outside at each of its statuses. This project's profile.
+-- What the top call says of the outside at each of its statuses.
 use Rattle.std.specs.Prelude.{◌≡◌, ℕ, ◌≤◌, ◌<◌, ◌⊎◌, List, length, Option, Some, None, Result, Ok, Err, ⊤}
 use Rattle.mc_model.specs.Counts.{Rose}
 use Rattle.mc_model.specs.Device.{DeviceState, BenchState}

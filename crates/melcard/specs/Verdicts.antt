@@ -1,5 +1,4 @@
 -- What the input of a job stands for: the whole text that is due, the one line that refuses it, or a deck that is played.
--- This project's profile.
 use Rattle.std.specs.Prelude.{◌≡◌, ℕ, List, [], ◌∷◌, ◌++◌, codes, decimal, Result, Ok, Err}
 use Rattle.mc_model.specs.Assembly.{assembled}
 use Rattle.mc_model.specs.DeckGrammar.{DeckLine, deck_read}

@@ -20,11 +20,13 @@ mod summaries;
 mod tests;
 mod text;
 
-ghost use Rattle.std.specs.Prelude.{◌≡◌, ◌<◌};
+ghost use Rattle.std.specs.Prelude.{◌≡◌, ◌<◌, IfOk};
+ghost use Rattle.mc_nvm.specs.Sim.{blank_sim};
 
 use crate::running::melcard;
-use mc_base::{StdSink, StdSource, Steps};
+use mc_base::{NoMemory, StdSink, StdSource, Steps};
 use mc_nvm::SimNvm;
+use std::alloc::Global;
 use std::io::ErrorKind;
 use std::marker::Brand;
 use std::process::ExitCode;
@@ -41,6 +43,13 @@ fn words(rt: &HostRuntime) -> io::Result<Vec<String>> {
         words.push(word)?;
     }
     Ok(words)
+}
+
+// A blank device of 8,192 words.
+fn blank_device(alloc: Global) -> Result<SimNvm, NoMemory>
+    ensures { IfOk result (λ device. device ≡ blank_sim 8192) }
+{
+    SimNvm::new(alloc, DEVICE_WORDS)
 }
 
 // Runs the job over the standard streams and a blank device.
@@ -61,7 +70,7 @@ fn program<L: Ledger>(rt: &HostRuntime, blank: Blank) -> u8
             Vec::new(alloc)
         }
     };
-    let Ok(mut device) = SimNvm::new(alloc, DEVICE_WORDS) else {
+    let Ok(mut device) = blank_device(alloc) else {
         return 5;
     };
     let mut input = StdSource::new(rt.stdin());

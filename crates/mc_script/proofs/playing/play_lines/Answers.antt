@@ -13,7 +13,7 @@ use Rattle.mc_script.proofs.playing.play_lines.Goals as goal
 -- the script is the same over its sink behind a line
 pub returns-then-is_err-clause-same : goal.returns-then-is_err-clause-same
 returns-then-is_err-clause-same g c =
-    let line = c.line-next.ensures.done c.loop-i.invariant.reached.here 0 c.loop-i.invariant.reached.at in
+    let line = c.line-answer.ensures.done c.loop-i.invariant.reached.here 0 c.loop-i.invariant.reached.at in
     g.met.S.Script.further _ _ _ c.loop-i.invariant.same (g.met.S.Script.further _ _ _ (g.met.S.Script.kept _ _ _ line.1.tells) c.tell.ensures.same)
 
 pub returns-then-is_err-clause-plays : goal.returns-then-is_err-clause-plays
@@ -28,7 +28,7 @@ returns-then-is_err-clause-plays g c =
     let reached = subst (λ (left : List (ℕ × DeckLine)). Reached state bench (text_by g.S.Script.text) (start (state c.args.device).words) deck a (out c.args.script.now) left c.loop-i.player (out c.loop-i.script)) here c.loop-i.invariant.reached in
     let failed : is_err (ended (g.S.Script.fault c.tell.new.self)) ≡ true = search rules in
     subst (λ d. PlaysFrom (text_by g.S.Script.text) (start (state c.args.device).words) deck a (out c.args.script.now) (ended (g.S.Script.fault c.tell.new.self)) (record { device = state d; bench = bench d }) (out c.tell.new.self)) (sym c.into_dev.ensures)
-    (reached_failed state bench g.S.Runner.told g.S.Script.text (start (state c.args.device).words) deck a (out c.args.script.now) (out c.loop-i.script) (out c.tell.new.self) (drop (c.loop-i.i + 1) deck) line.0 (line_of line.1) c.loop-i.player c.line-next.result.0 c.loop-i.script c.line-next.new.runner c.line-next.result.1 (ended (g.S.Script.fault c.tell.new.self)) failed reached c.line-next.ensures.done (λ ts told. c.tell.ensures.tells c.loop-i.script ts c.loop-i.invariant.fault told))
+    (reached_failed state bench g.S.Runner.told g.S.Script.text (start (state c.args.device).words) deck a (out c.args.script.now) (out c.loop-i.script) (out c.tell.new.self) (drop (c.loop-i.i + 1) deck) line.0 (line_of line.1) c.loop-i.player c.line-answer.new.self c.loop-i.script c.line-answer.new.runner c.line-answer.result (ended (g.S.Script.fault c.tell.new.self)) failed reached c.line-answer.ensures.done (λ ts told. c.tell.ensures.tells c.loop-i.script ts c.loop-i.invariant.fault told))
 
 pub loop-i-preserved : goal.loop-i-preserved
 loop-i-preserved g c =
@@ -41,12 +41,12 @@ loop-i-preserved g c =
     let here = next_line deck c.loop-i.i line.0 (line_of line.1) c.line-number.ensures.line in
     let reached = subst (λ (left : List (ℕ × DeckLine)). Reached state bench (text_by g.S.Script.text) (start (state c.args.device).words) deck a (out c.args.script.now) left c.loop-i.player (out c.loop-i.script)) here c.loop-i.invariant.reached in
     let written : is_err (ended (g.S.Script.fault c.tell.new.self)) ≡ false = search rules in
-    let done = c.line-next.ensures.done c.loop-i.invariant.reached.here 0 c.loop-i.invariant.reached.at in
+    let done = c.line-answer.ensures.done c.loop-i.invariant.reached.here 0 c.loop-i.invariant.reached.at in
     record {
       reached =
-          reached_written state bench g.S.Runner.told g.S.Script.text (start (state c.args.device).words) deck a (out c.args.script.now) (out c.loop-i.script) (out c.tell.new.self) (drop (c.loop-i.i + 1) deck) line.0 (line_of line.1) c.loop-i.player c.line-next.result.0 c.loop-i.script c.line-next.new.runner c.line-next.result.1 (ended (g.S.Script.fault c.tell.new.self)) written reached c.line-next.ensures.done (λ ts told. c.tell.ensures.tells c.loop-i.script ts c.loop-i.invariant.fault told);
+          reached_written state bench g.S.Runner.told g.S.Script.text (start (state c.args.device).words) deck a (out c.args.script.now) (out c.loop-i.script) (out c.tell.new.self) (drop (c.loop-i.i + 1) deck) line.0 (line_of line.1) c.loop-i.player c.line-answer.new.self c.loop-i.script c.line-answer.new.runner c.line-answer.result (ended (g.S.Script.fault c.tell.new.self)) written reached c.line-answer.ensures.done (λ ts told. c.tell.ensures.tells c.loop-i.script ts c.loop-i.invariant.fault told);
       fault = no_fault (g.S.Script.fault c.tell.new.self) written;
-      lent = g.met.N.Nvm.onward _ _ _ c.loop-i.invariant.lent c.line-next.ensures.lent;
+      lent = g.met.N.Nvm.onward _ _ _ c.loop-i.invariant.lent c.line-answer.ensures.lent;
       same = g.met.S.Script.further _ _ _ c.loop-i.invariant.same (g.met.S.Script.further _ _ _ (g.met.S.Script.kept _ _ _ done.1.tells) c.tell.ensures.same);
     }
 
@@ -64,5 +64,10 @@ returns-clause-plays g c =
     subst (λ d. PlaysFrom (text_by g.S.Script.text) (start (state c.args.device).words) deck a (out c.args.script.now) (ended (g.S.Script.fault c.loop-i.script)) (record { device = state d; bench = bench d }) (out c.loop-i.script)) (sym c.into_dev-2.ensures)
     (subst (λ (r : Result (Unit {0}) WriteFault). PlaysFrom (text_by g.S.Script.text) (start (state c.args.device).words) deck a (out c.args.script.now) r (record { device = state (device_of c.loop-i.player); bench = bench (device_of c.loop-i.player) }) (out c.loop-i.script)) good whole)
 
-pub line-next-requires-clause-playing : goal.line-next-requires-clause-playing
-line-next-requires-clause-playing g c = (c.loop-i.invariant.reached.here, c.loop-i.invariant.reached.at)
+pub line-answer-requires-clause-playing : goal.line-answer-requires-clause-playing
+line-answer-requires-clause-playing g c = (c.loop-i.invariant.reached.here, c.loop-i.invariant.reached.at)
+
+pub tell-requires : goal.tell-requires
+tell-requires g c =
+    let line = c.line-answer.ensures.done c.loop-i.invariant.reached.here 0 c.loop-i.invariant.reached.at in
+    record { playing = (_, line.1.stepped.at) }

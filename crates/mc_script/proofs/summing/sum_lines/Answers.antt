@@ -4,6 +4,7 @@ use Rattle.mc_model.specs.Generator.{results, summary}
 use Rattle.mc_base.specs.declared.refusals.WriteFault.{WriteFault}
 use Rattle.mc_text.specs.Texts.{Puts, sunk_in}
 use Rattle.mc_text.proofs.TextLemmas.{puts_as}
+use Rattle.mc_script.specs.Players.{device_of}
 use Rattle.mc_script.specs.Scripts.{ended}
 use Rattle.mc_script.specs.Plays.{Bench, Played}
 use Rattle.mc_script.proofs.LoggedLemmas.{ended_err}
@@ -17,7 +18,7 @@ returns-clause-sums g c =
     let a : Bench = record { device = state c.args.device; bench = bench c.args.device } in
     let deck = c.args.deck.now in
     let first = start (state c.args.device).words in
-    let t = c.tally-player.ensures.tallied in
+    let t = c.tally-counts.ensures.tallied first c.new-player.ensures.at in
     let steps = plays first deck t.worn in
     let before = sunk_in g.T.Sink.taken g.T.Sink.faults c.args.script.now.out.now in
     let after = sunk_in g.T.Sink.taken g.T.Sink.faults c.put_summary.new.out in
@@ -25,6 +26,14 @@ returns-clause-sums g c =
     let text = puts_as before after c.put_summary.result (summary_is first deck t.worn c.requires.dumps) (c.put_summary.ensures (last_state first steps) (results steps) t.at t.counted) in
     record {
       worn = t.worn;
-      played = subst (λ d. Played first deck t.worn a (record { device = state d; bench = bench d })) (sym c.into_dev.ensures) t.played;
+      played =
+          subst (λ d. Played first deck t.worn a (record { device = state d; bench = bench d })) (sym c.into_dev.ensures)
+          (subst (λ d. Played first deck t.worn (record { device = state d; bench = bench d }) (record { device = state (device_of c.tally-counts.new.player); bench = bench (device_of c.tally-counts.new.player) })) c.new-player.ensures.device t.played);
       text = subst (λ (r : Result (Unit {0}) WriteFault). Puts before (summary steps) r after) is text;
     }
+
+pub tally-counts-requires : goal.tally-counts-requires
+tally-counts-requires g c = (_, c.new-player.ensures.at)
+
+pub put_summary-requires : goal.put_summary-requires
+put_summary-requires g c = let t = c.tally-counts.ensures.tallied _ c.new-player.ensures.at in (_, t.at)

@@ -1,8 +1,7 @@
 use Rattle.std.proofs.Common.{ℕ, ◌+◌, List, ◌≤◌, drop, length, subst, rules}
 use Rattle.mc_model.specs.DeckGrammar.{DeckLine}
-use Rattle.mc_model.specs.Play.{start}
 use Rattle.mc_deck.specs.Lines.{line_of}
-use Rattle.mc_script.specs.Plays.{Bench}
+use Rattle.mc_script.specs.Lines.{bench_of}
 use Rattle.mc_script.proofs.DeckLemmas.{next_line, no_line}
 use Rattle.mc_script.proofs.SumLemmas.{Counting, counting_on, counting_end}
 use Rattle.mc_script.proofs.summing.tally.Goals as goal
@@ -11,26 +10,28 @@ pub loop-i-preserved : goal.loop-i-preserved
 loop-i-preserved g c =
     let state = g.N.Nvm.state in
     let bench = g.N.Bench.bench in
-    let a : Bench = record { device = state c.args.device; bench = bench c.args.device } in
+    let a = bench_of state bench c.args.player.now in
     let deck = c.args.deck.now in
-    let first = start (state c.args.device).words in
     let line = c.line-number.result in
     let here = next_line deck c.loop-i.i line.0 (line_of line.1) c.line-number.ensures.line in
-    let h = subst (λ (left : List (ℕ × DeckLine)). Counting state bench first deck a left c.loop-i.player c.loop-i.counts c.loop-i.i) here c.loop-i.invariant.counting in
     record {
       counting =
-          counting_on state bench _ first deck a (drop (c.loop-i.i + 1) deck) line.0 (line_of line.1) c.loop-i.player c.line-next.result.0 c.loop-i.counts c.counted-counts.result c.loop-i.i _ _ c.line-next.result.1 h c.line-next.ensures.done
+          λ s at.
+          let h = subst (λ (left : List (ℕ × DeckLine)). Counting state bench s deck a left c.loop-i.player c.loop-i.counts c.loop-i.i) here (c.loop-i.invariant.counting s at) in
+          counting_on state bench _ s deck a (drop (c.loop-i.i + 1) deck) line.0 (line_of line.1) c.loop-i.player c.line-answer.new.self c.loop-i.counts c.counted-counts.result c.loop-i.i _ _ c.line-answer.result h c.line-answer.ensures.done
           (c.counted-counts.ensures h.done h.counted);
-      lent = g.met.N.Nvm.onward _ _ _ c.loop-i.invariant.lent c.line-next.ensures.lent;
+      lent = g.met.N.Nvm.onward _ _ _ c.loop-i.invariant.lent c.line-answer.ensures.lent;
     }
 
 pub returns-clause-tallied : goal.returns-clause-tallied
-returns-clause-tallied g c =
+returns-clause-tallied g c s at =
     let state = g.N.Nvm.state in
     let bench = g.N.Bench.bench in
-    let a : Bench = record { device = state c.args.device; bench = bench c.args.device } in
+    let a = bench_of state bench c.args.player.now in
     let deck = c.args.deck.now in
-    let first = start (state c.args.device).words in
     let all : length deck ≤ c.loop-i.i = search rules in
-    counting_end state bench first deck a c.loop-i.player c.loop-i.counts c.loop-i.i
-    (subst (λ (left : List (ℕ × DeckLine)). Counting state bench first deck a left c.loop-i.player c.loop-i.counts c.loop-i.i) (no_line deck c.loop-i.i all) c.loop-i.invariant.counting)
+    counting_end state bench s deck a c.loop-i.player c.loop-i.counts c.loop-i.i
+    (subst (λ (left : List (ℕ × DeckLine)). Counting state bench s deck a left c.loop-i.player c.loop-i.counts c.loop-i.i) (no_line deck c.loop-i.i all) (c.loop-i.invariant.counting s at))
+
+pub line-answer-requires-clause-playing : goal.line-answer-requires-clause-playing
+line-answer-requires-clause-playing g c = let h = c.loop-i.invariant.counting c.requires.0 c.requires.1 in (h.here, h.at)

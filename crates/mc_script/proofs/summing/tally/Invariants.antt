@@ -1,13 +1,16 @@
 use Rattle.std.proofs.Common.{drop}
-use Rattle.mc_model.specs.Play.{start}
-use Rattle.mc_script.specs.Players.{device_of}
+use Rattle.mc_model.specs.Play.{State}
+use Rattle.mc_script.specs.Players.{device_of, IsAt}
+use Rattle.mc_script.specs.Lines.{bench_of}
 use Rattle.mc_script.proofs.SumLemmas.{Counting}
 use Rattle.mc_script.proofs.summing.tally.Given as goal
 
 -- whatever the lines that are left play from here, the whole deck plays from the start
 abbrev pub invariant-loop-i : goal.invariant-loop-i
 invariant-loop-i g l =
+    let state = g.N.Nvm.state in
+    let bench = g.N.Bench.bench in
     record {
-      counting : Counting g.N.Nvm.state g.N.Bench.bench (start (g.N.Nvm.state l.fn.device).words) l.deck (record { device = g.N.Nvm.state l.fn.device; bench = g.N.Bench.bench l.fn.device }) (drop l.i l.deck) l.player l.counts l.i;
-      lent : g.N.Nvm.same l.fn.device (device_of l.player);
+      counting : (s : State) → IsAt state bench l.fn.player s → Counting state bench s l.deck (bench_of state bench l.fn.player) (drop l.i l.deck) l.player l.counts l.i;
+      lent : g.N.Nvm.same (device_of l.fn.player) (device_of l.player);
     }

@@ -13,7 +13,7 @@ pub returns-then-is_none-clause-tells : goal.returns-then-is_none-clause-tells
 returns-then-is_none-clause-tells g c before ts none told =
     let at = sunk_in g.T.Sink.taken g.T.Sink.faults before.out.now in
     let now = sunk_in g.T.Sink.taken g.T.Sink.faults c.put_answer.new.out in
-    let line = line_text c.args.number (option_map answer_value c.args.answer.now) in
+    let line = line_text c.args.number (option_map (answer_value g.N.Nvm.state c.args.player.now) c.args.answer.now) in
     let free : c.args.self.now.fault ≡ None = search rules in
     let is = sym (ap ended c.err-self.ensures.value ∙ ended_err c.put_answer.result) in
     subst (λ (r : Result (Unit {0}) WriteFault). Puts at (turn_lines ts ++ line) r now) is

@@ -1,0 +1,146 @@
+-- Plays of lines put together, for those who play decks line by line: what a play led to, one more line, and the whole play with its laws.
+use Rattle.std.proofs.Common.{◌≡◌, ℕ, List, [], ◌∷◌, ◌++◌, length, Option, refl, arith, sym, ap, subst, ◌∙◌, append_assoc, append-nil, length-append}
+use Rattle.mc_model.specs.Device.{DeviceState, BenchState}
+use Rattle.mc_model.specs.Chain.{Turn}
+use Rattle.mc_model.specs.DeckGrammar.{DeckLine}
+use Rattle.mc_model.specs.Laws.{HoldsOf}
+use Rattle.mc_model.specs.Play.{State, WornAt, Step, step, plays, start, last_state, Stands}
+use Rattle.mc_family.proofs.PlayLaw.{play_law}
+use Rattle.mc_script.specs.declared.answer.Answer.{Answer}
+use Rattle.mc_script.specs.declared.player.Player.{Player}
+use Rattle.mc_script.specs.Players.{IsUnfused, IsAt}
+use Rattle.mc_script.specs.Plays.{Bench, PlayedLine, Played, LeadsTo}
+use Rattle.mc_script.specs.Lines.{bench_of, LineDone, DeckPlayed}
+use Rattle.mc_script.proofs.PlayLemmas.{plays_on, plays_none, played_none, played_on}
+use Rattle.mc_script.proofs.LineLemmas.{player_stands}
+
+-- ---- steps
+
+-- the state behind lines, and behind more of them
+pub last_append : (s : State) (ts us : List Step) → last_state s (ts ++ us) ≡ last_state (last_state s ts) us
+last_append s [] us = refl
+last_append s (t ∷ ts) us = last_append t.after ts us
+
+-- the steps of lines, and of those behind them
+pub plays_append : (s : State) (ls ks : List (ℕ × DeckLine)) (ws vs : List (Option WornAt)) → length ws ≡ length ls → plays s (ls ++ ks) (ws ++ vs) ≡ plays s ls ws ++ plays (last_state s (plays s ls ws)) ks vs
+plays_append s [] ks [] vs many =
+    ap (λ (ts : List Step). ts ++ plays (last_state s ts) ks vs) (sym (plays_none s))
+plays_append s [] ks (w ∷ ws) vs many = absurd (cc many)
+plays_append s (l ∷ ls) ks [] vs many = absurd (cc many)
+plays_append s (l ∷ ls) ks (w ∷ ws) vs many =
+    let t = step s l w in
+    let rest = plays_append t.after ls ks ws vs (omega (arith, many)) in
+    let first = plays_on s l w ls ws in
+    plays_on s l w (ls ++ ks) (ws ++ vs)
+    ∙ ap (λ (ts : List Step). t ∷ ts) rest
+    ∙ ap (λ (ts : List Step). ts ++ plays (last_state s ts) ks vs) (sym first)
+
+-- ---- what a play leads to
+
+-- no line was played
+pub leads_none : (s : State) (a : Bench) → LeadsTo s [] [] a s a
+leads_none s a = record { many = refl; last = ap (λ (ts : List Step). last_state s ts) (sym (plays_none s)); rest = λ ks vs c h. h }
+
+-- one more line was played
+pub leads_on : (s : State) (ls : List (ℕ × DeckLine)) (ws : List (Option WornAt)) (a : Bench) (u : State) (b : Bench) (l : ℕ × DeckLine) (w : Option WornAt) (c : Bench) → LeadsTo s ls ws a u b
+    → PlayedLine u l w (step u l w) b c → LeadsTo s (ls ++ l ∷ []) (ws ++ w ∷ []) a (step u l w).after c
+leads_on s ls ws a u b l w c h line =
+    let one : plays u (l ∷ []) (w ∷ []) ≡ step u l w ∷ [] = plays_on u l w [] [] ∙ ap (λ (ts : List Step). step u l w ∷ ts) (plays_none (step u l w).after) in
+    let x = length-append ws (w ∷ []) in
+    let y = length-append ls (l ∷ []) in
+    let z = h.many in
+    record {
+      many = omega (arith, x, y, z);
+      last =
+          sym (ap (λ (ts : List Step). last_state s ts) (plays_append s ls (l ∷ []) ws (w ∷ []) h.many)
+          ∙ last_append s (plays s ls ws) (plays (last_state s (plays s ls ws)) (l ∷ []) (w ∷ []))
+          ∙ ap (λ (v : State). last_state v (plays v (l ∷ []) (w ∷ []))) (sym h.last)
+          ∙ ap (λ (ts : List Step). last_state u ts) one);
+      rest = λ ks vs d played.
+          subst (λ (k : List (ℕ × DeckLine)). Played s k ((ws ++ w ∷ []) ++ vs) a d) (sym (append_assoc ls (l ∷ []) ks))
+          (subst (λ (v : List (Option WornAt)). Played s (ls ++ l ∷ ks) v a d) (sym (append_assoc ws (w ∷ []) vs)) (h.rest (l ∷ ks) (w ∷ vs) d (played_on u l w ks vs b c d line played)));
+    }
+
+-- lines were played behind lines
+pub leads_then : (s : State) (ls : List (ℕ × DeckLine)) (ws : List (Option WornAt)) (a : Bench) (u : State) (b : Bench) (ks : List (ℕ × DeckLine)) (vs : List (Option WornAt)) (t : State) (c : Bench)
+    → LeadsTo s ls ws a u b → LeadsTo u ks vs b t c → LeadsTo s (ls ++ ks) (ws ++ vs) a t c
+leads_then s ls ws a u b ks vs t c h k =
+    let x = length-append ws vs in
+    let y = length-append ls ks in
+    let z = h.many in
+    let q = k.many in
+    record {
+      many = omega (arith, x, y, z, q);
+      last =
+          k.last
+          ∙ sym (ap (λ (ts : List Step). last_state s ts) (plays_append s ls ks ws vs h.many)
+          ∙ last_append s (plays s ls ws) (plays (last_state s (plays s ls ws)) ks vs)
+          ∙ ap (λ (v : State). last_state v (plays v ks vs)) (sym h.last));
+      rest = λ js us d played.
+          subst (λ (i : List (ℕ × DeckLine)). Played s i ((ws ++ vs) ++ us) a d) (sym (append_assoc ls ks js))
+          (subst (λ (i : List (Option WornAt)). Played s (ls ++ (ks ++ js)) i a d) (sym (append_assoc ws vs us)) (h.rest (ks ++ js) (vs ++ us) d (k.rest js us d played)));
+    }
+
+-- the lines that were played so far are a play, with its words, its counts and its tape
+pub leads_played : (s : State) (ls : List (ℕ × DeckLine)) (ws : List (Option WornAt)) (a : Bench) (u : State) (b : Bench) → LeadsTo s ls ws a u b → Stands b.device.words u → IsUnfused b.bench → Played s ls ws a b
+leads_played s ls ws a u b h stands unfused =
+    subst (λ (k : List (ℕ × DeckLine)). Played s k ws a b) (append-nil ls)
+    (subst (λ (v : List (Option WornAt)). Played s (ls ++ []) v a b) (append-nil ws) (h.rest [] [] b (played_none u b stands unfused)))
+
+-- the laws of a play that begins on the words of a device
+pub played_laws : (m : List (List ℕ)) (ls : List (ℕ × DeckLine)) (ws : List (Option WornAt)) (a b : Bench) → Played (start m) ls ws a b → HoldsOf m (plays (start m) ls ws)
+played_laws m ls ws a b h = play_law ls m ws h.possible
+
+module _ {N : Type 0} (state : N → DeviceState) (bench : N → BenchState) where
+  -- the same of a player that stands for the state that was reached
+  pub player_played : (s : State) (ls : List (ℕ × DeckLine)) (ws : List (Option WornAt)) (a : Bench) (u : State) (p : Player N) → LeadsTo s ls ws a u (bench_of state bench p) → IsAt state bench p u
+      → Played s ls ws a (bench_of state bench p)
+  player_played s ls ws a u p h at = leads_played s ls ws a u (bench_of state bench p) h (player_stands state bench p u at) at.unfused
+
+  -- one line of a player
+  pub line_leads : {R : Type 0} (told : R → List Turn → R → Type 0) (p q : Player N) (s : State) (n : ℕ) (l : DeckLine) (before after : R) (answer : Option Answer) → LineDone state bench told p l before after answer q
+      → IsAt state bench p s → (w : Option WornAt) × LeadsTo s ((n, l) ∷ []) (w ∷ []) (bench_of state bench p) (step s (n, l) w).after (bench_of state bench q) × IsAt state bench q (step s (n, l) w).after
+  line_leads told p q s n l before after answer done at =
+      let line = done s n at in
+      let w = line.0 in
+      let end = line.1.stepped in
+      (w, leads_on s [] [] (bench_of state bench p) s (bench_of state bench p) (n, l) w (bench_of state bench q) (leads_none s (bench_of state bench p)) end.played, end.at)
+
+  -- ---- the loop over the lines of a deck
+
+  -- a player that has played the lines before these, from a state
+  pub record Between (s : State) (ls : List (ℕ × DeckLine)) (a : Bench) (left : List (ℕ × DeckLine)) (p : Player N) : Type 0 where
+    pub front : List (ℕ × DeckLine)
+    pub worn : List (Option WornAt)
+    pub here : State
+    pub are : front ++ left ≡ ls
+    pub at : IsAt state bench p here
+    pub leads : LeadsTo s front worn a here (bench_of state bench p)
+
+  pub between_start : (s : State) (ls : List (ℕ × DeckLine)) (p : Player N) → IsAt state bench p s → Between s ls (bench_of state bench p) ls p
+  between_start s ls p at = record { front = []; worn = []; here = s; are = refl; at = at; leads = leads_none s (bench_of state bench p) }
+
+  pub between_on : {R : Type 0} (told : R → List Turn → R → Type 0) (s : State) (ls : List (ℕ × DeckLine)) (a : Bench) (left : List (ℕ × DeckLine)) (n : ℕ) (l : DeckLine) (p q : Player N) (before after : R) (answer : Option Answer)
+      → Between s ls a ((n, l) ∷ left) p → LineDone state bench told p l before after answer q → Between s ls a left q
+  between_on told s ls a left n l p q before after answer h done =
+      let line = done h.here n h.at in
+      let w = line.0 in
+      let end = line.1.stepped in
+      record {
+        front = h.front ++ (n, l) ∷ [];
+        worn = h.worn ++ w ∷ [];
+        here = (step h.here (n, l) w).after;
+        are = append_assoc h.front ((n, l) ∷ []) left ∙ h.are;
+        at = end.at;
+        leads = leads_on s h.front h.worn a h.here (bench_of state bench p) (n, l) w (bench_of state bench q) h.leads end.played;
+      }
+
+  pub between_end : (s : State) (ls : List (ℕ × DeckLine)) (p q : Player N) → Between s ls (bench_of state bench p) [] q → DeckPlayed state bench p s ls q
+  between_end s ls p q h =
+      let are : h.front ≡ ls = sym (append-nil h.front) ∙ h.are in
+      record {
+        worn = h.worn;
+        here = h.here;
+        at = h.at;
+        leads = subst (λ (k : List (ℕ × DeckLine)). LeadsTo s k h.worn (bench_of state bench p) h.here (bench_of state bench q)) are h.leads;
+      }

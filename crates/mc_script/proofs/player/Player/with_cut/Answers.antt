@@ -1,6 +1,0 @@
-use Rattle.std.proofs.Common.{rules}
-use Rattle.mc_script.proofs.QuietLemmas.{cut_done}
-use Rattle.mc_script.proofs.player.Player.with_cut.Goals as goal
-
-pub returns-clause-done : goal.returns-clause-done
-returns-clause-done g c = cut_done g.N.Nvm.state g.N.Bench.bench c.args.self c.args.k c.args.fill c.requires (search rules)

@@ -1,0 +1,26 @@
+// All lines of a deck, of which nothing is told.
+ghost use Rattle.std.specs.Prelude.{◌≡◌};
+ghost use Rattle.mc_model.specs.Play.{State};
+ghost use Rattle.mc_script.specs.Players.{device_of, IsAt, IsPlaying};
+ghost use Rattle.mc_script.specs.Lines.{DeckPlayed};
+
+use crate::player::Player;
+use crate::runner::Silent;
+use mc_base::Steps;
+use mc_deck::Deck;
+use mc_nvm::Bench;
+use std::sync::ledger::Ledger;
+
+impl<N: Bench> Player<N> {
+    /// Plays all lines of a deck, and tells nothing of them.
+    pub fn deck<L: Ledger>(&mut self, deck: &Deck, steps: &mut Steps<L>)
+        requires playing { IsPlaying N.state N.bench self.old }
+        ensures done { (s : State) → IsAt N.state N.bench self.old s → DeckPlayed N.state N.bench self.old s deck.now self.new }
+        ensures lent { N.same (device_of self.old) (device_of self.new) }
+    {
+        for i in 0..deck.len() {
+            let (_number, line) = deck.line(i);
+            let _answer = self.line(&line, &mut Silent, steps);
+        }
+    }
+}

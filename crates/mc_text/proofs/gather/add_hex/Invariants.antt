@@ -1,0 +1,11 @@
+use Rattle.std.proofs.Common.{◌≡◌, ◌+◌, ◌*◌, ◌++◌, length, drop}
+use Rattle.mc_model.specs.Transcript.{hex_text}
+use Rattle.mc_text.proofs.gather.add_hex.Given as goal
+
+-- the digits so far and those of what is left are those of all, behind what the text had, and there is room for them
+abbrev pub invariant-loop-byte : goal.invariant-loop-byte
+invariant-loop-byte g l =
+    record {
+      told : l.text.items ++ hex_text (drop l.byte-index l.bytes) ≡ l.fn.text.items ++ hex_text l.bytes;
+      room : length l.text.items ≡ length l.fn.text.items + 2 * l.byte-index;
+    }
