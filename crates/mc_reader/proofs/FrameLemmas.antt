@@ -1,0 +1,49 @@
+-- Bytes that are frames, one behind the other.
+use Rattle.std.proofs.Common.{◌≡◌, ℕ, zero, suc, ◌+◌, ◌*◌, ◌/◌, ◌%◌, ◌<◌, ◌≤◌, List, [], ◌∷◌, ◌++◌, length, Some, None, refl, arith, sym, ◌∙◌, ap, append_assoc, append-nil, length-append}
+use Rattle.std.specs.List.{AllByRecursion}
+use Rattle.std.proofs.lemmas.Bool.{le-leb}
+use Rattle.std.proofs.lemmas.List.{take_at, drop_at}
+use Rattle.mc_reader.specs.Frames.{framed, framed_all, first_frame, frames_within, frames_read}
+
+-- the length of a frame fits its two bytes
+abbrev pub Fits : List ℕ → Type 0
+Fits f = length f < 65536
+
+-- a frame before other bytes
+first_framed : (f rest : List ℕ) → Fits f → first_frame (framed f ++ rest) ≡ Some (f, rest)
+first_framed f rest fits =
+    let size : 256 * (length f / 256 % 256) + length f % 256 ≡ length f = omega (arith, fits) in
+    let long : length f ≤ length (f ++ rest) = rw (length-append f rest) (omega arith) in
+    rw (size, le-leb (length f) (length (f ++ rest)) long, take_at f rest (length f) refl, drop_at f rest (length f) refl) refl
+
+-- frames have at least as many bytes as they are
+count_frames : (fs : List (List ℕ)) → length fs ≤ length (framed_all fs)
+count_frames [] = omega arith
+count_frames (f ∷ fs) = rw (length-append f (framed_all fs)) (omega (arith, count_frames fs))
+
+-- frames, and bytes that are less than one more
+frames_whole : (k : ℕ) (fs : List (List ℕ)) (part : List ℕ) → length fs ≤ k → AllByRecursion Fits fs → first_frame part ≡ None → frames_within k (framed_all fs ++ part) ≡ (fs, part)
+unfolding frames_within
+frames_whole zero [] part few fit less = refl
+frames_whole (suc k) [] part few fit less = rw less refl
+frames_whole zero (f ∷ fs) part few fit less = absurd (omega (arith, few))
+frames_whole (suc k) (f ∷ fs) part few fit less =
+    let rest = frames_whole k fs part (omega (arith, few)) fit.1 less in
+    let first : first_frame ((framed f ++ framed_all fs) ++ part) ≡ Some (f, framed_all fs ++ part) =
+    ap first_frame (append_assoc (framed f) (framed_all fs) part) ∙ first_framed f (framed_all fs ++ part) fit.0 in
+    rw (first, rest) refl
+
+-- what was taken, frame by frame
+pub frames_are : (fs : List (List ℕ)) (part : List ℕ) → AllByRecursion Fits fs → first_frame part ≡ None → frames_read (framed_all fs ++ part) ≡ (fs, part)
+frames_are fs part fit less =
+    let count : length fs ≤ length (framed_all fs ++ part) = rw (length-append (framed_all fs) part) (omega (arith, count_frames fs)) in
+    frames_whole (length (framed_all fs ++ part)) fs part count fit less
+
+-- one frame more
+pub framed_more : (fs : List (List ℕ)) (f : List ℕ) → framed_all (fs ++ f ∷ []) ≡ framed_all fs ++ framed f
+framed_more [] f = append-nil (framed f)
+framed_more (g ∷ fs) f = ap (λ t. framed g ++ t) (framed_more fs f) ∙ sym (append_assoc (framed g) (framed_all fs) (framed f))
+
+pub fits_more : (fs : List (List ℕ)) (f : List ℕ) → AllByRecursion Fits fs → Fits f → AllByRecursion Fits (fs ++ f ∷ [])
+fits_more [] f all fits = (fits, all)
+fits_more (g ∷ fs) f all fits = (all.0, fits_more fs f all.1 fits)

@@ -1,0 +1,6 @@
+pub mod ReadingLemmas
+pub mod FrameLemmas
+pub mod AnswerLemmas
+pub mod ServingLemmas
+pub mod LoopLemmas
+pub mod SessionLemmas

@@ -1,0 +1,146 @@
+-- One frame that was served, and the frames behind it.
+use Rattle.std.proofs.Common.{◌≡◌, ℕ, ◌+◌, Bool, List, [], ◌∷◌, ◌++◌, drop, Option, Some, None, Result, refl, sym, ◌∙◌, ap, subst}
+use Rattle.std.specs.Prelude.{option_map}
+use Rattle.mc_model.specs.Device.{DeviceState, BenchState}
+use Rattle.mc_model.specs.DeckGrammar.{DeckLine}
+use Rattle.mc_model.specs.DeckGrammar as line
+use Rattle.mc_model.specs.Play.{State, WornAt, Step, LineResult, Stands, step, plays}
+use Rattle.mc_base.specs.declared.refusals.WriteFault.{WriteFault}
+use Rattle.mc_text.specs.Texts.{Sunk, Puts}
+use Rattle.mc_script.specs.declared.answer.Answer.{Answer}
+use Rattle.mc_script.specs.declared.player.Player.{Player}
+use Rattle.mc_script.specs.Players.{answer_value, IsAt, IsUnfused}
+use Rattle.mc_script.specs.Plays.{Bench, Played}
+use Rattle.mc_script.specs.Lines.{bench_of}
+use Rattle.mc_script.proofs.PlayLemmas.{plays_on, played_on, played_none}
+use Rattle.mc_reader.specs.Meanings.{Meaning, PowerOn, PowerOff, WantsAtr, Nothing, Orders, Refused, ToCard, Unheard, meaning, power_after}
+use Rattle.mc_reader.specs.Lines.{line_in, numbered, number_after, lines_of}
+use Rattle.mc_reader.specs.Answers.{result_bytes, answer_to, first_result, steps_behind, answer_each}
+use Rattle.mc_reader.specs.Results.{replied, sent}
+use Rattle.mc_reader.specs.Serving.{Moves, PlaysLine, ServesFrame, ServedFrames}
+use Rattle.mc_reader.proofs.AnswerLemmas.{answer_is}
+
+-- ---- one frame
+
+module _ {N : Type 0} (state : N → DeviceState) (bench : N → BenchState) where
+  -- a frame without a line
+  without_line : (p q : Player N) (s : State) (n : ℕ) (m : Meaning) (x y : Sunk) (r : Result (Unit {0}) WriteFault) → line_in m ≡ None
+      → IsAt state bench p s → q ≡ p → Puts x (sent (answer_to m None)) r y → ServesFrame state bench p s n m x r q y
+  without_line p q s n m x y r none at same puts =
+      record {
+        after = s;
+        at = subst (λ v. IsAt state bench v s) (sym same) at;
+        told = None;
+        moves = subst (λ (o : Option DeckLine). Moves s n o (bench_of state bench p) None s (bench_of state bench q)) (sym none) (refl, ap (bench_of state bench) same);
+        puts = puts;
+      }
+
+  -- a frame with a line, whose answer is due by the line's result
+  with_line : (p q : Player N) (s : State) (n : ℕ) (m : Meaning) (l : DeckLine) (answer : Option Answer) (x y : Sunk) (r : Result (Unit {0}) WriteFault) → line_in m ≡ Some l
+      → IsAt state bench p s → PlaysLine state bench p (Some l) answer q → Puts x (sent (answer_to m (option_map (answer_value state q) answer))) r y → ServesFrame state bench p s n m x r q y
+  with_line p q s n m l answer x y r some at plays puts =
+      let done = plays s (n + 1) at in
+      let t = step s (n + 1, l) done.0 in
+      record {
+        after = t.after;
+        at = done.1.at;
+        told = t.result;
+        moves = subst (λ (o : Option DeckLine). Moves s n o (bench_of state bench p) t.result t.after (bench_of state bench q)) (sym some) (done.0, done.1.played, refl, refl);
+        puts = subst (λ (o : Option LineResult). Puts x (sent (answer_to m o)) r y) done.1.answers puts;
+      }
+
+  -- a frame whose line was played, and whose answer was written
+  pub frame_served : (p q : Player N) (s : State) (n : ℕ) (m : Meaning) (answer : Option Answer) (x y : Sunk) (r : Result (Unit {0}) WriteFault)
+      → IsAt state bench p s → PlaysLine state bench p (line_in m) answer q → Puts x (sent (replied m q.outcome answer)) r y → ServesFrame state bench p s n m x r q y
+  frame_served p q s n PowerOn answer x y r at plays puts = with_line p q s n PowerOn line.Power answer x y r refl at plays puts
+  frame_served p q s n PowerOff answer x y r at plays puts = without_line p q s n PowerOff x y r refl at plays puts
+  frame_served p q s n WantsAtr answer x y r at plays puts = without_line p q s n WantsAtr x y r refl at plays puts
+  frame_served p q s n Nothing answer x y r at plays puts = without_line p q s n Nothing x y r refl at plays puts
+  frame_served p q s n (Orders l) answer x y r at plays puts = with_line p q s n (Orders l) l answer x y r refl at plays puts
+  frame_served p q s n (Refused w) answer x y r at plays puts = without_line p q s n (Refused w) x y r refl at plays puts
+  frame_served p q s n (ToCard f) answer x y r at plays puts =
+      with_line p q s n (ToCard f) (line.Apdu f) answer x y r refl at plays
+      (subst (λ (t : List ℕ). Puts x (sent (Some t)) r y) (sym (answer_is state q answer)) puts)
+  frame_served p q s n Unheard answer x y r at plays puts = without_line p q s n Unheard x y r refl at plays puts
+
+-- ---- a frame, and those behind it
+
+-- no frame
+pub frames_none : (s : State) (n : ℕ) (powered : Bool) (a : Bench) → Stands a.device.words s → IsUnfused a.bench → ServedFrames s n powered [] a [] a
+frames_none s n powered a stands unfused = record { worn = []; played = played_none s a stands unfused; answers = refl }
+
+-- the lines of frames behind one with a meaning, and what it and they are answered
+record ServedBehind (s : State) (n : ℕ) (powered : Bool) (m : Meaning) (fs : List (List ℕ)) (a : Bench) (os : List (Option (List ℕ))) (c : Bench) : Type 0 where
+  worn : List (Option WornAt)
+  played : Played s (numbered n (line_in m) ++ lines_of (number_after n (line_in m)) (power_after powered m) fs) worn a c
+  answers :
+      let ts = plays s (numbered n (line_in m) ++ lines_of (number_after n (line_in m)) (power_after powered m) fs) worn in
+      os ≡ answer_to m (first_result ts) ∷ answer_each (power_after powered m) fs (steps_behind (line_in m) ts)
+
+-- behind a frame without a line
+behind_none : (s u : State) (n : ℕ) (q : Bool) (fs : List (List ℕ)) (a b c : Bench) (told : Option LineResult) (os : List (Option (List ℕ)))
+    → Moves s n None a told u b → ServedFrames u n q fs b os c → ServedFrames s n q fs a os c
+behind_none s u n q fs a b c told os m h =
+    subst (λ (v : State). ServedFrames v n q fs a os c) m.0 (subst (λ (d : Bench). ServedFrames u n q fs d os c) m.1 h)
+
+-- behind a line
+record BehindLine (s : State) (n : ℕ) (l : DeckLine) (q : Bool) (fs : List (List ℕ)) (a c : Bench) (told : Option LineResult) (os : List (Option (List ℕ))) : Type 0 where
+  worn : List (Option WornAt)
+  played : Played s ((n + 1, l) ∷ lines_of (n + 1) q fs) worn a c
+  first : told ≡ first_result (plays s ((n + 1, l) ∷ lines_of (n + 1) q fs) worn)
+  rest : os ≡ answer_each q fs (drop 1 (plays s ((n + 1, l) ∷ lines_of (n + 1) q fs) worn))
+
+behind_line : (s u : State) (n : ℕ) (l : DeckLine) (q : Bool) (fs : List (List ℕ)) (a b c : Bench) (told : Option LineResult) (os : List (Option (List ℕ)))
+    → Moves s n (Some l) a told u b → ServedFrames u (n + 1) q fs b os c → BehindLine s n l q fs a c told os
+behind_line s u n l q fs a b c told os m h =
+    let w = m.0 in
+    let t = step s (n + 1, l) w in
+    let rest : ServedFrames t.after (n + 1) q fs b os c = subst (λ (v : State). ServedFrames v (n + 1) q fs b os c) m.3 h in
+    let e = plays_on s (n + 1, l) w (lines_of (n + 1) q fs) rest.worn in
+    record {
+      worn = w ∷ rest.worn;
+      played = played_on s (n + 1, l) w (lines_of (n + 1) q fs) rest.worn a b c m.1 rest.played;
+      first = m.2 ∙ sym (ap first_result e);
+      rest = rest.answers ∙ sym (ap (λ (ts : List Step). answer_each q fs (drop 1 ts)) e);
+    }
+
+behind : (s u : State) (n : ℕ) (powered : Bool) (m : Meaning) (fs : List (List ℕ)) (a b c : Bench) (told : Option LineResult) (os : List (Option (List ℕ)))
+    → Moves s n (line_in m) a told u b → ServedFrames u (number_after n (line_in m)) (power_after powered m) fs b os c → ServedBehind s n powered m fs a (answer_to m told ∷ os) c
+behind s u n powered PowerOn fs a b c told os m h =
+    let r = behind_line s u n line.Power _ fs a b c told os m h in
+    record { worn = r.worn; played = r.played; answers = ap (λ (qs : List (Option (List ℕ))). None ∷ qs) r.rest }
+behind s u n powered PowerOff fs a b c told os m h =
+    let r = behind_none s u n _ fs a b c told os m h in
+    record { worn = r.worn; played = r.played; answers = ap (λ (qs : List (Option (List ℕ))). None ∷ qs) r.answers }
+behind s u n powered WantsAtr fs a b c told os m h =
+    let r = behind_none s u n _ fs a b c told os m h in
+    record { worn = r.worn; played = r.played; answers = ap (λ (qs : List (Option (List ℕ))). answer_to WantsAtr None ∷ qs) r.answers }
+behind s u n powered Nothing fs a b c told os m h =
+    let r = behind_none s u n _ fs a b c told os m h in
+    record { worn = r.worn; played = r.played; answers = ap (λ (qs : List (Option (List ℕ))). None ∷ qs) r.answers }
+behind s u n powered (Orders l) fs a b c told os m h =
+    let r = behind_line s u n l _ fs a b c told os m h in
+    record { worn = r.worn; played = r.played; answers = ap (λ (qs : List (Option (List ℕ))). answer_to (Orders l) None ∷ qs) r.rest }
+behind s u n powered (Refused w) fs a b c told os m h =
+    let r = behind_none s u n _ fs a b c told os m h in
+    record { worn = r.worn; played = r.played; answers = ap (λ (qs : List (Option (List ℕ))). answer_to (Refused w) None ∷ qs) r.answers }
+behind s u n powered (ToCard f) fs a b c told os m h =
+    let r = behind_line s u n (line.Apdu f) _ fs a b c told os m h in
+    let ts = plays s ((n + 1, line.Apdu f) ∷ lines_of (n + 1) powered fs) r.worn in
+    record {
+      worn = r.worn;
+      played = r.played;
+      answers = ap (λ (o : Option LineResult). Some (result_bytes o) ∷ os) r.first ∙ ap (λ (qs : List (Option (List ℕ))). Some (result_bytes (first_result ts)) ∷ qs) r.rest;
+    }
+behind s u n powered Unheard fs a b c told os m h =
+    let r = behind_none s u n _ fs a b c told os m h in
+    record { worn = r.worn; played = r.played; answers = ap (λ (qs : List (Option (List ℕ))). Some [] ∷ qs) r.answers }
+
+-- a frame that was served, and those behind it
+pub frames_on : (s u : State) (n : ℕ) (powered : Bool) (f : List ℕ) (fs : List (List ℕ)) (a b c : Bench) (told : Option LineResult) (os : List (Option (List ℕ)))
+    → Moves s n (line_in (meaning powered f)) a told u b
+    → ServedFrames u (number_after n (line_in (meaning powered f))) (power_after powered (meaning powered f)) fs b os c
+    → ServedFrames s n powered (f ∷ fs) a (answer_to (meaning powered f) told ∷ os) c
+frames_on s u n powered f fs a b c told os m h =
+    let r = behind s u n powered (meaning powered f) fs a b c told os m h in
+    record { worn = r.worn; played = r.played; answers = r.answers }

@@ -1,0 +1,21 @@
+use Rattle.std.proofs.Common.{rules, MutBor, sym, ap, ◌∙◌}
+use Rattle.mc_reader.specs.Lines.{last_number}
+use Rattle.mc_reader.proofs.SessionLemmas.{served_session}
+use Rattle.mc_reader.proofs.serving.serve.Goals as goal
+
+pub serve_frames-result-requires-clause-playing : goal.serve_frames-result-requires-clause-playing
+serve_frames-result-requires-clause-playing g c =
+    let deck = c.deck.ensures.done _ c.new-player.ensures.at in
+    (deck.here, deck.at)
+
+-- the device that is handed back is the one that was lent
+pub returns : goal.returns
+returns g c =
+    let deck = c.deck.ensures.done _ c.new-player.ensures.at in
+    let served = c.serve_frames-result.ensures.served deck.here (last_number c.args.deck.now) deck.at in
+    let ghost = λ (d : MutBor g.row.N.Denot). d.ghost_name in
+    let name = sym (ap ghost c.new-player.ensures.device) ∙ sym c.deck.ensures.lent.1 ∙ sym c.serve_frames-result.ensures.lent.1 ∙ sym (ap ghost c.into_dev-dev.ensures) in
+    let back = sym c.into_dev-dev.ensures in
+    let device = ap (λ (d : MutBor g.row.N.Denot). g.N.Nvm.state d.now) back in
+    let bench = ap (λ (d : MutBor g.row.N.Denot). g.N.Bench.bench d.now) back in
+    served_session _ _ _ _ _ _ deck.here deck.worn deck.leads served (search rules) (search rules) (device ∙ search (rules, name)) (bench ∙ search (rules, name))

@@ -1,0 +1,20 @@
+-- What a session on a blank device of 256 words answers, from the text of its deck and the bytes of its frames. For worked rows: no
+-- contract rests on it.
+use Rattle.std.specs.Prelude.{ℕ, List, [], Result, Ok, Err}
+use Rattle.mc_model.specs.declared.deck.DeckCause.{DeckCause}
+use Rattle.mc_model.specs.DeckGrammar.{DeckLine, deck_read}
+use Rattle.mc_model_rows.specs.Written.{hex}
+use Rattle.mc_model_rows.specs.Played.{blank_words, steps_on}
+use Rattle.mc_reader.specs.Frames.{framed_all, frames_within, frames_read}
+use Rattle.mc_reader.specs.Lines.{session_lines}
+use Rattle.mc_reader.specs.Answers.{present, session_answers}
+
+-- the answers to frames behind a deck
+abbrev pub answered : Result (List (ℕ × DeckLine)) (ℕ × DeckCause) → List (List ℕ) → List ℕ
+answered (Ok deck) fs = framed_all (present (session_answers deck fs (steps_on (blank_words 256) (session_lines deck fs))))
+answered (Err e) fs = []
+
+-- the same from a deck's text, and from bytes in hexadecimal
+unfoldable pub served : List ℕ → List ℕ → List ℕ
+unfolding deck_read steps_on frames_within
+served deck input = answered (deck_read deck) ((frames_read (hex input)).0)

@@ -1,0 +1,45 @@
+-- Frames of bytes: a length of two bytes, big endian, and so many bytes.
+-- The virtual smart card reader vpcd of the vsmartcard project.
+use Rattle.std.specs.Prelude.{ℕ, zero, suc, ◌+◌, ◌*◌, cond, nat_le, List, [], ◌∷◌, ◌++◌, length, take, drop, Option, Some, None}
+use Rattle.mc_model.specs.Bytes.{bytes2}
+
+-- a frame as it is sent
+abbrev pub framed : List ℕ → List ℕ
+framed f = bytes2 (length f) ++ f
+
+-- frames as they are sent, one behind the other
+abbrev pub framed_all : List (List ℕ) → List ℕ
+framed_all [] = []
+framed_all (f ∷ fs) = framed f ++ framed_all fs
+
+-- the first n bytes and those behind them, where there are so many
+abbrev pub cut_off : ℕ → List ℕ → Option (List ℕ × List ℕ)
+cut_off n bs = cond (nat_le n (length bs)) (Some (take n bs, drop n bs)) None
+
+-- the frame that bytes begin with, and the bytes behind it
+abbrev pub first_frame : List ℕ → Option (List ℕ × List ℕ)
+first_frame [] = None
+first_frame (high ∷ []) = None
+first_frame (high ∷ low ∷ bs) = cut_off (256 * high + low) bs
+
+-- the bytes behind a first frame
+abbrev pub behind : Option (List ℕ × List ℕ) → List ℕ
+behind None = []
+behind (Some p) = p.1
+
+-- a first frame before those behind it, and the bytes that are no whole frame
+abbrev pub with_first : Option (List ℕ × List ℕ) → List ℕ → List (List ℕ) × List ℕ → List (List ℕ) × List ℕ
+with_first None bs rest = ([], bs)
+with_first (Some p) bs rest = (p.0 ∷ rest.0, rest.1)
+
+-- at most n frames that bytes begin with, and the bytes behind them
+unfoldable pub frames_within : ℕ → List ℕ → List (List ℕ) × List ℕ
+frames_within zero bs = ([], bs)
+frames_within (suc n) bs =
+    let first = first_frame bs in
+    let rest = frames_within n (behind first) in
+    with_first first bs rest
+
+-- the frames that bytes are, and the bytes behind the last one, which are none or a part of a frame
+abbrev pub frames_read : List ℕ → List (List ℕ) × List ℕ
+frames_read bs = frames_within (length bs) bs

@@ -1,0 +1,10 @@
+pub mod Frames
+pub mod Meanings
+pub mod Lines
+pub mod Answers
+pub mod Computed
+pub mod Readings
+pub mod Requests
+pub mod Results
+pub mod Sessions
+pub mod Serving

@@ -1,0 +1,39 @@
+-- The lines of a deck that the frames of a session stand for.
+use Rattle.std.specs.Prelude.{ℕ, ◌+◌, Bool, false, List, [], ◌∷◌, ◌++◌, Option, Some, None}
+use Rattle.mc_model.specs.DeckGrammar.{DeckLine}
+use Rattle.mc_model.specs.DeckGrammar as line
+use Rattle.mc_reader.specs.Meanings.{Meaning, PowerOn, Orders, ToCard, meaning, power_after}
+
+-- the line that a frame stands for, if it stands for one
+abbrev pub line_in : Meaning → Option DeckLine
+line_in PowerOn = Some line.Power
+line_in (Orders l) = Some l
+line_in (ToCard f) = Some (line.Apdu f)
+line_in _ = None
+
+-- a line that may be missing, numbered on from n
+abbrev pub numbered : ℕ → Option DeckLine → List (ℕ × DeckLine)
+numbered n None = []
+numbered n (Some l) = (n + 1, l) ∷ []
+
+-- the number of the last line then
+abbrev pub number_after : ℕ → Option DeckLine → ℕ
+number_after n None = n
+number_after n (Some l) = n + 1
+
+-- the lines that frames stand for, numbered on from n, where the card has power at their start or not
+abbrev pub lines_of : ℕ → Bool → List (List ℕ) → List (ℕ × DeckLine)
+lines_of n powered [] = []
+lines_of n powered (f ∷ fs) =
+    let m = meaning powered f in
+    numbered n (line_in m) ++ lines_of (number_after n (line_in m)) (power_after powered m) fs
+
+-- the number of the last of some lines, and 0 where there is none
+abbrev pub last_number : List (ℕ × DeckLine) → ℕ
+last_number [] = 0
+last_number (l ∷ []) = l.0
+last_number (l ∷ k ∷ ls) = last_number (k ∷ ls)
+
+-- the lines of a session: those of its deck, and those of its frames; the card has no power at their start
+abbrev pub session_lines : List (ℕ × DeckLine) → List (List ℕ) → List (ℕ × DeckLine)
+session_lines deck fs = deck ++ lines_of (last_number deck) false fs

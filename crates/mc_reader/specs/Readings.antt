@@ -1,0 +1,42 @@
+-- What a read of one frame takes of a source.
+use Rattle.std.specs.Prelude.{◌≡◌, ℕ, ◌<◌, ◌≤◌, List, [], length, take, Option, Some, None, Result, Ok, Err}
+use Rattle.mc_model.specs.Counts.{Rose}
+use Rattle.mc_base.specs.Streams.{Took, AtEnd}
+use Rattle.mc_reader.specs.Frames.{framed, first_frame}
+use Rattle.mc_reader.specs.declared.reading.FrameFault.{FrameFault}
+use Rattle.mc_reader.specs.declared.reading.FrameFault.TheVariants.{Short, ReadFault}
+
+-- fewer bytes than so many were taken
+pub record TookLess (old new : Option (List ℕ)) (size : ℕ) : Type 0 where
+  pub part : List ℕ
+  pub took : Took old new part
+  pub less : length part < size
+
+-- bytes were taken that are less than a frame
+pub record TookPart (old new : Option (List ℕ)) : Type 0 where
+  pub part : List ℕ
+  pub took : Took old new part
+  pub less : first_frame part ≡ None
+
+-- a frame was taken whole, and stands at the front of the room
+pub record TookFrame (old new : Option (List ℕ)) (room : List ℕ) (size : ℕ) : Type 0 where
+  pub took : Took old new (framed (take size room))
+  pub fits : size ≤ length room
+
+-- the input ended before a frame
+pub record TookNone (old new : Option (List ℕ)) : Type 0 where
+  pub took : Took old new []
+  pub end : AtEnd new
+
+-- the input ended inside a frame
+pub record TookShort (old new : Option (List ℕ)) : Type 0 where
+  pub took : TookPart old new
+  pub some : 0 < length took.part
+  pub end : AtEnd new
+
+-- a read of a frame, by what it says: exactly the frame was taken, or none, or the part of it that came
+abbrev pub Reads : Option (List ℕ) → ℕ → Option (List ℕ) → ℕ → List ℕ → Result (Option ℕ) FrameFault → Type 0
+Reads old a new b room (Ok (Some size)) = TookFrame old new room size
+Reads old a new b room (Ok None) = TookNone old new
+Reads old a new b room (Err Short) = TookShort old new
+Reads old a new b room (Err ReadFault) = TookPart old new × Rose a b

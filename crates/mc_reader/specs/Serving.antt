@@ -1,0 +1,62 @@
+-- What the parts of a session do: one frame, and frames that are served from a state of a play on.
+use Rattle.std.specs.Prelude.{◌≡◌, ℕ, ◌+◌, ◌≤◌, Bool, false, List, Option, Some, None, Result}
+use Rattle.mc_model.specs.Device.{DeviceState, BenchState}
+use Rattle.mc_model.specs.DeckGrammar.{DeckLine}
+use Rattle.mc_model.specs.Play.{State, WornAt, LineResult, step, plays}
+use Rattle.mc_base.specs.Streams.{Took}
+use Rattle.mc_base.specs.declared.refusals.WriteFault.{WriteFault}
+use Rattle.mc_text.specs.Texts.{Sunk, Puts}
+use Rattle.mc_script.specs.declared.answer.Answer.{Answer}
+use Rattle.mc_script.specs.declared.player.Player.{Player}
+use Rattle.mc_script.specs.Players.{IsAt}
+use Rattle.mc_script.specs.Plays.{Bench, PlayedLine, Played}
+use Rattle.mc_script.specs.Lines.{bench_of, Stepped}
+use Rattle.mc_reader.specs.Frames.{frames_read}
+use Rattle.mc_reader.specs.Meanings.{Meaning}
+use Rattle.mc_reader.specs.Lines.{line_in, lines_of}
+use Rattle.mc_reader.specs.Answers.{answer_to, answer_each}
+use Rattle.mc_reader.specs.Results.{sent}
+use Rattle.mc_reader.specs.Sessions.{Around, EndsBy}
+use Rattle.mc_reader.specs.declared.serve_error.ServeError.{ServeError}
+
+-- ---- one frame
+
+-- The line of a frame, if it has one, was played from a state, numbered on from n: its result, and the state behind it.
+abbrev pub Moves : State → ℕ → Option DeckLine → Bench → Option LineResult → State → Bench → Type 0
+Moves s n None a r u b = (u ≡ s) × (b ≡ a)
+Moves s n (Some l) a r u b =
+    (w : Option WornAt) × PlayedLine s (n + 1, l) w (step s (n + 1, l) w) a b × (r ≡ (step s (n + 1, l) w).result) × (u ≡ (step s (n + 1, l) w).after)
+
+module _ {N : Type 0} (state : N → DeviceState) (bench : N → BenchState) where
+  -- a line that may be missing was played, whatever its number; without one nothing changed
+  abbrev pub PlaysLine : Player N → Option DeckLine → Option Answer → Player N → Type 0
+  PlaysLine p None answer q = q ≡ p
+  PlaysLine p (Some l) answer q = (s : State) (n : ℕ) → IsAt state bench p s → (w : Option WornAt) × Stepped state bench p s (n, l) w (step s (n, l) w) answer q
+
+  -- a frame with this meaning was served: its line was played, and its answer was written, whole or up to a fault
+  pub record ServesFrame (p : Player N) (s : State) (n : ℕ) (m : Meaning) (x : Sunk) (result : Result (Unit {0}) WriteFault) (q : Player N) (y : Sunk) : Type 0 where
+    pub after : State
+    pub at : IsAt state bench q after
+    pub told : Option LineResult
+    pub moves : Moves s n (line_in m) (bench_of state bench p) told after (bench_of state bench q)
+    pub puts : Puts x (sent (answer_to m told)) result y
+
+-- ---- frames
+
+-- Frames were served from a state of a play, by power on or off, their lines numbered on from n: they are answered so.
+pub record ServedFrames (s : State) (n : ℕ) (powered : Bool) (fs : List (List ℕ)) (a : Bench) (os : List (Option (List ℕ))) (b : Bench) : Type 0 where
+  pub worn : List (Option WornAt)
+  pub played : Played s (lines_of n powered fs) worn a b
+  pub answers : os ≡ answer_each powered fs (plays s (lines_of n powered fs) worn)
+
+-- The frames of an input were served from a state of a play on, up to the end of the input or up to a fault.
+pub record ServedFrom (s : State) (n : ℕ) (result : Result (Unit {0}) ServeError) (a : Around) : Type 0 where
+  pub frames : List (List ℕ)
+  pub part : List ℕ
+  pub taken : List ℕ
+  pub took : Took a.left_old a.left taken
+  pub read : frames_read taken ≡ (frames, part)
+  pub counted : a.reads_old ≤ a.reads
+  pub answers : List (Option (List ℕ))
+  pub served : ServedFrames s n false frames a.dev_old answers a.dev
+  pub ends : EndsBy frames part answers result a

@@ -1,0 +1,114 @@
+-- A session: a deck is played, and then the frames of a host are served. It is one play of the deck's lines and of those of the frames.
+use Rattle.std.specs.Prelude.{◌≡◌, ◌⊎◌, ℕ, ◌+◌, ◌<◌, ◌≤◌, List, [], ◌∷◌, ◌++◌, length, Option, Some, Result, Ok, Err}
+use Rattle.mc_model.specs.Counts.{last_count, Rose}
+use Rattle.mc_model.specs.DeckGrammar.{DeckLine}
+use Rattle.mc_model.specs.Play.{WornAt, Step, plays, start}
+use Rattle.mc_model.specs.Laws.{HoldsOf}
+use Rattle.mc_base.specs.Streams.{Took, AtEnd, Grew}
+use Rattle.mc_text.specs.Texts.{Sunk}
+use Rattle.mc_script.specs.Plays.{Bench, Played}
+use Rattle.mc_reader.specs.Frames.{framed, framed_all, frames_read}
+use Rattle.mc_reader.specs.Lines.{session_lines}
+use Rattle.mc_reader.specs.Answers.{present, session_answers}
+use Rattle.mc_reader.specs.declared.serve_error.ServeError.{ServeError}
+use Rattle.mc_reader.specs.declared.serve_error.ServeError.TheVariants as fault
+
+-- what source, sink and device tell before and after a session
+pub record Around : Type 0 where
+  pub left_old : Option (List ℕ)
+  pub left : Option (List ℕ)
+  pub reads_old : ℕ
+  pub reads : ℕ
+  pub out_old : Sunk
+  pub out : Sunk
+  pub dev_old : Bench
+  pub dev : Bench
+
+-- ---- what was written
+
+-- the answers were written, each as a frame, in order
+pub record AnswersWritten (x : Sunk) (os : List (Option (List ℕ))) (y : Sunk) : Type 0 where
+  pub whole : Grew x.taken y.taken (framed_all (present os))
+  pub counted : x.faults ≤ y.faults
+
+-- The answer of the last frame was not written whole: those before it were, and a front of its own.
+pub record AnswersCut (x : Sunk) (os : List (Option (List ℕ))) (y : Sunk) : Type 0 where
+  pub before : List (Option (List ℕ))
+  pub last : List ℕ
+  pub are : os ≡ before ++ Some last ∷ []
+  pub front : List ℕ
+  pub back : List ℕ
+  pub parts : framed last ≡ front ++ back
+  pub some_left : 0 < length back
+  pub written : Grew x.taken y.taken (framed_all (present before) ++ front)
+  pub cause : Rose x.faults y.faults
+
+-- ---- how a session ends that served these frames, with this part of one more, and with these answers due
+
+-- The input ended between two frames, or behind as many as can be counted.
+pub record Ends (fs : List (List ℕ)) (part : List ℕ) (os : List (Option (List ℕ))) (a : Around) : Type 0 where
+  pub between : part ≡ []
+  pub end : AtEnd a.left ⊎ (last_count ≤ length fs)
+  pub written : AnswersWritten a.out_old os a.out
+
+-- the input ended inside the frame with this number
+pub record EndsShort (fs : List (List ℕ)) (part : List ℕ) (os : List (Option (List ℕ))) (n : ℕ) (a : Around) : Type 0 where
+  pub some : 0 < length part
+  pub end : AtEnd a.left
+  pub number : n ≡ length fs + 1
+  pub written : AnswersWritten a.out_old os a.out
+
+-- the source failed
+pub record EndsUnread (os : List (Option (List ℕ))) (a : Around) : Type 0 where
+  pub cause : Rose a.reads_old a.reads
+  pub written : AnswersWritten a.out_old os a.out
+
+-- The sink failed. The write of any answer may fail, so that at each of them the frames up to its own were taken and no byte behind them.
+pub record EndsUnwritten (part : List ℕ) (os : List (Option (List ℕ))) (a : Around) : Type 0 where
+  pub between : part ≡ []
+  pub written : AnswersCut a.out_old os a.out
+
+-- how it ends, by its result
+abbrev pub EndsBy : List (List ℕ) → List ℕ → List (Option (List ℕ)) → Result (Unit {0}) ServeError → Around → Type 0
+EndsBy fs part os (Ok u) a = Ends fs part os a
+EndsBy fs part os (Err (fault.Short n)) a = EndsShort fs part os n a
+EndsBy fs part os (Err fault.ReadFault) a = EndsUnread os a
+EndsBy fs part os (Err fault.WriteFault) a = EndsUnwritten part os a
+EndsBy fs part os (Err fault.NoMemory) a = ⊥
+
+-- ---- a session
+
+-- the steps of a session that served these frames, with these worn stops
+abbrev pub session_steps : List (ℕ × DeckLine) → List (List ℕ) → List (Option WornAt) → Around → List Step
+session_steps deck fs worn a = plays (start a.dev_old.device.words) (session_lines deck fs) worn
+
+-- A session: these frames were served, and exactly their bytes were taken of the source, and the part of one that did not come whole. One
+-- list of worn stops accounts for the words, the counts and the tape of the device, and for all that was written. Every closed family of
+-- applications is told and holds what it is told and holds on a card of its own, each line leaves the card with its whole items, and no new
+-- application has a stale byte.
+pub record Served (deck : List (ℕ × DeckLine)) (result : Result (Unit {0}) ServeError) (a : Around) : Type 0 where
+  pub frames : List (List ℕ)
+  pub part : List ℕ
+  pub taken : List ℕ
+  pub took : Took a.left_old a.left taken
+  pub read : frames_read taken ≡ (frames, part)
+  pub counted : a.reads_old ≤ a.reads
+  pub worn : List (Option WornAt)
+  pub played : Played (start a.dev_old.device.words) (session_lines deck frames) worn a.dev_old a.dev
+  pub laws : HoldsOf a.dev_old.device.words (session_steps deck frames worn a)
+  pub ends : EndsBy frames part (session_answers deck frames (session_steps deck frames worn a)) result a
+
+-- want of memory: nothing was read, played or written
+pub record IsUntouched (a : Around) : Type 0 where
+  pub left : a.left ≡ a.left_old
+  pub reads : a.reads ≡ a.reads_old
+  pub out : a.out ≡ a.out_old
+  pub dev : a.dev ≡ a.dev_old
+
+-- what a session did, by its result
+abbrev pub Serves : List (ℕ × DeckLine) → Result (Unit {0}) ServeError → Around → Type 0
+Serves deck (Err fault.NoMemory) a = IsUntouched a
+Serves deck (Ok u) a = Served deck (Ok u) a
+Serves deck (Err (fault.Short n)) a = Served deck (Err (fault.Short n)) a
+Serves deck (Err fault.ReadFault) a = Served deck (Err fault.ReadFault) a
+Serves deck (Err fault.WriteFault) a = Served deck (Err fault.WriteFault) a

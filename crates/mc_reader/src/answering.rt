@@ -1,0 +1,92 @@
+// The answers of frames.
+ghost use Rattle.std.specs.Prelude.{◌≡◌, ◌≤◌, ◌++◌, length};
+ghost use Rattle.mc_model.specs.Bytes.{bytes2};
+ghost use Rattle.mc_text.specs.Texts.{sunk_in, Puts};
+ghost use Rattle.mc_reader.specs.Frames.{framed};
+ghost use Rattle.mc_reader.specs.Requests.{meaning_of};
+ghost use Rattle.mc_machine.specs.Turns.{outcome_value};
+ghost use Rattle.mc_reader.specs.Answers.{outcome_bytes};
+ghost use Rattle.mc_reader.specs.Results.{answer_bytes, replied, sent};
+
+use crate::request::Request;
+use arrayvec::ArrayVec;
+use mc_apdu::Reply;
+use mc_base::{Sink, WriteFault};
+use mc_machine::Outcome;
+use mc_script::Answer;
+use mc_text::put;
+
+/// The answer to reset (ISO/IEC 7816-3): T=0 and T=1, the historical bytes MELCARD, and the check byte.
+const ATR: [u8; 12] = [
+    0x3B, 0x87, 0x80, 0x01, 0x4D, 0x45, 0x4C, 0x43, 0x41, 0x52, 0x44, 0x56,
+];
+
+/// The longest answer: the data of a reply and its two status bytes.
+const LONGEST: usize = 1026;
+
+// Writes an answer as a frame, in one piece.
+fn put_frame<T: Sink>(out: &mut T, bytes: &[u8]) -> Result<(), WriteFault>
+    requires { length bytes.now ≤ 1026 }
+    ensures { Puts (sunk_in T.taken T.faults out.old) (framed bytes.now) result (sunk_in T.taken T.faults out.new) }
+{
+    let mut frame = ArrayVec::<u8, 1028>::new();
+    frame.push((bytes.len() / 256) as u8);
+    frame.push((bytes.len() % 256) as u8);
+    frame.try_extend_from_slice(bytes).unwrap();
+    put(out, frame.as_slice())
+}
+
+// Writes a reply: its data and its status.
+fn put_reply<T: Sink>(out: &mut T, reply: &Reply) -> Result<(), WriteFault>
+    ensures { Puts (sunk_in T.taken T.faults out.old) (framed (reply.now.body.items ++ bytes2 reply.now.sw)) result (sunk_in T.taken T.faults out.new) }
+{
+    let mut bytes = ArrayVec::<u8, LONGEST>::new();
+    bytes.try_extend_from_slice(reply.body.as_slice()).unwrap();
+    bytes.push((reply.sw / 256) as u8);
+    bytes.push((reply.sw % 256) as u8);
+    put_frame(out, bytes.as_slice())
+}
+
+// Writes how a command ended.
+fn put_outcome<T: Sink>(out: &mut T, outcome: &Outcome) -> Result<(), WriteFault>
+    ensures { Puts (sunk_in T.taken T.faults out.old) (framed (outcome_bytes (outcome_value outcome.now))) result (sunk_in T.taken T.faults out.new) }
+{
+    match outcome {
+        Outcome::Reply(reply) => put_reply(out, reply),
+        Outcome::Abend(abend) => put_frame(out, &[0x6F, abend.code()]),
+    }
+}
+
+// Writes the result of a command, where the last one ended so. A command that a stop hit has no answer, nor has one where no card runs or the card is mute.
+fn put_result<T: Sink>(
+    out: &mut T,
+    answer: &Option<Answer>,
+    outcome: &Outcome,
+) -> Result<(), WriteFault>
+    ensures { Puts (sunk_in T.taken T.faults out.old) (framed (answer_bytes outcome.now answer.now)) result (sunk_in T.taken T.faults out.new) }
+{
+    match answer {
+        Some(Answer::Outcome) => put_outcome(out, outcome),
+        Some(Answer::Worn) => put_frame(out, &[0x65, 0x81]),
+        _ => put_frame(out, &[]),
+    }
+}
+
+/// Writes the answer of a request whose line had this result, where it is answered, and where the last command ended so.
+pub fn put_answer<T: Sink>(
+    out: &mut T,
+    request: &Request<'_>,
+    answer: &Option<Answer>,
+    outcome: &Outcome,
+) -> Result<(), WriteFault>
+    ensures { Puts (sunk_in T.taken T.faults out.old) (sent (replied (meaning_of request.now) outcome.now answer.now)) result (sunk_in T.taken T.faults out.new) }
+{
+    match request {
+        Request::Atr => put_frame(out, &ATR),
+        Request::Order(_) => put_frame(out, &[0x90, 0x00]),
+        Request::Refused(refusal) => put_frame(out, &refusal.status()),
+        Request::ToCard(_) => put_result(out, answer, outcome),
+        Request::Unheard => put_frame(out, &[]),
+        _ => Ok(()),
+    }
+}

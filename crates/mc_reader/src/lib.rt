@@ -1,0 +1,13 @@
+#![tactic(auto)]
+
+// A card in a reader: commands of a host are played on a card as lines of a deck, and answered frame by frame.
+mod answering;
+mod order;
+mod reading;
+mod request;
+mod rows;
+mod serve_error;
+mod serving;
+
+pub use serve_error::ServeError;
+pub use serving::serve;

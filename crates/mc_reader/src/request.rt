@@ -1,0 +1,88 @@
+// What a frame of the host asks for.
+ghost use Rattle.std.specs.Prelude.{◌≡◌, option_map, IfSome};
+ghost use Rattle.mc_deck.specs.Lines.{line_of, GoodLine};
+ghost use Rattle.mc_reader.specs.Meanings.{control, meaning, power_after};
+ghost use Rattle.mc_reader.specs.Lines.{line_in};
+ghost use Rattle.mc_reader.specs.Requests.{meaning_of, IsGood};
+
+use crate::order::{Order, Refusal, read_order};
+use mc_deck::Line;
+
+/// The class of commands to the reader itself, which no card has (ISO/IEC 7816-3).
+const CLASS: u8 = 0xFF;
+
+/// What a frame asks for: power on or a reset, power off, the answer to reset, nothing, a line by a command to the reader, such a command
+/// that is refused, or a command to the card, which hears it only under power.
+#[derive(Clone, Copy, Debug)]
+pub enum Request<'a> {
+    PowerOn,
+    PowerOff,
+    Atr,
+    Nothing,
+    Order(Order),
+    Refused(Refusal),
+    ToCard(&'a [u8]),
+    Unheard,
+}
+
+// What a byte alone asks for.
+fn control<'a>(byte: u8) -> Request<'a>
+    ensures meaning { meaning_of result ≡ control byte }
+    ensures good { IsGood result }
+{
+    match byte {
+        0 => Request::PowerOff,
+        1 | 2 => Request::PowerOn,
+        4 => Request::Atr,
+        _ => Request::Nothing,
+    }
+}
+
+impl<'a> Request<'a> {
+    /// What a frame asks for, where the card has power or not.
+    pub fn of(frame: &'a [u8], powered: bool) -> Request<'a>
+        ensures meaning { meaning_of result ≡ meaning powered frame.now }
+        ensures good { IsGood result }
+    {
+        match frame {
+            [] => Request::Nothing,
+            [byte] => control(*byte),
+            [CLASS, ..] => match read_order(frame) {
+                Ok(order) => Request::Order(order),
+                Err(refusal) => Request::Refused(refusal),
+            },
+            _ => {
+                if powered {
+                    Request::ToCard(frame)
+                } else {
+                    Request::Unheard
+                }
+            }
+        }
+    }
+
+    /// The line that it stands for, where it stands for one.
+    pub fn line(&self) -> Option<Line<'a>>
+        requires { IsGood self.now }
+        ensures line { option_map line_of result ≡ line_in (meaning_of self.now) }
+        ensures good { IfSome result (λ l. GoodLine (line_of l)) }
+    {
+        match self {
+            Request::PowerOn => Some(Line::Power),
+            Request::Order(order) => Some(order.line()),
+            Request::ToCard(bytes) => Some(Line::Apdu(bytes)),
+            _ => None,
+        }
+    }
+
+    /// Whether the card has power behind it, where it had power before it or not.
+    pub fn power(&self, powered: bool) -> bool
+        ensures { result ≡ power_after powered (meaning_of self.now) }
+    {
+        match self {
+            Request::PowerOn => true,
+            Request::PowerOff => false,
+            _ => powered,
+        }
+    }
+}

@@ -1,0 +1,110 @@
+// A session: a deck is played, and then the frames of a host are served.
+ghost use Rattle.std.specs.Prelude.{◌≡◌, ℕ, length};
+ghost use Rattle.mc_model.specs.Play.{State};
+ghost use Rattle.mc_text.specs.Texts.{sunk_in};
+ghost use Rattle.mc_script.specs.Players.{device_of, IsAt, IsPlaying, IsUnfused};
+ghost use Rattle.mc_script.specs.Lines.{bench_of};
+ghost use Rattle.mc_reader.specs.Meanings.{meaning, power_after};
+ghost use Rattle.mc_reader.specs.Lines.{line_in};
+ghost use Rattle.mc_reader.specs.Requests.{meaning_of, IsGood};
+ghost use Rattle.mc_reader.specs.Serving.{PlaysLine, ServesFrame, ServedFrom};
+ghost use Rattle.mc_reader.specs.Sessions.{Serves};
+
+use crate::answering::put_answer;
+use crate::reading::{FrameFault, read_frame};
+use crate::request::Request;
+use crate::serve_error::ServeError;
+use mc_base::{Sink, Source, Steps, WriteFault};
+use mc_deck::Deck;
+use mc_nvm::Bench;
+use mc_script::{Answer, Player, Silent};
+use std::alloc::Global;
+use std::sync::ledger::Ledger;
+
+/// How many bytes the longest frame has.
+const LONGEST_FRAME: usize = 65_535;
+
+// Plays the line of a request, where it has one.
+fn play_request<N: Bench, L: Ledger>(
+    player: &mut Player<N>,
+    request: &Request<'_>,
+    steps: &mut Steps<L>,
+) -> Option<Answer>
+    requires playing { IsPlaying N.state N.bench player.old }
+    requires good { IsGood request.now }
+    ensures plays { PlaysLine N.state N.bench player.old (line_in (meaning_of request.now)) result player.new }
+    ensures lent { N.same (device_of player.old) (device_of player.new) }
+{
+    match request.line() {
+        Some(line) => player.line(&line, &mut Silent, steps),
+        None => None,
+    }
+}
+
+// Serves one frame: plays its line and writes its answer. It may switch power on or off.
+fn serve_frame<N: Bench, T: Sink, L: Ledger>(
+    player: &mut Player<N>,
+    powered: &mut bool,
+    frame: &[u8],
+    out: &mut T,
+    steps: &mut Steps<L>,
+) -> Result<(), WriteFault>
+    requires { IsPlaying N.state N.bench player.old }
+    ensures serves { (s : State) (n : ℕ) → IsAt N.state N.bench player.old s → ServesFrame N.state N.bench player.old s n (meaning powered.old frame.now) (sunk_in T.taken T.faults out.old) result player.new (sunk_in T.taken T.faults out.new) }
+    ensures power { powered.new ≡ power_after powered.old (meaning powered.old frame.now) }
+    ensures lent { N.same (device_of player.old) (device_of player.new) }
+{
+    let request = Request::of(frame, *powered);
+    let answer = play_request(player, &request, steps);
+    *powered = request.power(*powered);
+    put_answer(out, &request, &answer, player.outcome())
+}
+
+// Serves frames up to the end of the input, or up to a fault. The card has no power at their start.
+fn serve_frames<S: Source, T: Sink, N: Bench, L: Ledger>(
+    player: &mut Player<N>,
+    input: &mut S,
+    out: &mut T,
+    room: &mut [u8],
+    steps: &mut Steps<L>,
+) -> Result<(), ServeError>
+    requires playing { IsPlaying N.state N.bench player.old }
+    requires room { length room.old ≡ 65535 }
+    ensures served { (s : State) (n : ℕ) → IsAt N.state N.bench player.old s → ServedFrom s n result (record { left_old = S.left input.old; left = S.left input.new; reads_old = S.faults input.old; reads = S.faults input.new; out_old = sunk_in T.taken T.faults out.old; out = sunk_in T.taken T.faults out.new; dev_old = bench_of N.state N.bench player.old; dev = bench_of N.state N.bench player.new }) }
+    ensures lent { N.same (device_of player.old) (device_of player.new) }
+{
+    let mut powered = false;
+    for before in 0..u64::MAX {
+        let size = match read_frame(input, room) {
+            Ok(Some(size)) => size,
+            Ok(None) => return Ok(()),
+            Err(FrameFault::Short) => return Err(ServeError::Short(before + 1)),
+            Err(FrameFault::ReadFault) => return Err(ServeError::ReadFault),
+        };
+        serve_frame(player, &mut powered, &room[..size], out, steps)?;
+    }
+    Ok(())
+}
+
+/// Plays a deck on a device, and then serves the frames of a host, each of them before the next is read: its line is played as a line of
+/// the deck would be, and its answer is written as a frame.
+///
+/// The device is handed in without a fuse. Nothing is written of the deck's results. Where the sink fails, no later frame is read.
+pub fn serve<S: Source, T: Sink, N: Bench, L: Ledger>(
+    alloc: Global,
+    deck: &Deck,
+    input: &mut S,
+    out: &mut T,
+    dev: &mut N,
+    steps: &mut Steps<L>,
+) -> Result<(), ServeError>
+    requires { IsUnfused (N.bench dev.old) }
+    ensures { Serves deck.now result (record { left_old = S.left input.old; left = S.left input.new; reads_old = S.faults input.old; reads = S.faults input.new; out_old = sunk_in T.taken T.faults out.old; out = sunk_in T.taken T.faults out.new; dev_old = record { device = N.state dev.old; bench = N.bench dev.old }; dev = record { device = N.state dev.new; bench = N.bench dev.new } }) }
+{
+    let mut room = vec![in alloc; 0; LONGEST_FRAME]?;
+    let mut player = Player::new(&mut *dev);
+    player.deck(deck, steps);
+    let result = serve_frames(&mut player, input, out, room.as_mut_slice(), steps);
+    let _dev = player.into_dev();
+    result
+}

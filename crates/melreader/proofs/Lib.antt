@@ -1,0 +1,2 @@
+mod DeckLemmas
+mod SessionLemmas

@@ -1,0 +1,124 @@
+-- What the top call says of the outside at each of its statuses.
+use Rattle.std.specs.Prelude.{◌≡◌, ◌⊎◌, ℕ, ◌++◌, List, codes, decimal, Option, Result, Ok, Err}
+use Rattle.mc_model.specs.DeckGrammar.{DeckLine}
+use Rattle.mc_base.specs.declared.refusals.WriteFault.{WriteFault as Fault}
+use Rattle.mc_base.specs.declared.sink.Sink as sink
+use Rattle.mc_base.specs.declared.source.Source as source
+use Rattle.mc_model.specs.Device.{DeviceState, BenchState}
+use Rattle.mc_text.specs.Texts.{Sunk, Puts, sunk_in}
+use Rattle.mc_reader.specs.Sessions.{Around, Serves}
+use Rattle.mc_reader.specs.declared.serve_error.ServeError.{ServeError}
+use Rattle.mc_reader.specs.declared.serve_error.ServeError.TheVariants as serve
+use Rattle.melreader.specs.declared.deck.NoDeck.{NoDeck}
+use Rattle.melreader.specs.declared.deck.NoDeck.TheVariants as deck
+use Rattle.melreader.specs.declared.status.Status.{Status}
+use Rattle.melreader.specs.declared.status.Status.TheVariants.{Done, Refused, ReadFault, WriteFault, NoMemory}
+use Rattle.mc_model.specs.Words.{deck_word}
+use Rattle.melreader.specs.Decks.{Stream, IsDeck, DeckFails, at_line, too_long}
+
+-- the number of a status
+abbrev pub number_of : Status → ℕ
+number_of Done = 0
+number_of Refused = 1
+number_of ReadFault = 3
+number_of WriteFault = 4
+number_of NoMemory = 5
+
+-- what is told before and after the call: the deck's source, if there is one, the sink of refusals, and what a session has to do with
+pub record Outside : Type 0 where
+  pub deck_old : Option Stream
+  pub deck : Option Stream
+  pub err_old : Sunk
+  pub err : Sunk
+  pub session : Around
+
+-- the same of the values of a call
+abbrev pub outside : {S T E N : Type 0} → source.Ghosts S → sink.Ghosts T → sink.Ghosts E → (N → DeviceState) → (N → BenchState)
+    → Option Stream → Option Stream → S → S → T → T → E → E → N → N → Outside
+outside s t e state bench deck_old deck in_old in_new out_old out_new err_old err_new dev_old dev_new =
+    record {
+      deck_old = deck_old;
+      deck = deck;
+      err_old = sunk_in e.taken e.faults err_old;
+      err = sunk_in e.taken e.faults err_new;
+      session =
+          record {
+            left_old = s.left in_old;
+            left = s.left in_new;
+            reads_old = s.faults in_old;
+            reads = s.faults in_new;
+            out_old = sunk_in t.taken t.faults out_old;
+            out = sunk_in t.taken t.faults out_new;
+            dev_old = record { device = state dev_old; bench = bench dev_old };
+            dev = record { device = state dev_new; bench = bench dev_new };
+          };
+    }
+
+-- the input, the sink of answers and the device are as they were handed in
+abbrev pub AreKept : {S T N : Type 0} → S → S → T → T → N → N → Type 0
+AreKept in_old in_new out_old out_new dev_old dev_new = (in_new ≡ in_old) × (out_new ≡ out_old) × (dev_new ≡ dev_old)
+
+-- ---- the line of a refusal
+
+-- the input ended inside the frame with this number
+abbrev pub short_frame : ℕ → List ℕ
+short_frame n = codes "frame " ++ decimal n ++ codes " Short\n"
+
+-- the status of a refusal, by whether its line was written whole
+abbrev pub refused_by : Result (Unit {0}) Fault → Status
+refused_by (Ok u) = Refused
+refused_by (Err f) = WriteFault
+
+-- the line of a refusal was written, whole or up to a fault
+pub record IsRefused (line : List ℕ) (s : Status) (a b : Sunk) : Type 0 where
+  pub result : Result (Unit {0}) Fault
+  pub status : s ≡ refused_by result
+  pub written : Puts a line result b
+
+-- ---- statuses: `Kept` says that input, answers and device are as they were handed in
+
+-- the deck is refused
+pub record SaysRefused (Kept : Type 0) (s : Status) (o : Outside) : Type 0 where
+  pub line : List ℕ
+  pub deck : IsDeck o.deck_old o.deck (Err line)
+  pub refused : IsRefused line s o.err_old o.err
+  pub kept : Kept
+
+-- the deck was not read: its source failed, or memory was short
+pub record SaysNoDeck (Kept Cause : Type 0) (o : Outside) : Type 0 where
+  pub cause : Cause
+  pub err : o.err ≡ o.err_old
+  pub kept : Kept
+
+-- the status of a session by how it ended, and what is written of it
+abbrev pub Ends : Result (Unit {0}) ServeError → Status → Sunk → Sunk → Type 0
+Ends (Ok u) s a b = (s ≡ Done) × (b ≡ a)
+Ends (Err (serve.Short n)) s a b = IsRefused (short_frame n) s a b
+Ends (Err serve.ReadFault) s a b = (s ≡ ReadFault) × (b ≡ a)
+Ends (Err serve.WriteFault) s a b = (s ≡ WriteFault) × (b ≡ a)
+Ends (Err serve.NoMemory) s a b = (s ≡ NoMemory) × (b ≡ a)
+
+-- the deck was played, and the frames of the input were served
+pub record SaysServed (s : Status) (o : Outside) : Type 0 where
+  pub lines : List (ℕ × DeckLine)
+  pub deck : IsDeck o.deck_old o.deck (Ok lines)
+  pub result : Result (Unit {0}) ServeError
+  pub serves : Serves lines result o.session
+  pub ends : Ends result s o.err_old o.err
+
+-- what each status says
+abbrev pub Says : Type 0 → Status → Outside → Type 0
+Says Kept Done o = SaysServed Done o
+Says Kept Refused o = SaysRefused Kept Refused o ⊎ SaysServed Refused o
+Says Kept ReadFault o = SaysNoDeck Kept (DeckFails o.deck_old o.deck) o ⊎ SaysServed ReadFault o
+Says Kept WriteFault o = SaysRefused Kept WriteFault o ⊎ SaysServed WriteFault o
+Says Kept NoMemory o = SaysNoDeck Kept (Unit {0}) o ⊎ SaysServed NoMemory o
+
+-- ---- what the code has
+
+-- how a call without a deck ends
+abbrev pub Rejects : NoDeck → Status → Sunk → Sunk → Type 0
+Rejects (deck.At n cause) s a b = IsRefused (at_line n (deck_word cause)) s a b
+Rejects deck.TooLong s a b = IsRefused too_long s a b
+Rejects deck.ReadFault s a b = (s ≡ ReadFault) × (b ≡ a)
+Rejects deck.NoMemory s a b = (s ≡ NoMemory) × (b ≡ a)

@@ -1,0 +1,111 @@
+// The top call: a deck is played, and the frames of a host are served.
+ghost use Rattle.std.specs.Prelude.{◌≡◌, Err, Option};
+ghost use Rattle.mc_reader.specs.Sessions.{Around};
+ghost use Rattle.mc_script.specs.Players.{IsUnfused};
+ghost use Rattle.mc_text.specs.Texts.{sunk_in};
+ghost use Rattle.melreader.specs.declared.status.Status.{Status};
+ghost use Rattle.melreader.specs.Decks.{handed_in, handed_back, HasDeck, Stream};
+ghost use Rattle.melreader.specs.Sessions.{number_of, outside, refused_by, AreKept, Ends, Rejects, Says};
+
+use crate::deck::{NoDeck, blank_deck, deck_from};
+use crate::lines::{put_refusal, put_short, put_too_long};
+use crate::status::{Status, number};
+use mc_base::{Sink, Source, Steps, WriteFault};
+use mc_deck::Deck;
+use mc_nvm::Bench;
+use mc_reader::{ServeError, serve};
+use std::alloc::Global;
+use std::sync::ledger::Ledger;
+
+// The status of a refusal.
+fn refused_by(written: Result<(), WriteFault>) -> Status
+    ensures { result ≡ refused_by written }
+{
+    match written {
+        Ok(()) => Status::Refused,
+        Err(WriteFault) => Status::WriteFault,
+    }
+}
+
+// Says why there is no deck.
+fn reject<E: Sink>(err: &mut E, no_deck: NoDeck) -> Status
+    ensures { Rejects no_deck result (sunk_in E.taken E.faults err.old) (sunk_in E.taken E.faults err.new) }
+{
+    match no_deck {
+        NoDeck::At(number, cause) => refused_by(put_refusal(err, number, cause.word())),
+        NoDeck::TooLong => refused_by(put_too_long(err)),
+        NoDeck::ReadFault => Status::ReadFault,
+        NoDeck::NoMemory => Status::NoMemory,
+    }
+}
+
+// Says why a session ended before its input.
+fn fail<E: Sink>(err: &mut E, error: ServeError) -> Status
+    ensures { Ends (Err error) result (sunk_in E.taken E.faults err.old) (sunk_in E.taken E.faults err.new) }
+{
+    match error {
+        ServeError::Short(number) => refused_by(put_short(err, number)),
+        ServeError::ReadFault => Status::ReadFault,
+        ServeError::WriteFault => Status::WriteFault,
+        ServeError::NoMemory => Status::NoMemory,
+    }
+}
+
+// Says how a session ended.
+fn end<E: Sink>(err: &mut E, served: Result<(), ServeError>) -> Status
+    ensures { Ends served result (sunk_in E.taken E.faults err.old) (sunk_in E.taken E.faults err.new) }
+{
+    match served {
+        Ok(()) => Status::Done,
+        Err(error) => fail(err, error),
+    }
+}
+
+// Plays the deck that was found and serves the frames of a host, or says why there is no deck.
+fn session<S: Source, T: Sink, E: Sink, N: Bench, L: Ledger>(
+    alloc: Global,
+    found: Result<Deck, NoDeck>,
+    input: &mut S,
+    out: &mut T,
+    err: &mut E,
+    dev: &mut N,
+    steps: &mut Steps<L>,
+) -> Status
+    requires { IsUnfused (N.bench dev.old) }
+    ensures { (a b : Option Stream) → HasDeck a b found → Says (AreKept input.old input.new out.old out.new dev.old dev.new) result (outside S.Source T.Sink E.Sink N.state N.bench a b input.old input.new out.old out.new err.old err.new dev.old dev.new) }
+{
+    match found {
+        Ok(deck) => end(err, serve(alloc, &deck, input, out, dev, steps)),
+        Err(no_deck) => reject(err, no_deck),
+    }
+}
+
+/// Plays the deck of a source on a device that is handed in without a fuse, or the one line `format` where there is none, and then
+/// serves the frames of a host on that card. Its status is 0 where the input ended between two frames; 1 where the deck is refused or
+/// the input ended inside a frame; 3 after a fault of the deck or the input; 4 after a fault of a sink; 5 for want of memory.
+///
+/// Answers alone are written to `out`, and to `err` the line of a refused deck, or `frame N Short`. Nothing is written of the deck's
+/// results. A deck that is refused leaves `input`, `out` and the device untouched.
+pub fn melreader<D: Source, S: Source, T: Sink, E: Sink, N: Bench, L: Ledger>(
+    alloc: Global,
+    deck: Option<&mut D>,
+    input: &mut S,
+    out: &mut T,
+    err: &mut E,
+    dev: &mut N,
+    steps: &mut Steps<L>,
+) -> u8
+    requires { IsUnfused (N.bench dev.old) }
+    ensures { (s : Status) × (result ≡ number_of s) × Says (AreKept input.old input.new out.old out.new dev.old dev.new) s (outside S.Source T.Sink E.Sink N.state N.bench (handed_in D.Source deck.entry) (handed_back D.Source deck.exit) input.old input.new out.old out.new err.old err.new dev.old dev.new) }
+{
+    match deck {
+        Some(source) => {
+            let found = deck_from(alloc, source);
+            number(session(alloc, found, input, out, err, dev, steps))
+        }
+        None => {
+            let found = blank_deck(alloc);
+            number(session(alloc, found, input, out, err, dev, steps))
+        }
+    }
+}

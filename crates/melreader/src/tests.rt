@@ -1,0 +1,149 @@
+// Each status of a session over streams in memory.
+ghost use Rattle.std.specs.Prelude.{◌≡◌, ◌<◌};
+
+use crate::running::melreader;
+use mc_base::{MemSink, MemSource, NoMemory, Source, Steps};
+use mc_nvm::SimNvm;
+use std::alloc::Global;
+use std::marker::Brand;
+use std::sync::ledger::{Blank, Ledger};
+use std::test::Fail;
+
+// The ATR is wanted, power comes on, and an application is selected that is not there.
+const FRAMES: &[u8] = b"\x00\x01\x04\x00\x01\x01\x00\x0A\x00\xA4\x04\x0C\x05\xA0\x00\x00\x00\x01";
+
+// The answers to them.
+const ANSWERS: &[u8] = b"\x00\x0C\x3B\x87\x80\x01MELCARD\x56\x00\x02\x6A\x82";
+
+// What a session is tried on: its deck, which of the deck's calls fail, its frames, which of their calls fail, and the room of the
+// sinks of answers and of refusals.
+#[derive(Clone, Copy)]
+struct Trial {
+    deck: Option<&'static [u8]>,
+    deck_faults: &'static [u32],
+    frames: &'static [u8],
+    frame_faults: &'static [u32],
+    room: usize,
+    err_room: usize,
+}
+
+// Frames on a blank card, without a fault.
+const PLAIN: Trial = Trial {
+    deck: None,
+    deck_faults: &[],
+    frames: FRAMES,
+    frame_faults: &[],
+    room: 18,
+    err_room: 30,
+};
+
+// How a session ended, and what it wrote to both sinks.
+#[derive(Drop)]
+struct End {
+    status: u8,
+    answers: Vec<u8>,
+    refusal: Vec<u8>,
+}
+
+impl End {
+    fn is(&self, status: u8, answers: &[u8], refusal: &[u8]) -> bool {
+        self.status == status
+            && self.answers.as_slice() == answers
+            && self.refusal.as_slice() == refusal
+    }
+}
+
+// The end of a session over these sources, with steps of its own.
+fn over<D: Source, L: Ledger>(
+    alloc: Global,
+    blank: Blank,
+    trial: &Trial,
+    deck: Option<&mut D>,
+) -> Result<End, NoMemory>
+    requires name { blank.name ≡ L.name }
+    requires parts { blank.parts ≡ L.parts }
+    requires some { 0 < blank.parts }
+{
+    let mut steps = Steps::<L>::new(blank);
+    let mut input = MemSource::new(alloc, trial.frames, trial.frame_faults)?;
+    let mut out = MemSink::new(alloc, trial.room, &[])?;
+    let mut err = MemSink::new(alloc, trial.err_room, &[])?;
+    let mut device = SimNvm::new(alloc, 256)?;
+    let status = melreader(
+        alloc,
+        deck,
+        &mut input,
+        &mut out,
+        &mut err,
+        &mut device,
+        &mut steps,
+    );
+    Ok(End {
+        status,
+        answers: Vec::from_slice(alloc, out.bytes())?,
+        refusal: Vec::from_slice(alloc, err.bytes())?,
+    })
+}
+
+// The end of a session.
+fn ended(alloc: Global, trial: &Trial) -> Result<End, NoMemory> {
+    match trial.deck {
+        Some(text) => {
+            let mut deck = MemSource::new(alloc, text, trial.deck_faults)?;
+            over::<MemSource, Brand>(alloc, Blank::new(1), trial, Some(&mut deck))
+        }
+        None => over::<MemSource, Brand>(alloc, Blank::new(1), trial, None),
+    }
+}
+
+// Frames that are served, whole and up to a fault of the sink or of the input, and an input that ends inside a frame.
+#[test]
+fn frames(rt: HostRuntime) -> Result<(), Fail> {
+    let alloc = rt.alloc();
+    assert!(rt; ended(alloc, &PLAIN)?.is(0, ANSWERS, b""));
+    let narrow = Trial { room: 16, ..PLAIN };
+    assert!(rt; ended(alloc, &narrow)?.is(4, &ANSWERS[..16], b""));
+    let failing = Trial {
+        frame_faults: &[1],
+        ..PLAIN
+    };
+    assert!(rt; ended(alloc, &failing)?.is(3, b"", b""));
+    let short = Trial {
+        frames: b"\x00\x01\x04\x00\x02\x80",
+        ..PLAIN
+    };
+    assert!(rt; ended(alloc, &short)?.is(1, &ANSWERS[..14], b"frame 2 Short\n"));
+    let unsaid = Trial {
+        err_room: 5,
+        ..short
+    };
+    assert!(rt; ended(alloc, &unsaid)?.is(4, &ANSWERS[..14], b"frame"));
+    Ok(())
+}
+
+// Decks that are played, refused and not read.
+#[test]
+fn decks(rt: HostRuntime) -> Result<(), Fail> {
+    let alloc = rt.alloc();
+    let played = Trial {
+        deck: Some(b"format\npower\n"),
+        ..PLAIN
+    };
+    assert!(rt; ended(alloc, &played)?.is(0, ANSWERS, b""));
+    let refused = Trial {
+        deck: Some(b"format\n\nreboot\n"),
+        ..PLAIN
+    };
+    assert!(rt; ended(alloc, &refused)?.is(1, b"", b"line 3 BadLine\n"));
+    let unsaid = Trial {
+        err_room: 6,
+        ..refused
+    };
+    assert!(rt; ended(alloc, &unsaid)?.is(4, b"", b"line 3"));
+    let failing = Trial {
+        deck_faults: &[1],
+        ..played
+    };
+    assert!(rt; ended(alloc, &failing)?.is(3, b"", b""));
+    Ok(())
+}
