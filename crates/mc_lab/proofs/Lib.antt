@@ -1,0 +1,14 @@
+mod MatchingLemmas
+pub mod RisingLemmas
+mod BelowLemmas
+mod ExpectationLemmas
+mod TrialLemmas
+mod StageLemmas
+mod ExpectLemmas
+pub mod SweepPlays
+pub mod SweepChanges
+pub mod SweepRuns
+pub mod SweepTold
+pub mod SweepLawLemmas
+pub mod SweepHits
+pub mod SweepTexts

@@ -1,0 +1,26 @@
+use Rattle.std.proofs.Common.{◌≡◌, ◌+◌, ◌≤◌, List, Result, drop}
+use Rattle.mc_asm.specs.Passes.{numbered_lines}
+use Rattle.mc_base.specs.declared.refusals.WriteFault.{WriteFault}
+use Rattle.mc_text.specs.Texts.{Sunk, Puts, sunk_in}
+use Rattle.mc_lab.specs.Expectations.{count_failed, expect_text, steady_steps}
+use Rattle.mc_lab.specs.Judged.{text_left}
+use Rattle.mc_lab.specs.Stages.{Staged}
+use Rattle.mc_lab.proofs.TrialLemmas.{Above}
+use Rattle.mc_lab.proofs.expecting.expect.Given as goal
+
+-- the lines above some number were played; what writes what is left to be told from here, writes all of it from the start
+abbrev pub invariant-loop-expectation : goal.invariant-loop-expectation
+invariant-loop-expectation g l =
+    let state = g.N.Nvm.state in
+    let bench = g.N.Bench.bench in
+    let taken = g.T.Sink.taken in
+    let faults = g.T.Sink.faults in
+    let es = numbered_lines l.trial.expectations.items in
+    let whole = steady_steps (state l.fn.device).words l.trial.deck in
+    record {
+      above : Above l.trial.deck l.count (drop l.expectation-index es);
+      staged : Staged state bench whole l.trial.deck l.player l.count l.text.items;
+      left : l.failed + count_failed whole (drop l.expectation-index es) ≡ count_failed whole es;
+      few : l.failed ≤ l.expectation-index;
+      told : (r : Result (Unit {0}) WriteFault) (b : Sunk) → Puts (sunk_in taken faults l.out) (text_left whole (drop l.expectation-index es) es) r b → Puts (sunk_in taken faults l.fn.out) (expect_text whole es) r b;
+    }

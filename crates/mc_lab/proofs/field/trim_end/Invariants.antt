@@ -1,0 +1,10 @@
+use Rattle.std.proofs.Common.{◌≡◌, length}
+use Rattle.mc_model.specs.Text.{trim_end}
+use Rattle.mc_lab.proofs.field.trim_end.Given as goal
+
+-- what is left trims to what the whole trims to
+abbrev pub invariant-loop-rest : goal.invariant-loop-rest
+invariant-loop-rest l = trim_end l.rest ≡ trim_end l.fn.text
+
+abbrev pub decreases-loop-rest : goal.decreases-loop-rest
+decreases-loop-rest l = length l.rest

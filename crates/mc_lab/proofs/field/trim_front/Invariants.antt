@@ -1,0 +1,10 @@
+use Rattle.std.proofs.Common.{◌≡◌, length}
+use Rattle.mc_model.specs.Text.{trim_front}
+use Rattle.mc_lab.proofs.field.trim_front.Given as goal
+
+-- what is left trims to what the whole trims to
+abbrev pub invariant-loop-rest : goal.invariant-loop-rest
+invariant-loop-rest l = trim_front l.rest ≡ trim_front l.fn.text
+
+abbrev pub decreases-loop-rest : goal.decreases-loop-rest
+decreases-loop-rest l = length l.rest

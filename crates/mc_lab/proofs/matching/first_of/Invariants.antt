@@ -1,0 +1,13 @@
+use Rattle.std.proofs.Common.{◌≡◌, ◌≤◌, length}
+use Rattle.mc_lab.specs.Patterns.{without_blanks}
+use Rattle.mc_lab.proofs.matching.first_of.Given as goal
+
+-- what is left has the same characters
+abbrev pub invariant-loop-rest : goal.invariant-loop-rest
+invariant-loop-rest l = record {
+  same : without_blanks l.rest ≡ without_blanks l.text;
+  less : length l.rest ≤ length l.text;
+}
+
+abbrev pub decreases-loop-rest : goal.decreases-loop-rest
+decreases-loop-rest l = length l.rest

@@ -1,0 +1,181 @@
+-- Expectations: comments of a deck that begin with `#>`, each with a pattern for the result of the statement above it.
+use Rattle.std.specs.Prelude.{ℕ, suc, ◌+◌, Bool, true, false, cond, not, ◌&&◌, nat_lt, List, [], ◌∷◌, ◌++◌, length, filter, flat_map, replicate, bytes_eq, codes, decimal, Option, Some, None, Result, Ok, Err}
+use Rattle.mc_model.specs.Text.{trim, trim_front, fields, first_cut, is_blank, lines, numbered}
+use Rattle.mc_model.specs.declared.deck.DeckCause.{DeckCause}
+use Rattle.mc_model.specs.DeckGrammar.{DeckLine, is_end, deck_read}
+use Rattle.mc_model.specs.DeckGrammar as line
+use Rattle.mc_model.specs.Play.{LineResult, State, Step, plays, start, steady_worn}
+use Rattle.mc_model.specs.Transcript.{shown}
+use Rattle.mc_lab.specs.Patterns.{holds}
+
+-- ---- which lines of a text they are
+
+-- whether the first field of a line is this word
+abbrev pub begins_with : List ℕ → List (List ℕ) → Bool
+begins_with word [] = false
+begins_with word (f ∷ fs) = bytes_eq f word
+
+-- what stands behind a cut, nothing where there is none
+abbrev pub or_nothing : Option (List ℕ) → List ℕ
+or_nothing None = []
+or_nothing (Some t) = t
+
+-- the first field of a line, empty where it has none, and what stands behind the blank at its end
+abbrev pub first_field : List ℕ → List ℕ × Option (List ℕ)
+first_field l = first_cut is_blank (trim_front l)
+
+-- what stands behind the first field of a line, without the blanks around it
+abbrev pub behind_field : List ℕ → List ℕ
+behind_field l = trim (or_nothing (first_field l).1)
+
+-- whether the line behind a line with these fields stands in a section, where this one does or does not
+abbrev pub stays_inside : Bool → List (List ℕ) → Bool
+stays_inside false fs = begins_with (codes "app") fs
+stays_inside true fs = not (is_end fs)
+
+-- the expectation of a line outside of sections, if it is one: the number of the line, and the pattern
+abbrev pub expectation_at : Bool → ℕ × List ℕ → List (ℕ × List ℕ)
+expectation_at true l = (l.0, behind_field l.1) ∷ []
+expectation_at false l = []
+
+-- the expectations of lines, the first of which stands in a section or not
+unfoldable pub expectations_from : Bool → List (ℕ × List ℕ) → List (ℕ × List ℕ)
+expectations_from inside [] = []
+expectations_from inside (l ∷ ls) =
+    expectation_at (not inside && begins_with (codes "#>") (fields l.1)) l
+    ++ expectations_from (stays_inside inside (fields l.1)) ls
+
+-- the expectations of a deck's text
+unfoldable pub expectations : List ℕ → List (ℕ × List ℕ)
+unfolding expectations_from
+expectations text = expectations_from false (numbered 1 (lines text))
+
+-- ---- what they speak of
+
+-- the second of two, where it is there
+abbrev pub later_or : {A : Type 0} → Option A → Option A → Option A
+later_or first None = first
+later_or first (Some a) = Some a
+
+-- a value, where a test passes
+abbrev pub where_is : {A : Type 0} → Bool → A → Option A
+where_is true a = Some a
+where_is false a = None
+
+-- the last of some values whose number is below n
+abbrev pub last_below : {A : Type 0} → (A → ℕ) → ℕ → List A → Option A
+last_below number n [] = None
+last_below number n (a ∷ rest) = later_or (where_is (nat_lt (number a) n) a) (last_below number n rest)
+
+-- the number of a numbered line
+abbrev pub line_number : {A : Type 0} → ℕ × A → ℕ
+line_number l = l.0
+
+-- whether a statement has a result
+abbrev pub has_result : DeckLine → Bool
+has_result line.Format = true
+has_result line.Power = true
+has_result line.Named = false
+has_result (line.Load u fixed session) = true
+has_result (line.Select a) = true
+has_result (line.Delete a) = true
+has_result (line.Dump a) = true
+has_result (line.Apdu b) = true
+has_result (line.Budget n) = false
+has_result (line.Cut k fill) = false
+has_result (line.Fail k) = false
+has_result (line.Poke at fill) = false
+
+-- whether there is a statement, and it has a result
+abbrev pub is_answered : Option (ℕ × DeckLine) → Bool
+is_answered None = false
+is_answered (Some l) = has_result l.1
+
+-- the number of the first expectation without a statement above it that has a result
+abbrev pub first_unanswered : List (ℕ × DeckLine) → List (ℕ × List ℕ) → Option ℕ
+first_unanswered ls [] = None
+first_unanswered ls (e ∷ es) = cond (is_answered (last_below line_number e.0 ls)) (first_unanswered ls es) (Some e.0)
+
+-- a deck and its expectations
+pub record Trial : Type 0 where
+  pub lines : List (ℕ × DeckLine)
+  pub expected : List (ℕ × List ℕ)
+
+-- why a text is none: the refusal of its deck, or an expectation without a result
+pub data TrialFault : Type 0 where
+  DeckFault : ℕ → DeckCause → TrialFault
+  NoAnswer : ℕ → TrialFault
+
+-- a deck and its expectations, unless one of them has no result
+abbrev pub trial_unless : Trial → Option ℕ → Result Trial TrialFault
+trial_unless t None = Ok t
+trial_unless t (Some n) = Err (NoAnswer n)
+
+-- expectations with the deck that was read, if it was
+abbrev pub trial_of : List (ℕ × List ℕ) → Result (List (ℕ × DeckLine)) (ℕ × DeckCause) → Result Trial TrialFault
+trial_of es (Ok ls) = trial_unless (record { lines = ls; expected = es }) (first_unanswered ls es)
+trial_of es (Err e) = Err (DeckFault e.0 e.1)
+
+-- the deck and the expectations of a text; the refusals of the deck come first
+unfoldable pub trial_read : List ℕ → Result Trial TrialFault
+unfolding expectations deck_read
+trial_read text = trial_of (expectations text) (deck_read text)
+
+-- ---- what is told of them
+
+-- the text of a step's result
+abbrev pub result_text : Option LineResult → List ℕ
+result_text None = []
+result_text (Some r) = shown r
+
+-- the text of the result of a step, where there is one
+abbrev pub step_text : Option Step → List ℕ
+step_text None = []
+step_text (Some t) = result_text t.result
+
+-- the result of the last statement above a line
+abbrev pub result_above : List Step → ℕ → List ℕ
+result_above ts n = step_text (last_below (λ t. t.number) n ts)
+
+-- whether an expectation holds in a play
+abbrev pub is_met : List Step → ℕ × List ℕ → Bool
+is_met ts e = holds e.1 (result_above ts e.0)
+
+-- the line of an expectation that failed at a result
+abbrev pub failed_line : ℕ × List ℕ → List ℕ → List ℕ
+failed_line e result = codes "line " ++ decimal e.0 ++ codes " expected " ++ e.1 ++ codes " was " ++ result ++ codes "\n"
+
+-- nothing of an expectation that holds, and the line of one that failed
+abbrev pub told_of : Bool → ℕ × List ℕ → List ℕ → List ℕ
+told_of true e result = []
+told_of false e result = failed_line e result
+
+-- the lines of the expectations that failed
+abbrev pub failed_lines : List Step → List (ℕ × List ℕ) → List ℕ
+failed_lines ts es = flat_map (λ e. told_of (is_met ts e) e (result_above ts e.0)) es
+
+-- how many expectations failed
+abbrev pub count_failed : List Step → List (ℕ × List ℕ) → ℕ
+count_failed ts es = length (filter (λ e. not (is_met ts e)) es)
+
+-- the line of how many expectations there were and how many failed
+abbrev pub count_text : ℕ → ℕ → List ℕ
+count_text expected failed = codes "expected " ++ decimal expected ++ codes " failed " ++ decimal failed ++ codes "\n"
+
+-- what is told of expectations in a play
+unfoldable pub expect_text : List Step → List (ℕ × List ℕ) → List ℕ
+expect_text ts es = failed_lines ts es ++ count_text (length es) (count_failed ts es)
+
+-- ---- the play
+
+-- the play of lines from a state on a device that refuses just the writes of `fail` lines
+unfoldable pub steady_from : State → List (ℕ × DeckLine) → List Step
+steady_from s ls = plays s ls (steady_worn s ls)
+
+-- the same from the words of a device
+abbrev pub steady_steps : List (List ℕ) → List (ℕ × DeckLine) → List Step
+steady_steps words ls = steady_from (start words) ls
+
+-- the words of a blank device of the laboratory
+abbrev pub blank_words : List (List ℕ)
+blank_words = replicate 8192 (replicate 8 255)

@@ -1,0 +1,17 @@
+pub use Rattle.mc_model.specs.Text
+pub use Rattle.mc_model.specs.DeckGrammar
+pub use Rattle.mc_model.specs.Play
+pub use Rattle.mc_model.specs.Transcript
+pub use Rattle.mc_asm.specs.Passes
+pub use Rattle.mc_script.specs.Players
+pub mod Patterns
+pub mod Walks
+pub mod Rising
+pub mod Expectations
+pub mod Trials
+pub mod Stages
+pub mod Judged
+pub mod Computed
+pub mod Sweeps
+pub mod SweepLaws
+pub mod SweptRows

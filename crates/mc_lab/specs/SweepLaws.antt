@@ -1,0 +1,102 @@
+-- The laws of sweeps: no line is torn, only two changes leave a card between two states, and one change splits its line where its gate opens.
+use Rattle.std.specs.Prelude.{◌≡◌, ◌≢◌, ℕ, ◌+◌, ◌≤◌, Bool, true, false, cond, not, nat_le, List, [], ◌∷◌, ◌++◌, Option, Some, None, ⊤}
+use Rattle.std.specs.List.{AllByRecursion}
+use Rattle.mc_model.specs.Image.{Two}
+use Rattle.mc_model.specs.Stopped.{opens_at}
+use Rattle.mc_model.specs.Card.{App}
+use Rattle.mc_model.specs.Items.{Item, Plain, Atomic, weight, done}
+use Rattle.mc_model.specs.Given.{apps_in}
+use Rattle.mc_model.specs.Play.{Unarmed, LineResult, OffAt, step, armed_in, is_card_line}
+use Rattle.mc_model.specs.DeckGrammar.{DeckLine}
+use Rattle.mc_lab.specs.Sweeps.{stepped, played, cut, held_under, are_same_held, Swept, swept, is_swept, writes_behind, names_from, Run, runs, sweep}
+use Rattle.mc_lab.specs.declared.sweep_word.Word.{Word}
+use Rattle.mc_lab.specs.declared.sweep_word.Word.TheVariants.{Before, After, Same, Between, Torn}
+
+-- ---- changes
+
+-- whether an item changes what is told under some names
+abbrev pub changes : List (List ℕ) → List (List ℕ × App) → Item → Bool
+changes names apps i = not (are_same_held (held_under names apps) (held_under names (done apps (i ∷ []))))
+
+-- how many items do, each on the applications that those before it leave
+abbrev pub changing : List (List ℕ) → List (List ℕ × App) → List Item → ℕ
+changing names apps [] = 0
+changing names apps (i ∷ is) = cond (changes names apps i) 1 0 + changing names (done apps (i ∷ [])) is
+
+-- which device write of an item opens its gate; a write into a hole opens none
+abbrev pub opens : Item → ℕ
+opens Plain = 0
+opens (Atomic w c) = opens_at Two w
+
+-- the device write that opens the gate of the first item that changes what is told
+abbrev pub opening : List (List ℕ) → List (List ℕ × App) → List Item → ℕ
+opening names apps [] = 0
+opening names apps (i ∷ is) = cond (changes names apps i) (opens i) (weight i + opening names (done apps (i ∷ [])) is)
+
+-- ---- a line behind a front
+
+-- the items of a line behind others
+abbrev pub items_behind : List (ℕ × DeckLine) → ℕ × DeckLine → List Item
+items_behind front l = (step (played front) l None).items
+
+-- the number of its items that change what is told
+abbrev pub changing_behind : List (List ℕ) → List (ℕ × DeckLine) → ℕ × DeckLine → ℕ
+changing_behind names front l = changing names (apps_in (played front)) (items_behind front l)
+
+-- the first write that opens the gate of one of them
+abbrev pub opening_behind : List (List ℕ) → List (ℕ × DeckLine) → ℕ × DeckLine → ℕ
+opening_behind names front l = opening names (apps_in (played front)) (items_behind front l)
+
+-- writes with no other word than this
+abbrev pub all_of : Word → ℕ → List Run
+all_of w n = record { first = 1; last = n; word = w } ∷ []
+
+-- writes of which those up to and with write g are `before`, and the others `after`
+abbrev pub split_at : ℕ → ℕ → List Run
+split_at g n = record { first = 1; last = g; word = Before } ∷ record { first = g + 1; last = n; word = After } ∷ []
+
+-- ---- laws of a swept line
+
+-- none of its runs is torn
+abbrev pub NotTorn : Swept → Type 0
+NotTorn s = AllByRecursion (λ r. r.word ≢ Torn) (runs 1 s.words)
+
+-- it tells a state between two others only where two or more items change what is told
+abbrev pub BetweenChanges : List (List ℕ) → List (ℕ × DeckLine) → ℕ × DeckLine → Type 0
+BetweenChanges names front l = changing_behind names front l ≤ 1 → AllByRecursion (λ r. r.word ≢ Between) (runs 1 (swept names front l).words)
+
+-- one item that changes what is told splits it where that item's gate opens
+abbrev pub SplitsAtGate : List (List ℕ) → List (ℕ × DeckLine) → ℕ × DeckLine → Type 0
+SplitsAtGate names front l = changing_behind names front l ≡ 1 → runs 1 (swept names front l).words ≡ split_at (opening_behind names front l) (writes_behind front l)
+
+-- and where none does, every cut leaves the state that was before and is after
+abbrev pub StaysSame : List (List ℕ) → List (ℕ × DeckLine) → ℕ × DeckLine → Type 0
+StaysSame names front l = changing_behind names front l ≡ 0 → runs 1 (swept names front l).words ≡ all_of Same (writes_behind front l)
+
+-- each swept line among those behind a front
+abbrev pub EachSwept : (List (ℕ × DeckLine) → ℕ × DeckLine → Type 0) → List (ℕ × DeckLine) → List (ℕ × DeckLine) → Type 0
+EachSwept P front [] = ⊤
+EachSwept P front (l ∷ ls) = (is_swept front l ≡ true → P front l) × EachSwept P (front ++ l ∷ []) ls
+
+-- ---- the numbers of plays
+
+-- a result that tells of a cut
+abbrev pub is_off : Option LineResult → Bool
+is_off (Some (OffAt k)) = true
+is_off r = false
+
+-- A cut hits a line to the card exactly where the line makes so many writes; so trial plays tell the numbers of a sweep.
+abbrev pub HitsWithin : Type 0
+HitsWithin =
+    (front : List (ℕ × DeckLine)) (l : ℕ × DeckLine) (k : ℕ) (x : List ℕ) → is_card_line l.1 ≡ true → armed_in (played front) ≡ Unarmed → 1 ≤ k
+    → is_off (stepped (played (front ++ cut l.0 k x ∷ [])) l).result ≡ nat_le k (writes_behind front l)
+
+-- ---- laws of a deck
+
+-- no line of a sweep says `torn`
+abbrev pub NeverTorn : Type 0
+NeverTorn = (ls : List (ℕ × DeckLine)) → AllByRecursion NotTorn (sweep ls)
+
+-- each swept line of a deck
+abbrev pub OfEach : (List (List ℕ) → List (ℕ × DeckLine) → ℕ × DeckLine → Type 0) → Type 0
+OfEach P = (ls : List (ℕ × DeckLine)) → EachSwept (P (names_from [] ls)) [] ls

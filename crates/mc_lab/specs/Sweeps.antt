@@ -1,0 +1,298 @@
+-- Sweeps: power cut in every device write of every line of a deck, and in every write of the recovery behind it, and what the card was then.
+use Rattle.std.specs.Prelude.{ℕ, zero, suc, ◌+◌, Bool, true, false, cond, ◌&&◌, nat_le, ◌==◌, List, [], ◌∷◌, ◌++◌, length, map, replicate, bytes_eq, codes, decimal, Option, Some, None, option_map}
+use Rattle.mc_model.specs.declared.card.Cause.{Cause}
+use Rattle.mc_model.specs.Bytes.{zeros, has_name, lookup}
+use Rattle.mc_model.specs.Card.{App}
+use Rattle.mc_model.specs.Play.{Armed, Unarmed, ArmedCut, ArmedFail, Live, Running, Base, OnCard, State, Cold, Hot, Step, LineResult, Unusable, start, step, plays, steady_worn, steady_at, last_state, moves_of, armed_in, is_card_line}
+use Rattle.mc_model.specs.Transcript.{cause_text}
+use Rattle.mc_model.specs.DeckGrammar.{DeckLine}
+use Rattle.mc_model.specs.DeckGrammar as line
+use Rattle.mc_lab.specs.declared.sweep_word.Word.{Word}
+use Rattle.mc_lab.specs.declared.sweep_word.Word.TheVariants.{Before, After, Same, Between, Torn}
+
+-- ---- plays
+
+-- the words of a blank device of 8,192 words
+abbrev pub blank : List (List ℕ)
+blank = replicate 8192 (replicate 8 0xFF)
+
+-- a line that is played behind a state, and lines in turn, where a device refuses just the writes of `fail` lines
+abbrev pub stepped : State → ℕ × DeckLine → Step
+stepped s l = step s l (steady_at (armed_in s) l.1 (moves_of s l))
+
+-- the state after lines that are played from a state
+unfoldable pub played_from : State → List (ℕ × DeckLine) → State
+played_from s ls = last_state s (plays s ls (steady_worn s ls))
+
+-- the state after lines that are played on a blank device
+abbrev pub played : List (ℕ × DeckLine) → State
+played ls = played_from (start blank) ls
+
+-- ---- what a card is told to be
+
+-- the names that a line mentions
+abbrev pub mentioned : DeckLine → List (List ℕ)
+mentioned (line.Load u fixed session) = u.aid ∷ []
+mentioned (line.Select n) = n ∷ []
+mentioned (line.Delete n) = n ∷ []
+mentioned (line.Dump n) = n ∷ []
+mentioned _ = []
+
+-- names, and those of some that are new
+abbrev pub with_names : List (List ℕ) → List (List ℕ) → List (List ℕ)
+with_names names [] = names
+with_names names (n ∷ ns) = with_names (cond (has_name n names) names (names ++ n ∷ [])) ns
+
+-- the names of a deck, in order of first mention, behind those that were mentioned before
+abbrev pub names_from : List (List ℕ) → List (ℕ × DeckLine) → List (List ℕ)
+names_from names [] = names
+names_from names (l ∷ ls) = names_from (with_names names (mentioned l.1)) ls
+
+-- the state behind a whole power line: the static bytes under each name, none where it is absent; or why the words are no card
+pub data Told : Type 0 where
+  Holds : (held : List (Option (List ℕ))) → Told
+  NoCard : (cause : Cause) (place : ℕ) → Told
+
+-- the static bytes under each name
+abbrev pub held_under : List (List ℕ) → List (List ℕ × App) → List (Option (List ℕ))
+held_under names apps = map (λ n. option_map (λ a. a.fixed) (lookup apps n)) names
+
+-- the applications of a card that is powered, none where there is no card
+abbrev pub running_apps : Live → Base → List (List ℕ × App)
+running_apps (Running seat) (OnCard c) = c.apps
+running_apps live base = []
+
+-- the same in a state of a play
+abbrev pub running_in : State → List (List ℕ × App)
+running_in (Cold m b a) = []
+running_in (Hot s) = running_apps s.live s.base
+
+-- what is told of a whole power line by its result
+abbrev pub told_by : List (List ℕ) → Option LineResult → State → Told
+told_by names (Some (Unusable cause place)) s = NoCard cause place
+told_by names r s = Holds (held_under names (running_in s))
+
+-- what is told of a power line that was played
+abbrev pub told_of : List (List ℕ) → Step → Told
+told_of names t = told_by names t.result t.after
+
+-- what is told behind lines and a whole power line
+unfoldable pub told : List (List ℕ) → List (ℕ × DeckLine) → Told
+unfolding played_from
+told names ls = told_of names (stepped (played ls) (0, line.Power))
+
+-- the same static bytes, or both absent
+abbrev pub is_same_held : Option (List ℕ) → Option (List ℕ) → Bool
+is_same_held None None = true
+is_same_held (Some a) (Some b) = bytes_eq a b
+is_same_held None (Some b) = false
+is_same_held (Some a) None = false
+
+-- the same under each name
+abbrev pub are_same_held : List (Option (List ℕ)) → List (Option (List ℕ)) → Bool
+are_same_held [] [] = true
+are_same_held (x ∷ xs) (y ∷ ys) = is_same_held x y && are_same_held xs ys
+are_same_held [] (y ∷ ys) = false
+are_same_held (x ∷ xs) [] = false
+
+-- the same is told
+abbrev pub is_same : Told → Told → Bool
+is_same (Holds a) (Holds b) = are_same_held a b
+is_same (NoCard c p) (NoCard d q) = bytes_eq (cause_text c) (cause_text d) && (p == q)
+is_same (Holds a) (NoCard d q) = false
+is_same (NoCard c p) (Holds b) = false
+
+-- ---- words
+
+-- by whether it is the state of before, and whether that of after
+abbrev pub word_by : Bool → Bool → Word
+word_by true false = Before
+word_by false true = After
+word_by true true = Same
+word_by false false = Between
+
+-- whether all are the same as the first
+abbrev pub all_same : Told → List Told → Bool
+all_same t [] = true
+all_same t (u ∷ us) = is_same u t && all_same t us
+
+-- where they differ, torn
+abbrev pub word_if : Bool → Word → Word
+word_if true w = w
+word_if false w = Torn
+
+-- the word of the states of one write, the first and the others
+abbrev pub word_of : Told → Told → Told → List Told → Word
+word_of before after t ts = word_if (all_same t ts) (word_by (is_same t before) (is_same t after))
+
+-- ---- the plays of a swept line
+
+-- n numbers from k on
+abbrev pub count_from : ℕ → ℕ → List ℕ
+count_from k zero = []
+count_from k (suc n) = k ∷ count_from (k + 1) n
+
+-- the words that a cut leaves
+abbrev pub ones : List ℕ
+ones = replicate 8 0xFF
+
+-- the statement that arms a cut, at the number of a line
+abbrev pub cut : ℕ → ℕ → List ℕ → ℕ × DeckLine
+cut n k fill = (n, line.Cut k fill)
+
+-- a power statement, at the number of a line
+abbrev pub power : ℕ → ℕ × DeckLine
+power n = (n, line.Power)
+
+-- the lines before a line, and that line with its write k cut
+abbrev pub under_cut : List (ℕ × DeckLine) → ℕ × DeckLine → ℕ → List ℕ → List (ℕ × DeckLine)
+under_cut front l k fill = front ++ cut l.0 k fill ∷ l ∷ []
+
+-- the same, and a power line behind it whose write j is cut
+abbrev pub under_cuts : List (ℕ × DeckLine) → ℕ × DeckLine → ℕ → List ℕ → ℕ → List (ℕ × DeckLine)
+under_cuts front l k fill j = under_cut front l k fill ++ cut l.0 j fill ∷ power l.0 ∷ []
+
+-- the device writes that a line makes behind others
+abbrev pub writes_behind : List (ℕ × DeckLine) → ℕ × DeckLine → ℕ
+writes_behind front l = moves_of (played front) l
+
+-- the state behind a cut, and those where the recovery behind it is cut too, in each of its writes
+abbrev pub recovered : List (List ℕ) → List (ℕ × DeckLine) → ℕ × DeckLine → ℕ → List ℕ → List Told
+recovered names front l k fill =
+    map (λ j. told names (under_cuts front l k fill j)) (count_from 1 (writes_behind (under_cut front l k fill) (power l.0)))
+
+-- one write that was cut: its word, and the number of plays that tell it
+pub record Tried : Type 0 where
+  pub word : Word
+  pub plays : ℕ
+
+-- the states of a write, the first and the others
+abbrev pub tried_by : Told → Told → Told → List Told → Tried
+tried_by before after t ts = record { word = word_of before after t ts; plays = length ts + 1 }
+
+-- one write of a line that is cut, with eight bytes 00 and with eight bytes FF
+unfoldable pub tried : List (List ℕ) → List (ℕ × DeckLine) → ℕ × DeckLine → Told → Told → ℕ → Tried
+unfolding told played_from
+tried names front l before after k =
+    tried_by before after (told names (under_cut front l k (zeros 8)))
+    (recovered names front l k (zeros 8) ++ told names (under_cut front l k ones) ∷ recovered names front l k ones)
+
+-- ---- a deck
+
+-- the plays of some writes
+abbrev pub plays_of : List Tried → ℕ
+plays_of [] = 0
+plays_of (t ∷ ts) = t.plays + plays_of ts
+
+-- a swept line: its number, the words of its writes from the first on, and the number of plays that tell them
+pub record Swept : Type 0 where
+  pub number : ℕ
+  pub words : List Word
+  pub plays : ℕ
+
+-- a line of this number by its writes
+abbrev pub swept_by : ℕ → List Tried → Swept
+swept_by n ts = record { number = n; words = map (λ t. t.word) ts; plays = plays_of ts }
+
+-- a line whose writes are cut
+unfoldable pub swept : List (List ℕ) → List (ℕ × DeckLine) → ℕ × DeckLine → Swept
+unfolding told tried played_from
+swept names front l =
+    let before = told names front in
+    let after = told names (front ++ l ∷ []) in
+    swept_by l.0 (map (tried names front l before after) (count_from 1 (writes_behind front l)))
+
+-- whether no stop is armed
+abbrev pub is_unarmed : Armed → Bool
+is_unarmed Unarmed = true
+is_unarmed (ArmedCut k fill) = false
+is_unarmed (ArmedFail k) = false
+
+-- a line is swept where it is a card line, no stop is armed for it, and it makes a device write
+abbrev pub is_swept : List (ℕ × DeckLine) → ℕ × DeckLine → Bool
+is_swept front l = is_card_line l.1 && is_unarmed (armed_in (played front)) && nat_le 1 (writes_behind front l)
+
+-- a line before others, if it is swept
+abbrev pub swept_if : Bool → Swept → List Swept → List Swept
+swept_if true s rest = s ∷ rest
+swept_if false s rest = rest
+
+-- the swept lines among those behind a front of a deck
+unfoldable pub sweep_behind : List (List ℕ) → List (ℕ × DeckLine) → List (ℕ × DeckLine) → List Swept
+unfolding swept played_from
+sweep_behind names front [] = []
+sweep_behind names front (l ∷ ls) =
+    let s = swept names front l in
+    let rest = sweep_behind names (front ++ l ∷ []) ls in
+    swept_if (is_swept front l) s rest
+
+-- the swept lines of a deck
+unfoldable pub sweep : List (ℕ × DeckLine) → List Swept
+unfolding sweep_behind
+sweep ls = sweep_behind (names_from [] ls) [] ls
+
+-- ---- the text
+
+-- the text of a word
+abbrev pub word_text : Word → List ℕ
+word_text Before = codes "before"
+word_text After = codes "after"
+word_text Same = codes "same"
+word_text Between = codes "between"
+word_text Torn = codes "torn"
+
+-- the same word
+abbrev pub is_word : Word → Word → Bool
+is_word v w = bytes_eq (word_text v) (word_text w)
+
+-- writes of one word in order, as long as they go on
+pub record Run : Type 0 where
+  pub first : ℕ
+  pub last : ℕ
+  pub word : Word
+
+-- a write before runs
+abbrev pub with_write : ℕ → Word → List Run → List Run
+with_write k w [] = record { first = k; last = k; word = w } ∷ []
+with_write k w (r ∷ rs) = cond (is_word w r.word) (record r { first = k } ∷ rs) (record { first = k; last = k; word = w } ∷ r ∷ rs)
+
+-- the longest runs of the writes from write k on
+abbrev pub runs : ℕ → List Word → List Run
+runs k [] = []
+runs k (w ∷ ws) = with_write k w (runs (k + 1) ws)
+
+-- the text of a run
+abbrev pub run_text : Run → List ℕ
+run_text r = codes " " ++ word_text r.word ++ codes " " ++ decimal r.first ++ codes "-" ++ decimal r.last
+
+-- the text of runs
+abbrev pub runs_text : List Run → List ℕ
+runs_text [] = []
+runs_text (r ∷ rs) = run_text r ++ runs_text rs
+
+-- the text of a swept line
+abbrev pub swept_text : Swept → List ℕ
+swept_text s = codes "line " ++ decimal s.number ++ codes " writes " ++ decimal (length s.words) ++ codes ":" ++ runs_text (runs 1 s.words) ++ codes "\n"
+
+-- the text of swept lines
+abbrev pub swept_texts : List Swept → List ℕ
+swept_texts [] = []
+swept_texts (s ∷ ss) = swept_text s ++ swept_texts ss
+
+-- a sum over swept lines
+abbrev pub total : (Swept → ℕ) → List Swept → ℕ
+total f [] = 0
+total f (s ∷ ss) = f s + total f ss
+
+-- the text of the sums: lines, writes and plays
+abbrev pub sums_text : ℕ → ℕ → ℕ → List ℕ
+sums_text lines writes plays = codes "swept " ++ decimal lines ++ codes " writes " ++ decimal writes ++ codes " plays " ++ decimal plays ++ codes "\n"
+
+-- the text of a sweep
+abbrev pub text_of : List Swept → List ℕ
+text_of ss = swept_texts ss ++ sums_text (length ss) (total (λ s. length s.words) ss) (total (λ s. s.plays) ss)
+
+-- the text of a sweep of a deck
+unfoldable pub sweep_text : List (ℕ × DeckLine) → List ℕ
+unfolding sweep
+sweep_text ls = text_of (sweep ls)

@@ -1,0 +1,56 @@
+// A deck played and compared with its expectations.
+ghost use Rattle.std.specs.Prelude.{◌≡◌, ◌+◌, ◌^◌, ◌<◌, true, cond, IfOk};
+ghost use Rattle.mc_text.specs.Texts.{sunk_in, Puts};
+ghost use Rattle.mc_script.specs.Players.{IsUnfused};
+ghost use Rattle.mc_lab.specs.Expectations.{count_failed, expect_text, steady_steps};
+ghost use Rattle.mc_lab.specs.Judged.{done_of};
+ghost use Rattle.mc_lab.specs.Trials.{trial_value, IsRising};
+
+use crate::judging::{judge, put_counts};
+use crate::stage::play_lines;
+use crate::trial::{Trial, count_above};
+use mc_base::{Sink, Steps, WriteFault};
+use mc_nvm::Bench;
+use mc_script::{Player, Text};
+use std::sync::ledger::Ledger;
+
+// How many expectations failed, with one more that held or failed.
+fn counted(failed: usize, held: bool) -> usize
+    requires { failed < 2 ^ 63 }
+    ensures { result ≡ failed + cond held 0 1 }
+{
+    if held { failed } else { failed + 1 }
+}
+
+/// Plays a deck on a device and compares its results with its expectations: a line for each that fails, in their order, and a last
+/// line with how many there were and how many failed, which is also answered.
+///
+/// The device is handed in without a fuse, and refuses no write by itself. It takes no memory. A result is compared when its line was
+/// played and is not kept longer; lines behind the last expectation are not played, since nothing is told of them.
+pub fn expect<N: Bench + Drop, T: Sink, L: Ledger>(
+    trial: &Trial<'_>,
+    device: N,
+    out: &mut T,
+    steps: &mut Steps<L>,
+) -> Result<usize, WriteFault>
+    requires fuses { IsUnfused (N.bench device) }
+    requires steady { (N.bench device).steady ≡ true }
+    requires rising { IsRising trial.now }
+    ensures told { Puts (sunk_in T.taken T.faults out.old) (expect_text (steady_steps (N.state device).words (trial_value trial.now).lines) (trial_value trial.now).expected) (done_of result) (sunk_in T.taken T.faults out.new) }
+    ensures failed { IfOk result (λ n. n ≡ count_failed (steady_steps (N.state device).words (trial_value trial.now).lines) (trial_value trial.now).expected) }
+{
+    let mut player = Player::new(device);
+    let mut text = Text::new();
+    let mut count = 0;
+    let mut failed = 0;
+    let expectations = trial.expectations.as_slice();
+    for expectation in expectations {
+        let above = count_above(&trial.deck, count, expectation.number);
+        play_lines(&mut player, &trial.deck, count, above, &mut text, steps);
+        count = above;
+        let held = judge(out, expectation, text.as_slice())?;
+        failed = counted(failed, held);
+    }
+    put_counts(out, expectations.len(), failed)?;
+    Ok(failed)
+}

@@ -1,0 +1,63 @@
+// Expectations compared with results, and what is told of them.
+ghost use Rattle.std.specs.Prelude.{◌≡◌, codes, decimal, IfOk};
+ghost use Rattle.mc_text.specs.Texts.{sunk_in, Puts};
+ghost use Rattle.mc_lab.specs.Patterns.{holds};
+ghost use Rattle.mc_lab.specs.Expectations.{count_text, failed_line, told_of};
+ghost use Rattle.mc_lab.specs.Judged.{done_of, expectation_of};
+
+use crate::matching::holds;
+use itoa::Buffer;
+use mc_asm::NumberedLine;
+use mc_base::{Sink, WriteFault};
+use mc_text::{put, put_number};
+
+// Writes the line of an expectation that failed at a result.
+fn put_failed<T: Sink>(
+    out: &mut T,
+    expectation: &NumberedLine<'_>,
+    text: &[u8],
+) -> Result<(), WriteFault>
+    ensures { Puts (sunk_in T.taken T.faults out.old) (failed_line (expectation_of expectation.now) text.now) result (sunk_in T.taken T.faults out.new) }
+{
+    put_number(out, b"line ", expectation.number)?;
+    put(out, b" expected ")?;
+    put(out, expectation.text)?;
+    put(out, b" was ")?;
+    put(out, text)?;
+    put(out, b"\n")
+}
+
+/// Whether an expectation holds of the text of a result; one that does not is told.
+pub fn judge<T: Sink>(
+    out: &mut T,
+    expectation: &NumberedLine<'_>,
+    text: &[u8],
+) -> Result<bool, WriteFault>
+    ensures value { IfOk result (λ b. b ≡ holds expectation.now.text.now text.now) }
+    ensures told { Puts (sunk_in T.taken T.faults out.old) (told_of (holds expectation.now.text.now text.now) (expectation_of expectation.now) text.now) (done_of result) (sunk_in T.taken T.faults out.new) }
+{
+    if holds(expectation.text, text) {
+        return Ok(true);
+    }
+    put_failed(out, expectation, text)?;
+    Ok(false)
+}
+
+// Writes a number in decimal.
+fn put_count<T: Sink>(out: &mut T, count: usize) -> Result<(), WriteFault>
+    ensures { Puts (sunk_in T.taken T.faults out.old) (decimal count) result (sunk_in T.taken T.faults out.new) }
+{
+    let mut buffer = Buffer::new();
+    put(out, buffer.format(count).as_bytes())
+}
+
+/// Writes how many expectations there were, and how many failed.
+pub fn put_counts<T: Sink>(out: &mut T, expected: usize, failed: usize) -> Result<(), WriteFault>
+    ensures { Puts (sunk_in T.taken T.faults out.old) (count_text expected failed) result (sunk_in T.taken T.faults out.new) }
+{
+    put(out, b"expected ")?;
+    put_count(out, expected)?;
+    put(out, b" failed ")?;
+    put_count(out, failed)?;
+    put(out, b"\n")
+}

@@ -1,0 +1,26 @@
+#![tactic(auto)]
+
+// The laboratory: expectations that stand in a deck's comments, compared with its play; and sweeps of a deck, with their laws.
+mod expectation;
+mod expectation_rows;
+mod expecting;
+mod field;
+mod judging;
+mod matching;
+mod rows;
+mod stage;
+mod sweep_laws;
+mod sweep_rows;
+mod sweep_text;
+mod sweep_word;
+mod trial;
+
+pub use expecting::expect;
+pub use matching::holds;
+pub use sweep_laws::{
+    a_cut_hits_the_writes_of_its_line, between_two_changes, never_torn, no_change_stays_the_same,
+    one_change_splits_at_its_gate,
+};
+pub use sweep_text::{Sums, put_sums, put_swept};
+pub use sweep_word::Word;
+pub use trial::{Trial, TrialRefusal, read_trial};

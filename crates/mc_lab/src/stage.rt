@@ -1,0 +1,46 @@
+// Lines of a deck played one by one, and the text of the last one's result.
+ghost use Rattle.std.specs.Prelude.{◌≡◌, ◌≤◌, List, length, option_map};
+ghost use Rattle.mc_model.specs.DeckGrammar.{DeckLine};
+ghost use Rattle.mc_model.specs.Play.{Step};
+ghost use Rattle.mc_script.specs.Players.{answer_value, device_of, IsPlaying};
+ghost use Rattle.mc_lab.specs.Expectations.{result_text};
+ghost use Rattle.mc_lab.specs.Stages.{Staged};
+
+use mc_base::Steps;
+use mc_deck::Deck;
+use mc_nvm::Bench;
+use mc_script::{Answer, Player, Silent, Text, add_result};
+use std::sync::ledger::Ledger;
+
+// Gathers the text of a result of a player, none where there is none.
+fn gather<N: Bench>(text: &mut Text, player: &Player<N>, answer: &Option<Answer>)
+    requires { IsPlaying N.state N.bench player.now }
+    ensures { text.new.items ≡ result_text (option_map (answer_value N.state player.now) answer.now) }
+{
+    text.clear();
+    if let Some(answer) = answer {
+        add_result(text, player, answer);
+    }
+}
+
+/// Plays the lines of a deck from one place up to another, and gathers the text of the last one's result.
+pub fn play_lines<N: Bench, L: Ledger>(
+    player: &mut Player<N>,
+    deck: &Deck,
+    from: usize,
+    to: usize,
+    text: &mut Text,
+    steps: &mut Steps<L>,
+)
+    requires playing { IsPlaying N.state N.bench player.old }
+    requires order { from ≤ to }
+    requires most { to ≤ length deck.now }
+    ensures staged { (whole : List Step) → Staged N.state N.bench whole deck.now player.old from text.old.items → Staged N.state N.bench whole deck.now player.new to text.new.items }
+    ensures playing { IsPlaying N.state N.bench player.new }
+{
+    for at in from..to {
+        let (_number, line) = deck.line(at);
+        let answer = player.line(&line, &mut Silent, steps);
+        gather(text, player, &answer);
+    }
+}

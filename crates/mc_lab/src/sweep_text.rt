@@ -1,0 +1,103 @@
+// The text of a sweep.
+ghost use Rattle.std.specs.Prelude.{◌≡◌, ◌++◌, ◌+◌, ◌-◌, ◌<◌, ◌≤◌, ℕ, ◌∷◌, codes, decimal, drop, get_or, length};
+ghost use Rattle.mc_lab.specs.Sweeps.{is_word, run_text, runs, runs_text, sums_text, word_text};
+ghost use Rattle.mc_lab.specs.declared.sweep_word.Word.TheVariants.{Before};
+ghost use Rattle.mc_text.specs.Texts.{sunk_in, Puts};
+
+use crate::sweep_word::Word;
+use itoa::Buffer;
+use mc_base::{Sink, WriteFault};
+use mc_text::{put, put_decimal};
+
+/// The sums of a sweep: its lines, their writes, and the plays that tell them.
+#[derive(Clone, Copy, Debug)]
+pub struct Sums {
+    pub lines: u128,
+    pub writes: u128,
+    pub plays: u128,
+}
+
+// Writes a sum.
+fn put_sum<T: Sink>(out: &mut T, number: u128) -> Result<(), WriteFault>
+    ensures { Puts (sunk_in T.taken T.faults out.old) (decimal number) result (sunk_in T.taken T.faults out.new) }
+{
+    let mut buffer = Buffer::new();
+    put(out, buffer.format(number).as_bytes())
+}
+
+// Writes a run of writes of one word, by the first and the last of them.
+fn put_run<T: Sink>(out: &mut T, word: Word, first: u32, last: u32) -> Result<(), WriteFault>
+    ensures { Puts (sunk_in T.taken T.faults out.old) (run_text (record { first = first; last = last; word = word })) result (sunk_in T.taken T.faults out.new) }
+{
+    put(out, b" ")?;
+    put(out, word.text().as_bytes())?;
+    put(out, b" ")?;
+    put_decimal(out, first)?;
+    put(out, b"-")?;
+    put_decimal(out, last)
+}
+
+// Whether two words are the same.
+fn is_word(a: Word, b: Word) -> bool
+    ensures { result ≡ is_word a b }
+{
+    a.text() == b.text()
+}
+
+// How many words at the front are the same.
+fn run_len(words: &[Word]) -> usize
+    requires { 0 < length words.now }
+    ensures low { 1 ≤ result }
+    ensures high { result ≤ length words.now }
+    ensures run { (k : ℕ) → runs k words.now ≡ record { first = k; last = k + result - 1; word = get_or words.now 0 Before } ∷ runs (k + result) (drop result words.now) }
+{
+    let mut len = 1;
+    while len < words.len() {
+        if !is_word(words[0], words[len]) {
+            return len;
+        }
+        len += 1;
+    }
+    len
+}
+
+// Writes the longest runs of the words of a line's writes.
+fn put_runs<T: Sink>(out: &mut T, words: &[Word]) -> Result<(), WriteFault>
+    requires { length words.now ≤ 4294967295 }
+    ensures { Puts (sunk_in T.taken T.faults out.old) (runs_text (runs 1 words.now)) result (sunk_in T.taken T.faults out.new) }
+{
+    let mut at = 0;
+    while at < words.len() {
+        let len = run_len(&words[at..]);
+        put_run(out, words[at], at as u32 + 1, (at + len) as u32)?;
+        at += len;
+    }
+    Ok(())
+}
+
+/// Writes a swept line, by its number and the words of its writes.
+pub fn put_swept<T: Sink>(out: &mut T, number: u32, words: &[Word]) -> Result<(), WriteFault>
+    requires { length words.now ≤ 4294967295 }
+    ensures { Puts (sunk_in T.taken T.faults out.old) (codes "line " ++ decimal number ++ codes " writes " ++ decimal (length words.now) ++ codes ":" ++ runs_text (runs 1 words.now) ++ codes "\n") result (sunk_in T.taken T.faults out.new) }
+{
+    put(out, b"line ")?;
+    put_decimal(out, number)?;
+    put(out, b" writes ")?;
+    put_decimal(out, words.len() as u32)?;
+    put(out, b":")?;
+    put_runs(out, words)?;
+    put(out, b"\n")
+}
+
+/// Writes the sums of a sweep.
+pub fn put_sums<T: Sink>(out: &mut T, sums: &Sums) -> Result<(), WriteFault>
+    ensures { Puts (sunk_in T.taken T.faults out.old) (sums_text sums.now.lines sums.now.writes sums.now.plays) result (sunk_in T.taken T.faults out.new) }
+{
+    put(out, b"swept ")?;
+    put_sum(out, sums.lines)?;
+    put(out, b" writes ")?;
+    put_sum(out, sums.writes)?;
+    put(out, b" plays ")?;
+    put_sum(out, sums.plays)?;
+    put(out, b"\n")
+}

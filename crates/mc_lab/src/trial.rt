@@ -1,0 +1,130 @@
+// Decks with their expectations.
+ghost use Rattle.std.specs.Prelude.{◌≡◌, ◌+◌, ◌^◌, ◌<◌, ◌≤◌, drop, length, IfErr, IfOk};
+ghost use Rattle.mc_asm.specs.Passes.{numbered_lines};
+ghost use Rattle.mc_deck.specs.Lines.{line_of};
+ghost use Rattle.mc_lab.specs.Rising.{count_below, last_of, Rising};
+ghost use Rattle.mc_lab.specs.Expectations.{first_unanswered, has_result, is_answered, line_number, trial_read};
+ghost use Rattle.mc_lab.specs.Trials.{refusal_of, trial_value, IsRising, RefusesTrial};
+
+use crate::expectation::expectations;
+use mc_asm::NumberedLine;
+use mc_base::NoMemory;
+use mc_deck::{Deck, DeckCause, DeckRefusal, Line, read_deck};
+use std::alloc::Global;
+use thiserror::Error;
+
+/// A deck and its expectations, which are lines of its text: each with its number and its pattern.
+#[derive(Drop)]
+pub struct Trial<'a> {
+    pub deck: Deck,
+    pub expectations: Vec<NumberedLine<'a>>,
+}
+
+/// Why a text is no deck with expectations.
+#[derive(Clone, Copy, Debug, PartialEq, Eq, Error)]
+pub enum TrialRefusal {
+    /// The first refused line of the deck, counted from 1, and its cause.
+    #[error("line {0}: refused")]
+    Deck(u32, DeckCause),
+    /// The line of the first expectation that has no statement above it with a result.
+    #[error("line {0}: no answer")]
+    NoAnswer(u32),
+    /// Memory that was asked for was not there.
+    #[error("out of memory")]
+    NoMemory,
+}
+
+impl From<NoMemory> for TrialRefusal {
+    ghost use Rattle.std.specs.Prelude.{◌≡◌};
+    ghost use Rattle.mc_lab.specs.declared.trial.TrialRefusal.TheVariants.{NoMemory};
+
+    ghost from_gives = { λ f e. e ≡ NoMemory };
+
+    fn from(_error: NoMemory) -> Self {
+        TrialRefusal::NoMemory
+    }
+}
+
+/// How many lines of a deck stand above a line of its text, where so many do at least.
+pub fn count_above(deck: &Deck, from: usize, number: u32) -> usize
+    requires { from + count_below line_number number (drop from deck.now) ≡ count_below line_number number deck.now }
+    ensures count { result ≡ count_below line_number number deck.now }
+    ensures most { result ≤ length deck.now }
+{
+    let mut count = from;
+    while count < deck.len() {
+        let (line, _) = deck.line(count);
+        if line >= number {
+            return count;
+        }
+        count += 1;
+    }
+    count
+}
+
+// Whether a statement has a result.
+fn has_result(line: &Line<'_>) -> bool
+    ensures { result ≡ has_result (line_of line.now) }
+{
+    !matches!(
+        line,
+        Line::Named | Line::Budget(_) | Line::Cut { .. } | Line::Fail(_) | Line::Poke { .. }
+    )
+}
+
+// Whether the last of so many lines of a deck has a result.
+fn is_answered(deck: &Deck, count: usize) -> bool
+    requires { count ≤ length deck.now }
+    ensures { result ≡ is_answered (last_of count deck.now) }
+{
+    if count == 0 {
+        return false;
+    }
+    let (_, line) = deck.line(count - 1);
+    has_result(&line)
+}
+
+// The number of the first expectation that has no statement above it with a result.
+fn first_unanswered(deck: &Deck, expectations: &[NumberedLine<'_>]) -> Option<u32>
+    requires lines { Rising line_number 1 deck.now }
+    requires expectations { Rising line_number 1 (numbered_lines expectations.now) }
+    ensures { result ≡ first_unanswered deck.now (numbered_lines expectations.now) }
+{
+    let mut count = 0;
+    for expectation in expectations {
+        count = count_above(deck, count, expectation.number);
+        if !is_answered(deck, count) {
+            return Some(expectation.number);
+        }
+    }
+    None
+}
+
+// The refusal of a deck, as one of a trial.
+fn refusal_of(refusal: DeckRefusal) -> TrialRefusal
+    ensures { result ≡ refusal_of refusal }
+{
+    match refusal {
+        DeckRefusal::At(number, cause) => TrialRefusal::Deck(number, cause),
+        DeckRefusal::NoMemory => TrialRefusal::NoMemory,
+    }
+}
+
+/// Reads a deck and its expectations. The refusals of the deck come first, then the first expectation that has no statement above it
+/// with a result.
+pub fn read_trial(alloc: Global, text: &[u8]) -> Result<Trial<'_>, TrialRefusal>
+    requires { length text.now < 2 ^ 32 }
+    ensures trial { IfOk result (λ t. trial_read text.now ≡ Ok (trial_value t)) }
+    ensures rising { IfOk result IsRising }
+    ensures refused { IfErr result (RefusesTrial (trial_read text.now)) }
+{
+    let deck = match read_deck(alloc, text) {
+        Ok(deck) => deck,
+        Err(refusal) => return Err(refusal_of(refusal)),
+    };
+    let expectations = expectations(alloc, text)?;
+    match first_unanswered(&deck, expectations.as_slice()) {
+        Some(number) => Err(TrialRefusal::NoAnswer(number)),
+        None => Ok(Trial { deck, expectations }),
+    }
+}
