@@ -112,7 +112,8 @@ fn short_fields(lc: u8, rest: &[u8]) -> Option<Fields<'_>>
 
 // The extended cases, behind the zero: a two-byte number, which alone is Le, and else Lc.
 fn extended_fields(bytes: &[u8]) -> Option<Fields<'_>>
-    ensures read { MatchOption result (extended_rest bytes.now ≡ None) (λ r. extended_rest bytes.now ≡ Some (rest_of r)) }
+    ensures read { MatchOption result (extended_rest bytes.now ≡ None)
+        (λ r. extended_rest bytes.now ≡ Some (rest_of r)) }
     ensures body { IfSome result (λ r. length r.body.now ≤ 1024) }
 {
     let [high, low, rest @ ..] = bytes else {
@@ -135,7 +136,8 @@ fn extended_fields(bytes: &[u8]) -> Option<Fields<'_>>
 // The extended cases 3 and 4: Lc, and what stands behind it.
 fn extended_data(lc: u16, rest: &[u8]) -> Option<Fields<'_>>
     requires { lc ≤ 1024 }
-    ensures read { MatchOption result (extended_body lc rest.now ≡ None) (λ r. extended_body lc rest.now ≡ Some (rest_of r)) }
+    ensures read { MatchOption result (extended_body lc rest.now ≡ None)
+        (λ r. extended_body lc rest.now ≡ Some (rest_of r)) }
     ensures body { IfSome result (λ r. length r.body.now ≤ 1024) }
 {
     let len = lc as usize;

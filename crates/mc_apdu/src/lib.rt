@@ -1,6 +1,7 @@
 #![tactic(auto)]
 
-// Commands as a card gets them, and replies as it gives them.
+//! Commands as a card gets them, and replies as it gives them.
+
 mod command;
 mod laws;
 mod reply;

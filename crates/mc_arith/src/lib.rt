@@ -1,6 +1,7 @@
 #![tactic(auto)]
 
-// Arithmetic on blocks of bytes as whole numbers, unsigned and high byte first.
+//! Arithmetic on blocks of bytes as whole numbers, unsigned and high byte first.
+
 mod addition;
 mod bitwise;
 mod borders;

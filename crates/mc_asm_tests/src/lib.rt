@@ -1,5 +1,6 @@
 #![tactic(auto)]
 
-// The assembler and the listing tried with ample memory.
+//! The assembler and the listing tried with ample memory.
+
 #[cfg(test)]
 mod tests;

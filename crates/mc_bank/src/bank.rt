@@ -127,7 +127,8 @@ pub trait Bank {
     ghost did: { Self → BankItem → Answer → Self → Type 0 };
 
     /// A slot has the sizes of its application.
-    ghost sized: { (b : Self) (k : ℕ) → IsSome (named b k) → slot_sizes k ≡ sizes_of (app_of (state b).apps (named b k)) };
+    ghost sized: { (b : Self) (k : ℕ) → IsSome (named b k)
+        → slot_sizes k ≡ sizes_of (app_of (state b).apps (named b k)) };
 
     /// The slot of a name, or `None` exactly where the name is not there.
     fn find(&self, aid: &Aid) -> Option<Slot>
@@ -155,21 +156,24 @@ pub trait Bank {
         requires going { (state self.now).stopped ≡ false }
         requires there { IsSome (named self.now slot) }
         requires range { at + length into.old ≤ length (app_of (state self.now).apps (named self.now slot)).code }
-        ensures { into.new ≡ take (length into.old) (drop at (app_of (state self.now).apps (named self.now slot)).code) };
+        ensures { into.new ≡ take (length into.old)
+            (drop at (app_of (state self.now).apps (named self.now slot)).code) };
 
     /// Copies bytes of the static segment from a place on; they lie in the segment.
     fn fixed(&self, slot: Slot, at: u16, into: &mut [u8])
         requires going { (state self.now).stopped ≡ false }
         requires there { IsSome (named self.now slot) }
         requires range { at + length into.old ≤ length (app_of (state self.now).apps (named self.now slot)).fixed }
-        ensures { into.new ≡ take (length into.old) (drop at (app_of (state self.now).apps (named self.now slot)).fixed) };
+        ensures { into.new ≡ take (length into.old)
+            (drop at (app_of (state self.now).apps (named self.now slot)).fixed) };
 
     /// Copies bytes of the FCI record from a place on; they lie in the record.
     fn fci(&self, slot: Slot, at: u16, into: &mut [u8])
         requires going { (state self.now).stopped ≡ false }
         requires there { IsSome (named self.now slot) }
         requires range { at + length into.old ≤ length (app_of (state self.now).apps (named self.now slot)).fci }
-        ensures { into.new ≡ take (length into.old) (drop at (app_of (state self.now).apps (named self.now slot)).fci) };
+        ensures { into.new ≡ take (length into.old)
+            (drop at (app_of (state self.now).apps (named self.now slot)).fci) };
 
     /// Sets 1 to 64 whole words of the static segment at once, with their numbers ascending. What stands behind the
     /// segment's end in its last word is no part of it.
@@ -178,7 +182,8 @@ pub trait Bank {
         requires there { IsSome (named self.old slot) }
         requires list { CanCommit (app_of (state self.old).apps (named self.old slot)).fixed list.now }
         ensures items { InOrder did self.old (Commit (name_or (named self.old slot)) list.now ∷ []) result self.new }
-        ensures apps { Changes (state self.old) (committed (state self.old).apps (name_or (named self.old slot)) list.now) result (state self.new) }
+        ensures apps { Changes (state self.old)
+            (committed (state self.old).apps (name_or (named self.old slot)) list.now) result (state self.new) }
         ensures slots { (k : ℕ) → named self.new k ≡ named self.old k }
         ensures good { StayGood (state self.old).apps (room self.old) (state self.new).apps (room self.new) }
         ensures bytes { BytesStay (state self.old).apps (room self.old) (standing self.old) (standing self.new) };
@@ -188,7 +193,8 @@ pub trait Bank {
     fn open<L: Ledger>(&self, sizes: &Sizes, steps: &mut Steps<L>) -> Result<Site, OpenRefusal>
         requires going { (state self.now).stopped ≡ false }
         requires limits { FitsLimits sizes.now }
-        ensures answer { result ≡ opened sizes.now (nat_le 32 (length (state self.now).apps)) (room self.now sizes.now) }
+        ensures answer { result ≡ opened sizes.now (nat_le 32 (length (state self.now).apps))
+            (room self.now sizes.now) }
         ensures good { IfOk result (λ site. IsGood (state self.now).apps (room self.now) site) }
         ensures parts { IfOk result (λ site. HasParts site (standing self.now site)) }
         ensures rises { steps.old ≤ steps.new }
@@ -200,10 +206,13 @@ pub trait Bank {
         requires going { (state self.old).stopped ≡ false }
         requires good { IsGood (state self.old).apps (room self.old) site.now }
         requires range { at + length piece.now ≤ part_len part site.now.sizes }
-        ensures items { InOrder did self.old (map (λ c. Piece site.now part c.0 c.1) (word_parts at piece.now)) result self.new }
+        ensures items { InOrder did self.old (map
+            (λ c. Piece site.now part c.0 c.1) (word_parts at piece.now)) result self.new }
         ensures apps { Changes (state self.old) (state self.old).apps result (state self.new) }
-        ensures piece { OnOk result (standing self.new site.now part ≡ splice (standing self.old site.now part) at piece.now) }
-        ensures others { OnOk result ((p : Part) → p ≢ part → standing self.new site.now p ≡ standing self.old site.now p) }
+        ensures piece { OnOk result (standing self.new site.now part
+            ≡ splice (standing self.old site.now part) at piece.now) }
+        ensures others { OnOk result ((p : Part) → p ≢ part
+            → standing self.new site.now p ≡ standing self.old site.now p) }
         ensures slots { (k : ℕ) → named self.new k ≡ named self.old k }
         ensures good { StayGood (state self.old).apps (room self.old) (state self.new).apps (room self.new) };
 
@@ -214,7 +223,9 @@ pub trait Bank {
         requires good { IsGood (state self.old).apps (room self.old) site.now }
         requires fresh { lookup (state self.old).apps aid.now ≡ None }
         ensures items { InOrder did self.old (create_items site.now aid.now) result self.new }
-        ensures apps { Changes (state self.old) (insert (state self.old).apps aid.now (entered site.now (standing self.old site.now))) result (state self.new) }
+        ensures apps { Changes (state self.old)
+            (insert (state self.old).apps aid.now (entered site.now (standing self.old site.now))) result
+            (state self.new) }
         ensures slots { (k : ℕ) → IsSome (named self.old k) → named self.new k ≡ named self.old k };
 
     /// Takes an application out of the card.
@@ -222,18 +233,24 @@ pub trait Bank {
         requires going { (state self.old).stopped ≡ false }
         requires there { IsSome (named self.old slot) }
         ensures items { InOrder did self.old (Remove (name_or (named self.old slot)) ∷ []) result self.new }
-        ensures apps { Changes (state self.old) (remove (state self.old).apps (name_or (named self.old slot))) result (state self.new) }
-        ensures slots { (k : ℕ) → (n : List ℕ) → named self.old k ≡ Some n → n ≢ name_or (named self.old slot) → named self.new k ≡ Some n };
+        ensures apps { Changes (state self.old) (remove (state self.old).apps (name_or (named self.old slot))) result
+            (state self.new) }
+        ensures slots { (k : ℕ) → (n : List ℕ) → named self.old k ≡ Some n → n ≢ name_or (named self.old slot)
+            → named self.new k ≡ Some n };
 
     /// An item by the relation changes the applications by its definition.
-    ghost obeys: { (b : Self) (i : BankItem) (a : Answer) (e : Self) → did b i a e → Changes (state b) (item_done (standing b) i (state b).apps) a (state e) };
+    ghost obeys: { (b : Self) (i : BankItem) (a : Answer) (e : Self) → did b i a e
+        → Changes (state b) (item_done (standing b) i (state b).apps) a (state e) };
 
     /// It keeps the slots of all applications but the one that it deletes.
-    ghost keeps: { (b : Self) (i : BankItem) (a : Answer) (e : Self) → did b i a e → (k : ℕ) (n : List ℕ) → named b k ≡ Some n → Spares n i → named e k ≡ Some n };
+    ghost keeps: { (b : Self) (i : BankItem) (a : Answer) (e : Self) → did b i a e → (k : ℕ) (n : List ℕ)
+        → named b k ≡ Some n → Spares n i → named e k ≡ Some n };
 
     /// A commit keeps good sites.
-    ghost spares: { (b : Self) (n : List ℕ) (ws : List (ℕ × List ℕ)) (a : Answer) (e : Self) → did b (Commit n ws) a e → StayGood (state b).apps (room b) (state e).apps (room e) };
+    ghost spares: { (b : Self) (n : List ℕ) (ws : List (ℕ × List ℕ)) (a : Answer) (e : Self) → did b (Commit n ws) a e
+        → StayGood (state b).apps (room b) (state e).apps (room e) };
 
     /// And it keeps their bytes.
-    ghost leaves: { (b : Self) (n : List ℕ) (ws : List (ℕ × List ℕ)) (a : Answer) (e : Self) → did b (Commit n ws) a e → BytesStay (state b).apps (room b) (standing b) (standing e) };
+    ghost leaves: { (b : Self) (n : List ℕ) (ws : List (ℕ × List ℕ)) (a : Answer) (e : Self) → did b (Commit n ws) a e
+        → BytesStay (state b).apps (room b) (standing b) (standing e) };
 }

@@ -1,6 +1,7 @@
 #![tactic(auto)]
 
-// The applications of a card as a map that items change one by one, and a bank that lives in memory.
+//! The applications of a card as a map that items change one by one, and a bank that lives in memory.
+
 mod bank;
 mod changes;
 mod entries;

@@ -1,6 +1,7 @@
 #![tactic(auto)]
 
-// Bytes in and out, and the names and counts that every other crate speaks of.
+//! Bytes in and out, and the names and counts that every other crate speaks of.
+
 mod aid;
 mod ledger;
 mod memory;

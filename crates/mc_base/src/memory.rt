@@ -23,7 +23,12 @@ impl Model for MemSource {
 
     ghost Value = { Left };
 
-    ghost view = { λ s. record { bytes = drop s.at s.bytes.items; fail_at = s.fail_at.items; calls = s.calls; faults = s.faults } };
+    ghost view = { λ s. record {
+      bytes = drop s.at s.bytes.items;
+      fail_at = s.fail_at.items;
+      calls = s.calls;
+      faults = s.faults;
+    } };
 
     ghost invariant = { λ s. s.at ≤ vec_len s.bytes };
 }
@@ -87,7 +92,8 @@ fn has_call(numbers: &[u32], call: u64) -> bool
 
 // Whether a sink fails at this call: by its number, or because nothing fits.
 fn is_refused(numbers: &[u32], call: u64, room: usize, piece: &[u8]) -> bool
-    ensures { result ≡ (list_any (λ number. number == call) numbers.now || ((room == 0) && not (length piece.now == 0))) }
+    ensures { result ≡ (list_any (λ number. number == call) numbers.now
+        || ((room == 0) && not (length piece.now == 0))) }
 {
     if has_call(numbers, call) {
         return true;
@@ -111,7 +117,13 @@ impl Model for MemSink {
 
     ghost Value = { Taken };
 
-    ghost view = { λ t. record { bytes = t.bytes.items; room = t.room; fail_at = t.fail_at.items; calls = t.calls; faults = t.faults } };
+    ghost view = { λ t. record {
+      bytes = t.bytes.items;
+      room = t.room;
+      fail_at = t.fail_at.items;
+      calls = t.calls;
+      faults = t.faults;
+    } };
 
     ghost invariant = { λ t. vec_len t.bytes + t.room ≤ vec_capacity t.bytes };
 }
@@ -122,7 +134,13 @@ impl MemSink {
     /// A sink with room for so many bytes, which is taken at once. Its calls are numbered from 1. A call fails where its
     /// number is in `fail_at`, and where its piece is not empty and no room is left.
     pub fn new(alloc: Global, room: usize, fail_at: &[u32]) -> Result<Self, NoMemory>
-        ensures { IfOk result (λ t. t ≡ record { bytes = []; room = room; fail_at = fail_at.now; calls = 0; faults = 0 }) }
+        ensures { IfOk result (λ t. t ≡ record {
+          bytes = [];
+          room = room;
+          fail_at = fail_at.now;
+          calls = 0;
+          faults = 0;
+        }) }
     {
         Ok(MemSink {
             bytes: Vec::with_capacity(alloc, room)?,

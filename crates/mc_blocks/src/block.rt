@@ -53,7 +53,8 @@ pub fn decode(place: u16, word: Word) -> Option<Block>
 
 /// The block whose header stands at a place, if one does and it ends in time.
 pub fn block_at<N: Nvm>(device: &N, place: u32) -> Option<Block>
-    ensures { read_block result ≡ fitting (length (N.state device.now).words) (header place (word (N.state device.now).words place)) }
+    ensures { read_block result ≡ fitting (length (N.state device.now).words)
+        (header place (word (N.state device.now).words place)) }
 {
     let size = device.len();
     if place >= size {

@@ -37,7 +37,8 @@ fn first_bad_link<N: Nvm>(device: &N) -> Option<u16>
 
 // The link that a block must have: 0 for a used one, the next hole for a hole.
 fn due_link<N: Nvm>(device: &N, block: &Block) -> u16
-    ensures { result ≡ cond block.now.used 0 (first_hole (blocks_at (N.state device.now).words (block.now.place + block.now.words))) }
+    ensures { result ≡ cond block.now.used 0
+        (first_hole (blocks_at (N.state device.now).words (block.now.place + block.now.words))) }
 {
     if block.used {
         0

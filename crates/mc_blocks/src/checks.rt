@@ -53,8 +53,10 @@ pub fn first_bad_header<N: Nvm>(device: &N) -> Option<u16>
 // The block at a place, if its header is good there.
 #[tactic(auto, using(crate::proofs::Headers::unfit_is_bad, crate::proofs::Headers::second_is_bad, crate::proofs::Headers::next_is_good))]
 fn good_block<N: Nvm>(device: &N, place: u32, after_hole: bool) -> Option<Block>
-    ensures { MatchOption result (bad_header (length (N.state device.now).words) after_hole (header place (word (N.state device.now).words place)) ≡ true)
-        (λ b. Follows (length (N.state device.now).words) after_hole (header place (word (N.state device.now).words place)) (block_of b)) }
+    ensures { MatchOption result (bad_header (length (N.state device.now).words) after_hole
+        (header place (word (N.state device.now).words place)) ≡ true)
+        (λ b. Follows (length (N.state device.now).words) after_hole
+        (header place (word (N.state device.now).words place)) (block_of b)) }
 {
     let block = block_at(device, place)?;
     if after_hole && !block.used {

@@ -15,7 +15,8 @@ const SHUT: Word = [b'S', b'H', b'U', b'T', b'-', b'-', b'-', b'-'];
 pub fn format_words(size: u32) -> [(u16, Word); 5]
     requires low { 256 ≤ size }
     requires high { size ≤ 16384 }
-    ensures { result ≡ (0, root 2 size heap_start) ∷ (1, shut) ∷ (2, zeros 8) ∷ (130, shut) ∷ (heap_start, hole_header (size - heap_start) 0) ∷ [] }
+    ensures { result ≡ (0, root 2 size heap_start) ∷ (1, shut) ∷ (2, zeros 8) ∷ (130, shut)
+        ∷ (heap_start, hole_header (size - heap_start) 0) ∷ [] }
 {
     [
         (0, root_word(2, size as u16, 131)),

@@ -13,14 +13,18 @@ ghost use Rattle.mc_blocks.specs.Plans.{changes, layout_of, plan, has_room, has_
 /// On a well laid image with no open journal the holes of the walk by lengths are the gaps of the card, and its used
 /// blocks are the spans of the card's applications.
 pub fn walks_card()
-    ensures gaps { (m : List (List ℕ)) → IsImage m → look m ≡ Closed → IsWellLaid m → gaps (means m) ≡ hole_spans (blocks m) }
-    ensures spans { (m : List (List ℕ)) → IsImage m → look m ≡ Closed → IsWellLaid m → spans (means m) ≡ used_spans (blocks m) }
-    ensures count { (m : List (List ℕ)) → IsImage m → look m ≡ Closed → IsWellLaid m → length (means m).apps ≡ length (used_spans (blocks m)) }
+    ensures gaps { (m : List (List ℕ)) → IsImage m → look m ≡ Closed → IsWellLaid m
+        → gaps (means m) ≡ hole_spans (blocks m) }
+    ensures spans { (m : List (List ℕ)) → IsImage m → look m ≡ Closed → IsWellLaid m
+        → spans (means m) ≡ used_spans (blocks m) }
+    ensures count { (m : List (List ℕ)) → IsImage m → look m ≡ Closed → IsWellLaid m
+        → length (means m).apps ≡ length (used_spans (blocks m)) }
 {}
 
 /// Its root names the first gap, and the header of each gap the next: the chain of holes is the ascending list of gaps.
 pub fn chains_gaps()
-    ensures root { (m : List (List ℕ)) → IsImage m → look m ≡ Closed → IsWellLaid m → be2 (word m 0) 6 ≡ first_place (gaps (means m)) }
+    ensures root { (m : List (List ℕ)) → IsImage m → look m ≡ Closed → IsWellLaid m
+        → be2 (word m 0) 6 ≡ first_place (gaps (means m)) }
     ensures holes { (m : List (List ℕ)) → IsImage m → look m ≡ Closed → IsWellLaid m → IsChain m (gaps (means m)) }
 {}
 
@@ -31,8 +35,10 @@ pub fn counts_applications()
 
 /// Words with the same root, and in each block the same header and where it is used the same words, hold the same card.
 pub fn keeps_card()
-    ensures laid { (m n : List (List ℕ)) → IsImage m → words_fault m ≡ None → length n ≡ length m → word n 0 ≡ word m 0 → Agree m n (blocks m) → words_fault n ≡ None }
-    ensures card { (m n : List (List ℕ)) → IsImage m → words_fault m ≡ None → length n ≡ length m → word n 0 ≡ word m 0 → Agree m n (blocks m) → card_of n ≡ card_of m }
+    ensures laid { (m n : List (List ℕ)) → IsImage m → words_fault m ≡ None → length n ≡ length m
+        → word n 0 ≡ word m 0 → Agree m n (blocks m) → words_fault n ≡ None }
+    ensures card { (m n : List (List ℕ)) → IsImage m → words_fault m ≡ None → length n ≡ length m
+        → word n 0 ≡ word m 0 → Agree m n (blocks m) → card_of n ≡ card_of m }
 {}
 
 /// Where the first gap of so many words is, there is room for them.
@@ -42,40 +48,53 @@ pub fn fits_room()
 
 /// A new application at a place where none begins adds its span.
 pub fn inserts_span()
-    ensures { (apps : List (List ℕ × App)) (name : List ℕ) (app : App) → lookup apps name ≡ None → has_span app.place (spans_of apps) ≡ false → spans_of (insert apps name app) ≡ put_at app.place (needed app) (spans_of apps) }
+    ensures { (apps : List (List ℕ × App)) (name : List ℕ) (app : App) → lookup apps name ≡ None
+        → has_span app.place (spans_of apps) ≡ false
+        → spans_of (insert apps name app) ≡ put_at app.place (needed app) (spans_of apps) }
 {}
 
 /// An application of a well laid image that is found by its name has a span at its place, which goes with it.
 pub fn removes_span()
-    ensures there { (m : List (List ℕ)) (name : List ℕ) (app : App) → IsImage m → look m ≡ Closed → IsWellLaid m → lookup (means m).apps name ≡ Some app → has_span app.place (spans (means m)) ≡ true }
-    ensures gone { (m : List (List ℕ)) (name : List ℕ) (app : App) → IsImage m → look m ≡ Closed → IsWellLaid m → lookup (means m).apps name ≡ Some app → spans_of (remove (means m).apps name) ≡ without app.place (spans (means m)) }
+    ensures there { (m : List (List ℕ)) (name : List ℕ) (app : App) → IsImage m → look m ≡ Closed → IsWellLaid m
+        → lookup (means m).apps name ≡ Some app → has_span app.place (spans (means m)) ≡ true }
+    ensures gone { (m : List (List ℕ)) (name : List ℕ) (app : App) → IsImage m → look m ≡ Closed → IsWellLaid m
+        → lookup (means m).apps name ≡ Some app
+        → spans_of (remove (means m).apps name) ≡ without app.place (spans (means m)) }
 {}
 
 /// After the plan for words at a place where there is room, and where a good record of so many words stands under a new
 /// name, the words hold the card with that application.
 pub fn creates_application()
-    ensures { (m n : List (List ℕ)) (p need : ℕ) → IsImage m → look m ≡ Closed → IsWellLaid m → 1 ≤ need → has_room p need (gaps (means m)) ≡ true → Planned m n (put_at p need (spans (means m)))
-        → is_record (record_at n p) need ≡ true → lookup (means m).apps (name_at n p) ≡ None → length (means m).apps < 32
+    ensures { (m n : List (List ℕ)) (p need : ℕ) → IsImage m → look m ≡ Closed → IsWellLaid m → 1 ≤ need
+        → has_room p need (gaps (means m)) ≡ true → Planned m n (put_at p need (spans (means m)))
+        → is_record (record_at n p) need ≡ true → lookup (means m).apps (name_at n p) ≡ None
+        → length (means m).apps < 32
         → Leaves m n (insert (means m).apps (name_at n p) (app_at n p)) }
 {}
 
 /// After the plan that frees the block of an application the words hold the card without it.
 pub fn deletes_application()
-    ensures { (m n : List (List ℕ)) (name : List ℕ) (app : App) → IsImage m → look m ≡ Closed → IsWellLaid m → lookup (means m).apps name ≡ Some app → Planned m n (without app.place (spans (means m)))
+    ensures { (m n : List (List ℕ)) (name : List ℕ) (app : App) → IsImage m → look m ≡ Closed → IsWellLaid m
+        → lookup (means m).apps name ≡ Some app → Planned m n (without app.place (spans (means m)))
         → Leaves m n (remove (means m).apps name) }
 {}
 
 /// Where words of one used block were set behind its record, the words hold the card with the application that stands
 /// there then.
 pub fn sets_application()
-    ensures { (m n : List (List ℕ)) (p : ℕ) → IsImage m → look m ≡ Closed → IsWellLaid m → has_span p (spans (means m)) ≡ true → length n ≡ length m → word n 0 ≡ word m 0 → AgreeBut m n p (blocks m) → record_at n p ≡ record_at m p
+    ensures { (m n : List (List ℕ)) (p : ℕ) → IsImage m → look m ≡ Closed → IsWellLaid m
+        → has_span p (spans (means m)) ≡ true → length n ≡ length m → word n 0 ≡ word m 0 → AgreeBut m n p (blocks m)
+        → record_at n p ≡ record_at m p
         → Leaves m n (insert (means m).apps (name_at m p) (app_at n p)) }
 {}
 
 /// Another version in a root that names the same hole makes the same card in that layout.
 pub fn changes_layout()
-    ensures laid { (m n : List (List ℕ)) → IsImage m → words_fault m ≡ None → length n ≡ length m → is_root_word (word n 0) (length n) ≡ true → be2 (word n 0) 6 ≡ be2 (word m 0) 6 → Agree m n (blocks m) → words_fault n ≡ None }
-    ensures card { (m n : List (List ℕ)) → IsImage m → words_fault m ≡ None → length n ≡ length m → is_root_word (word n 0) (length n) ≡ true → be2 (word n 0) 6 ≡ be2 (word m 0) 6 → Agree m n (blocks m)
+    ensures laid { (m n : List (List ℕ)) → IsImage m → words_fault m ≡ None → length n ≡ length m
+        → is_root_word (word n 0) (length n) ≡ true → be2 (word n 0) 6 ≡ be2 (word m 0) 6 → Agree m n (blocks m)
+        → words_fault n ≡ None }
+    ensures card { (m n : List (List ℕ)) → IsImage m → words_fault m ≡ None → length n ≡ length m
+        → is_root_word (word n 0) (length n) ≡ true → be2 (word n 0) 6 ≡ be2 (word m 0) 6 → Agree m n (blocks m)
         → card_of n ≡ record (card_of m) { layout = slice_index (word n 0) 3 } }
 {}
 
@@ -98,14 +117,19 @@ pub fn plan_rows()
         ≡ (0, 0x4D ∷ 0x45 ∷ 0x4C ∷ 2 ∷ 0x20 ∷ 0 ∷ 0 ∷ 0x8F ∷ []) ∷ (131, 0x55 ∷ 0 ∷ 0 ∷ 0x0C ∷ 0 ∷ 0 ∷ 0 ∷ 0 ∷ [])
         ∷ (143, 0x48 ∷ 0 ∷ 0x1F ∷ 0x71 ∷ 0 ∷ 0 ∷ 0 ∷ 0 ∷ []) ∷ [] }
     ensures whole { changes (layout_of 2 8192 ((155, 12) ∷ [])) (layout_of 2 8192 ((131, 24) ∷ (155, 12) ∷ []))
-        ≡ (0, 0x4D ∷ 0x45 ∷ 0x4C ∷ 2 ∷ 0x20 ∷ 0 ∷ 0 ∷ 0xA7 ∷ []) ∷ (131, 0x55 ∷ 0 ∷ 0 ∷ 0x18 ∷ 0 ∷ 0 ∷ 0 ∷ 0 ∷ []) ∷ [] }
-    ensures freed { changes (layout_of 2 8192 ((131, 12) ∷ (155, 12) ∷ (179, 192) ∷ [])) (layout_of 2 8192 ((131, 12) ∷ (179, 192) ∷ []))
+        ≡ (0, 0x4D ∷ 0x45 ∷ 0x4C ∷ 2 ∷ 0x20 ∷ 0 ∷ 0 ∷ 0xA7 ∷ []) ∷ (131, 0x55 ∷ 0 ∷ 0 ∷ 0x18 ∷ 0 ∷ 0 ∷ 0 ∷ 0 ∷ [])
+        ∷ [] }
+    ensures freed { changes (layout_of 2 8192 ((131, 12) ∷ (155, 12) ∷ (179, 192) ∷ []))
+        (layout_of 2 8192 ((131, 12) ∷ (179, 192) ∷ []))
         ≡ (143, 0x48 ∷ 0 ∷ 0 ∷ 0x24 ∷ 1 ∷ 0x73 ∷ 0 ∷ 0 ∷ []) ∷ [] }
-    ensures alone { changes (layout_of 2 8192 ((131, 12) ∷ (143, 12) ∷ (155, 12) ∷ [])) (layout_of 2 8192 ((131, 12) ∷ (155, 12) ∷ []))
-        ≡ (0, 0x4D ∷ 0x45 ∷ 0x4C ∷ 2 ∷ 0x20 ∷ 0 ∷ 0 ∷ 0x8F ∷ []) ∷ (143, 0x48 ∷ 0 ∷ 0 ∷ 0x0C ∷ 0 ∷ 0xA7 ∷ 0 ∷ 0 ∷ []) ∷ [] }
+    ensures alone { changes (layout_of 2 8192 ((131, 12) ∷ (143, 12) ∷ (155, 12) ∷ []))
+        (layout_of 2 8192 ((131, 12) ∷ (155, 12) ∷ []))
+        ≡ (0, 0x4D ∷ 0x45 ∷ 0x4C ∷ 2 ∷ 0x20 ∷ 0 ∷ 0 ∷ 0x8F ∷ [])
+        ∷ (143, 0x48 ∷ 0 ∷ 0 ∷ 0x0C ∷ 0 ∷ 0xA7 ∷ 0 ∷ 0 ∷ []) ∷ [] }
 {}
 
 /// The plan for spans is the atomic write to every card of the same version and size whose applications have them.
 pub fn plans_steps()
-    ensures { (a b : Card) (ss : List (ℕ × ℕ)) → b.layout ≡ a.layout → b.size ≡ a.size → spans b ≡ ss → step_of a b ≡ plan a ss }
+    ensures { (a b : Card) (ss : List (ℕ × ℕ)) → b.layout ≡ a.layout → b.size ≡ a.size → spans b ≡ ss
+        → step_of a b ≡ plan a ss }
 {}

@@ -71,7 +71,8 @@ fn is_before(next: u16, place: u16) -> bool
 
 /// The link with the place of another hole, or 0: its place, and the word that it becomes.
 pub fn relinked<N: Nvm>(device: &N, link: &Link, next: u16) -> (u16, Word)
-    ensures { result ≡ link_word (slice_index (word (N.state device.now).words 0) 3) (length (N.state device.now).words) (link.now.place, link.now.words) next }
+    ensures { result ≡ link_word (slice_index (word (N.state device.now).words 0) 3)
+        (length (N.state device.now).words) (link.now.place, link.now.words) next }
 {
     let size = device.len();
     if link.place == 0 {
@@ -89,8 +90,10 @@ pub fn joined<N: Nvm>(device: &N, hole: &Link) -> Link
     requires high { hole.now.place + hole.now.words ≤ length (N.state device.now).words }
     requires next { hole.now.next ≡ first_place (gaps_behind hole.now.place (gaps (means (N.state device.now).words))) }
     ensures place { result.place ≡ hole.now.place }
-    ensures words { result.words ≡ joined_words hole.now.place hole.now.words (gaps_behind hole.now.place (gaps (means (N.state device.now).words))) }
-    ensures next { result.next ≡ joined_next hole.now.place hole.now.words (gaps_behind hole.now.place (gaps (means (N.state device.now).words))) }
+    ensures words { result.words ≡ joined_words hole.now.place hole.now.words
+        (gaps_behind hole.now.place (gaps (means (N.state device.now).words))) }
+    ensures next { result.next ≡ joined_next hole.now.place hole.now.words
+        (gaps_behind hole.now.place (gaps (means (N.state device.now).words))) }
 {
     let _size = device.len();
     if hole.next != hole.place + hole.words {

@@ -19,7 +19,8 @@ pub fn take_plan<N: Nvm>(device: &N, place: u16, need: u16) -> ArrayVec<(u16, Wo
     requires laid { IsWellLaid (N.state device.now).words }
     requires some { 1 ≤ need }
     requires hole { has_room place need (gaps (means (N.state device.now).words)) ≡ true }
-    ensures plan { result.items ≡ plan (means (N.state device.now).words) (put_at place need (spans (means (N.state device.now).words))) }
+    ensures plan { result.items ≡ plan (means (N.state device.now).words)
+        (put_at place need (spans (means (N.state device.now).words))) }
     ensures atomic { IsAtomic (length (N.state device.now).words) result.items }
     ensures few { length result.items ≤ 3 }
 {
@@ -36,7 +37,8 @@ pub fn free_plan<N: Nvm>(device: &N, place: u16) -> ArrayVec<(u16, Word), 4>
     requires closed { look (N.state device.now).words ≡ Closed }
     requires laid { IsWellLaid (N.state device.now).words }
     requires block { has_span place (spans (means (N.state device.now).words)) ≡ true }
-    ensures plan { result.items ≡ plan (means (N.state device.now).words) (without place (spans (means (N.state device.now).words))) }
+    ensures plan { result.items ≡ plan (means (N.state device.now).words)
+        (without place (spans (means (N.state device.now).words))) }
     ensures atomic { IsAtomic (length (N.state device.now).words) result.items }
     ensures few { length result.items ≤ 3 }
 {
@@ -57,7 +59,9 @@ pub fn free_plan<N: Nvm>(device: &N, place: u16) -> ArrayVec<(u16, Word), 4>
 // Words from the front of a hole.
 fn take_words<N: Nvm>(device: &N, before: &Link, hole: &Link, need: u16) -> ArrayVec<(u16, Word), 4>
     requires { hole.now.place + hole.now.words ≤ 65535 }
-    ensures { result.items ≡ take_front (slice_index (word (N.state device.now).words 0) 3) (length (N.state device.now).words) (before.now.place, before.now.words) hole.now.place hole.now.words hole.now.next need }
+    ensures { result.items ≡ take_front (slice_index (word (N.state device.now).words 0) 3)
+        (length (N.state device.now).words)
+        (before.now.place, before.now.words) hole.now.place hole.now.words hole.now.next need }
 {
     let mut list = ArrayVec::new();
     if need >= hole.words {
@@ -76,7 +80,9 @@ fn take_words<N: Nvm>(device: &N, before: &Link, hole: &Link, need: u16) -> Arra
 fn free_words<N: Nvm>(device: &N, before: &Link, hole: &Link) -> ArrayVec<(u16, Word), 4>
     requires place { before.now.place + before.now.words ≤ 65535 }
     requires words { before.now.words + hole.now.words ≤ 65535 }
-    ensures { result.items ≡ put_hole (slice_index (word (N.state device.now).words 0) 3) (length (N.state device.now).words) (before.now.place, before.now.words) hole.now.place hole.now.words hole.now.next }
+    ensures { result.items ≡ put_hole (slice_index (word (N.state device.now).words 0) 3)
+        (length (N.state device.now).words)
+        (before.now.place, before.now.words) hole.now.place hole.now.words hole.now.next }
 {
     let mut list = ArrayVec::new();
     if before.place != 0 && before.place + before.words == hole.place {

@@ -69,7 +69,8 @@ fn has_rights(entry: &Record) -> bool
 
 // How many words a block takes whose sections have the lengths in its record.
 fn needed_words(entry: &Record) -> u32
-    ensures { result ≡ needed_of (be2 entry.now 20) (be2 entry.now 22) (slice_index entry.now 17) (slice_index entry.now 18) }
+    ensures { result ≡ needed_of (be2 entry.now 20) (be2 entry.now 22) (slice_index entry.now 17)
+        (slice_index entry.now 18) }
 {
     let code = number_of(entry[20], entry[21]);
     let fixed = number_of(entry[22], entry[23]);

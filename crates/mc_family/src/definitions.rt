@@ -13,13 +13,16 @@ ghost use Rattle.mc_family.specs.Split.{with_whole};
 
 /// Pairs that are laid after others are laid as one list.
 pub fn pairs_compose()
-    ensures { (m : List (List ℕ)) (a : List (ℕ × List ℕ)) (b : List (ℕ × List ℕ)) → laid m (a ++ b) ≡ laid (laid m a) b }
+    ensures { (m : List (List ℕ)) (a : List (ℕ × List ℕ)) (b : List (ℕ × List ℕ))
+        → laid m (a ++ b) ≡ laid (laid m a) b }
 {}
 
 /// A stop falls in the first items where they make so many device writes, and else in those behind them.
 pub fn stops_split()
-    ensures within { (is : List Item) (js : List Item) (k : ℕ) (x : List ℕ) → 1 ≤ k → k ≤ moves is → at_stop (is ++ js) k x ≡ at_stop is k x }
-    ensures behind { (is : List Item) (js : List Item) (k : ℕ) (x : List ℕ) → moves is < k → at_stop (is ++ js) k x ≡ with_whole is (at_stop js (k - moves is) x) }
+    ensures within { (is : List Item) (js : List Item) (k : ℕ) (x : List ℕ) → 1 ≤ k → k ≤ moves is
+        → at_stop (is ++ js) k x ≡ at_stop is k x }
+    ensures behind { (is : List Item) (js : List Item) (k : ℕ) (x : List ℕ) → moves is < k
+        → at_stop (is ++ js) k x ≡ with_whole is (at_stop js (k - moves is) x) }
 {}
 
 /// A run decodes no more instructions than its budget.

@@ -8,7 +8,8 @@ ghost use Rattle.mc_model.specs.declared.instruction.Ins.{Ins};
 /// At each place of code exactly one answer holds: one instruction with one next place, `Undefined`, or `Past`.
 pub fn one_answer_at_each_place()
     ensures holds { (code : List ℕ) (at : ℕ) → AllByRecursion (λ b. b < 256) code → Stands code at (decoded code at) }
-    ensures only { (code : List ℕ) (at : ℕ) (answer : Result (Ins × ℕ) DecodeFault) → Stands code at answer → decoded code at ≡ answer }
+    ensures only { (code : List ℕ) (at : ℕ) (answer : Result (Ins × ℕ) DecodeFault) → Stands code at answer
+        → decoded code at ≡ answer }
 {}
 
 /// A spelling at the front of any bytes is decoded there, with its length.

@@ -1,6 +1,7 @@
 #![tactic(auto)]
 
-// Instructions as bytes and as text.
+//! Instructions as bytes and as text.
+
 mod decoding;
 mod encoding;
 mod laws;

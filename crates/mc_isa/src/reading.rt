@@ -98,7 +98,8 @@ pub fn offset(tag: u8, rest: &[u8]) -> Result<i16, DecodeFault>
 // The number of a primitive and its arguments, of which those past the set's number are 0.
 pub fn arguments(set: u8, rest: &[u8]) -> Result<(u8, [u8; 3]), DecodeFault>
     requires { set < 4 }
-    ensures { Reads result (total (U8 ∷ replicate set U8)) rest.now (slice_index rest.now 0, take set (drop 1 rest.now) ++ zeros (3 - set)) }
+    ensures { Reads result (total (U8 ∷ replicate set U8)) rest.now
+        (slice_index rest.now 0, take set (drop 1 rest.now) ++ zeros (3 - set)) }
 {
     match (set, rest) {
         (0, [number, ..]) => Ok((*number, [0, 0, 0])),

@@ -181,7 +181,8 @@ pub fn code_that_ends_too_early()
 
 /// The listing of a counter's code, and the first place where nothing stands.
 pub fn listings()
-    ensures counter { listed (0xB9 ∷ 0x02 ∷ 0x00 ∷ 0x00 ∷ 0x39 ∷ 0x02 ∷ 0x00 ∷ 0x00 ∷ 0x46 ∷ 0x02 ∷ 0x00 ∷ 0x00 ∷ 0x06 ∷ 0x00 ∷ 0x02 ∷ []) ≡ Ok (codes "INCN SB[0],2\nLOAD SB[0],2\nSTORE PB[0],2\nEXITLA 0x0002\n") }
+    ensures counter { listed (0xB9 ∷ 0x02 ∷ 0x00 ∷ 0x00 ∷ 0x39 ∷ 0x02 ∷ 0x00 ∷ 0x00 ∷ 0x46 ∷ 0x02 ∷ 0x00 ∷ 0x00 ∷ 0x06
+        ∷ 0x00 ∷ 0x02 ∷ []) ≡ Ok (codes "INCN SB[0],2\nLOAD SB[0],2\nSTORE PB[0],2\nEXITLA 0x0002\n") }
     ensures empty { listed [] ≡ Ok [] }
     ensures undefined { listed (0x00 ∷ 0x21 ∷ 0x05 ∷ 0x30 ∷ 0x00 ∷ []) ≡ Err (3, Undefined) }
     ensures past { listed (0x04 ∷ 0x22 ∷ 0x00 ∷ []) ≡ Err (1, Past) }

@@ -1,6 +1,7 @@
 #![tactic(auto)]
 
-// The journal of layout 1: one atomic write of 1 to 64 words, and its recovery. It looks at its own gate alone.
+//! The journal of layout 1: one atomic write of 1 to 64 words, and its recovery. It looks at its own gate alone.
+
 mod fault;
 mod look;
 mod put;

@@ -36,7 +36,8 @@ pub fn look<N: Nvm>(device: &N) -> Found
 fn look_inside<N: Nvm>(device: &N, count: usize) -> Found
     requires size { 256 ≤ length (N.state device.now).words }
     requires few { count ≤ 64 }
-    ensures found { look_of result ≡ aimed One (N.state device.now).words (targets One (N.state device.now).words count) }
+    ensures found { look_of result ≡ aimed One (N.state device.now).words
+        (targets One (N.state device.now).words count) }
 {
     match read_targets(device, count) {
         Ok(targets) => Found::Pending(read_pairs(device, targets.as_slice())),
@@ -64,7 +65,8 @@ fn head_count(head: Word) -> Option<usize>
 fn read_targets<N: Nvm>(device: &N, count: usize) -> Result<ArrayVec<u16, 64>, u16>
     requires size { 256 ≤ length (N.state device.now).words }
     requires few { count ≤ 64 }
-    ensures { MatchResult result (λ found. targets One (N.state device.now).words count ≡ Ok found.items) (λ place. targets One (N.state device.now).words count ≡ Err place) }
+    ensures { MatchResult result (λ found. targets One (N.state device.now).words count ≡ Ok found.items)
+        (λ place. targets One (N.state device.now).words count ≡ Err place) }
 {
     let size = device.len();
     let mut found = ArrayVec::new();

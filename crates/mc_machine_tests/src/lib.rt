@@ -1,6 +1,7 @@
 #![tactic(auto)]
 
-// Worked rows of commands to applications, tried over a bank in memory.
+//! Worked rows of commands to applications, tried over a bank in memory.
+
 #[cfg(test)]
 mod card;
 #[cfg(test)]

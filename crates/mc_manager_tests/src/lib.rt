@@ -1,7 +1,8 @@
 #![tactic(auto)]
 
-// The card manager tried over a bank in memory: each row of its table, and loads in pieces of any length. Over the words
-// of a device: the room of a card.
+//! The card manager tried over a bank in memory: each row of its table, and loads in pieces of any length. Over the words
+//! of a device: the room of a card.
+
 #[cfg(test)]
 mod loads;
 #[cfg(test)]

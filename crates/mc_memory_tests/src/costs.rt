@@ -24,7 +24,8 @@ pub fn openings_of_journal_2()
 
 /// The device writes that are listed are as many as the cost says, for each list of 1 to 64 words.
 pub fn as_many_as_the_cost()
-    ensures { (j : Journal) (size : ℕ) (list : List (ℕ × List ℕ)) → size ≤ 16384 → IsAtomic size list → length (writes j list) ≡ cost j (length list) }
+    ensures { (j : Journal) (size : ℕ) (list : List (ℕ × List ℕ)) → size ≤ 16384 → IsAtomic size list
+        → length (writes j list) ≡ cost j (length list) }
 {}
 
 /// A recovery makes at most 65 writes, on any image.

@@ -16,12 +16,16 @@ pub fn target_below_the_heap()
 
 /// One pair: its target and the gate are owed.
 pub fn one_pair_is_owed()
-    ensures { owed (poked ((130, 0x4F50454E2D322D2D) ∷ (2, 1) ∷ (3, 0x0083000000000000) ∷ (19, 0x48001F7D00000000) ∷ [])) ≡ 2 }
+    ensures { owed (poked ((130, 0x4F50454E2D322D2D) ∷ (2, 1) ∷ (3, 0x0083000000000000) ∷ (19, 0x48001F7D00000000)
+        ∷ [])) ≡ 2 }
 {}
 
 /// And the words after its replay.
 pub fn one_pair_is_replayed()
-    ensures { after (poked ((130, 0x4F50454E2D322D2D) ∷ (2, 1) ∷ (3, 0x0083000000000000) ∷ (19, 0x48001F7D00000000) ∷ [])) ≡ Words (poked ((131, 0x48001F7D00000000) ∷ (130, 0x534855542D2D2D2D) ∷ (2, 1) ∷ (3, 0x0083000000000000) ∷ (19, 0x48001F7D00000000) ∷ [])) }
+    ensures { after (poked ((130, 0x4F50454E2D322D2D) ∷ (2, 1) ∷ (3, 0x0083000000000000) ∷ (19, 0x48001F7D00000000)
+        ∷ [])) ≡ Words
+        (poked ((131, 0x48001F7D00000000) ∷ (130, 0x534855542D2D2D2D) ∷ (2, 1) ∷ (3, 0x0083000000000000)
+        ∷ (19, 0x48001F7D00000000) ∷ [])) }
 {}
 
 /// The same pair in the journal of layout 1.
@@ -41,17 +45,20 @@ pub fn targets_that_fall()
 
 /// A target of the second word that is the last of the first.
 pub fn targets_that_repeat()
-    ensures { look (poked ((130, 0x4F50454E2D322D2D) ∷ (2, 5) ∷ (3, 0x0000008300840085) ∷ (4, 0x0085000000000000) ∷ [])) ≡ Refused 4 }
+    ensures { look (poked ((130, 0x4F50454E2D322D2D) ∷ (2, 5) ∷ (3, 0x0000008300840085) ∷ (4, 0x0085000000000000)
+        ∷ [])) ≡ Refused 4 }
 {}
 
 /// The last word of the device as a target.
 pub fn last_word_as_a_target()
-    ensures { owed (poked ((130, 0x4F50454E2D322D2D) ∷ (2, 5) ∷ (3, 0x0000008300840085) ∷ (4, 0x00FF000000000000) ∷ [])) ≡ 6 }
+    ensures { owed (poked ((130, 0x4F50454E2D322D2D) ∷ (2, 5) ∷ (3, 0x0000008300840085) ∷ (4, 0x00FF000000000000)
+        ∷ [])) ≡ 6 }
 {}
 
 /// A target past the last word.
 pub fn target_past_the_end()
-    ensures { look (poked ((130, 0x4F50454E2D322D2D) ∷ (2, 5) ∷ (3, 0x0000008300840085) ∷ (4, 0x0100000000000000) ∷ [])) ≡ Refused 4 }
+    ensures { look (poked ((130, 0x4F50454E2D322D2D) ∷ (2, 5) ∷ (3, 0x0000008300840085) ∷ (4, 0x0100000000000000)
+        ∷ [])) ≡ Refused 4 }
 {}
 
 /// A target past the count.

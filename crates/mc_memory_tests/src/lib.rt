@@ -1,7 +1,8 @@
 #![tactic(auto)]
 
-// The journals tried on devices in memory, against the rule of stops written out by hand; and worked rows of what a
-// journal costs and of what a damaged one means.
+//! The journals tried on devices in memory, against the rule of stops written out by hand; and worked rows of what a
+//! journal costs and of what a damaged one means.
+
 #[cfg(test)]
 mod bench;
 mod costs;

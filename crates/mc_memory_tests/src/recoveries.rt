@@ -31,33 +31,53 @@ fn stopped_recoveries(rt: HostRuntime) -> Result<(), Fail> {
     let mut device = SimNvm::new(rt.alloc(), 256)?;
     for journal in [Journal::One, Journal::Two] {
         for w in [1, 2, 3, 64] {
-            for first in journal.opens_at(w)..=journal.cost(w) {
-                if !is_tried(w, journal.cost(w).saturating_sub(first)) {
-                    continue;
-                }
-                for second in 1..=w as u16 + 1 {
-                    let due = recovery_write(journal, w, second).1;
-                    for fill in [ZERO, journal.opening(), due] {
-                        for stop in [Stop::Off, Stop::Worn] {
-                            let stops = Stops {
-                                journal,
-                                w,
-                                stop,
-                                first,
-                                second,
-                            };
-                            assert_eq!(rt;
-                                observe(&mut device, stops, fill),
-                                by_rule(stops, fill),
-                                "{w} words, writes {first} and {second}"
-                            );
-                        }
-                    }
-                }
-            }
+            assert_eq!(rt; wrong_write(&mut device, journal, w), None, "{w} words");
         }
     }
     Ok(())
+}
+
+// The first of the tried stops of a write of w words, at or behind the opening of its gate, behind which a stopped
+// recovery goes otherwise than by the rule.
+fn wrong_write(device: &mut SimNvm, journal: Journal, w: u8) -> Option<(u16, u16)> {
+    for first in journal.opens_at(w)..=journal.cost(w) {
+        if is_tried(w, journal.cost(w).saturating_sub(first)) {
+            if let Some(second) = wrong_recovery(device, journal, w, first) {
+                return Some((first, second));
+            }
+        }
+    }
+    None
+}
+
+// The first write of a recovery at which a stop goes otherwise.
+fn wrong_recovery(device: &mut SimNvm, journal: Journal, w: u8, first: u16) -> Option<u16> {
+    for second in 1..=w as u16 + 1 {
+        for stop in [Stop::Off, Stop::Worn] {
+            let stops = Stops {
+                journal,
+                w,
+                stop,
+                first,
+                second,
+            };
+            if !goes_by_rule(device, stops) {
+                return Some(second);
+            }
+        }
+    }
+    None
+}
+
+// Whether both go by the rule, whatever the stop leaves in its word: zero, the word that opens the gate, or what is due.
+fn goes_by_rule(device: &mut SimNvm, stops: Stops) -> bool {
+    let due = recovery_write(stops.journal, stops.w, stops.second).1;
+    for fill in [ZERO, stops.journal.opening(), due] {
+        if observe(device, stops, fill) != by_rule(stops, fill) {
+            return false;
+        }
+    }
+    true
 }
 
 // The write is stopped at or behind the opening of the gate, and leaves the opening word: it stands and owes all.

@@ -1,6 +1,7 @@
 #![tactic(auto)]
 
-// The words of the definitions that are Rust types. A crate that owns one of them passes it on.
+//! The words of the definitions that are Rust types. A crate that owns one of them passes it on.
+
 mod assembler;
 mod card;
 mod checker;

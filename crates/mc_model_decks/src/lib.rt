@@ -1,6 +1,7 @@
 #![tactic(auto)]
 
-// Whole decks, each with the text that its play writes on a blank device of 8,192 words, or the trace of its instructions.
+//! Whole decks, each with the text that its play writes on a blank device of 8,192 words, or the trace of its instructions.
+
 mod many_cuts;
 mod migrations_1;
 mod migrations_2;

@@ -41,9 +41,11 @@ pub fn addressed_words()
 
 /// The registers by their tags, and the conditions.
 pub fn registers_and_conditions()
-    ensures registers { assembled (codes "LOADA SB[1]\nLOADA ST[1]\nLOADA DB[1]\nLOADA LB[1]\nLOADA DT[1]\nLOADA PB[1]\nLOADA PT[1]")
+    ensures registers { assembled
+        (codes "LOADA SB[1]\nLOADA ST[1]\nLOADA DB[1]\nLOADA LB[1]\nLOADA DT[1]\nLOADA PB[1]\nLOADA PT[1]")
         ≡ Ok (hex (codes "590001 5A0001 5B0001 5C0001 5D0001 5E0001 5F0001")) }
-    ensures conditions { assembled (codes "BRANCH EQ,0\nBRANCH LT,0\nBRANCH LE,0\nBRANCH GT,0\nBRANCH GE,0\nBRANCH NE,0\nBRANCH ALL,0")
+    ensures conditions { assembled
+        (codes "BRANCH EQ,0\nBRANCH LT,0\nBRANCH LE,0\nBRANCH GT,0\nBRANCH GE,0\nBRANCH NE,0\nBRANCH ALL,0")
         ≡ Ok (hex (codes "0900 0A00 0B00 0C00 0D00 0E00 0F00")) }
 {}
 
@@ -66,7 +68,8 @@ pub fn layout()
 /// Numbers in both notations.
 pub fn numbers()
     ensures leading_zeros { assembled (codes "PUSHB 0000000000000000000000007") ≡ Ok (hex (codes "2107")) }
-    ensures hexadecimal { assembled (codes "PUSHB 0xfF\nPUSHW 0x1\nPUSHW 0xABCD") ≡ Ok (hex (codes "21FF 220001 22ABCD")) }
+    ensures hexadecimal { assembled (codes "PUSHB 0xfF\nPUSHW 0x1\nPUSHW 0xABCD")
+        ≡ Ok (hex (codes "21FF 220001 22ABCD")) }
     ensures negative_zero { assembled (codes "BRANCH ALL,-0\nLOAD SB[-0],1") ≡ Ok (hex (codes "0F00 39010000")) }
     ensures plus { assembled (codes "BRANCH ALL,+1") ≡ Err (1, BadNumber) }
     ensures negative_hexadecimal { assembled (codes "BRANCH ALL,-0x1") ≡ Err (1, BadNumber) }
@@ -86,7 +89,8 @@ pub fn ranges()
     ensures wide_word { assembled (codes "SETW SB[0],65535\nSETW SB[0],65536") ≡ Err (2, OutOfRange) }
     ensures address { assembled (codes "JUMP ALL,65535\nCALL ALL,65536") ≡ Err (2, OutOfRange) }
     ensures large { assembled (codes "PUSHB 123456789012345678901234567890") ≡ Err (1, OutOfRange) }
-    ensures offsets { assembled (codes "LOADA SB[32767]\nLOADA SB[-32768]\nLOADA SB[0x7FFF]") ≡ Ok (hex (codes "597FFF 598000 597FFF")) }
+    ensures offsets { assembled (codes "LOADA SB[32767]\nLOADA SB[-32768]\nLOADA SB[0x7FFF]")
+        ≡ Ok (hex (codes "597FFF 598000 597FFF")) }
     ensures high_offset { assembled (codes "LOADA SB[32768]") ≡ Err (1, OutOfRange) }
     ensures low_offset { assembled (codes "LOADA SB[-32769]") ≡ Err (1, OutOfRange) }
     ensures hexadecimal_offset { assembled (codes "LOADA SB[0xFFFF]") ≡ Err (1, OutOfRange) }
@@ -157,14 +161,18 @@ pub fn labels()
 
 /// A branch reaches 127 bytes forward from the place behind it.
 pub fn branch_forward()
-    ensures near { assembled (codes "BRANCH ALL,far\n" ++ times 127 (codes "NOP\n") ++ codes "far: EXIT\n") ≡ Ok (0x0F ∷ 0x7F ∷ replicate 127 0 ++ (0x04 ∷ [])) }
-    ensures far { assembled (codes "BRANCH ALL,far\n" ++ times 128 (codes "NOP\n") ++ codes "far: EXIT\n") ≡ Err (1, FarBranch) }
+    ensures near { assembled (codes "BRANCH ALL,far\n" ++ times 127 (codes "NOP\n") ++ codes "far: EXIT\n")
+        ≡ Ok (0x0F ∷ 0x7F ∷ replicate 127 0 ++ (0x04 ∷ [])) }
+    ensures far { assembled (codes "BRANCH ALL,far\n" ++ times 128 (codes "NOP\n") ++ codes "far: EXIT\n")
+        ≡ Err (1, FarBranch) }
 {}
 
 /// A branch reaches 128 bytes back from the place behind it.
 pub fn branch_back()
-    ensures near { assembled (codes "far: EXIT\n" ++ times 125 (codes "NOP\n") ++ codes "BRANCH ALL,far\n") ≡ Ok (0x04 ∷ replicate 125 0 ++ (0x0F ∷ 0x80 ∷ [])) }
-    ensures far { assembled (codes "far: EXIT\n" ++ times 126 (codes "NOP\n") ++ codes "BRANCH ALL,far\n") ≡ Err (128, FarBranch) }
+    ensures near { assembled (codes "far: EXIT\n" ++ times 125 (codes "NOP\n") ++ codes "BRANCH ALL,far\n")
+        ≡ Ok (0x04 ∷ replicate 125 0 ++ (0x0F ∷ 0x80 ∷ [])) }
+    ensures far { assembled (codes "far: EXIT\n" ++ times 126 (codes "NOP\n") ++ codes "BRANCH ALL,far\n")
+        ≡ Err (128, FarBranch) }
 {}
 
 /// Code has at most 8,192 bytes.

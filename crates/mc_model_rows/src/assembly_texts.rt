@@ -69,7 +69,8 @@ pub fn number_of_one_line_of_seventy()
 
 /// Blanks around the operands.
 pub fn blanks_around_commas()
-    ensures { assembled (codes "NOP\nCALL GT,0x0001\nCMPW  LB[-1]  ,  0x8A12\n\n") ≡ Ok (hex (codes "001C0001948A12FFFF")) }
+    ensures { assembled (codes "NOP\nCALL GT,0x0001\nCMPW  LB[-1]  ,  0x8A12\n\n")
+        ≡ Ok (hex (codes "001C0001948A12FFFF")) }
 {}
 
 /// A byte has no sign, and the first refused line counts.

@@ -147,7 +147,8 @@ pub fn late_lines()
     ensures format { deck_read (codes "power\nformat") ≡ Err (2, LateLine) }
     ensures poke { deck_read (codes "power\npoke 1 0000000000000000") ≡ Err (2, LateLine) }
     ensures range_first { deck_read (codes "power\npoke 16384 0000000000000000") ≡ Err (2, OutOfRange) }
-    ensures twice { deck_read (codes "format\nformat\npower\npower") ≡ Ok ((1, Format) ∷ (2, Format) ∷ (3, Power) ∷ (4, Power) ∷ []) }
+    ensures twice { deck_read (codes "format\nformat\npower\npower")
+        ≡ Ok ((1, Format) ∷ (2, Format) ∷ (3, Power) ∷ (4, Power) ∷ []) }
 {}
 
 /// The first refused statement counts.
@@ -167,7 +168,8 @@ pub fn no_end()
 /// A section that reaches line 20,001.
 pub fn long_section()
     ensures reaches { deck_read (codes "app x A000000001\n" ++ replicate 20000 10) ≡ Err (20001, TooManyLines) }
-    ensures ends_there { deck_read (codes "app x A000000001\n" ++ replicate 19999 10 ++ codes "end\n") ≡ Err (20001, TooManyLines) }
+    ensures ends_there { deck_read (codes "app x A000000001\n" ++ replicate 19999 10 ++ codes "end\n")
+        ≡ Err (20001, TooManyLines) }
     ensures ends_before { deck_read (codes "app x A000000001\n" ++ replicate 19999 10) ≡ Err (1, NoEnd) }
 {}
 
@@ -184,10 +186,13 @@ pub fn data_lines()
 /// The assembler's refusals stand at their own lines, a unit's at the end of its section.
 pub fn section_refusals()
     ensures word { deck_read (codes "app x A000000001\nDATA 00\n# x\nend") ≡ Err (3, Asm UnknownWord) }
-    ensures branch { deck_read (codes "\napp x A000000001\nEXIT\nBRANCH ALL,far\nDATA 00\n" ++ times 128 (codes "NOP\n") ++ codes "far:\nend") ≡ Err (4, Asm FarBranch) }
+    ensures branch { deck_read (codes "\napp x A000000001\nEXIT\nBRANCH ALL,far\nDATA 00\n"
+        ++ times 128 (codes "NOP\n") ++ codes "far:\nend") ≡ Err (4, Asm FarBranch) }
     ensures no_code { deck_read (codes "app x A000000001\nDATA 00\nx:\n end \n") ≡ Err (4, Unit NoCode) }
-    ensures much_data { deck_read (codes "app x A000000001\nEXIT\nDATA " ++ replicate 8192 48 ++ codes "\nDATA 00\nend") ≡ Err (5, Unit TooLarge) }
-    ensures most_data { deck_read (codes "app x A000000001\nEXIT\nDATA " ++ replicate 8190 48 ++ codes "\nDATA 00\nend") ≡ Ok ((1, Named) ∷ []) }
+    ensures much_data { deck_read (codes "app x A000000001\nEXIT\nDATA " ++ replicate 8192 48
+        ++ codes "\nDATA 00\nend") ≡ Err (5, Unit TooLarge) }
+    ensures most_data { deck_read (codes "app x A000000001\nEXIT\nDATA " ++ replicate 8190 48
+        ++ codes "\nDATA 00\nend") ≡ Ok ((1, Named) ∷ []) }
 {}
 
 /// A unit's refusals stand at its line.
@@ -204,5 +209,6 @@ pub fn unit_refusals()
     ensures too_large { deck_read (codes "unit x 00000000000000002001") ≡ Err (1, Unit TooLarge) }
     ensures no_aid { deck_read (codes "unit x 0000000000000000000104000000000000 00000000") ≡ Err (1, BadLine) }
     ensures no_name { deck_read (codes "unit x 000000000000000000010400000000000000000000") ≡ Err (1, Unit NoAid) }
-    ensures short_name { deck_read (codes "unit x 00000000000000000001040000000861064F04A0000000000000000000") ≡ Err (1, Unit AidLength) }
+    ensures short_name { deck_read (codes "unit x 00000000000000000001040000000861064F04A0000000000000000000")
+        ≡ Err (1, Unit AidLength) }
 {}

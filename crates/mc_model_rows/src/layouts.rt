@@ -35,12 +35,14 @@ pub fn two_holes()
         ∷ (311, hex (codes "5500000C00000000")) ∷ (323, hex (codes "5500000C00000000"))
         ∷ (335, hex (codes "5500000C00000000")) ∷ (347, hex (codes "5500000C00000000"))
         ∷ (359, hex (codes "5500000C00000000")) ∷ (371, hex (codes "48001E8D00000000")) ∷ [] }
-    ensures room { room_left 8192 13 (twenty_counters ++ codes "delete A000000102\ndelete A000000104\n") ≡ Some 371 ∷ [] }
+    ensures room { room_left 8192 13 (twenty_counters ++ codes "delete A000000102\ndelete A000000104\n")
+        ≡ Some 371 ∷ [] }
 {}
 
 /// The one between them deleted joins them to one hole of 36 words.
 pub fn joined_holes()
-    ensures headers { headers_left 8192 (twenty_counters ++ codes "delete A000000102\ndelete A000000104\ndelete A000000103\n")
+    ensures headers { headers_left 8192 (twenty_counters
+        ++ codes "delete A000000102\ndelete A000000104\ndelete A000000103\n")
         ≡ (0, hex (codes "4D454C022000008F")) ∷ (131, hex (codes "5500000C00000000"))
         ∷ (143, hex (codes "4800002401730000")) ∷ (179, hex (codes "5500000C00000000"))
         ∷ (191, hex (codes "5500000C00000000")) ∷ (203, hex (codes "5500000C00000000"))
@@ -51,5 +53,6 @@ pub fn joined_holes()
         ∷ (311, hex (codes "5500000C00000000")) ∷ (323, hex (codes "5500000C00000000"))
         ∷ (335, hex (codes "5500000C00000000")) ∷ (347, hex (codes "5500000C00000000"))
         ∷ (359, hex (codes "5500000C00000000")) ∷ (371, hex (codes "48001E8D00000000")) ∷ [] }
-    ensures room { room_left 8192 13 (twenty_counters ++ codes "delete A000000102\ndelete A000000104\ndelete A000000103\n") ≡ Some 143 ∷ [] }
+    ensures room { room_left 8192 13 (twenty_counters
+        ++ codes "delete A000000102\ndelete A000000104\ndelete A000000103\n") ≡ Some 143 ∷ [] }
 {}

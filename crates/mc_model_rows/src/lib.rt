@@ -1,6 +1,7 @@
 #![tactic(auto)]
 
-// Worked rows: what the definitions give on texts whose answers are known.
+//! Worked rows: what the definitions give on texts whose answers are known.
+
 mod assembly;
 mod assembly_texts;
 mod broken_decks;

@@ -33,7 +33,8 @@ pub fn counter()
 
 /// A line of each form of operands.
 pub fn each_form()
-    ensures { listing (hex (codes "00 060002 0790000004 2105 220000 2F0101 0FFE 110004 10 2807 290302 B9020000 3F02FFFE 7803 8901020008 5B0004 58"))
+    ensures { listing (hex
+        (codes "00 060002 0790000004 2105 220000 2F0101 0FFE 110004 10 2807 290302 B9020000 3F02FFFE 7803 8901020008 5B0004 58"))
         ≡ Ok (
         codes "NOP\nEXITLA 0x0002\nEXITSWLA 0x9000,0x0004\nPUSHB 5\nPUSHW 0x0000\nRETIO 1,1\n" ++
         codes "BRANCH ALL,-2\nJUMP EQ,0x0004\nJUMP\nPRIM 7\nPRIM 3,2\nINCN SB[0],2\nLOAD PT[-2],2\n" ++
@@ -51,7 +52,8 @@ pub fn no_listing()
 
 /// An instruction that ends behind the code.
 pub fn past_the_end()
-    ensures digits { code_text_read (codes "93\r\n00017fffc18f566d605e6a") ≡ Ok (hex (codes "9300017FFFC18F566D605E6A")) }
+    ensures digits { code_text_read (codes "93\r\n00017fffc18f566d605e6a")
+        ≡ Ok (hex (codes "9300017FFFC18F566D605E6A")) }
     ensures lines { listing (hex (codes "9300017FFFC18F566D605E6A"))
         ≡ Err (11, Past) }
 {}
@@ -90,7 +92,8 @@ pub fn bad_zero_byte()
 
 /// A tab within a byte.
 pub fn five_instructions()
-    ensures digits { code_text_read (codes "3e0\t1fff90d19253f08ffff058000") ≡ Ok (hex (codes "3E01FFF90D19253F08FFFF058000")) }
+    ensures digits { code_text_read (codes "3e0\t1fff90d19253f08ffff058000")
+        ≡ Ok (hex (codes "3E01FFF90D19253F08FFFF058000")) }
     ensures lines { listing (hex (codes "3E01FFF90D19253F08FFFF058000"))
         ≡ Ok (codes "LOAD PB[-7],1\nBRANCH GE,25\nPOPB\nLOAD PT[-1],8\nEXITSW 0x8000\n") }
 {}
@@ -112,7 +115,8 @@ pub fn past_the_end_of_many_lines()
 
 /// Bytes that line ends split.
 pub fn bytes_over_line_ends()
-    ensures digits { code_text_read (codes "a\n\n4\r\n00\t02ffffa70001fff\t78d00\n010000e00324c0") ≡ Ok (hex (codes "A40002FFFFA70001FFF78D00010000E00324C0")) }
+    ensures digits { code_text_read (codes "a\n\n4\r\n00\t02ffffa70001fff\t78d00\n010000e00324c0")
+        ≡ Ok (hex (codes "A40002FFFFA70001FFF78D00010000E00324C0")) }
     ensures lines { listing (hex (codes "A40002FFFFA70001FFF78D00010000E00324C0"))
         ≡ Ok (codes "SUBW LB[-1],0x0002\nSUBW PT[-9],0x0001\nSETW DT[0],0x0001\nSUBN 3\nPOPN 192\n") }
 {}

@@ -9,9 +9,11 @@ ghost use Rattle.mc_model_rows.specs.Written.{fronts, hex};
 
 /// The counter's unit, as it is written and as it is read.
 pub fn counter()
-    ensures written { unit_bytes (hex (codes "B9020000 39020000 46020000 060002")) [] (made_dir (hex (codes "A000000001"))) (made_fci (hex (codes "A000000001")))
+    ensures written { unit_bytes (hex (codes "B9020000 39020000 46020000 060002")) []
+        (made_dir (hex (codes "A000000001"))) (made_fci (hex (codes "A000000001")))
         ≡ hex (codes "0000000000000000 000F B902000039020000460200000 60002 0000 0009 61074F05A000000001 0009 6F078405A000000001 0000 0000") }
-    ensures read { unit_read (hex (codes "0000000000000000 000F B9020000390200004602000006 0002 0000 0009 61074F05A000000001 0009 6F078405A000000001 0000 0000"))
+    ensures read { unit_read (hex
+        (codes "0000000000000000 000F B9020000390200004602000006 0002 0000 0009 61074F05A000000001 0009 6F078405A000000001 0000 0000"))
         ≡ Ok (record {
           number = zeros 8;
           code = hex (codes "B9020000 39020000 46020000 060002");
@@ -24,13 +26,15 @@ pub fn counter()
 
 /// Each shorter front of a unit is short.
 pub fn fronts_of_a_unit()
-    ensures { map unit_read (fronts 53 (hex (codes "0000000000000000 000F B9020000390200004602000006 0002 0000 0009 61074F05A000000001 0009 6F078405A000000001 0000 0000")))
+    ensures { map unit_read (fronts 53 (hex
+        (codes "0000000000000000 000F B9020000390200004602000006 0002 0000 0009 61074F05A000000001 0009 6F078405A000000001 0000 0000")))
         ≡ replicate 53 (Err Short) }
 {}
 
 /// The name in a DIR record.
 pub fn names()
-    ensures behind_other_objects { name_of (hex (codes "610E 5000 5F8101 01AA 4F05A000000001")) ≡ Ok (hex (codes "A000000001")) }
+    ensures behind_other_objects { name_of (hex (codes "610E 5000 5F8101 01AA 4F05A000000001"))
+        ≡ Ok (hex (codes "A000000001")) }
     ensures long_lengths { name_of (hex (codes "61 8108 4F 8105 A000000001 FF")) ≡ Ok (hex (codes "A000000001")) }
     ensures empty { name_of [] ≡ Err NoAid }
     ensures other_template { name_of (hex (codes "62074F05A000000001")) ≡ Err NoAid }

@@ -1,6 +1,7 @@
 #![tactic(auto)]
 
-// The packed journal of layout 2: one atomic write of 1 to 64 words, and its recovery. It looks at its own gate alone.
+//! The packed journal of layout 2: one atomic write of 1 to 64 words, and its recovery. It looks at its own gate alone.
+
 mod fault;
 mod look;
 mod put;

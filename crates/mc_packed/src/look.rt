@@ -37,7 +37,8 @@ pub fn look<N: Nvm>(device: &N) -> Found
 fn look_inside<N: Nvm>(device: &N, count: usize) -> Found
     requires size { 256 ≤ length (N.state device.now).words }
     requires few { count ≤ 64 }
-    ensures found { look_of result ≡ aimed Two (N.state device.now).words (targets Two (N.state device.now).words count) }
+    ensures found { look_of result ≡ aimed Two (N.state device.now).words
+        (targets Two (N.state device.now).words count) }
 {
     match read_targets(device, count) {
         Ok(targets) => Found::Pending(read_pairs(device, targets.as_slice())),
@@ -65,7 +66,8 @@ fn head_count(head: Word) -> Option<usize>
 fn read_targets<N: Nvm>(device: &N, count: usize) -> Result<ArrayVec<u16, 64>, u16>
     requires size { 256 ≤ length (N.state device.now).words }
     requires few { count ≤ 64 }
-    ensures { MatchResult result (λ found. targets Two (N.state device.now).words count ≡ Ok found.items) (λ place. targets Two (N.state device.now).words count ≡ Err place) }
+    ensures { MatchResult result (λ found. targets Two (N.state device.now).words count ≡ Ok found.items)
+        (λ place. targets Two (N.state device.now).words count ≡ Err place) }
 {
     let size = device.len();
     let mut found = ArrayVec::new();
@@ -123,7 +125,8 @@ fn number_of(high: u8, low: u8) -> u16
 // Targets that ascend from `least` on, each word 0 or in the heap: the least that may come after them.
 fn ascending(targets: &[u16], least: u32, size: u32) -> Option<u32>
     requires { size ≤ 16384 }
-    ensures { MatchOption result (ascend size least targets.now ≡ false) (λ next. (ascend size least targets.now ≡ true) × (next ≡ after_all least targets.now)) }
+    ensures { MatchOption result (ascend size least targets.now ≡ false)
+        (λ next. (ascend size least targets.now ≡ true) × (next ≡ after_all least targets.now)) }
 {
     let mut next = least;
     for target in targets {

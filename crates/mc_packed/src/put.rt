@@ -27,7 +27,8 @@ pub fn put_targets<N: Nvm>(device: &mut N, list: &[(u16, Word)]) -> Result<(), S
     requires power { (N.state device.old).on ≡ true }
     requires size { 256 ≤ length (N.state device.old).words }
     requires few { length list.now ≤ 64 }
-    ensures makes { Makes N.wrote device.old (target_words 0 (up (length list.now) 4) (map (λ p. p.0) list.now)) result device.new }
+    ensures makes { Makes N.wrote device.old
+        (target_words 0 (up (length list.now) 4) (map (λ p. p.0) list.now)) result device.new }
     ensures on { OnOk result ((N.state device.new).on ≡ true) }
     ensures size { length (N.state device.new).words ≡ length (N.state device.old).words }
 {

@@ -13,8 +13,10 @@ use mc_nvm::Nvm;
 /// be stopped itself, and owes the same again until its last write.
 pub fn recover<N: Nvm>(device: &mut N) -> Result<u16, Recover>
     requires power { (N.state device.old).on ≡ true }
-    ensures makes { Makes N.wrote device.old (owed_writes (look_j Two (N.state device.old).words)) (outcome_answer (outcome_of result)) device.new }
-    ensures ends { RecoverEnds Two (look_j Two (N.state device.old).words) (N.state device.old) (outcome_of result) (N.state device.new) }
+    ensures makes { Makes N.wrote device.old (owed_writes (look_j Two (N.state device.old).words))
+        (outcome_answer (outcome_of result)) device.new }
+    ensures ends { RecoverEnds Two (look_j Two (N.state device.old).words) (N.state device.old) (outcome_of result)
+        (N.state device.new) }
     ensures lent { N.same device.old device.new }
 {
     make_replay(device)
@@ -23,7 +25,8 @@ pub fn recover<N: Nvm>(device: &mut N) -> Result<u16, Recover>
 // Looks, and makes the writes that are owed.
 fn make_replay<N: Nvm>(device: &mut N) -> Result<u16, Recover>
     requires power { (N.state device.old).on ≡ true }
-    ensures makes { Makes N.wrote device.old (owed_writes (look_j Two (N.state device.old).words)) (outcome_answer (outcome_of result)) device.new }
+    ensures makes { Makes N.wrote device.old (owed_writes (look_j Two (N.state device.old).words))
+        (outcome_answer (outcome_of result)) device.new }
     ensures follows { Follows (look_j Two (N.state device.old).words) (outcome_of result) }
     ensures low { 256 ≤ length (N.state device.old).words }
 {

@@ -30,8 +30,10 @@ pub struct Header {
 /// The slot of the used block that has this name, on words without a fault.
 pub fn find_block<N: Nvm>(device: &N, aid: &Aid) -> Option<Slot>
     requires laid { words_fault (N.state device.now).words ≡ None }
-    ensures place { option_map slot_place result ≡ first_named (N.state device.now).words (blocks (N.state device.now).words) aid.now }
-    ensures sizes { IfSome result (λ slot. slot_sizes slot ≡ record_sizes (record_at (N.state device.now).words (slot_place slot))) }
+    ensures place { option_map slot_place result
+        ≡ first_named (N.state device.now).words (blocks (N.state device.now).words) aid.now }
+    ensures sizes { IfSome result (λ slot. slot_sizes slot
+        ≡ record_sizes (record_at (N.state device.now).words (slot_place slot))) }
     ensures image { IsImage (N.state device.now).words }
 {
     let size = device.len();

@@ -23,8 +23,10 @@ use mc_packed::write_words;
 pub fn commit<N: Nvm>(store: &mut Store<N>, slot: Slot, list: &[(u16, Word)]) -> Result<(), Stop>
     requires going { is_going (N.state store.old.device) store.old.count ≡ true }
     requires there { IsSome (store_named (N.state store.old.device) slot) }
-    requires list { CanCommit (app_of (apps_in (N.state store.old.device).words) (store_named (N.state store.old.device) slot)).fixed list.now }
-    ensures did { store_did N.state N.wrote store.old (Commit (name_or (store_named (N.state store.old.device) slot)) list.now) result store.new }
+    requires list { CanCommit (app_of (apps_in (N.state store.old.device).words)
+        (store_named (N.state store.old.device) slot)).fixed list.now }
+    ensures did { store_did N.state N.wrote store.old
+        (Commit (name_or (store_named (N.state store.old.device) slot)) list.now) result store.new }
 {
     let _size = store.device.len();
     let first = part_place(Part::Data, &slot.sizes(), slot.index());
@@ -77,7 +79,8 @@ fn shifted(first: u16, list: &[(u16, Word)]) -> ArrayVec<(u16, Word), 64>
 pub fn delete<N: Nvm>(store: &mut Store<N>, slot: Slot) -> Result<(), Stop>
     requires going { is_going (N.state store.old.device) store.old.count ≡ true }
     requires there { IsSome (store_named (N.state store.old.device) slot) }
-    ensures did { store_did N.state N.wrote store.old (Remove (name_or (store_named (N.state store.old.device) slot))) result store.new }
+    ensures did { store_did N.state N.wrote store.old
+        (Remove (name_or (store_named (N.state store.old.device) slot))) result store.new }
 {
     let _size = store.device.len();
     let plan = free_plan(&store.device, slot.index());

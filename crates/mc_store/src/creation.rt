@@ -37,7 +37,9 @@ pub fn create<N: Nvm>(store: &mut Store<N>, site: &Site, aid: &Aid) -> Result<()
 fn clear<N: Nvm>(store: &mut Store<N>, site: &Site) -> Result<(), Stop>
     requires going { is_going (N.state store.old.device) store.old.count ≡ true }
     requires good { IsGoodIn (N.state store.old.device).words site.now }
-    ensures items { InOrder (store_did N.state N.wrote) store.old (blank_items site.now site.now.sizes.init (zeros (site.now.sizes.fixed - site.now.sizes.init))) result store.new }
+    ensures items { InOrder (store_did N.state N.wrote) store.old
+        (blank_items site.now site.now.sizes.init (zeros (site.now.sizes.fixed - site.now.sizes.init))) result
+        store.new }
     ensures going { OnOk result (is_going (N.state store.new.device) store.new.count ≡ true) }
     ensures good { OnOk result (IsGoodIn (N.state store.new.device).words site.now) }
 {
@@ -70,7 +72,8 @@ fn note<N: Nvm>(store: &mut Store<N>, site: &Site, aid: &Aid) -> Result<(), Stop
     requires going { is_going (N.state store.old.device) store.old.count ≡ true }
     requires good { IsGoodIn (N.state store.old.device).words site.now }
     requires name { IsName aid.now }
-    ensures items { InOrder (store_did N.state N.wrote) store.old (Note site.now aid.now 0 ∷ Note site.now aid.now 1 ∷ Note site.now aid.now 2 ∷ Note site.now aid.now 3 ∷ []) result store.new }
+    ensures items { InOrder (store_did N.state N.wrote) store.old (Note site.now aid.now 0 ∷ Note site.now aid.now 1
+        ∷ Note site.now aid.now 2 ∷ Note site.now aid.now 3 ∷ []) result store.new }
     ensures going { OnOk result (is_going (N.state store.new.device) store.new.count ≡ true) }
     ensures good { OnOk result (IsGoodIn (N.state store.new.device).words site.now) }
 {
@@ -129,7 +132,8 @@ fn padded(aid: &Aid) -> [u8; 16]
 // The lengths of the name, DIR, FCI, code and static bytes.
 fn lengths_word(sizes: &Sizes, aid: &Aid) -> Word
     requires { FitsLimits sizes.now }
-    ensures { result ≡ length aid.now ∷ sizes.now.dir ∷ sizes.now.fci ∷ 0 ∷ (bytes2 sizes.now.code ++ bytes2 sizes.now.fixed) }
+    ensures { result ≡ length aid.now ∷ sizes.now.dir ∷ sizes.now.fci ∷ 0
+        ∷ (bytes2 sizes.now.code ++ bytes2 sizes.now.fixed) }
 {
     let len = aid.bytes().len();
     [

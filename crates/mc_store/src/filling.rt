@@ -26,7 +26,8 @@ pub fn fill<N: Nvm>(
     requires going { is_going (N.state store.old.device) store.old.count ≡ true }
     requires good { IsGoodIn (N.state store.old.device).words site.now }
     requires range { at + length piece.now ≤ part_len part site.now.sizes }
-    ensures items { InOrder (store_did N.state N.wrote) store.old (map (λ c. Piece site.now part c.0 c.1) (word_parts at piece.now)) result store.new }
+    ensures items { InOrder (store_did N.state N.wrote) store.old (map
+        (λ c. Piece site.now part c.0 c.1) (word_parts at piece.now)) result store.new }
 {
     let mut done = 0;
     while done < piece.len() {
@@ -74,7 +75,8 @@ pub fn write_part<N: Nvm>(device: &mut N, from: u32, at: u16, bytes: &[u8]) -> R
     requires power { (N.state device.old).on ≡ true }
     requires place { from + at / 8 < length (N.state device.old).words }
     requires word { at % 8 + length bytes.now ≤ 8 }
-    ensures wrote { N.wrote device.old (from + at / 8) (splice (word (N.state device.old).words (from + at / 8)) (at % 8) bytes.now) result device.new }
+    ensures wrote { N.wrote device.old (from + at / 8)
+        (splice (word (N.state device.old).words (from + at / 8)) (at % 8) bytes.now) result device.new }
 {
     let _size = device.len();
     let place = from + (at / 8) as u32;

@@ -1,6 +1,7 @@
 #![tactic(auto)]
 
-// A card in the words of a device: its power-up, and the bank of its applications.
+//! A card in the words of a device: its power-up, and the bank of its applications.
+
 mod block;
 mod changes;
 mod creation;

@@ -43,7 +43,8 @@ pub struct Ready {
 /// Makes the owed writes, checks the words, and migrates a card of layout 1.
 pub fn prepare<N: Nvm>(device: &mut N) -> Result<Ready, Up>
     requires power { (N.state device.old).on ≡ true }
-    ensures makes { Makes N.wrote device.old (power_writes (N.state device.old).words) (power_answer (prepared result)) device.new }
+    ensures makes { Makes N.wrote device.old (power_writes (N.state device.old).words)
+        (power_answer (prepared result)) device.new }
     ensures ends { PowersUp (N.state device.old) (prepared result) (N.state device.new) }
     ensures lent { N.same device.old device.new }
 {
@@ -54,7 +55,8 @@ pub fn prepare<N: Nvm>(device: &mut N) -> Result<Ready, Up>
 // The same, by its writes.
 fn recover_and_finish<N: Nvm>(device: &mut N) -> Result<Ready, Up>
     requires power { (N.state device.old).on ≡ true }
-    ensures makes { Makes N.wrote device.old (power_writes (N.state device.old).words) (power_answer (prepared result)) device.new }
+    ensures makes { Makes N.wrote device.old (power_writes (N.state device.old).words)
+        (power_answer (prepared result)) device.new }
     ensures follows { PowerFollows (N.state device.old).words (prepared result) }
     ensures lent { N.same device.old device.new }
 {
@@ -67,7 +69,8 @@ fn recover_and_finish<N: Nvm>(device: &mut N) -> Result<Ready, Up>
 // Replays the journal that is open, if one is, and answers the number of writes. The gate of layout 2 is looked at first.
 fn recover<N: Nvm>(device: &mut N) -> Result<u16, Up>
     requires power { (N.state device.old).on ≡ true }
-    ensures makes { Makes N.wrote device.old (owed_writes (look (N.state device.old).words)) (power_answer (recovered result)) device.new }
+    ensures makes { Makes N.wrote device.old (owed_writes (look (N.state device.old).words))
+        (power_answer (recovered result)) device.new }
     ensures follows { RecoverFollows (N.state device.old).words (recovered result) }
     ensures words { IfOk result (λ n. (N.state device.new).words ≡ settled (N.state device.old).words) }
     ensures closed { IfOk result (λ n. look (N.state device.new).words ≡ Closed) }
@@ -83,7 +86,8 @@ fn recover<N: Nvm>(device: &mut N) -> Result<u16, Up>
 // The same, by its writes.
 fn replay_open<N: Nvm>(device: &mut N) -> Result<u16, Up>
     requires power { (N.state device.old).on ≡ true }
-    ensures makes { Makes N.wrote device.old (owed_writes (look (N.state device.old).words)) (power_answer (recovered result)) device.new }
+    ensures makes { Makes N.wrote device.old (owed_writes (look (N.state device.old).words))
+        (power_answer (recovered result)) device.new }
     ensures follows { RecoverFollows (N.state device.old).words (recovered result) }
     ensures few { IfOk result (λ n. n ≤ 65) }
     ensures lent { N.same device.old device.new }
@@ -124,7 +128,8 @@ fn replay_packed<N: Nvm>(device: &mut N) -> Result<u16, Up>
     requires power { (N.state device.old).on ≡ true }
     requires low { 256 ≤ length (N.state device.old).words }
     requires other { is_open One (N.state device.old).words ≡ false }
-    ensures makes { Makes N.wrote device.old (owed_writes (look (N.state device.old).words)) (power_answer (recovered result)) device.new }
+    ensures makes { Makes N.wrote device.old (owed_writes (look (N.state device.old).words))
+        (power_answer (recovered result)) device.new }
     ensures follows { RecoverFollows (N.state device.old).words (recovered result) }
     ensures few { IfOk result (λ n. n ≤ 65) }
     ensures lent { N.same device.old device.new }
@@ -141,7 +146,8 @@ fn replay_plain<N: Nvm>(device: &mut N) -> Result<u16, Up>
     requires power { (N.state device.old).on ≡ true }
     requires low { 256 ≤ length (N.state device.old).words }
     requires other { is_open Two (N.state device.old).words ≡ false }
-    ensures makes { Makes N.wrote device.old (owed_writes (look (N.state device.old).words)) (power_answer (recovered result)) device.new }
+    ensures makes { Makes N.wrote device.old (owed_writes (look (N.state device.old).words))
+        (power_answer (recovered result)) device.new }
     ensures follows { RecoverFollows (N.state device.old).words (recovered result) }
     ensures few { IfOk result (λ n. n ≤ 65) }
     ensures lent { N.same device.old device.new }
@@ -168,7 +174,8 @@ fn finish<N: Nvm>(device: &mut N, owed: u16) -> Result<Ready, Up>
     requires power { (N.state device.old).on ≡ true }
     requires closed { look (N.state device.old).words ≡ Closed }
     requires few { owed ≤ 65 }
-    ensures makes { Makes N.wrote device.old (migrating (found (N.state device.old).words) (N.state device.old).words) (power_answer (prepared result)) device.new }
+    ensures makes { Makes N.wrote device.old (migrating (found (N.state device.old).words) (N.state device.old).words)
+        (power_answer (prepared result)) device.new }
     ensures follows { FinishFollows (N.state device.old).words owed (prepared result) }
     ensures lent { N.same device.old device.new }
 {
@@ -186,7 +193,8 @@ fn upgrade<N: Nvm>(device: &mut N, owed: u16, shape: &Shape) -> Result<Ready, Up
     requires used { shape.now.used ≡ length (means (N.state device.old).words).apps }
     requires layout { shape.now.layout ≡ (means (N.state device.old).words).layout }
     requires few { owed ≤ 65 }
-    ensures makes { Makes N.wrote device.old (migrating (found (N.state device.old).words) (N.state device.old).words) (power_answer (prepared result)) device.new }
+    ensures makes { Makes N.wrote device.old (migrating (found (N.state device.old).words) (N.state device.old).words)
+        (power_answer (prepared result)) device.new }
     ensures follows { FinishFollows (N.state device.old).words owed (prepared result) }
     ensures lent { N.same device.old device.new }
 {
@@ -204,7 +212,8 @@ fn upgrade<N: Nvm>(device: &mut N, owed: u16, shape: &Shape) -> Result<Ready, Up
 fn migrate<N: Nvm>(device: &mut N, layout: u8) -> Result<u16, Stop>
     requires power { (N.state device.old).on ≡ true }
     requires gate { is_open One (N.state device.old).words ≡ false }
-    ensures makes { Makes N.wrote device.old (cond (layout == 1) (writes One (new_root (N.state device.old).words)) []) (answer_of result) device.new }
+    ensures makes { Makes N.wrote device.old
+        (cond (layout == 1) (writes One (new_root (N.state device.old).words)) []) (answer_of result) device.new }
     ensures count { IfOk result (λ n. n ≡ cond (layout == 1) 6 0) }
     ensures lent { N.same device.old device.new }
 {

@@ -14,8 +14,14 @@ use mc_nvm::Nvm;
 pub fn read_section<N: Nvm>(store: &Store<N>, slot: Slot, part: Part, at: u16, into: &mut [u8])
     requires going { (store_state (N.state store.now.device) store.now.count).stopped ≡ false }
     requires there { IsSome (store_named (N.state store.now.device) slot) }
-    requires range { at + length into.old ≤ length (part_of_app part (app_of (store_state (N.state store.now.device) store.now.count).apps (store_named (N.state store.now.device) slot))) }
-    ensures { into.new ≡ take (length into.old) (drop at (part_of_app part (app_of (store_state (N.state store.now.device) store.now.count).apps (store_named (N.state store.now.device) slot)))) }
+    requires range { at + length into.old
+        ≤ length (part_of_app part
+        (app_of (store_state (N.state store.now.device) store.now.count).apps
+        (store_named (N.state store.now.device) slot))) }
+    ensures { into.new ≡ take (length into.old)
+        (drop at (part_of_app part
+        (app_of (store_state (N.state store.now.device) store.now.count).apps
+        (store_named (N.state store.now.device) slot)))) }
 {
     let _size = store.device.len();
     let from = part_place(part, &slot.sizes(), slot.index());

@@ -30,7 +30,8 @@ pub fn find_room<N: Nvm, L: Ledger>(
     requires limits { FitsLimits sizes.now }
     ensures answer { result ≡ opened sizes.now (nat_le 32 count) (store_room (N.state device.now) sizes.now) }
     ensures image { IsImage (N.state device.now).words }
-    ensures ticks { steps.new ≡ steps.old + search_steps count (needed_by sizes.now) (gaps (means (N.state device.now).words)) }
+    ensures ticks { steps.new ≡ steps.old
+        + search_steps count (needed_by sizes.now) (gaps (means (N.state device.now).words)) }
 {
     let _size = device.len();
     if count >= APPS {
@@ -50,7 +51,8 @@ fn first_room<N: Nvm, L: Ledger>(
     requires laid { IsWellLaid (N.state device.now).words }
     requires limits { FitsLimits sizes.now }
     ensures answer { result ≡ opened sizes.now false (store_room (N.state device.now) sizes.now) }
-    ensures ticks { steps.new ≡ steps.old + (1 + looked_at (needed_by sizes.now) (gaps (means (N.state device.now).words))) }
+    ensures ticks { steps.new ≡ steps.old
+        + (1 + looked_at (needed_by sizes.now) (gaps (means (N.state device.now).words))) }
 {
     match first_fit(&Probe::new(device), needed_words(sizes), steps) {
         Some(place) => Ok(Site::new(*sizes, place)),

@@ -28,7 +28,8 @@ impl<N: Nvm> Store<N> {
     /// and with the first fault and its place where the words are no card.
     pub fn power_up(dev: N) -> Result<(Store<N>, u16), (N, Up)>
         requires power { (N.state dev).on ≡ true }
-        ensures makes { Makes N.wrote dev (power_writes (N.state dev).words) (power_answer (powered result)) (device_after result) }
+        ensures makes { Makes N.wrote dev (power_writes (N.state dev).words) (power_answer (powered result))
+            (device_after result) }
         ensures ends { PowersUp (N.state dev) (powered result) (N.state (device_after result)) }
         ensures lent { N.same dev (device_after result) }
     {
@@ -53,8 +54,10 @@ impl<N: Nvm> Store<N> {
     /// store is good for its device and for another restart alone.
     pub fn restart(&mut self) -> Result<u16, Up>
         requires power { (N.state (device_of self.old)).on ≡ true }
-        ensures makes { Makes N.wrote (device_of self.old) (power_writes (N.state (device_of self.old)).words) (power_answer (restarted self.new result)) (device_of self.new) }
-        ensures ends { PowersUp (N.state (device_of self.old)) (restarted self.new result) (N.state (device_of self.new)) }
+        ensures makes { Makes N.wrote (device_of self.old) (power_writes (N.state (device_of self.old)).words)
+            (power_answer (restarted self.new result)) (device_of self.new) }
+        ensures ends { PowersUp (N.state (device_of self.old)) (restarted self.new result)
+            (N.state (device_of self.new)) }
         ensures lent { N.same (device_of self.old) (device_of self.new) }
     {
         match prepare(&mut self.device) {
@@ -107,15 +110,18 @@ impl<N: Nvm> Bank for Store<N> {
 
     ghost did = { λ s i a e. StoreDid N.state N.wrote s.device s.count i a e.device e.count };
 
-    ghost sized = { λ s k there. slot_sized (apps_in (N.state s.device).words) k (place_named (N.state s.device) (slot_place k)) there };
+    ghost sized = { λ s k there. slot_sized (apps_in (N.state s.device).words) k
+        (place_named (N.state s.device) (slot_place k)) there };
 
     ghost obeys = { λ s i a e did. store_obeys N.state N.wrote N.obeys s.device e.device s.count e.count i a did };
 
     ghost keeps = { λ s i a e did. store_keeps N.state N.wrote N.obeys s.device e.device s.count e.count i a did };
 
-    ghost spares = { λ s n ws a e did. store_spares N.state N.wrote N.obeys s.device e.device s.count e.count n ws a did };
+    ghost spares = { λ s n ws a e did. store_spares N.state N.wrote N.obeys s.device e.device s.count e.count n ws a
+        did };
 
-    ghost leaves = { λ s n ws a e did. store_leaves N.state N.wrote N.obeys s.device e.device s.count e.count n ws a did };
+    ghost leaves = { λ s n ws a e did. store_leaves N.state N.wrote N.obeys s.device e.device s.count e.count n ws a
+        did };
 
     fn find(&self, aid: &Aid) -> Option<Slot> {
         find_block(&self.device, aid)

@@ -1,6 +1,7 @@
 #![tactic(auto)]
 
-// Load units: what a loader is handed of an application, as bytes.
+//! Load units: what a loader is handed of an application, as bytes.
+
 mod laws;
 mod name;
 mod unit;

@@ -48,7 +48,8 @@ fn template_of(dir: &[u8]) -> Option<&[u8]>
 // The value of the first object with the tag 4F.
 #[tactic(auto, using(crate::proofs::Names::name_nowhere))]
 fn name_in(template: &[u8]) -> Option<&[u8]>
-    ensures { MatchOption result (name_among (length template.now) template.now ≡ None) (λ v. name_among (length template.now) template.now ≡ Some v.now) }
+    ensures { MatchOption result (name_among (length template.now) template.now ≡ None)
+        (λ v. name_among (length template.now) template.now ≡ Some v.now) }
 {
     let mut rest = template;
     while let Some(

@@ -60,7 +60,8 @@ fn unit_from(bytes: &[u8]) -> Result<Unit<'_>, UnitRefusal>
 
 // The name in the DIR record of a unit.
 fn name_from(dir: &[u8]) -> Result<Aid, UnitRefusal>
-    ensures { MatchResult result (λ a. refused_name (name_of dir.now) ≡ Ok a) (λ e. refused_name (name_of dir.now) ≡ Err e) }
+    ensures { MatchResult result (λ a. refused_name (name_of dir.now) ≡ Ok a)
+        (λ e. refused_name (name_of dir.now) ≡ Err e) }
 {
     match aid_of(dir) {
         Ok(aid) => Ok(aid),
@@ -71,7 +72,8 @@ fn name_from(dir: &[u8]) -> Result<Aid, UnitRefusal>
 
 // So many bytes, and the bytes after them.
 fn bytes_at(bytes: &[u8], count: usize) -> Result<(&[u8], &[u8]), UnitRefusal>
-    ensures { MatchResult result (λ x. bytes_at count bytes.now ≡ Ok (x.0.now, x.1.now)) (λ e. bytes_at count bytes.now ≡ Err e) }
+    ensures { MatchResult result (λ x. bytes_at count bytes.now ≡ Ok (x.0.now, x.1.now))
+        (λ e. bytes_at count bytes.now ≡ Err e) }
 {
     if bytes.len() < count {
         return Err(UnitRefusal::Short);
@@ -107,7 +109,8 @@ fn code_at(bytes: &[u8]) -> Result<(&[u8], &[u8]), UnitRefusal>
 // A field of at most so many bytes.
 #[tactic(auto, unfolding(mc_model::specs::Units::field_at))]
 fn field_at(bytes: &[u8], most: usize) -> Result<(&[u8], &[u8]), UnitRefusal>
-    ensures { MatchResult result (λ x. field_at most bytes.now ≡ Ok (x.0.now, x.1.now)) (λ e. field_at most bytes.now ≡ Err e) }
+    ensures { MatchResult result (λ x. field_at most bytes.now ≡ Ok (x.0.now, x.1.now))
+        (λ e. field_at most bytes.now ≡ Err e) }
 {
     let (count, rest) = length_at(bytes)?;
     if count > most {
@@ -119,7 +122,8 @@ fn field_at(bytes: &[u8], most: usize) -> Result<(&[u8], &[u8]), UnitRefusal>
 // The bytes after a field that has to be empty, and else this refusal.
 #[tactic(auto, unfolding(mc_model::specs::Units::empty_at))]
 fn empty_at(bytes: &[u8], refusal: UnitRefusal) -> Result<&[u8], UnitRefusal>
-    ensures { MatchResult result (λ rest. empty_at refusal bytes.now ≡ Ok rest.now) (λ e. empty_at refusal bytes.now ≡ Err e) }
+    ensures { MatchResult result (λ rest. empty_at refusal bytes.now ≡ Ok rest.now)
+        (λ e. empty_at refusal bytes.now ≡ Err e) }
 {
     let (count, rest) = length_at(bytes)?;
     if count != 0 {

@@ -20,7 +20,9 @@ pub fn write_unit(
     requires name { IsOk (name_of dir.now) }
     ensures bytes { IfOk result (λ v. v.items ≡ unit_bytes code.now init.now dir.now fci.now) }
     // It is read back with the same fields.
-    ensures again { IfOk result (λ v. (aid : List ℕ) → name_of dir.now ≡ Ok aid → unit_read v.items ≡ Ok (record { number = zeros 8; code = code.now; init = init.now; dir = dir.now; fci = fci.now; aid = aid })) }
+    ensures again { IfOk result (λ v. (aid : List ℕ) → name_of dir.now ≡ Ok aid
+        → unit_read v.items
+        ≡ Ok (record { number = zeros 8; code = code.now; init = init.now; dir = dir.now; fci = fci.now; aid = aid })) }
 {
     write_fields(alloc, code, init, dir, fci)
 }
