@@ -1,12 +1,11 @@
 -- The key schedule on words.
-use Rattle.std.proofs.Common.{◌≡◌, ℕ, ◌<◌, ◌/◌, ◌%◌, ◌^◌, List, [], ◌∷◌, ◌++◌, map, refl, sym, ap, ◌∙◌, arith}
+use Rattle.std.proofs.Common.{◌≡◌, ℕ, ◌/◌, ◌%◌, ◌^◌, List, [], ◌∷◌, ◌++◌, refl}
 use Rattle.std.specs.Prelude.{bit_xor}
-use Rattle.std.specs.Int.{w32, from_be_bytes}
 use Rattle.mc_model.specs.Modes.{added}
-use Rattle.mc_model.specs.Aes.{sub, changed, next_key, round_keys, round_keys_from}
+use Rattle.mc_model.specs.Aes.{sub, changed, next_key, round_keys}
 use Rattle.mc_aes.specs.State.{word, state_bytes}
 use Rattle.mc_aes.specs.declared.state.State.{State}
-use Rattle.mc_aes.proofs.StateLemmas.{word-from, word-xor}
+use Rattle.mc_aes.proofs.StateLemmas.{word-xor}
 
 changed_bytes : (w constant : ℕ) → bit_xor (sub (w / 2 ^ 16 % 256)) constant ∷ sub (w / 2 ^ 8 % 256) ∷ sub (w % 256) ∷ sub (w / 2 ^ 24 % 256) ∷ [] ≡ changed constant (word w)
 unfolding word changed

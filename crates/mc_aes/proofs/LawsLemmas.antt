@@ -1,5 +1,5 @@
 -- Deciphering undoes enciphering: bytes, rows, columns, and the rounds.
-use Rattle.std.proofs.Common.{◌≡◌, ◌⊎◌, inl, inr, ℕ, zero, suc, ◌+◌, ◌-◌, ◌*◌, ◌/◌, ◌%◌, ◌^◌, ◌<◌, ◌≤◌, ◌==◌, ◌&&◌, true, List, [], ◌∷◌, ◌++◌, length, get_or, take, drop, map, reverse, refl, sym, ap, ◌∙◌, arith, subst, length-append, length-drop, length-take, add-zero}
+use Rattle.std.proofs.Common.{◌≡◌, ◌⊎◌, inl, inr, ℕ, zero, suc, ◌+◌, ◌*◌, ◌/◌, ◌%◌, ◌^◌, ◌<◌, ◌==◌, ◌&&◌, true, List, [], ◌∷◌, ◌++◌, length, get_or, take, drop, map, reverse, refl, sym, ap, ◌∙◌, arith, subst, length-append, length-drop, length-take}
 use Rattle.std.specs.Prelude.{Bool, nat_lt, bytes_eq}
 use Rattle.std.specs.Int.Bits.{bit_xor, xor_zero_r, xor_assoc}
 use Rattle.std.proofs.Math.Nat.{zero-mul, one-mul}
@@ -9,7 +9,7 @@ use Rattle.std.proofs.lemmas.Slice.Eq.{bytes_eq-Decides}
 use Rattle.std.proofs.lemmas.List.{reverse-append, reverse-reverse, length-reverse, append_assoc}
 use Rattle.mc_model.specs.Modes.{added, AllBelow, IsBlock}
 use Rattle.mc_model.proofs.ModesLemmas.{all_below, below_at, added_back, length-added, AllBelow-append, AllBelow-take, AllBelow-drop, AllBelow-at, AllBelow-added, listed_from, listed}
-use Rattle.mc_model.specs.Aes.{times2, mul_bits, mul, sub, sub_back, inverse, dot, times_matrix, placed, shift_rows, shift_rows_back, mixed, mix_columns, mix_columns_back, round, last_round, round_back, last_round_back, changed, next_key, round_keys_from, round_keys, rounds, rounds_back, enciphered, deciphered, aes_encipher, aes_decipher}
+use Rattle.mc_model.specs.Aes.{times2, mul_bits, mul, sub, sub_back, dot, times_matrix, placed, shift_rows, shift_rows_back, mixed, mix_columns, mix_columns_back, round, last_round, round_back, last_round_back, changed, next_key, round_keys_from, round_keys, rounds, rounds_back, enciphered, deciphered, aes_encipher, aes_decipher}
 use Rattle.mc_aes.proofs.CipherLemmas.{rounds-cons, rounds-last, rounds_back-cons, rounds_back-last, enciphered-cons, deciphered-cons}
 use Rattle.mc_aes.proofs.AesLemmas.{aes_encipher-open, aes_decipher-open}
 

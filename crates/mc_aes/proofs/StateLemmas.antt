@@ -1,15 +1,12 @@
--- Words and their bytes: sums, turns, and what the bytes of a word are.
-use Rattle.std.proofs.Common.{◌≡◌, ℕ, zero, suc, ◌+◌, ◌*◌, ◌/◌, ◌%◌, ◌^◌, ◌<◌, List, [], ◌∷◌, ◌++◌, length, get_or, refl, sym, ap, ◌∙◌, arith, zero-add, add-zero}
-use Rattle.std.specs.Prelude.{bit_or}
-use Rattle.std.specs.Int.{w32, rotate_right, from_be_bytes, to_be_bytes}
-use Rattle.std.specs.Int.Bits.{bit_xor, or_zero_r}
-use Rattle.std.proofs.Math.Nat.{zero-mul}
-use Rattle.std.proofs.Math.Pow.{pow_pos}
-use Rattle.std.proofs.lemmas.Nat.{xor_shr, xor_mod, or_block, be_bytes_4}
+-- Words and their bytes: sums, and what the bytes of a word are.
+use Rattle.std.proofs.Common.{◌≡◌, ℕ, ◌*◌, ◌/◌, ◌%◌, ◌^◌, ◌<◌, List, [], ◌∷◌, ◌++◌, length, get_or, refl, sym, ap, ◌∙◌, arith}
+use Rattle.std.specs.Int.{w32, from_be_bytes, to_be_bytes}
+use Rattle.std.specs.Int.Bits.{bit_xor, xor_zero_r}
+use Rattle.std.proofs.lemmas.Nat.{xor_shr, xor_mod}
 use Rattle.mc_model.proofs.ModesLemmas.{listed_from, listed}
 use Rattle.mc_model.specs.Modes.{added}
-use Rattle.mc_model.specs.Aes.{mul, sub, sub_back, times_matrix, round, last_round, mix_columns, mixed, mix_columns_back, round_back, last_round_back}
-use Rattle.mc_aes.specs.State.{word, state_bytes, substitutes_of, bytes_back_of}
+use Rattle.mc_model.specs.Aes.{mul, times_matrix}
+use Rattle.mc_aes.specs.State.{word, state_bytes}
 use Rattle.mc_aes.specs.declared.state.State.{State}
 
 -- a byte of a sum
@@ -20,94 +17,61 @@ pub word-xor : (a b : ℕ) → word (bit_xor a b) ≡ added (word a) (word b)
 unfolding word
 word-xor a b = rw (byte_xor a b 24, byte_xor a b 16, byte_xor a b 8, xor_mod a b 8) refl
 
--- ---- a word turned right by whole bytes
-
-or_parts : (k a b : ℕ) → b < 2 ^ k → bit_or b (a * 2 ^ k) ≡ a * 2 ^ k + b
-or_parts k a b h = simp (zero-mul, zero-add, add-zero, or_zero_r) at (or_block k 0 a b 0 h (pow_pos k))
+-- ---- states
 
 word-parts : (w a b c d : ℕ) → w / 2 ^ 24 % 256 ≡ a → w / 2 ^ 16 % 256 ≡ b → w / 2 ^ 8 % 256 ≡ c → w % 256 ≡ d → word w ≡ a ∷ b ∷ c ∷ d ∷ []
 unfolding word
 word-parts w a b c d ea eb ec ed = rw (ea, eb, ec, ed) refl
 
-pub word-turned8 : (w : ℕ) → w < 2 ^ 32 → word (rotate_right w32 w 8) ≡ (w % 256) ∷ (w / 2 ^ 24 % 256) ∷ (w / 2 ^ 16 % 256) ∷ (w / 2 ^ 8 % 256) ∷ []
-word-turned8 w h =
-    let low : w * 2 ^ 24 % 2 ^ 32 ≡ (w % 256) * 2 ^ 24 = omega arith in
-    let r : rotate_right w32 w 8 ≡ (w % 256) * 2 ^ 24 + w / 2 ^ 8 =
-    ap (λ (x : ℕ). bit_or (w / 2 ^ 8) x) low ∙ or_parts 24 (w % 256) (w / 2 ^ 8) (omega arith) in
-    rw r (word-parts ((w % 256) * 2 ^ 24 + w / 2 ^ 8) _ _ _ _ (omega arith) (omega arith) (omega arith) (omega arith))
-
-pub word-turned16 : (w : ℕ) → w < 2 ^ 32 → word (rotate_right w32 w 16) ≡ (w / 2 ^ 8 % 256) ∷ (w % 256) ∷ (w / 2 ^ 24 % 256) ∷ (w / 2 ^ 16 % 256) ∷ []
-word-turned16 w h =
-    let low : w * 2 ^ 16 % 2 ^ 32 ≡ (w % 65536) * 2 ^ 16 = omega arith in
-    let r : rotate_right w32 w 16 ≡ (w % 65536) * 2 ^ 16 + w / 2 ^ 16 =
-    ap (λ (x : ℕ). bit_or (w / 2 ^ 16) x) low ∙ or_parts 16 (w % 65536) (w / 2 ^ 16) (omega arith) in
-    rw r (word-parts ((w % 65536) * 2 ^ 16 + w / 2 ^ 16) _ _ _ _ (omega arith) (omega arith) (omega arith) (omega arith))
-
-pub word-turned24 : (w : ℕ) → w < 2 ^ 32 → word (rotate_right w32 w 24) ≡ (w / 2 ^ 16 % 256) ∷ (w / 2 ^ 8 % 256) ∷ (w % 256) ∷ (w / 2 ^ 24 % 256) ∷ []
-word-turned24 w h =
-    let low : w * 2 ^ 8 % 2 ^ 32 ≡ (w % 16777216) * 2 ^ 8 = omega arith in
-    let r : rotate_right w32 w 24 ≡ (w % 16777216) * 2 ^ 8 + w / 2 ^ 24 =
-    ap (λ (x : ℕ). bit_or (w / 2 ^ 24) x) low ∙ or_parts 8 (w % 16777216) (w / 2 ^ 24) (omega arith) in
-    rw r (word-parts ((w % 16777216) * 2 ^ 8 + w / 2 ^ 24) _ _ _ _ (omega arith) (omega arith) (omega arith) (omega arith))
-
--- ---- states
-
 -- the word that is written by four bytes
 pub word-from : (w a b c d : ℕ) → a < 256 → b < 256 → c < 256 → d < 256 → w ≡ from_be_bytes w32 (a ∷ b ∷ c ∷ d ∷ []) → word w ≡ a ∷ b ∷ c ∷ d ∷ []
 word-from w a b c d ha hb hc hd e = word-parts w a b c d (omega arith) (omega arith) (omega arith) (omega arith)
 
--- the same, with a word added
-pub word-from-added : (w k a b c d : ℕ) → a < 256 → b < 256 → c < 256 → d < 256 → w ≡ from_be_bytes w32 (a ∷ b ∷ c ∷ d ∷ []) → word (bit_xor w k) ≡ added (a ∷ b ∷ c ∷ d ∷ []) (word k)
-word-from-added w k a b c d ha hb hc hd e = word-xor w k ∙ ap (λ (l : List ℕ). added l (word k)) (word-from w a b c d ha hb hc hd e)
+-- a word of known bytes, with a word added
+pub word-xor-of : (a k : ℕ) (xs : List ℕ) → word a ≡ xs → word (bit_xor a k) ≡ added xs (word k)
+word-xor-of a k xs e = word-xor a k ∙ ap (λ (l : List ℕ). added l (word k)) e
 
 -- the sum of the four columns that a column step adds
 columns_sum : (a b c d k : ℕ) (xa xb xc xd : List ℕ) → word a ≡ xa → word b ≡ xb → word c ≡ xc → word d ≡ xd
     → word (bit_xor (bit_xor (bit_xor (bit_xor a b) c) d) k) ≡ added (added (added (added xa xb) xc) xd) (word k)
 columns_sum a b c d k xa xb xc xd ea eb ec ed = rw (word-xor, word-xor, word-xor, word-xor, ea, eb, ec, ed) refl
 
-turned8 : (w p q r s : ℕ) → w < 2 ^ 32 → word w ≡ p ∷ q ∷ r ∷ s ∷ [] → word (rotate_right w32 w 8) ≡ s ∷ p ∷ q ∷ r ∷ []
-unfolding word
-turned8 w p q r s h e = let t = word-turned8 w h in cc
-
-turned16 : (w p q r s : ℕ) → w < 2 ^ 32 → word w ≡ p ∷ q ∷ r ∷ s ∷ [] → word (rotate_right w32 w 16) ≡ r ∷ s ∷ p ∷ q ∷ []
-unfolding word
-turned16 w p q r s h e = let t = word-turned16 w h in cc
-
-turned24 : (w p q r s : ℕ) → w < 2 ^ 32 → word w ≡ p ∷ q ∷ r ∷ s ∷ [] → word (rotate_right w32 w 24) ≡ q ∷ r ∷ s ∷ p ∷ []
-unfolding word
-turned24 w p q r s h e = let t = word-turned24 w h in cc
-
 columns_sum_alone : (a b c d : ℕ) (xa xb xc xd : List ℕ) → word a ≡ xa → word b ≡ xb → word c ≡ xc → word d ≡ xd
     → word (bit_xor (bit_xor (bit_xor a b) c) d) ≡ added (added (added xa xb) xc) xd
 columns_sum_alone a b c d xa xb xc xd ea eb ec ed = rw (word-xor, word-xor, word-xor, ea, eb, ec, ed) refl
 
--- the column that a word's bytes make through a matrix, from the table's columns for its four bytes
-pub matrix_column : (p q r s : ℕ) (x0 x1 x2 x3 y0 y1 y2 y3 : ℕ) (a b c d b' c' d' k : ℕ) → b < 2 ^ 32 → c < 2 ^ 32 → d < 2 ^ 32
+-- the word of four bytes, put together by shifts
+pub joined_is : (a b c d : ℕ) → a < 256 → b < 256 → c < 256 → d < 256
+    → word (bit_xor (bit_xor (bit_xor (a * 2 ^ 24 % 2 ^ 32) (b * 2 ^ 16 % 2 ^ 32)) (c * 2 ^ 8 % 2 ^ 32)) d) ≡ a ∷ b ∷ c ∷ d ∷ []
+joined_is a b c d ha hb hc hd =
+    columns_sum_alone (a * 2 ^ 24 % 2 ^ 32) (b * 2 ^ 16 % 2 ^ 32) (c * 2 ^ 8 % 2 ^ 32) d (a ∷ 0 ∷ 0 ∷ 0 ∷ []) (0 ∷ b ∷ 0 ∷ 0 ∷ []) (0 ∷ 0 ∷ c ∷ 0 ∷ []) (0 ∷ 0 ∷ 0 ∷ d ∷ [])
+    (word-parts _ _ _ _ _ (omega arith) (omega arith) (omega arith) (omega arith))
+    (word-parts _ _ _ _ _ (omega arith) (omega arith) (omega arith) (omega arith))
+    (word-parts _ _ _ _ _ (omega arith) (omega arith) (omega arith) (omega arith))
+    (word-parts _ _ _ _ _ (omega arith) (omega arith) (omega arith) (omega arith))
+    ∙ simp (xor_zero_r)
+
+-- the column that a word's bytes make through a matrix, from the tables' columns for its four bytes
+pub matrix_column : (p q r s : ℕ) (x0 x1 x2 x3 y0 y1 y2 y3 : ℕ) (a b c d k : ℕ)
     → word a ≡ mul p x0 ∷ mul s x0 ∷ mul r x0 ∷ mul q x0 ∷ []
-    → word b ≡ mul p x1 ∷ mul s x1 ∷ mul r x1 ∷ mul q x1 ∷ []
-    → word c ≡ mul p x2 ∷ mul s x2 ∷ mul r x2 ∷ mul q x2 ∷ []
-    → word d ≡ mul p x3 ∷ mul s x3 ∷ mul r x3 ∷ mul q x3 ∷ []
-    → b' ≡ rotate_right w32 b 8 → c' ≡ rotate_right w32 c 16 → d' ≡ rotate_right w32 d 24
+    → word b ≡ mul q x1 ∷ mul p x1 ∷ mul s x1 ∷ mul r x1 ∷ []
+    → word c ≡ mul r x2 ∷ mul q x2 ∷ mul p x2 ∷ mul s x2 ∷ []
+    → word d ≡ mul s x3 ∷ mul r x3 ∷ mul q x3 ∷ mul p x3 ∷ []
     → x0 ≡ y0 → x1 ≡ y1 → x2 ≡ y2 → x3 ≡ y3
-    → word (bit_xor (bit_xor (bit_xor (bit_xor a b') c') d') k) ≡ added (times_matrix p q r s (y0 ∷ y1 ∷ y2 ∷ y3 ∷ [])) (word k)
-matrix_column p q r s x0 x1 x2 x3 y0 y1 y2 y3 a b c d b' c' d' k hb hc hd ea eb ec ed tb tc td e0 e1 e2 e3 =
-    rw (← e0, ← e1, ← e2, ← e3, tb, tc, td)
-    (columns_sum a (rotate_right w32 b 8) (rotate_right w32 c 16) (rotate_right w32 d 24) k _ _ _ _ ea
-    (turned8 b _ _ _ _ hb eb) (turned16 c _ _ _ _ hc ec) (turned24 d _ _ _ _ hd ed))
+    → word (bit_xor (bit_xor (bit_xor (bit_xor a b) c) d) k) ≡ added (times_matrix p q r s (y0 ∷ y1 ∷ y2 ∷ y3 ∷ [])) (word k)
+matrix_column p q r s x0 x1 x2 x3 y0 y1 y2 y3 a b c d k ea eb ec ed e0 e1 e2 e3 =
+    rw (← e0, ← e1, ← e2, ← e3) (columns_sum a b c d k _ _ _ _ ea eb ec ed)
 
 -- without a sum
-pub matrix_column_alone : (p q r s : ℕ) (x0 x1 x2 x3 y0 y1 y2 y3 : ℕ) (a b c d b' c' d' : ℕ) → b < 2 ^ 32 → c < 2 ^ 32 → d < 2 ^ 32
+pub matrix_column_alone : (p q r s : ℕ) (x0 x1 x2 x3 y0 y1 y2 y3 : ℕ) (a b c d : ℕ)
     → word a ≡ mul p x0 ∷ mul s x0 ∷ mul r x0 ∷ mul q x0 ∷ []
-    → word b ≡ mul p x1 ∷ mul s x1 ∷ mul r x1 ∷ mul q x1 ∷ []
-    → word c ≡ mul p x2 ∷ mul s x2 ∷ mul r x2 ∷ mul q x2 ∷ []
-    → word d ≡ mul p x3 ∷ mul s x3 ∷ mul r x3 ∷ mul q x3 ∷ []
-    → b' ≡ rotate_right w32 b 8 → c' ≡ rotate_right w32 c 16 → d' ≡ rotate_right w32 d 24
+    → word b ≡ mul q x1 ∷ mul p x1 ∷ mul s x1 ∷ mul r x1 ∷ []
+    → word c ≡ mul r x2 ∷ mul q x2 ∷ mul p x2 ∷ mul s x2 ∷ []
+    → word d ≡ mul s x3 ∷ mul r x3 ∷ mul q x3 ∷ mul p x3 ∷ []
     → x0 ≡ y0 → x1 ≡ y1 → x2 ≡ y2 → x3 ≡ y3
-    → word (bit_xor (bit_xor (bit_xor a b') c') d') ≡ times_matrix p q r s (y0 ∷ y1 ∷ y2 ∷ y3 ∷ [])
-matrix_column_alone p q r s x0 x1 x2 x3 y0 y1 y2 y3 a b c d b' c' d' hb hc hd ea eb ec ed tb tc td e0 e1 e2 e3 =
-    rw (← e0, ← e1, ← e2, ← e3, tb, tc, td)
-    (columns_sum_alone a (rotate_right w32 b 8) (rotate_right w32 c 16) (rotate_right w32 d 24) _ _ _ _ ea
-    (turned8 b _ _ _ _ hb eb) (turned16 c _ _ _ _ hc ec) (turned24 d _ _ _ _ hd ed))
+    → word (bit_xor (bit_xor (bit_xor a b) c) d) ≡ times_matrix p q r s (y0 ∷ y1 ∷ y2 ∷ y3 ∷ [])
+matrix_column_alone p q r s x0 x1 x2 x3 y0 y1 y2 y3 a b c d ea eb ec ed e0 e1 e2 e3 =
+    rw (← e0, ← e1, ← e2, ← e3) (columns_sum_alone a b c d _ _ _ _ ea eb ec ed)
 
 -- a list of sixteen
 pub sixteen : (l : List ℕ) → length l ≡ 16 → l ≡ get_or l 0 0 ∷ get_or l 1 0 ∷ get_or l 2 0 ∷ get_or l 3 0 ∷ get_or l 4 0 ∷ get_or l 5 0 ∷ get_or l 6 0 ∷ get_or l 7 0

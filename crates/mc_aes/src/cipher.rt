@@ -7,14 +7,22 @@ ghost use Rattle.mc_aes.specs.State.{state_bytes};
 use crate::rounds::{last_round, last_round_back, round, round_back};
 use crate::state::{State, add};
 
+// The rounds stand one behind the other and in their callers: a loop would put words of the state into memory.
+#[inline(always)]
 pub fn encipher_with(keys: &[State; 11], block: State) -> State
     ensures { state_bytes result ≡ enciphered (map state_bytes keys.now) (state_bytes block) }
 {
-    let mut state = add(block, keys[0]);
-    for i in 1..10 {
-        state = round(state, keys[i]);
-    }
-    last_round(state, keys[10])
+    let s0 = add(block, keys[0]);
+    let s1 = round(s0, keys[1]);
+    let s2 = round(s1, keys[2]);
+    let s3 = round(s2, keys[3]);
+    let s4 = round(s3, keys[4]);
+    let s5 = round(s4, keys[5]);
+    let s6 = round(s5, keys[6]);
+    let s7 = round(s6, keys[7]);
+    let s8 = round(s7, keys[8]);
+    let s9 = round(s8, keys[9]);
+    last_round(s9, keys[10])
 }
 
 pub fn decipher_with(keys: &[State; 11], block: State) -> State

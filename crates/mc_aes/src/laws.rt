@@ -6,6 +6,8 @@ ghost use Rattle.mc_model.specs.Aes.{aes_encipher, aes_decipher};
 
 /// Deciphering an enciphered block gives the block back, and the other way round.
 pub fn gives_back()
-    ensures deciphered { (key block : List ℕ) → IsBlock 16 key → IsBlock 16 block → aes_decipher key (aes_encipher key block) ≡ block }
-    ensures enciphered { (key block : List ℕ) → IsBlock 16 key → IsBlock 16 block → aes_encipher key (aes_decipher key block) ≡ block }
+    ensures deciphered { (key block : List ℕ) → IsBlock 16 key → IsBlock 16 block
+        → aes_decipher key (aes_encipher key block) ≡ block }
+    ensures enciphered { (key block : List ℕ) → IsBlock 16 key → IsBlock 16 block
+        → aes_encipher key (aes_decipher key block) ≡ block }
 {}

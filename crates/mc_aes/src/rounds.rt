@@ -5,19 +5,18 @@ ghost use Rattle.mc_model.specs.Modes.{added};
 ghost use Rattle.mc_model.specs.Aes.{mul, sub, sub_back, times_matrix, round, last_round, round_back, last_round_back, mix_columns_back, shift_rows_back};
 ghost use Rattle.mc_aes.specs.State.{word, state_bytes, substitutes_of, bytes_back_of};
 
-use crate::state::{State, add, byte0, byte1, byte2, byte3};
-use crate::tables::{column, column_back, substitute, substitute_back};
+use crate::state::{State, add, byte0, byte1, byte2, byte3, joined};
+use crate::tables::{
+    column_back0, column_back1, column_back2, column_back3, column0, column1, column2, column3,
+    substitute, substitute_back,
+};
 
 // A column of the next state: the substitutes of one byte of each word, through the column step, and the key's word.
 #[inline]
 fn round_column(row0: u32, row1: u32, row2: u32, row3: u32, key: u32) -> u32
     ensures { word result ≡ added (times_matrix 2 3 1 1 (substitutes_of row0 row1 row2 row3)) (word key) }
 {
-    column(byte0(row0))
-        ^ column(byte1(row1)).rotate_right(8)
-        ^ column(byte2(row2)).rotate_right(16)
-        ^ column(byte3(row3)).rotate_right(24)
-        ^ key
+    column0(byte0(row0)) ^ column1(byte1(row1)) ^ column2(byte2(row2)) ^ column3(byte3(row3)) ^ key
 }
 
 #[inline]
@@ -37,12 +36,13 @@ pub fn round(s: State, key: State) -> State
 fn last_column(row0: u32, row1: u32, row2: u32, row3: u32, key: u32) -> u32
     ensures { word result ≡ added (substitutes_of row0 row1 row2 row3) (word key) }
 {
-    u32::from_be_bytes([
+    let substitutes = joined(
         substitute(byte0(row0)),
         substitute(byte1(row1)),
         substitute(byte2(row2)),
         substitute(byte3(row3)),
-    ]) ^ key
+    );
+    substitutes ^ key
 }
 
 #[inline]
@@ -62,10 +62,10 @@ pub fn last_round(s: State, key: State) -> State
 fn mixed_back(w: u32) -> u32
     ensures { word result ≡ times_matrix 14 11 13 9 (word w) }
 {
-    column_back(byte0(w))
-        ^ column_back(byte1(w)).rotate_right(8)
-        ^ column_back(byte2(w)).rotate_right(16)
-        ^ column_back(byte3(w)).rotate_right(24)
+    column_back0(byte0(w))
+        ^ column_back1(byte1(w))
+        ^ column_back2(byte2(w))
+        ^ column_back3(byte3(w))
 }
 
 // The bytes of which a column's substitutes were made.
@@ -73,12 +73,12 @@ fn mixed_back(w: u32) -> u32
 fn bytes_back(row0: u32, row1: u32, row2: u32, row3: u32) -> u32
     ensures { word result ≡ bytes_back_of row0 row1 row2 row3 }
 {
-    u32::from_be_bytes([
+    joined(
         substitute_back(byte0(row0)),
         substitute_back(byte1(row1)),
         substitute_back(byte2(row2)),
         substitute_back(byte3(row3)),
-    ])
+    )
 }
 
 #[inline]

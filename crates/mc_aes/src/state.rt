@@ -1,8 +1,8 @@
 // The state: four columns of four bytes, each in a word, the byte of row 0 highest.
 
-ghost use Rattle.std.specs.Prelude.{◌≡◌, length, ◌/◌, ◌%◌, ◌^◌};
+ghost use Rattle.std.specs.Prelude.{◌≡◌, [], ◌∷◌, length, ◌/◌, ◌%◌, ◌^◌};
 ghost use Rattle.mc_model.specs.Modes.{added};
-ghost use Rattle.mc_aes.specs.State.{state_bytes};
+ghost use Rattle.mc_aes.specs.State.{word, state_bytes};
 
 #[derive(Clone, Copy)]
 pub struct State {
@@ -76,4 +76,12 @@ pub fn byte3(w: u32) -> u8
     ensures { result ≡ w % 256 }
 {
     (w & 0xFF) as u8
+}
+
+// And a word from them.
+#[inline]
+pub fn joined(row0: u8, row1: u8, row2: u8, row3: u8) -> u32
+    ensures { word result ≡ row0 ∷ row1 ∷ row2 ∷ row3 ∷ [] }
+{
+    (row0 as u32) << 24 ^ (row1 as u32) << 16 ^ (row2 as u32) << 8 ^ row3 as u32
 }

@@ -1,4 +1,4 @@
--- Words as lists of bits and of bytes, and a block through the rounds.
+-- Words as lists of bits and of bytes, and a permuted block through the rounds.
 use Rattle.std.proofs.Common.{◌≡◌, ℕ, zero, suc, ◌+◌, ◌-◌, ◌*◌, ◌/◌, ◌%◌, ◌^◌, ◌<◌, ◌≤◌, List, [], ◌∷◌, ◌++◌, length, get_or, take, drop, map, refl, sym, ap, ◌∙◌, arith, add-one, drop-cons}
 use Rattle.std.specs.Prelude.{bit_or, bit_and}
 use Rattle.std.specs.Int.{w64, to_be_bytes}
@@ -9,7 +9,7 @@ use Rattle.std.proofs.lemmas.Nat.Bits.{bit_at_cat_low}
 use Rattle.std.proofs.lemmas.List.{take_at, drop_at, drop_all, get_or-map, length-map}
 use Rattle.mc_model.specs.Modes.{added}
 use Rattle.mc_model.specs.Des.{bits, number, bits_of, bytes_of, pick, rounds, f, with_keys, ciphered, initial, final}
-use Rattle.mc_des.specs.Words.{key_bits}
+use Rattle.mc_des.specs.Words.{key_bits, passed}
 use Rattle.mc_des.proofs.BitsLemmas.{bits-xor, bits-cat, length-bits}
 use Rattle.mc_des.proofs.CipherFunction.{or_parts}
 
@@ -127,16 +127,20 @@ pub with_keys-open : (ks : List (List ℕ)) (block : List ℕ) → let halves = 
 unfolding with_keys
 with_keys-open ks block = refl
 
+pub passed-open : (ks : List (List ℕ)) (block : List ℕ) → let halves = rounds ks (take 32 block) (drop 32 block) in passed ks block ≡ halves.1 ++ halves.0
+unfolding passed
+passed-open ks block = refl
+
 pub ciphered-open : (ks : List (List ℕ)) (block : List ℕ) → ciphered ks block ≡ bytes_of 8 (with_keys ks (bits_of block))
 unfolding ciphered
 ciphered-open ks block = refl
 
 module _ (keys : List ℕ) where
-  pub rounds_init : (start left right : ℕ) (block : List ℕ) → bits 64 start ≡ pick initial block → left ≡ start / 2 ^ 32 → right ≡ bit_and start (2 ^ 32 - 1)
-      → rounds (drop 0 (map key_bits keys)) (bits 32 left) (bits 32 right) ≡ rounds (map key_bits keys) (take 32 (pick initial block)) (drop 32 (pick initial block))
-  rounds_init start left right block e el er =
-      ap (λ (x : List ℕ). rounds (map key_bits keys) x (bits 32 right)) (ap (bits 32) el ∙ high_half start ∙ ap (take 32) e)
-      ∙ ap (rounds (map key_bits keys) (take 32 (pick initial block))) (ap (bits 32) er ∙ low_half start ∙ ap (drop 32) e)
+  pub rounds_init : (block left right : ℕ) → left ≡ block / 2 ^ 32 → right ≡ bit_and block (2 ^ 32 - 1)
+      → rounds (drop (2 * 0) (map key_bits keys)) (bits 32 left) (bits 32 right) ≡ rounds (map key_bits keys) (take 32 (bits 64 block)) (drop 32 (bits 64 block))
+  rounds_init block left right el er =
+      ap (λ (x : List ℕ). rounds (map key_bits keys) x (bits 32 right)) (ap (bits 32) el ∙ high_half block)
+      ∙ ap (rounds (map key_bits keys) (take 32 (bits 64 block))) (ap (bits 32) er ∙ low_half block)
 
   pub rounds_step : (i left right value : ℕ) (e : List ℕ × List ℕ) → i < length keys → rounds (drop i (map key_bits keys)) (bits 32 left) (bits 32 right) ≡ e
       → bits 32 value ≡ f (bits 32 right) (key_bits (get_or keys i 0))
@@ -150,17 +154,23 @@ module _ (keys : List ℕ) where
       ∙ sym (rounds-cons (get_or ks i []) (drop (suc i) ks) (bits 32 left) (bits 32 right))
       ∙ ap (λ (l : List (List ℕ)). rounds l (bits 32 left) (bits 32 right)) (sym (drop-cons ks i [] (omega arith))) ∙ same
 
-  pub rounds_end : (i left right result word block : ℕ) (e : List ℕ × List ℕ) → length keys ≤ i
-      → e ≡ rounds (map key_bits keys) (take 32 (pick initial (bits 64 block))) (drop 32 (pick initial (bits 64 block)))
-      → rounds (drop i (map key_bits keys)) (bits 32 left) (bits 32 right) ≡ e
-      → left < 2 ^ 32 → right < 2 ^ 32 → word ≡ bit_or (right * 2 ^ 32 % 2 ^ 64) left → bits 64 result ≡ pick final (bits 64 word)
-      → to_be_bytes w64 result ≡ ciphered (map key_bits keys) (to_be_bytes w64 block)
-  rounds_end i left right result word block e h whole same hl hr ew er =
+  -- two rounds, behind which each half is in its place again
+  pub rounds_twice : (i left right v w : ℕ) (e : List ℕ × List ℕ) → 2 * i + 1 < length keys → rounds (drop (2 * i) (map key_bits keys)) (bits 32 left) (bits 32 right) ≡ e
+      → bits 32 v ≡ f (bits 32 right) (key_bits (get_or keys (2 * i) 0))
+      → bits 32 w ≡ f (bits 32 (bit_xor left v)) (key_bits (get_or keys (2 * i + 1) 0))
+      → rounds (drop (2 * (i + 1)) (map key_bits keys)) (bits 32 (bit_xor left v)) (bits 32 (bit_xor right w)) ≡ e
+  rounds_twice i left right v w e h same ev ew =
+      let place : 2 * (i + 1) ≡ 2 * i + 1 + 1 = omega arith in
+      ap (λ (k : ℕ). rounds (drop k (map key_bits keys)) (bits 32 (bit_xor left v)) (bits 32 (bit_xor right w))) place
+      ∙ rounds_step (2 * i + 1) right (bit_xor left v) w e h (rounds_step (2 * i) left right v e (omega arith) same ev) ew
+
+  pub rounds_end : (i left right result block : ℕ) → length keys ≤ 2 * i
+      → rounds (drop (2 * i) (map key_bits keys)) (bits 32 left) (bits 32 right) ≡ rounds (map key_bits keys) (take 32 (bits 64 block)) (drop 32 (bits 64 block))
+      → left < 2 ^ 32 → right < 2 ^ 32 → result ≡ bit_or (right * 2 ^ 32 % 2 ^ 64) left
+      → bits 64 result ≡ passed (map key_bits keys) (bits 64 block)
+  rounds_end i left right result block h same hl hr er =
       let ks : List (List ℕ) = map key_bits keys in
       let count : length ks ≡ length keys = length-map keys key_bits in
-      let ended : (bits 32 left, bits 32 right) ≡ e =
-      sym (rounds-none (bits 32 left) (bits 32 right)) ∙ ap (λ (l : List (List ℕ)). rounds l (bits 32 left) (bits 32 right)) (sym (drop_all i ks (omega arith))) ∙ same in
-      let joined : bits 64 word ≡ bits 32 right ++ bits 32 left = ap (bits 64) ew ∙ both_halves right left hr hl in
-      let result_bits : bits 64 result ≡ with_keys ks (bits 64 block) =
-      er ∙ ap (pick final) (joined ∙ ap (λ (p : List ℕ × List ℕ). p.1 ++ p.0) (ended ∙ whole)) ∙ sym (with_keys-open ks (bits 64 block)) in
-      sym (bytes_of-bits result) ∙ ap (bytes_of 8) (result_bits ∙ ap (with_keys ks) (sym (bits_of-bytes block))) ∙ sym (ciphered-open ks (to_be_bytes w64 block))
+      let ended : (bits 32 left, bits 32 right) ≡ rounds ks (take 32 (bits 64 block)) (drop 32 (bits 64 block)) =
+      sym (rounds-none (bits 32 left) (bits 32 right)) ∙ ap (λ (l : List (List ℕ)). rounds l (bits 32 left) (bits 32 right)) (sym (drop_all (2 * i) ks (omega arith))) ∙ same in
+      ap (bits 64) er ∙ both_halves right left hr hl ∙ ap (λ (p : List ℕ × List ℕ). p.1 ++ p.0) ended ∙ sym (passed-open ks (bits 64 block))

@@ -19,12 +19,12 @@ record IsBits (n : ℕ) (l : List ℕ) : Type 0 where
   pub size : length l ≡ n
   pub low : AllBelow 2 l
 
-bits-low : (n v : ℕ) → AllBelow 2 (bits n v)
+pub bits-low : (n v : ℕ) → AllBelow 2 (bits n v)
 unfolding bits
 bits-low zero v = tt
 bits-low (suc n) v = (omega arith, bits-low n v)
 
-pick-low : (ts l : List ℕ) → AllBelow 2 l → AllBelow 2 (pick ts l)
+pub pick-low : (ts l : List ℕ) → AllBelow 2 l → AllBelow 2 (pick ts l)
 unfolding pick
 pick-low [] l a = tt
 pick-low (t ∷ ts) l a = (AllBelow-at 2 l (t - 1) (omega arith) a, pick-low ts l a)
@@ -102,7 +102,7 @@ bits_of-none : bits_of [] ≡ []
 unfolding bits_of
 bits_of-none = refl
 
-bits_of-bytes_of : (n : ℕ) (l : List ℕ) → length l ≡ 8 * n → AllBelow 2 l → bits_of (bytes_of n l) ≡ l
+pub bits_of-bytes_of : (n : ℕ) (l : List ℕ) → length l ≡ 8 * n → AllBelow 2 l → bits_of (bytes_of n l) ≡ l
 bits_of-bytes_of zero l h a = ap bits_of (bytes_of-none l) ∙ bits_of-none ∙ sym (empty l h)
 bits_of-bytes_of (suc n) l h a =
     let size : length (take 8 l) ≡ 8 = simp length-take (omega arith) in
@@ -141,10 +141,10 @@ initial-final-open : (l : List ℕ) → pick initial (pick final l) ≡ listed_f
 unfolding pick initial final listed_from
 initial-final-open l = refl
 
-final-initial : (l : List ℕ) → length l ≡ 64 → pick final (pick initial l) ≡ l
+pub final-initial : (l : List ℕ) → length l ≡ 64 → pick final (pick initial l) ≡ l
 final-initial l h = final-initial-open l ∙ sym (listed 64 l h)
 
-initial-final : (l : List ℕ) → length l ≡ 64 → pick initial (pick final l) ≡ l
+pub initial-final : (l : List ℕ) → length l ≡ 64 → pick initial (pick final l) ≡ l
 initial-final l h = initial-final-open l ∙ sym (listed 64 l h)
 
 -- ---- the rounds
@@ -182,7 +182,7 @@ length-initial : length initial ≡ 64
 unfolding initial
 length-initial = refl
 
-length-final : length final ≡ 64
+pub length-final : length final ≡ 64
 unfolding final
 length-final = refl
 

@@ -5,3 +5,4 @@ pub mod BlockLemmas
 pub mod ScheduleLemmas
 pub mod DesLemmas
 pub mod LawsLemmas
+pub mod PassLemmas

@@ -1,7 +1,7 @@
 -- How words of the code stand for lists of bits.
-use Rattle.std.specs.Prelude.{ℕ, ◌-◌, ◌*◌, ◌/◌, ◌^◌, List, [], ◌++◌, slice_index_or}
+use Rattle.std.specs.Prelude.{ℕ, ◌-◌, ◌*◌, ◌/◌, ◌^◌, List, [], ◌++◌, take, drop, slice_index_or}
 use Rattle.mc_model.specs.Bytes.{zeros}
-use Rattle.mc_model.specs.Des.{bits, box_at, boxes}
+use Rattle.mc_model.specs.Des.{bits, box_at, boxes, rounds}
 
 -- four bits alone at a place of n fours, and zeros at the others
 abbrev pub alone : ℕ → ℕ → ℕ → List ℕ
@@ -16,3 +16,8 @@ key_bits w =
 -- what a box gives for six bits, alone at its place of eight fours
 abbrev pub box_alone : ℕ → ℕ → List ℕ
 box_alone number six = zeros (4 * number) ++ (box_at (slice_index_or boxes number []) (bits 6 six) ++ zeros (4 * (7 - number)))
+
+-- the rounds of a permuted block of 64 bits, with its halves exchanged behind them
+unfoldable pub passed : List (List ℕ) → List ℕ → List ℕ
+unfolding rounds
+passed ks block = let halves = rounds ks (take 32 block) (drop 32 block) in halves.1 ++ halves.0

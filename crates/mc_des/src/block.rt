@@ -5,7 +5,8 @@ ghost use Rattle.std.specs.Int.{w64, to_be_bytes};
 ghost use Rattle.mc_model.specs.Des.{ciphered};
 ghost use Rattle.mc_des.specs.Words.{key_bits};
 
-use crate::rounds::with_keys;
+use crate::permute::{final_bits, initial};
+use crate::rounds::passed;
 
 pub fn word(bytes: &[u8]) -> u64
     requires { length bytes.now ≡ 8 }
@@ -23,9 +24,12 @@ pub fn reversed(mut keys: [u64; 16]) -> [u64; 16]
     keys
 }
 
-// A block through three ciphers, of which the first and the third have the same keys.
+// A block through three ciphers, of which the first and the third have the same keys. Between two of them the final
+// permutation of the one and the initial one of the next undo each other.
 pub fn thrice(outer: &[u64; 16], inner: &[u64; 16], block: u64) -> u64
-    ensures { to_be_bytes w64 result ≡ ciphered (map key_bits outer.now) (ciphered (map key_bits inner.now) (ciphered (map key_bits outer.now) (to_be_bytes w64 block))) }
+    ensures { to_be_bytes w64 result ≡ ciphered (map key_bits outer.now)
+        (ciphered (map key_bits inner.now) (ciphered (map key_bits outer.now) (to_be_bytes w64 block))) }
 {
-    with_keys(outer, with_keys(inner, with_keys(outer, block)))
+    let start = initial(block);
+    final_bits(passed(outer, passed(inner, passed(outer, start))))
 }

@@ -17,5 +17,6 @@ pub fn tdes_gives_back()
 
 /// A triple DES key of two equal halves is single DES.
 pub fn tdes_of_equal_halves()
-    ensures { (half block : List ℕ) → length half ≡ 8 → IsBlock 8 block → tdes_encipher (half ++ half) block ≡ des_encipher half block }
+    ensures { (half block : List ℕ) → length half ≡ 8 → IsBlock 8 block
+        → tdes_encipher (half ++ half) block ≡ des_encipher half block }
 {}

@@ -3,7 +3,7 @@
 ghost use Rattle.std.specs.Prelude.{◌≡◌, ◌/◌, ◌%◌, ◌^◌, ◌<◌, map};
 ghost use Rattle.std.specs.Int.{w64, to_be_bytes};
 ghost use Rattle.mc_model.specs.Des.{bits, f, ciphered};
-ghost use Rattle.mc_des.specs.Words.{key_bits};
+ghost use Rattle.mc_des.specs.Words.{key_bits, passed};
 
 use crate::box_table::boxed;
 use crate::permute::{final_bits, initial};
@@ -35,16 +35,22 @@ fn f(right: u32, key: u64) -> u32
         ^ boxed(7, six_above(even, 8))
 }
 
+// The sixteen rounds of a permuted block, whose halves stand exchanged behind them. They go two at a time, so that no
+// half has to change its place.
+pub fn passed(keys: &[u64; 16], block: u64) -> u64
+    ensures { bits 64 result ≡ passed (map key_bits keys.now) (bits 64 block) }
+{
+    let mut left = (block >> 32) as u32;
+    let mut right = (block & 0xFFFF_FFFF) as u32;
+    for i in 0..8 {
+        left ^= f(right, keys[2 * i]);
+        right ^= f(left, keys[2 * i + 1]);
+    }
+    (right as u64) << 32 | left as u64
+}
+
 pub fn with_keys(keys: &[u64; 16], block: u64) -> u64
     ensures { to_be_bytes w64 result ≡ ciphered (map key_bits keys.now) (to_be_bytes w64 block) }
 {
-    let start = initial(block);
-    let mut left = (start >> 32) as u32;
-    let mut right = (start & 0xFFFF_FFFF) as u32;
-    for key in keys {
-        let next = left ^ f(right, *key);
-        left = right;
-        right = next;
-    }
-    final_bits((right as u64) << 32 | left as u64)
+    final_bits(passed(keys, initial(block)))
 }

@@ -33,6 +33,8 @@ pub fn substitution_table()
 
 /// FIPS 81: the last block of the printed example of CBC. Triple DES with two equal halves gives the same.
 pub fn last_block_of_cbc()
-    ensures single { des_signature (bytes 8 0x0123456789ABCDEF) (bytes 8 0x1234567890ABCDEF) (codes "Now is the time for all ") ≡ bytes 8 0x683788499A7C05F6 }
-    ensures triple { tdes_signature (bytes 16 0x0123456789ABCDEF0123456789ABCDEF) (bytes 8 0x1234567890ABCDEF) (codes "Now is the time for all ") ≡ bytes 8 0x683788499A7C05F6 }
+    ensures single { des_signature (bytes 8 0x0123456789ABCDEF) (bytes 8 0x1234567890ABCDEF)
+        (codes "Now is the time for all ") ≡ bytes 8 0x683788499A7C05F6 }
+    ensures triple { tdes_signature (bytes 16 0x0123456789ABCDEF0123456789ABCDEF) (bytes 8 0x1234567890ABCDEF)
+        (codes "Now is the time for all ") ≡ bytes 8 0x683788499A7C05F6 }
 {}

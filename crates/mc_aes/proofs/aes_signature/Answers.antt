@@ -1,4 +1,3 @@
-use Rattle.std.proofs.Common.{arith}
 use Rattle.mc_aes.proofs.AesLemmas.{signature_init, signature_step, signature_end}
 use Rattle.mc_aes.proofs.aes_signature.Goals as goal
 

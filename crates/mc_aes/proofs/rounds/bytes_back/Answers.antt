@@ -1,6 +1,5 @@
 use Rattle.std.proofs.Common.{◌≡◌, ap, ◌∙◌}
 use Rattle.mc_model.specs.Aes.{sub_back}
-use Rattle.mc_aes.proofs.StateLemmas.{word-from}
 use Rattle.mc_aes.proofs.rounds.bytes_back.Goals as goal
 
 pub returns : goal.returns
@@ -9,5 +8,4 @@ returns c =
     let e1 : c.substitute_back-2.result ≡ sub_back _ = c.substitute_back-2.ensures ∙ ap sub_back c.byte1.ensures in
     let e2 : c.substitute_back-3.result ≡ sub_back _ = c.substitute_back-3.ensures ∙ ap sub_back c.byte2.ensures in
     let e3 : c.substitute_back-4.result ≡ sub_back _ = c.substitute_back-4.ensures ∙ ap sub_back c.byte3.ensures in
-    rw (← e0, ← e1, ← e2, ← e3)
-    (word-from _ _ _ _ _ c.substitute_back.type_inv c.substitute_back-2.type_inv c.substitute_back-3.type_inv c.substitute_back-4.type_inv c.from_be_bytes.ensures)
+    rw (← e0, ← e1, ← e2, ← e3) c.joined.ensures

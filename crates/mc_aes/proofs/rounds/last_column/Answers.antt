@@ -1,6 +1,6 @@
-use Rattle.std.proofs.Common.{◌≡◌, ap, arith, ◌∙◌}
+use Rattle.std.proofs.Common.{◌≡◌, ap, ◌∙◌}
 use Rattle.mc_model.specs.Aes.{sub}
-use Rattle.mc_aes.proofs.StateLemmas.{word-from-added}
+use Rattle.mc_aes.proofs.StateLemmas.{word-xor-of}
 use Rattle.mc_aes.proofs.rounds.last_column.Goals as goal
 
 pub returns : goal.returns
@@ -9,5 +9,4 @@ returns c =
     let e1 : c.substitute-2.result ≡ sub _ = c.substitute-2.ensures ∙ ap sub c.byte1.ensures in
     let e2 : c.substitute-3.result ≡ sub _ = c.substitute-3.ensures ∙ ap sub c.byte2.ensures in
     let e3 : c.substitute-4.result ≡ sub _ = c.substitute-4.ensures ∙ ap sub c.byte3.ensures in
-    rw (← e0, ← e1, ← e2, ← e3)
-    (word-from-added c.from_be_bytes.result c.args.key _ _ _ _ c.substitute.type_inv c.substitute-2.type_inv c.substitute-3.type_inv c.substitute-4.type_inv c.from_be_bytes.ensures)
+    rw (← e0, ← e1, ← e2, ← e3) (word-xor-of c.joined-substitutes.result c.args.key _ c.joined-substitutes.ensures)

@@ -1,4 +1,3 @@
-use Rattle.std.proofs.Common.{arith}
 use Rattle.mc_aes.specs.State.{word}
 use Rattle.mc_aes.proofs.StateLemmas.{matrix_column_alone}
 use Rattle.mc_aes.proofs.rounds.mixed_back.Goals as goal
@@ -6,7 +5,6 @@ use Rattle.mc_aes.proofs.rounds.mixed_back.Goals as goal
 pub returns : goal.returns
 unfolding word
 returns c =
-    matrix_column_alone 14 11 13 9 _ _ _ _ _ _ _ _ _ _ _ _ _ _ _ (omega arith) (omega arith) (omega arith)
-    c.column_back.ensures c.column_back-2.ensures c.column_back-3.ensures c.column_back-4.ensures
-    c.rotate_right.ensures c.rotate_right-2.ensures c.rotate_right-3.ensures
+    matrix_column_alone 14 11 13 9 _ _ _ _ _ _ _ _ _ _ _ _
+    c.column_back0.ensures c.column_back1.ensures c.column_back2.ensures c.column_back3.ensures
     c.byte0.ensures c.byte1.ensures c.byte2.ensures c.byte3.ensures

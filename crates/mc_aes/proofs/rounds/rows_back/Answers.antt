@@ -1,4 +1,3 @@
-use Rattle.mc_aes.specs.declared.state.State.{State}
 use Rattle.mc_aes.proofs.RoundsLemmas.{rows_back_is}
 use Rattle.mc_aes.proofs.rounds.rows_back.Goals as goal
 

@@ -1,6 +1,0 @@
-use Rattle.std.proofs.Common.{arith}
-use Rattle.mc_aes.proofs.TablesLemmas.{columns_back_at}
-use Rattle.mc_aes.proofs.tables.column_back.Goals as goal
-
-pub returns : goal.returns
-returns c = columns_back_at c.args.byte (omega arith)

@@ -1,0 +1,6 @@
+use Rattle.std.proofs.Common.{arith}
+use Rattle.mc_aes.proofs.TablesLemmas.{columns_back1_at}
+use Rattle.mc_aes.proofs.tables.column_back1.Goals as goal
+
+pub returns : goal.returns
+returns c = columns_back1_at c.args.byte (omega arith)
