@@ -16,6 +16,7 @@ use Rattle.mc_manager.specs.Due.{most_ticks}
 use Rattle.mc_machine.specs.declared.outcome.Outcome.{Outcome}
 use Rattle.mc_machine.specs.Chains.{Chained, Runs, Wrote}
 use Rattle.mc_machine.specs.Turns.{outcome_value}
+use Rattle.mc_machine.specs.Lone.{RanDone}
 use Rattle.mc_store.specs.declared.store.Store.{Store}
 use Rattle.mc_store.specs.Store.{apps_in, store_state, store_named}
 use Rattle.mc_store.specs.Did.{store_did}
@@ -88,6 +89,17 @@ module _ {N : Type 0} (state : N → DeviceState) (wrote : N → ℕ → List �
     pub outcome : IfOk result (λ o. outcome_value o ≡ r.outcome)
     pub session : OnOk result (bytes ≡ r.session)
     pub going : OnOk result ((bank_state e).stopped ≡ false)
+
+  -- a run by its result did so
+  pub run-did : (c : Card N) (r : Ran) (result : Result Outcome Stop) (e : Store N) (bytes : List ℕ) (old new : ℕ) → RanDone did bank_state c.store e c.session bytes old new r result → RunDid c r result e bytes
+  run-did c r (Ok o) e bytes old new h = record { writes = h.writes; outcome = h.outcome; session = h.session; going = h.going }
+  run-did c r (Err s) e bytes old new h = record { writes = h.writes; outcome = tt; session = tt; going = tt }
+
+  -- and it counted its steps
+  pub run-counted : (c : Card N) (r : Ran) (result : Result Outcome Stop) (e : Store N) (bytes : List ℕ) (old new : ℕ) → RanDone did bank_state c.store e c.session bytes old new r result
+      → OnOk result (new ≡ old + r.count) × OnErr result (new ≤ old + r.count)
+  run-counted c r (Ok o) e bytes old new h = (h.count, tt)
+  run-counted c r (Err s) e bytes old new h = (tt, h.count)
 
   -- the run of the application of a slot
   abbrev pub run_of : Card N → ℕ → ApduParts → ℕ → Ran

@@ -6,6 +6,7 @@ use Rattle.mc_model.specs.Device.{DeviceState}
 use Rattle.mc_model.specs.Apdu.{ApduParts}
 use Rattle.mc_model.specs.Manager.{ToApplication, routed}
 use Rattle.mc_model.specs.Play.{by_route}
+use Rattle.mc_apdu.specs.declared.reply.Reply.{Reply}
 use Rattle.mc_machine.specs.declared.outcome.Outcome.{Outcome}
 use Rattle.mc_machine.specs.declared.outcome.Outcome.TheVariants as outcome
 use Rattle.mc_manager.specs.declared.selection.Selection.{Selection}
@@ -29,8 +30,8 @@ module _ {N : Type 0} (state : N → DeviceState) (wrote : N → ℕ → List �
     pub slot_is : selected.slot ≡ slot
     pub unchanged : d ≡ c
 
-  -- a command, by what the manager makes of it
-  abbrev pub Directs : Card N → ApduParts → Result Directed Stop → Card N → Type 0
-  Directs c a (Ok (Answered r)) d = IsAnswered c a (Ok (outcome.Reply r)) d
-  Directs c a (Ok (Passed slot)) d = IsPassed c a slot d
-  Directs c a (Err s) d = IsAnswered c a (Err s) d
+  -- a command, by what the manager makes of it, and the reply that stands beside it
+  abbrev pub Directs : Card N → ApduParts → Result Directed Stop → Reply → Card N → Type 0
+  Directs c a (Ok Answered) r d = IsAnswered c a (Ok (outcome.Reply r)) d
+  Directs c a (Ok (Passed slot)) r d = IsPassed c a slot d
+  Directs c a (Err s) r d = IsAnswered c a (Err s) d

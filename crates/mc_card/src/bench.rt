@@ -19,7 +19,8 @@ impl<N: Bench> Card<N> {
     /// Turns the power of the device on. A card that ran is good for `restart` alone.
     pub fn power(&mut self)
         ensures state { N.state (device_in self.new) ≡ record (N.state (device_in self.old)) { on = true } }
-        ensures bench { N.bench (device_in self.new) ≡ record (N.bench (device_in self.old)) { powers = next_count (N.bench (device_in self.old)).powers } }
+        ensures bench { N.bench (device_in self.new)
+            ≡ record (N.bench (device_in self.old)) { powers = next_count (N.bench (device_in self.old)).powers } }
         ensures lent { N.same (device_in self.old) (device_in self.new) }
     {
         self.store.device_mut().power();
@@ -28,8 +29,10 @@ impl<N: Bench> Card<N> {
     /// Sets a word of the device. A card that ran is good for `restart` alone.
     pub fn poke(&mut self, at: u32, word: Word)
         requires { at < length (N.state (device_in self.old)).words }
-        ensures state { N.state (device_in self.new) ≡ record (N.state (device_in self.old)) { words = slice_set (N.state (device_in self.old)).words at word } }
-        ensures bench { N.bench (device_in self.new) ≡ record (N.bench (device_in self.old)) { pokes = next_count (N.bench (device_in self.old)).pokes } }
+        ensures state { N.state (device_in self.new)
+            ≡ record (N.state (device_in self.old)) { words = slice_set (N.state (device_in self.old)).words at word } }
+        ensures bench { N.bench (device_in self.new)
+            ≡ record (N.bench (device_in self.old)) { pokes = next_count (N.bench (device_in self.old)).pokes } }
         ensures lent { N.same (device_in self.old) (device_in self.new) }
     {
         self.store.device_mut().poke(at, word);
@@ -39,7 +42,11 @@ impl<N: Bench> Card<N> {
     pub fn arm(&mut self, k: u32, fill: Word)
         requires { 1 ≤ k }
         ensures state { N.state (device_in self.new) ≡ N.state (device_in self.old) }
-        ensures bench { N.bench (device_in self.new) ≡ record (N.bench (device_in self.old)) { cut = Some (record { writes = k; fill = fill }); arms = next_count (N.bench (device_in self.old)).arms } }
+        ensures bench { N.bench (device_in self.new)
+            ≡ record (N.bench (device_in self.old)) {
+              cut = Some (record { writes = k; fill = fill });
+              arms = next_count (N.bench (device_in self.old)).arms;
+            } }
         ensures rest { self.new ≡ with_device self.old (device_in self.new) }
         ensures lent { N.same (device_in self.old) (device_in self.new) }
     {
@@ -51,7 +58,11 @@ impl<N: Bench> Card<N> {
     pub fn wear(&mut self, k: u32, fill: Word)
         requires { 1 ≤ k }
         ensures state { N.state (device_in self.new) ≡ N.state (device_in self.old) }
-        ensures bench { N.bench (device_in self.new) ≡ record (N.bench (device_in self.old)) { worn = Some (record { writes = k; fill = fill }); wears = next_count (N.bench (device_in self.old)).wears } }
+        ensures bench { N.bench (device_in self.new)
+            ≡ record (N.bench (device_in self.old)) {
+              worn = Some (record { writes = k; fill = fill });
+              wears = next_count (N.bench (device_in self.old)).wears;
+            } }
         ensures rest { self.new ≡ with_device self.old (device_in self.new) }
         ensures lent { N.same (device_in self.old) (device_in self.new) }
     {
@@ -61,7 +72,8 @@ impl<N: Bench> Card<N> {
     /// Takes both fuses away.
     pub fn disarm(&mut self)
         ensures state { N.state (device_in self.new) ≡ N.state (device_in self.old) }
-        ensures bench { N.bench (device_in self.new) ≡ record (N.bench (device_in self.old)) { cut = None; worn = None } }
+        ensures bench { N.bench (device_in self.new)
+            ≡ record (N.bench (device_in self.old)) { cut = None; worn = None } }
         ensures rest { self.new ≡ with_device self.old (device_in self.new) }
         ensures lent { N.same (device_in self.old) (device_in self.new) }
     {

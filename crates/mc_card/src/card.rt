@@ -7,20 +7,21 @@ ghost use Rattle.mc_model.specs.Manager.{empty_seat, route};
 ghost use Rattle.mc_model.specs.Code.{Shaped};
 ghost use Rattle.mc_model.specs.Play.{status};
 ghost use Rattle.mc_bank.specs.Bank.{app_of};
-ghost use Rattle.mc_machine.specs.Turns.{outcome_value};
+ghost use Rattle.mc_machine.specs.declared.outcome.Outcome.TheVariants as outcome;
+ghost use Rattle.mc_machine.specs.Turns.{outcome_value, put_out, placed};
 ghost use Rattle.mc_store.specs.Power.{power_writes, power_answer, PowersUp};
 ghost use Rattle.mc_card.specs.Parts.{device_in, card_in, seat_in, due, IsUp, IsReady, RunsChain, IsRunning};
-ghost use Rattle.mc_card.specs.Ends.{powered, restarted, device_after, Commanded, Begun, Turned, RouteSteps, BeginSteps};
+ghost use Rattle.mc_card.specs.Ends.{powered, restarted, device_after, Commanded, Begun, Turned, RouteSteps, BeginSteps, IsReply, put_in};
 
 use crate::managing::Directed;
 use arrayvec::ArrayVec;
 use mc_apdu::{Reply, parse};
 use mc_bank::Bank;
 use mc_base::{Aid, Steps, Stop};
-use mc_machine::{Chain, Outcome, Turn, begin, run, turn};
+use mc_machine::{Chain, End, Outcome, Turn, begin, run_into, turn};
 use mc_manager::Manager;
 use mc_nvm::Nvm;
-use mc_segs::Session;
+use mc_segs::{Abend, Session};
 use mc_store::{Store, Up};
 use std::sync::ledger::Ledger;
 
@@ -40,7 +41,8 @@ impl<N: Nvm> Card<N> {
     /// device back where a write stops, and with the first fault and its place where the words are no card.
     pub fn power_up(dev: N) -> Result<(Card<N>, u16), (N, Up)>
         requires power { (N.state dev).on ≡ true }
-        ensures makes { Makes N.wrote dev (power_writes (N.state dev).words) (power_answer (powered result)) (device_after result) }
+        ensures makes { Makes N.wrote dev (power_writes (N.state dev).words) (power_answer (powered result))
+            (device_after result) }
         ensures ends { PowersUp (N.state dev) (powered result) (N.state (device_after result)) }
         ensures ready { IfOk result (λ p. IsReady N.state p.0) }
         ensures seat { IfOk result (λ p. seat_in N.state p.0 ≡ empty_seat) }
@@ -76,8 +78,10 @@ impl<N: Nvm> Card<N> {
     /// fails, the card is good for its device and for another restart alone.
     pub fn restart(&mut self) -> Result<u16, Up>
         requires power { (N.state (device_in self.old)).on ≡ true }
-        ensures makes { Makes N.wrote (device_in self.old) (power_writes (N.state (device_in self.old)).words) (power_answer (restarted self.new result)) (device_in self.new) }
-        ensures ends { PowersUp (N.state (device_in self.old)) (restarted self.new result) (N.state (device_in self.new)) }
+        ensures makes { Makes N.wrote (device_in self.old) (power_writes (N.state (device_in self.old)).words)
+            (power_answer (restarted self.new result)) (device_in self.new) }
+        ensures ends { PowersUp (N.state (device_in self.old)) (restarted self.new result)
+            (N.state (device_in self.new)) }
         ensures ready { IfOk result (λ n. IsReady N.state self.new) }
         ensures seat { IfOk result (λ n. seat_in N.state self.new ≡ empty_seat) }
         ensures lent { N.same (device_in self.old) (device_in self.new) }
@@ -85,8 +89,19 @@ impl<N: Nvm> Card<N> {
         let writes = self.store.restart()?;
         self.manager = Manager::new();
         self.session = Session::new(0);
-        self.chain = None;
+        if self.chain.is_some() {
+            self.end_chain();
+        }
         Ok(writes)
+    }
+
+    // No chain runs any more. A chain is large, and its place is cleared where one is made: so this is a call of its own.
+    #[cold]
+    #[inline(never)]
+    fn end_chain(&mut self)
+        ensures { self.new ≡ record self.old { chain = None } }
+    {
+        self.chain = None;
     }
 
     /// One command, as its bytes come (ISO/IEC 7816-4), with a budget of 1 to 65,536 instructions for an application that runs it. A
@@ -104,21 +119,97 @@ impl<N: Nvm> Card<N> {
         requires some { 1 ≤ budget }
         requires budget { budget ≤ 65536 }
         ensures done { Commanded N.state N.wrote self.old (due N.state self.old bytes.now budget) result self.new }
-        ensures steps { RouteSteps (card_in N.state self.old) (seat_in N.state self.old).selected budget (route bytes.now) (answer_of result) steps.old steps.new }
+        ensures steps { RouteSteps (card_in N.state self.old) (seat_in N.state self.old).selected budget
+            (route bytes.now) (answer_of result) steps.old steps.new }
         ensures ended { Ended (answer_of result) (N.state (device_in self.old)) (N.state (device_in self.new)) }
         ensures lent { N.same (device_in self.old) (device_in self.new) }
     {
+        let mut outcome = done();
+        self.command_into(bytes, budget, &mut outcome, steps)?;
+        Ok(outcome)
+    }
+
+    /// The same command, whose outcome is put in place of another. A reply of 1,024 bytes is dear to hand on; after a `Stop` what is left
+    /// in its place tells nothing.
+    pub fn command_into<L: Ledger>(
+        &mut self,
+        bytes: &[u8],
+        budget: u32,
+        into: &mut Outcome,
+        steps: &mut Steps<L>,
+    ) -> Result<(), Stop>
+        requires ready { IsReady N.state self.old }
+        requires some { 1 ≤ budget }
+        requires budget { budget ≤ 65536 }
+        ensures done { Commanded N.state N.wrote self.old (due N.state self.old bytes.now budget)
+            (put_in result into.new) self.new }
+        ensures steps { RouteSteps (card_in N.state self.old) (seat_in N.state self.old).selected budget
+            (route bytes.now) (answer_of result) steps.old steps.new }
+        ensures ended { Ended (answer_of result) (N.state (device_in self.old)) (N.state (device_in self.new)) }
+        ensures lent { N.same (device_in self.old) (device_in self.new) }
+    {
+        make_reply(into);
+        match self.perform_in(bytes, budget, into, steps)? {
+            End::Reply => Ok(()),
+            End::Abend(abend) => {
+                put_abend(into, abend);
+                Ok(())
+            }
+        }
+    }
+
+    // The same command, whose reply is put in place of another where it ends with one. An outcome that is a reply has that place.
+    fn perform_in<L: Ledger>(
+        &mut self,
+        bytes: &[u8],
+        budget: u32,
+        into: &mut Outcome,
+        steps: &mut Steps<L>,
+    ) -> Result<End, Stop>
+        requires ready { IsReady N.state self.old }
+        requires some { 1 ≤ budget }
+        requires budget { budget ≤ 65536 }
+        requires place { IsReply into.old }
+        ensures done { Commanded N.state N.wrote self.old (due N.state self.old bytes.now budget)
+            (put_out result into.new) self.new }
+        ensures steps { RouteSteps (card_in N.state self.old) (seat_in N.state self.old).selected budget
+            (route bytes.now) (answer_of (put_out result into.new)) steps.old steps.new }
+    {
+        match into {
+            Outcome::Reply(reply) => self.perform(bytes, budget, reply, steps),
+            Outcome::Abend(abend) => Ok(End::Abend(*abend)),
+        }
+    }
+
+    // The same command, whose reply is put in place of another where it ends with one.
+    fn perform<L: Ledger>(
+        &mut self,
+        bytes: &[u8],
+        budget: u32,
+        reply: &mut Reply,
+        steps: &mut Steps<L>,
+    ) -> Result<End, Stop>
+        requires ready { IsReady N.state self.old }
+        requires some { 1 ≤ budget }
+        requires budget { budget ≤ 65536 }
+        ensures done { Commanded N.state N.wrote self.old (due N.state self.old bytes.now budget)
+            (placed result reply.new) self.new }
+        ensures steps { RouteSteps (card_in N.state self.old) (seat_in N.state self.old).selected budget
+            (route bytes.now) (answer_of (placed result reply.new)) steps.old steps.new }
+    {
         let Ok(apdu) = parse(bytes) else {
-            return Ok(wrong_length());
+            wrong_length(reply);
+            return Ok(End::Reply);
         };
-        match self.direct(&apdu, steps)? {
-            Directed::Answered(reply) => Ok(Outcome::Reply(reply)),
-            Directed::Passed(slot) => run(
+        match self.direct(&apdu, reply, steps)? {
+            Directed::Answered => Ok(End::Reply),
+            Directed::Passed(slot) => run_into(
                 &mut self.store,
                 slot,
                 &mut self.session,
                 &apdu,
                 budget,
+                reply,
                 steps,
             ),
         }
@@ -140,11 +231,16 @@ impl<N: Nvm> Card<N> {
         ensures ended { Ended (answer_of result) (N.state (device_in self.old)) (N.state (device_in self.new)) }
         ensures lent { N.same (device_in self.old) (device_in self.new) }
     {
-        let Ok(apdu) = parse(bytes) else {
-            return Ok(Some(wrong_length()));
+        let mut reply = Reply {
+            body: ArrayVec::new(),
+            sw: 0,
         };
-        match self.direct(&apdu, steps)? {
-            Directed::Answered(reply) => Ok(Some(Outcome::Reply(reply))),
+        let Ok(apdu) = parse(bytes) else {
+            wrong_length(&mut reply);
+            return Ok(Some(Outcome::Reply(reply)));
+        };
+        match self.direct(&apdu, &mut reply, steps)? {
+            Directed::Answered => Ok(Some(Outcome::Reply(reply))),
             Directed::Passed(slot) => {
                 self.chain = Some(begin(&self.store, slot, &self.session, &apdu, budget));
                 Ok(None)
@@ -156,8 +252,10 @@ impl<N: Nvm> Card<N> {
     /// ends it. With the last turn the session bytes stay with the selection.
     pub fn turn<L: Ledger>(&mut self, steps: &mut Steps<L>) -> Result<Turn, Stop>
         requires running { IsRunning N.state self.old }
-        ensures done { (ch : ModelChain) (left : ℕ) → RunsChain N.state self.old ch left → Turned N.state N.wrote self.old ch left (turn_of left ch) result self.new }
-        ensures steps { (ch : ModelChain) (left : ℕ) → RunsChain N.state self.old ch left → steps.new ≡ steps.old + (turn_of left ch).count }
+        ensures done { (ch : ModelChain) (left : ℕ) → RunsChain N.state self.old ch left
+            → Turned N.state N.wrote self.old ch left (turn_of left ch) result self.new }
+        ensures steps { (ch : ModelChain) (left : ℕ) → RunsChain N.state self.old ch left
+            → steps.new ≡ steps.old + (turn_of left ch).count }
         ensures shaped { IfOk result (λ turn. IfSome turn.ins Shaped) }
         ensures low { IfOk result (λ turn. 1 ≤ turn.depth) }
         ensures high { IfOk result (λ turn. turn.depth ≤ 4) }
@@ -188,7 +286,8 @@ impl<N: Nvm> Card<N> {
         requires up { IsUp N.state self.now }
         requires there { IsSome (lookup (card_in N.state self.now).apps aid.now) }
         requires range { at + length into.old ≤ length (app_of (card_in N.state self.now).apps (Some aid.now)).fixed }
-        ensures { into.new ≡ take (length into.old) (drop at (app_of (card_in N.state self.now).apps (Some aid.now)).fixed) }
+        ensures { into.new ≡ take (length into.old)
+            (drop at (app_of (card_in N.state self.now).apps (Some aid.now)).fixed) }
     {
         if let Some(slot) = self.store.find(aid) {
             self.store.fixed(slot, at, into);
@@ -203,12 +302,48 @@ impl<N: Nvm> Card<N> {
     }
 }
 
-// The outcome of a command whose length is wrong (ISO/IEC 7816-4).
-fn wrong_length() -> Outcome
-    ensures { outcome_value result ≡ status 0x6700 }
+// Makes a reply that to a command whose length is wrong (ISO/IEC 7816-4).
+fn wrong_length(reply: &mut Reply)
+    ensures { outcome_value (outcome.Reply reply.new) ≡ status 0x6700 }
+{
+    reply.body.clear();
+    reply.sw = 0x6700;
+}
+
+// Makes an outcome a reply, where it is none.
+fn make_reply(outcome: &mut Outcome)
+    ensures { IsReply outcome.new }
+{
+    match outcome {
+        Outcome::Reply(_) => {}
+        Outcome::Abend(_) => put_done(outcome),
+    }
+}
+
+// An outcome before a command: a reply without data.
+fn done() -> Outcome
+    ensures { IsReply result }
 {
     Outcome::Reply(Reply {
         body: ArrayVec::new(),
-        sw: 0x6700,
+        sw: 0x9000,
     })
+}
+
+// Puts a reply without data in place of an outcome. The new outcome's place is cleared where it is made, so this is a call of its own.
+#[cold]
+#[inline(never)]
+fn put_done(outcome: &mut Outcome)
+    ensures { IsReply outcome.new }
+{
+    *outcome = done();
+}
+
+// The same of an abend.
+#[cold]
+#[inline(never)]
+fn put_abend(into: &mut Outcome, abend: Abend)
+    ensures { into.new ≡ outcome.Abend abend }
+{
+    *into = Outcome::Abend(abend);
 }

@@ -1,6 +1,7 @@
 #![tactic(auto)]
 
-// A card in the words of a device: power-up, commands, and the turns of a command one by one.
+//! A card in the words of a device: power-up, commands, and the turns of a command one by one.
+
 mod bench;
 mod card;
 mod managing;

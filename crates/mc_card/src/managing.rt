@@ -14,40 +14,42 @@ use crate::card::Card;
 use mc_apdu::{Apdu, Reply};
 use mc_bank::{Bank, Slot};
 use mc_base::{Steps, Stop};
-use mc_manager::Routed;
+use mc_manager::Ruling;
 use mc_nvm::Nvm;
 use mc_segs::Session;
 use mc_store::Store;
 use std::sync::ledger::Ledger;
 
-/// How the manager deals with a command: by a reply, or the application of a slot is to run it.
-#[derive(Drop)]
+/// How the manager deals with a command: by the reply beside it, or the application of a slot is to run it.
+#[derive(Clone, Copy, Debug, PartialEq, Eq)]
 pub enum Directed {
-    Answered(Reply),
+    Answered,
     Passed(Slot),
 }
 
 impl<N: Nvm> Card<N> {
-    /// One command by the manager. A new selection begins with session bytes of zero. Where an application is to run the command, nothing
-    /// changed.
+    /// One command by the manager, whose reply is put in place of another. A new selection begins with session bytes of zero. Where an
+    /// application is to run the command, nothing changed but what stands in that place.
     pub(crate) fn direct<L: Ledger>(
         &mut self,
         apdu: &Apdu,
+        reply: &mut Reply,
         steps: &mut Steps<L>,
     ) -> Result<Directed, Stop>
         requires ready { IsReady N.state self.old }
-        ensures done { Directs N.state N.wrote self.old (parts_of apdu.now) result self.new }
+        ensures done { Directs N.state N.wrote self.old (parts_of apdu.now) result reply.new self.new }
         ensures rises { steps.old ≤ steps.new }
-        ensures ticks { steps.new ≤ steps.old + most_ticks (parts_of apdu.now) (2 + length (gaps (card_in N.state self.old))) }
+        ensures ticks { steps.new ≤ steps.old
+            + most_ticks (parts_of apdu.now) (2 + length (gaps (card_in N.state self.old))) }
         ensures lent { N.same (device_in self.old) (device_in self.new) }
     {
-        match self.manager.command(&mut self.store, apdu, steps)? {
-            Routed::Answer(reply) => Ok(Directed::Answered(reply)),
-            Routed::Fresh(slot, reply) => {
+        match self.manager.rule(&mut self.store, apdu, reply, steps)? {
+            Ruling::Answer => Ok(Directed::Answered),
+            Ruling::Fresh(slot) => {
                 self.session = session_of(&self.store, slot);
-                Ok(Directed::Answered(reply))
+                Ok(Directed::Answered)
             }
-            Routed::Pass(slot) => Ok(Directed::Passed(slot)),
+            Ruling::Pass(slot) => Ok(Directed::Passed(slot)),
         }
     }
 }
@@ -56,7 +58,8 @@ impl<N: Nvm> Card<N> {
 fn session_of<N: Nvm>(store: &Store<N>, slot: Slot) -> Session
     requires going { is_going (N.state (device_of store.now)) (count_of store.now) ≡ true }
     requires there { IsSome (store_named (N.state (device_of store.now)) slot) }
-    ensures { result ≡ zeros (app_of (apps_in (N.state (device_of store.now)).words) (store_named (N.state (device_of store.now)) slot)).session }
+    ensures { result ≡ zeros (app_of (apps_in (N.state (device_of store.now)).words)
+        (store_named (N.state (device_of store.now)) slot)).session }
 {
     Session::new(store.facts(slot).sizes.session)
 }

@@ -14,6 +14,7 @@ use Rattle.mc_segs.specs.Held.{Held, Fits}
 use Rattle.mc_segs.specs.declared.ends.Halt.{Halt}
 use Rattle.mc_segs.specs.declared.ends.Halt.TheVariants as halt
 use Rattle.mc_machine.specs.Chains.{Chained, Runs, Wrote, session_in}
+use Rattle.mc_apdu.specs.declared.reply.Reply.{Reply}
 use Rattle.mc_machine.specs.declared.outcome.Outcome.{Outcome}
 use Rattle.mc_machine.specs.declared.outcome.Outcome.TheVariants as outcome
 use Rattle.mc_machine.specs.declared.outcome.End.{End}
@@ -32,6 +33,24 @@ outcome_value (outcome.Abend a) = model.Abended a
 abbrev pub end_value : List ℕ → ℕ → End → model.Outcome
 end_value public le end.Reply = model.Reply (take (min (la_of public) le) public) (sw_of public)
 end_value public le (end.Abend a) = model.Abended a
+
+-- the outcome of an end, where that of a reply is this
+abbrev pub outcome_put : End → Outcome → Outcome
+outcome_put end.Reply o = o
+outcome_put (end.Abend a) o = outcome.Abend a
+
+-- the outcome of an end whose reply is this
+abbrev pub outcome_by : End → Reply → Outcome
+outcome_by e r = outcome_put e (outcome.Reply r)
+
+-- the same where a stop may have come
+abbrev pub put_out : Result End Stop → Outcome → Result Outcome Stop
+put_out (Ok e) o = Ok (outcome_put e o)
+put_out (Err s) o = Err s
+
+-- how a run ended, its reply standing in place of another
+abbrev pub placed : Result End Stop → Reply → Result Outcome Stop
+placed x r = put_out x (outcome.Reply r)
 
 -- a reply has at most 1,024 bytes
 abbrev pub EndFits : List ℕ → End → Type 0

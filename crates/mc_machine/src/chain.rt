@@ -30,7 +30,14 @@ impl Model for Chain {
 
     ghost Value = { Chained };
 
-    ghost view = { λ c. record { running = c.running; below = waiting_frames c.waiting; public = c.public; case = c.case; le = c.le; left = c.left } };
+    ghost view = { λ c. record {
+      running = c.running;
+      below = waiting_frames c.waiting;
+      public = c.public;
+      case = c.case;
+      le = c.le;
+      left = c.left;
+    } };
 
     ghost invariant = { λ c. c.left ≤ 65536 };
 }
@@ -44,7 +51,8 @@ pub fn begin<B: Bank>(bank: &B, first: Slot, session: &Session, apdu: &Apdu, bud
     requires some { 1 ≤ budget }
     requires budget { budget ≤ 65536 }
     requires data { length apdu.now.body.now ≤ 1024 }
-    ensures runs { Runs (B.state bank.now) (B.named bank.now) result (start (B.state bank.now).apps (name_or (B.named bank.now first)) session.now (parts_of apdu.now)) }
+    ensures runs { Runs (B.state bank.now) (B.named bank.now) result
+        (start (B.state bank.now).apps (name_or (B.named bank.now first)) session.now (parts_of apdu.now)) }
     ensures left { result.left ≡ budget }
 {
     Chain {
@@ -62,7 +70,8 @@ pub fn first_frame<B: Bank>(bank: &B, first: Slot, session: &Session) -> Frame
     requires going { (B.state bank.now).stopped ≡ false }
     requires there { IsSome (B.named bank.now first) }
     requires session { length session.now ≡ (app_of (B.state bank.now).apps (B.named bank.now first)).session }
-    ensures { Reads (B.state bank.now) (B.named bank.now) result (first_of (B.state bank.now).apps (name_or (B.named bank.now first)) session.now) }
+    ensures { Reads (B.state bank.now) (B.named bank.now) result
+        (first_of (B.state bank.now).apps (name_or (B.named bank.now first)) session.now) }
 {
     Frame::new(first, &bank.facts(first), session)
 }

@@ -15,7 +15,8 @@ const LONGEST: u16 = 6;
 pub fn fetch<B: Bank>(bank: &B, frame: &Frame) -> Result<(Ins, u16), DecodeFault>
     requires going { (B.state bank.now).stopped ≡ false }
     requires fits { Fits (B.state bank.now) (B.named bank.now) frame.now }
-    ensures exact { result ≡ decoded (app_under (B.state bank.now) (B.named bank.now) frame.now).code frame.now.frame.at }
+    ensures exact { result ≡ decoded (app_under (B.state bank.now) (B.named bank.now) frame.now).code
+        frame.now.frame.at }
     ensures stands { Stands (app_under (B.state bank.now) (B.named bank.now) frame.now).code frame.now.frame.at result }
 {
     let at = frame.at();

@@ -9,7 +9,8 @@ ghost use Rattle.mc_machine.specs.Alike.{seen_end, IsGuarded, KeepsRow};
 /// A row does the same to frames that read the same, whichever pieces their pending bytes come from, where bytes are pending only while
 /// protection is on.
 pub fn rows_see()
-    ensures { (i : Ins) (f g : Frame) (public : List ℕ) (x : Around) → IsGuarded f → seen f ≡ seen g → seen_end f.fixed (row i f public x) ≡ seen_end g.fixed (row i g public x) }
+    ensures { (i : Ins) (f g : Frame) (public : List ℕ) (x : Around) → IsGuarded f → seen f ≡ seen g
+        → seen_end f.fixed (row i f public x) ≡ seen_end g.fixed (row i g public x) }
 {}
 
 /// A row that is done keeps its frame's application and sizes, that bytes are pending only while protection is on, and the length of the
@@ -20,5 +21,6 @@ pub fn rows_keep()
 
 /// A new frame has no pending bytes.
 pub fn new_frames_guarded()
-    ensures { (name : List ℕ) (code_len deny : ℕ) (fixed session : List ℕ) → IsGuarded (new_frame name code_len deny fixed session) }
+    ensures { (name : List ℕ) (code_len deny : ℕ) (fixed session : List ℕ)
+        → IsGuarded (new_frame name code_len deny fixed session) }
 {}

@@ -1,6 +1,6 @@
 #![tactic(auto)]
 
-// Chains of applications: turns, runs, delegation and exit.
+//! Chains of applications: turns, runs, delegation and exit.
 
 mod chain;
 mod fetch;
@@ -13,6 +13,6 @@ mod waiting;
 
 pub use chain::{Chain, begin};
 pub use laws::{new_frames_guarded, rows_keep, rows_see};
-pub use outcome::{Outcome, Turn};
-pub use running::run;
+pub use outcome::{End, Outcome, Turn};
+pub use running::{run, run_into};
 pub use turning::turn;

@@ -38,8 +38,13 @@ pub fn lone_turn<B: Bank, L: Ledger>(
 ) -> Result<Lone, Stop>
     requires going { (B.state bank.old).stopped ≡ false }
     requires fits { Fits (B.state bank.old) (B.named bank.old) frame.old }
-    ensures done { (ch : ModelChain) (le left : ℕ) → left ≢ 0 → Runs (B.state bank.old) (B.named bank.old) (lone_chain frame.old public.old case le left) ch → LoneDone B.did B.state B.named bank.old bank.new (lone_chain frame.old public.old case le left) (lone_chain frame.new public.new case le) ch (turn_of left ch) result }
-    ensures ticks { (ch : ModelChain) (le left : ℕ) → left ≢ 0 → Runs (B.state bank.old) (B.named bank.old) (lone_chain frame.old public.old case le left) ch → steps.new ≡ steps.old + (turn_of left ch).count }
+    ensures done { (ch : ModelChain) (le left : ℕ) → left ≢ 0
+        → Runs (B.state bank.old) (B.named bank.old) (lone_chain frame.old public.old case le left) ch
+        → LoneDone B.did B.state B.named bank.old bank.new (lone_chain frame.old public.old case le left)
+        (lone_chain frame.new public.new case le) ch (turn_of left ch) result }
+    ensures ticks { (ch : ModelChain) (le left : ℕ) → left ≢ 0
+        → Runs (B.state bank.old) (B.named bank.old) (lone_chain frame.old public.old case le left) ch
+        → steps.new ≡ steps.old + (turn_of left ch).count }
     ensures fits { LoneFits public.new result }
 {
     let (ins, next) = match fetch(bank, frame) {
@@ -90,7 +95,9 @@ fn perform_lone<B: Bank>(
     requires going { (B.state bank.old).stopped ≡ false }
     requires fits { Fits (B.state bank.old) (B.named bank.old) frame.old }
     requires shaped { Shaped ins.now }
-    ensures { RowActs B.did B.state B.named (scene bank.old bank.new frame.old frame.new public.old public.new) ins.now (record { case = case; delegator = None }) result }
+    ensures { RowActs B.did B.state B.named
+        (scene bank.old bank.new frame.old frame.new public.old public.new) ins.now
+        (record { case = case; delegator = None }) result }
 {
     match ins {
         Ins::Prim { set, number, args } => {

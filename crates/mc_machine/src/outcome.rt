@@ -1,7 +1,7 @@
 // How turns and chains end.
 ghost use Rattle.std.specs.Prelude.{◌≡◌, ◌≤◌, ℕ, min, take, Some, None};
 ghost use Rattle.mc_model.specs.Frame.{la_of, sw_of};
-ghost use Rattle.mc_machine.specs.Turns.{end_value, last_end, outcome_value, EndFits};
+ghost use Rattle.mc_machine.specs.Turns.{end_value, last_end, outcome_by, outcome_value, EndFits};
 
 use crate::chain::Chain;
 use arrayvec::ArrayVec;
@@ -30,7 +30,7 @@ pub struct Turn {
     pub end: Option<Outcome>,
 }
 
-// The end of a chain, whose reply stands in its public segment.
+/// The end of a command to an application, whose reply stands elsewhere: in its public segment, or in the place that it was put in.
 #[derive(Clone, Copy, Debug, PartialEq, Eq)]
 pub enum End {
     Reply,
@@ -60,7 +60,12 @@ impl Step {
 
 /// A turn of a frame as its registers stand.
 pub fn told(frame: &Frame, ins: Option<Ins>, end: Option<End>) -> Step
-    ensures { result ≡ record { ins = ins; dt = frame.now.frame.dt; flags = record { c = frame.now.frame.c; z = frame.now.frame.z }; end = end } }
+    ensures { result ≡ record {
+      ins = ins;
+      dt = frame.now.frame.dt;
+      flags = record { c = frame.now.frame.c; z = frame.now.frame.z };
+      end = end;
+    } }
 {
     Step {
         ins,
@@ -107,13 +112,37 @@ fn reply_in(public: &Public, le: u16) -> Reply
     ensures body { result.body.items ≡ take (min (la_of public.now) le) public.now }
     ensures sw { result.sw ≡ sw_of public.now }
 {
-    let mut body = ArrayVec::new();
+    let mut reply = Reply {
+        body: ArrayVec::new(),
+        sw: 0,
+    };
+    put_reply(public, le, &mut reply);
+    reply
+}
+
+// Puts the reply that stands in a public segment in place of another.
+fn put_reply(public: &Public, le: u16, reply: &mut Reply)
+    requires { la_of public.now ≤ 1024 }
+    ensures body { reply.new.body.items ≡ take (min (la_of public.now) le) public.now }
+    ensures sw { reply.new.sw ≡ sw_of public.now }
+{
     let count = la(public).min(le) as usize;
-    body.try_extend_from_slice(&public.bytes()[..count])
+    reply.body.clear();
+    reply
+        .body
+        .try_extend_from_slice(&public.bytes()[..count])
         .unwrap();
-    Reply {
-        body,
-        sw: sw(public),
+    reply.sw = sw(public);
+}
+
+/// Puts the reply of an end, if it has one, in place of another: the first bytes of the public segment, at most La and Le, with the status.
+pub fn put_end(public: &Public, le: u16, end: End, reply: &mut Reply)
+    requires { EndFits public.now end }
+    ensures { outcome_value (outcome_by end reply.new) ≡ end_value public.now le end }
+{
+    match end {
+        End::Reply => put_reply(public, le, reply),
+        End::Abend(_) => {}
     }
 }
 
@@ -129,6 +158,14 @@ pub fn final_outcome(public: &Public, le: u16, end: End) -> Outcome
 }
 
 impl Chain {
+    /// Puts the reply of an end of the chain, if it has one, in place of another.
+    pub fn put_end(&self, end: End, reply: &mut Reply)
+        requires { EndFits self.now.public end }
+        ensures { outcome_value (outcome_by end reply.new) ≡ end_value self.now.public self.now.le end }
+    {
+        put_end(&self.public, self.le, end, reply);
+    }
+
     /// The outcome of an end of the chain.
     pub fn outcome(&self, end: End) -> Outcome
         requires { EndFits self.now.public end }

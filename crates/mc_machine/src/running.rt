@@ -6,14 +6,15 @@ ghost use Rattle.mc_model.specs.Chain.{Chain as ModelChain, called, ran};
 ghost use Rattle.mc_bank.specs.Bank.{app_of};
 ghost use Rattle.mc_machine.specs.Chains.{FitsChain, Runs, Wrote, ran_of};
 ghost use Rattle.mc_machine.specs.Lone.{lone_chain, RanDone};
-ghost use Rattle.mc_machine.specs.Turns.{outcome_value};
+ghost use Rattle.mc_machine.specs.Turns.{outcome_value, placed};
 
 use crate::chain::{Chain, first_frame};
 use crate::lone::{Lone, lone_turn};
-use crate::outcome::{Outcome, final_outcome};
+use crate::outcome::{End, Outcome, put_end};
 use crate::turning::act;
 use crate::waiting::Waiting;
-use mc_apdu::Apdu;
+use arrayvec::ArrayVec;
+use mc_apdu::{Apdu, Reply};
 use mc_bank::{Bank, Slot};
 use mc_base::{Aid, Steps, Stop};
 use mc_segs::{Abend, Frame, Public, Session};
@@ -37,35 +38,75 @@ pub fn run<B: Bank, L: Ledger>(
     requires some { 1 ≤ budget }
     requires budget { budget ≤ 65536 }
     requires data { length apdu.now.body.now ≤ 1024 }
-    ensures writes { InOrder (Wrote B.did B.state) bank.old (ran_of (B.state bank.old) (B.named bank.old) first session.old apdu.now budget).writes (answer_of result) bank.new }
-    ensures outcome { IfOk result (λ outcome. outcome_value outcome ≡ (ran_of (B.state bank.old) (B.named bank.old) first session.old apdu.now budget).outcome) }
-    ensures session { OnOk result (session.new ≡ (ran_of (B.state bank.old) (B.named bank.old) first session.old apdu.now budget).session) }
-    ensures ticks { OnOk result (steps.new ≡ steps.old + (ran_of (B.state bank.old) (B.named bank.old) first session.old apdu.now budget).count) }
-    ensures most { OnErr result (steps.new ≤ steps.old + (ran_of (B.state bank.old) (B.named bank.old) first session.old apdu.now budget).count) }
+    ensures writes { InOrder (Wrote B.did B.state) bank.old
+        (ran_of (B.state bank.old) (B.named bank.old) first session.old apdu.now budget).writes
+        (answer_of result) bank.new }
+    ensures outcome { IfOk result (λ outcome. outcome_value outcome
+        ≡ (ran_of (B.state bank.old) (B.named bank.old) first session.old apdu.now budget).outcome) }
+    ensures session { OnOk result (session.new
+        ≡ (ran_of (B.state bank.old) (B.named bank.old) first session.old apdu.now budget).session) }
+    ensures ticks { OnOk result (steps.new
+        ≡ steps.old + (ran_of (B.state bank.old) (B.named bank.old) first session.old apdu.now budget).count) }
+    ensures most { OnErr result (steps.new
+        ≤ steps.old + (ran_of (B.state bank.old) (B.named bank.old) first session.old apdu.now budget).count) }
     ensures going { OnOk result ((B.state bank.new).stopped ≡ false) }
     ensures unchanged { OnErr result (session.new ≡ session.old) }
+{
+    let mut reply = Reply {
+        body: ArrayVec::new(),
+        sw: 0,
+    };
+    match run_into(bank, first, session, apdu, budget, &mut reply, steps)? {
+        End::Reply => Ok(Outcome::Reply(reply)),
+        End::Abend(abend) => Ok(Outcome::Abend(abend)),
+    }
+}
+
+/// The same command, whose reply is put in place of another where it ends with one. A reply of 1,024 bytes is dear to hand on; after an
+/// abend or a `Stop` what is left in its place tells nothing.
+pub fn run_into<B: Bank, L: Ledger>(
+    bank: &mut B,
+    first: Slot,
+    session: &mut Session,
+    apdu: &Apdu,
+    budget: u32,
+    reply: &mut Reply,
+    steps: &mut Steps<L>,
+) -> Result<End, Stop>
+    requires going { (B.state bank.old).stopped ≡ false }
+    requires there { IsSome (B.named bank.old first) }
+    requires session { length session.old ≡ (app_of (B.state bank.old).apps (B.named bank.old first)).session }
+    requires some { 1 ≤ budget }
+    requires budget { budget ≤ 65536 }
+    requires data { length apdu.now.body.now ≤ 1024 }
+    ensures { RanDone B.did B.state bank.old bank.new session.old session.new steps.old steps.new
+        (ran_of (B.state bank.old) (B.named bank.old) first session.old apdu.now budget) (placed result reply.new) }
 {
     // Until it delegates, an application runs without a chain: a chain has room for three more frames, and making it takes longer
     // than a short command.
     let mut frame = first_frame(bank, first, session);
-    let mut public = Public::new(apdu);
+    let mut public = Public::blank();
+    public.open(apdu);
     let case = apdu.case();
     let le = apdu.le.unwrap_or(0);
     for turn in 0..budget {
         match lone_turn(&mut frame, &mut public, case, bank, steps)? {
             Lone::Goes => {}
             Lone::Ends(end) => {
-                *session = frame.session();
-                return Ok(final_outcome(&public, le, end));
+                frame.keep_session(session);
+                put_end(&public, le, end, reply);
+                return Ok(end);
             }
             Lone::Delegates(aid) => {
                 let left = budget - turn - 1;
-                return run_chain(frame, public, case, le, left, &aid, bank, session, steps);
+                return run_chain(
+                    frame, public, case, le, left, &aid, bank, session, reply, steps,
+                );
             }
         }
     }
-    *session = frame.session();
-    Ok(Outcome::Abend(Abend::A07))
+    frame.keep_session(session);
+    Ok(End::Abend(Abend::A07))
 }
 
 // The rest of a command, from the first delegation on: the application that runs delegates to a name.
@@ -80,12 +121,15 @@ fn run_chain<B: Bank, L: Ledger>(
     aid: &Aid,
     bank: &mut B,
     session: &mut Session,
+    reply: &mut Reply,
     steps: &mut Steps<L>,
-) -> Result<Outcome, Stop>
+) -> Result<End, Stop>
     requires going { (B.state bank.old).stopped ≡ false }
     requires fits { FitsChain (B.state bank.old) (B.named bank.old) (lone_chain frame public case le left) }
     requires left { left ≤ 65536 }
-    ensures { (ch : ModelChain) → Runs (B.state bank.old) (B.named bank.old) (lone_chain frame public case le left) ch → RanDone B.did B.state bank.old bank.new session.old session.new steps.old steps.new (ran left (called ch aid.now (lookup ch.map aid.now))) result }
+    ensures { (ch : ModelChain) → Runs (B.state bank.old) (B.named bank.old) (lone_chain frame public case le left) ch
+        → RanDone B.did B.state bank.old bank.new session.old session.new steps.old steps.new
+        (ran left (called ch aid.now (lookup ch.map aid.now))) (placed result reply.new) }
 {
     let mut chain = Chain {
         running: frame,
@@ -96,7 +140,7 @@ fn run_chain<B: Bank, L: Ledger>(
         left,
     };
     chain.call(bank, aid);
-    finish(&mut chain, left, bank, session, steps)
+    finish(&mut chain, left, bank, session, reply, steps)
 }
 
 // The turns of a chain to its end.
@@ -105,19 +149,23 @@ fn finish<B: Bank, L: Ledger>(
     left: u32,
     bank: &mut B,
     session: &mut Session,
+    reply: &mut Reply,
     steps: &mut Steps<L>,
-) -> Result<Outcome, Stop>
+) -> Result<End, Stop>
     requires going { (B.state bank.old).stopped ≡ false }
     requires fits { FitsChain (B.state bank.old) (B.named bank.old) chain.old }
     requires left { chain.old.left ≡ left }
-    ensures { (ch : ModelChain) → Runs (B.state bank.old) (B.named bank.old) chain.old ch → RanDone B.did B.state bank.old bank.new session.old session.new steps.old steps.new (ran left ch) result }
+    ensures { (ch : ModelChain) → Runs (B.state bank.old) (B.named bank.old) chain.old ch
+        → RanDone B.did B.state bank.old bank.new session.old session.new steps.old steps.new (ran left ch)
+        (placed result reply.new) }
 {
     for _turn in 0..left {
         if let Some(end) = act(chain, bank, steps)?.end {
             *session = chain.session();
-            return Ok(chain.outcome(end));
+            chain.put_end(end, reply);
+            return Ok(end);
         }
     }
     *session = chain.session();
-    Ok(Outcome::Abend(Abend::A07))
+    Ok(End::Abend(Abend::A07))
 }

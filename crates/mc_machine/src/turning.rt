@@ -41,8 +41,10 @@ pub fn turn<B: Bank, L: Ledger>(
 ) -> Result<Turn, Stop>
     requires going { (B.state bank.old).stopped ≡ false }
     requires fits { FitsChain (B.state bank.old) (B.named bank.old) chain.old }
-    ensures done { (ch : ModelChain) → Runs (B.state bank.old) (B.named bank.old) chain.old ch → TurnDone B.did B.state B.named bank.old bank.new chain.old chain.new ch (turn_of chain.old.left ch) result }
-    ensures ticks { (ch : ModelChain) → Runs (B.state bank.old) (B.named bank.old) chain.old ch → steps.new ≡ steps.old + (turn_of chain.old.left ch).count }
+    ensures done { (ch : ModelChain) → Runs (B.state bank.old) (B.named bank.old) chain.old ch
+        → TurnDone B.did B.state B.named bank.old bank.new chain.old chain.new ch (turn_of chain.old.left ch) result }
+    ensures ticks { (ch : ModelChain) → Runs (B.state bank.old) (B.named bank.old) chain.old ch
+        → steps.new ≡ steps.old + (turn_of chain.old.left ch).count }
     ensures shaped { IfOk result (λ turn. IfSome turn.ins Shaped) }
     ensures low { IfOk result (λ turn. 1 ≤ turn.depth) }
     ensures high { IfOk result (λ turn. turn.depth ≤ 4) }
@@ -74,8 +76,10 @@ pub fn act<B: Bank, L: Ledger>(
 ) -> Result<Step, Stop>
     requires going { (B.state bank.old).stopped ≡ false }
     requires fits { FitsChain (B.state bank.old) (B.named bank.old) chain.old }
-    ensures done { (ch : ModelChain) → Runs (B.state bank.old) (B.named bank.old) chain.old ch → ActDone B.did B.state B.named bank.old bank.new chain.old chain.new ch (turn_of chain.old.left ch) result }
-    ensures ticks { (ch : ModelChain) → Runs (B.state bank.old) (B.named bank.old) chain.old ch → steps.new ≡ steps.old + (turn_of chain.old.left ch).count }
+    ensures done { (ch : ModelChain) → Runs (B.state bank.old) (B.named bank.old) chain.old ch
+        → ActDone B.did B.state B.named bank.old bank.new chain.old chain.new ch (turn_of chain.old.left ch) result }
+    ensures ticks { (ch : ModelChain) → Runs (B.state bank.old) (B.named bank.old) chain.old ch
+        → steps.new ≡ steps.old + (turn_of chain.old.left ch).count }
     ensures ends { IfOk result (λ step. IfSome step.end (λ end. EndFits chain.new.public end)) }
     ensures shaped { IfOk result (λ step. IfSome step.ins Shaped) }
 {
@@ -120,7 +124,9 @@ fn perform<B: Bank>(ins: &Ins, chain: &mut Chain, bank: &mut B) -> Result<Next, 
     requires fits { Fits (B.state bank.old) (B.named bank.old) chain.old.running }
     requires waiting { AllFit (B.state bank.old) (B.named bank.old) chain.old.below }
     requires shaped { Shaped ins.now }
-    ensures acts { RowActs B.did B.state B.named (scene bank.old bank.new chain.old.running chain.new.running chain.old.public chain.new.public) ins.now (record { case = chain.old.case; delegator = delegator_of (B.named bank.old) chain.old.below }) result }
+    ensures acts { RowActs B.did B.state B.named
+        (scene bank.old bank.new chain.old.running chain.new.running chain.old.public chain.new.public) ins.now
+        (record { case = chain.old.case; delegator = delegator_of (B.named bank.old) chain.old.below }) result }
     ensures others { chain.new ≡ record chain.old { running = chain.new.running; public = chain.new.public } }
 {
     match ins {
@@ -148,7 +154,9 @@ fn perform<B: Bank>(ins: &Ins, chain: &mut Chain, bank: &mut B) -> Result<Next, 
 fn follow<B: Bank>(next: Next, ins: Ins, before: Step, chain: &mut Chain, bank: &B) -> Step
     requires going { (B.state bank.now).stopped ≡ false }
     requires fits { FitsChain (B.state bank.now) (B.named bank.now) chain.old }
-    ensures follows { (ch : ModelChain) → Runs (B.state bank.now) (B.named bank.now) chain.old ch → Followed (B.state bank.now) (B.named bank.now) chain.old chain.new ins before result (follows ch (then_of next)) }
+    ensures follows { (ch : ModelChain) → Runs (B.state bank.now) (B.named bank.now) chain.old ch
+        → Followed (B.state bank.now) (B.named bank.now) chain.old chain.new ins before result
+        (follows ch (then_of next)) }
     ensures left { chain.new.left ≡ chain.old.left }
     ensures le { chain.new.le ≡ chain.old.le }
     ensures ends { IfSome result.end (λ end. EndFits chain.new.public end) }
@@ -234,7 +242,8 @@ impl Chain {
         requires going { (B.state bank.now).stopped ≡ false }
         requires running { Fits (B.state bank.now) (B.named bank.now) self.now.running }
         requires waiting { AllFit (B.state bank.now) (B.named bank.now) self.now.below }
-        ensures { result ≡ (has_frame (B.named bank.now) aid.now (self.now.running ∷ self.now.below) || nat_le 4 (length self.now.below + 1)) }
+        ensures { result ≡ (has_frame (B.named bank.now) aid.now (self.now.running ∷ self.now.below)
+            || nat_le 4 (length self.now.below + 1)) }
     {
         self.is_active(bank, aid) || self.waiting.count() + 1 >= FRAMES
     }
@@ -244,7 +253,8 @@ impl Chain {
     pub(crate) fn call<B: Bank>(&mut self, bank: &B, aid: &Aid)
         requires going { (B.state bank.now).stopped ≡ false }
         requires fits { FitsChain (B.state bank.now) (B.named bank.now) self.old }
-        ensures runs { (ch : ModelChain) → Runs (B.state bank.now) (B.named bank.now) self.old ch → Runs (B.state bank.now) (B.named bank.now) self.new (called ch aid.now (lookup ch.map aid.now)) }
+        ensures runs { (ch : ModelChain) → Runs (B.state bank.now) (B.named bank.now) self.old ch
+            → Runs (B.state bank.now) (B.named bank.now) self.new (called ch aid.now (lookup ch.map aid.now)) }
         ensures left { self.new.left ≡ self.old.left }
         ensures le { self.new.le ≡ self.old.le }
     {

@@ -4,3 +4,4 @@ pub mod Load
 pub mod Calls
 pub mod Ends
 pub mod Status
+pub mod Ruled

@@ -23,8 +23,11 @@ use mc_unit::aid_of;
 pub fn creation<B: Bank>(load: &Option<Load>, bank: &B, apdu: &Apdu) -> Result<Aid, Status>
     requires going { (B.state bank.now).stopped ≡ false }
     requires fits { ForSome load.now (FitsLoad (view_of B.state B.named B.room B.standing bank.now)) }
-    ensures created { IfOk result (λ aid. CanCreate (view_of B.state B.named B.room B.standing bank.now) load.now (parts_of apdu.now) aid) }
-    ensures refused { IfErr result (λ e. first_status (create_refusals (B.state bank.now).apps (option_map (open_of (B.standing bank.now)) load.now) (parts_of apdu.now)) ≡ Some (word_of e)) }
+    ensures created { IfOk result (λ aid. CanCreate (view_of B.state B.named B.room B.standing bank.now) load.now
+        (parts_of apdu.now) aid) }
+    ensures refused { IfErr result (λ e. first_status
+        (create_refusals (B.state bank.now).apps (option_map (open_of (B.standing bank.now)) load.now)
+        (parts_of apdu.now)) ≡ Some (word_of e)) }
 {
     if parameters(apdu) != 0 {
         return Err(Status::WrongParameters);

@@ -19,8 +19,10 @@ pub fn deletion<B: Bank>(
     apdu: &Apdu,
 ) -> Result<Slot, Status>
     requires going { (B.state bank.now).stopped ≡ false }
-    ensures deleted { IfOk result (λ slot. CanDelete (B.state bank.now).apps (B.named bank.now) selected.now (parts_of apdu.now) slot) }
-    ensures refused { IfErr result (λ e. first_status (delete_causes (B.state bank.now).apps selected.now (parts_of apdu.now)) ≡ Some (word_of e)) }
+    ensures deleted { IfOk result (λ slot. CanDelete (B.state bank.now).apps (B.named bank.now) selected.now
+        (parts_of apdu.now) slot) }
+    ensures refused { IfErr result (λ e. first_status
+        (delete_causes (B.state bank.now).apps selected.now (parts_of apdu.now)) ≡ Some (word_of e)) }
 {
     if parameters(apdu) != 0 {
         return Err(Status::WrongParameters);

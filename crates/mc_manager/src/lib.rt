@@ -1,6 +1,7 @@
 #![tactic(auto)]
 
-// The card manager: which command goes where, and the commands that select, load, create and delete applications.
+//! The card manager: which command goes where, and the commands that select, load, create and delete applications.
+
 mod creation;
 mod deletion;
 mod filling;
@@ -17,4 +18,4 @@ mod status;
 
 pub use laws::fits_through_commits;
 pub use manager::Manager;
-pub use routed::Routed;
+pub use routed::{Routed, Ruling};

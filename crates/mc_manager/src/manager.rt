@@ -4,17 +4,19 @@ ghost use Rattle.mc_apdu.specs.Command.{parts_of};
 ghost use Rattle.mc_manager.specs.Held.{BankView, view_of, selected_of, seat_of, load_of, Fits};
 ghost use Rattle.mc_manager.specs.Due.{due, due_application, due_select, due_manager, Leaves, most_ticks, NoneStale};
 ghost use Rattle.mc_manager.specs.Ends.{Ends};
+ghost use Rattle.mc_manager.specs.Ruled.{ruled, placed};
 
 use crate::creation::creation;
 use crate::deletion::deletion;
 use crate::filling::{fill, load_refusal};
 use crate::load::Load;
 use crate::open::open;
-use crate::routed::Routed;
-use crate::select::{selected_reply, selection};
+use crate::routed::{Routed, Ruling};
+use crate::select::{say_selected, selection};
 use crate::selection::Selection;
 use crate::status::Status;
-use mc_apdu::Apdu;
+use arrayvec::ArrayVec;
+use mc_apdu::{Apdu, Reply};
 use mc_bank::{Bank, Part};
 use mc_base::{Steps, Stop};
 use std::marker::Model;
@@ -63,22 +65,57 @@ impl Manager {
     ) -> Result<Routed, Stop>
         requires going { (B.state bank.old).stopped ≡ false }
         requires fits { Fits (view_of B.state B.named B.room B.standing bank.old) self.old }
-        ensures ends { Ends B.did (λ s. due (view_of B.state B.named B.room B.standing bank.old) s self.old (parts_of apdu.now)) (view_of B.state B.named B.room B.standing bank.old) self.old bank.old result (view_of B.state B.named B.room B.standing bank.new) self.new bank.new }
+        ensures ends { Ends B.did (λ s. due (view_of B.state B.named B.room B.standing bank.old) s self.old
+            (parts_of apdu.now)) (view_of B.state B.named B.room B.standing bank.old) self.old bank.old result
+            (view_of B.state B.named B.room B.standing bank.new) self.new bank.new }
         // An application that is there now was there before, or is what its own load sent.
-        ensures no_stale_byte { NoneStale (load_of (B.standing bank.old) self.old) (B.state bank.old).apps (B.state bank.new).apps }
+        ensures no_stale_byte { NoneStale (load_of (B.standing bank.old) self.old) (B.state bank.old).apps
+            (B.state bank.new).apps }
+        ensures rises { steps.old ≤ steps.new }
+        ensures ticks { steps.new ≤ steps.old + most_ticks (parts_of apdu.now) (B.state bank.old).ticks }
+    {
+        let mut reply = Reply {
+            body: ArrayVec::new(),
+            sw: 0,
+        };
+        match self.rule(bank, apdu, &mut reply, steps)? {
+            Ruling::Answer => Ok(Routed::Answer(reply)),
+            Ruling::Fresh(slot) => Ok(Routed::Fresh(slot, reply)),
+            Ruling::Pass(slot) => Ok(Routed::Pass(slot)),
+        }
+    }
+
+    /// The same command, whose reply is put in place of another. A reply of 1,024 bytes is dear to hand on; where the command is passed or
+    /// stopped, what is left in its place tells nothing.
+    pub fn rule<B: Bank, L: Ledger>(
+        &mut self,
+        bank: &mut B,
+        apdu: &Apdu,
+        reply: &mut Reply,
+        steps: &mut Steps<L>,
+    ) -> Result<Ruling, Stop>
+        requires going { (B.state bank.old).stopped ≡ false }
+        requires fits { Fits (view_of B.state B.named B.room B.standing bank.old) self.old }
+        ensures ends { Ends B.did (λ s. due (view_of B.state B.named B.room B.standing bank.old) s self.old
+            (parts_of apdu.now)) (view_of B.state B.named B.room B.standing bank.old) self.old bank.old
+            (placed result reply.new) (view_of B.state B.named B.room B.standing bank.new) self.new bank.new }
+        // An application that is there now was there before, or is what its own load sent.
+        ensures no_stale_byte { NoneStale (load_of (B.standing bank.old) self.old) (B.state bank.old).apps
+            (B.state bank.new).apps }
         ensures rises { steps.old ≤ steps.new }
         ensures ticks { steps.new ≤ steps.old + most_ticks (parts_of apdu.now) (B.state bank.old).ticks }
     {
         if apdu.cla == 0xFF {
-            return Ok(Routed::Answer(Status::NoClass.reply()));
+            Status::NoClass.say(reply);
+            return Ok(Ruling::Answer);
         }
         if apdu.cla == 0x00 && apdu.ins == 0xA4 && apdu.p1 == 0x04 {
-            return Ok(self.select(bank, apdu));
+            return Ok(self.select(bank, apdu, reply));
         }
         if apdu.cla == 0xBE {
-            return self.manage(bank, apdu, steps);
+            return self.manage(bank, apdu, reply, steps);
         }
-        Ok(self.pass())
+        Ok(self.pass(reply))
     }
 
     // A command of class BE by its INS.
@@ -87,114 +124,182 @@ impl Manager {
         &mut self,
         bank: &mut B,
         apdu: &Apdu,
+        reply: &mut Reply,
         steps: &mut Steps<L>,
-    ) -> Result<Routed, Stop>
+    ) -> Result<Ruling, Stop>
         requires going { (B.state bank.old).stopped ≡ false }
         requires fits { Fits (view_of B.state B.named B.room B.standing bank.old) self.old }
-        ensures ends { Ends B.did (λ s. due_manager (manage (B.room bank.old) (B.state bank.old).apps (seat_of (B.standing bank.old) s self.old) (parts_of apdu.now))) (view_of B.state B.named B.room B.standing bank.old) self.old bank.old result (view_of B.state B.named B.room B.standing bank.new) self.new bank.new }
+        ensures ends { Ends B.did (λ s. due_manager
+            (manage (B.room bank.old) (B.state bank.old).apps (seat_of (B.standing bank.old) s self.old)
+            (parts_of apdu.now))) (view_of B.state B.named B.room B.standing bank.old) self.old bank.old
+            (placed result reply.new) (view_of B.state B.named B.room B.standing bank.new) self.new bank.new }
         ensures rises { steps.old ≤ steps.new }
         ensures ticks { steps.new ≤ steps.old + cond (apdu.now.ins == 0x12) (B.state bank.old).ticks 0 }
     {
         match apdu.ins {
-            0x12 => Ok(self.open(bank, apdu, steps)),
-            0x24 => self.load_part(bank, Part::Code, apdu),
-            0x26 => self.load_part(bank, Part::Data, apdu),
-            0x20 => self.load_part(bank, Part::Dir, apdu),
-            0x22 => self.load_part(bank, Part::Fci, apdu),
-            0x16 => self.create(bank, apdu),
-            0x18 => self.delete(bank, apdu),
-            _ => Ok(Routed::Answer(Status::NoInstruction.reply())),
+            0x12 => Ok(self.open(bank, apdu, reply, steps)),
+            0x24 => self.load_part(bank, Part::Code, apdu, reply),
+            0x26 => self.load_part(bank, Part::Data, apdu, reply),
+            0x20 => self.load_part(bank, Part::Dir, apdu, reply),
+            0x22 => self.load_part(bank, Part::Fci, apdu, reply),
+            0x16 => self.create(bank, apdu, reply),
+            0x18 => self.delete(bank, apdu, reply),
+            _ => {
+                Status::NoInstruction.say(reply);
+                Ok(Ruling::Answer)
+            }
         }
     }
 
     // A command for the selected application.
-    fn pass(&self) -> Routed
-        ensures { (v : BankView) → (s : List ℕ) → Leaves (due_application (selected_of s self.now)) s v self.now result v self.now }
+    fn pass(&self, reply: &mut Reply) -> Ruling
+        ensures { (v : BankView) → (s : List ℕ)
+            → Leaves (due_application (selected_of s self.now)) s v self.now (ruled result reply.new) v self.now }
     {
         match &self.selected {
-            Some(selection) => Routed::Pass(selection.slot),
-            None => Routed::Answer(Status::Conditions.reply()),
+            Some(selection) => Ruling::Pass(selection.slot),
+            None => {
+                Status::Conditions.say(reply);
+                Ruling::Answer
+            }
         }
     }
 
     // SELECT: 00 A4 04.
-    fn select<B: Bank>(&mut self, bank: &B, apdu: &Apdu) -> Routed
+    fn select<B: Bank>(&mut self, bank: &B, apdu: &Apdu, reply: &mut Reply) -> Ruling
         requires going { (B.state bank.now).stopped ≡ false }
         requires fits { Fits (view_of B.state B.named B.room B.standing bank.now) self.old }
-        ensures { Ends B.did (λ s. due_select (select (B.state bank.now).apps (seat_of (B.standing bank.now) s self.old) (parts_of apdu.now))) (view_of B.state B.named B.room B.standing bank.now) self.old bank.now (Ok result) (view_of B.state B.named B.room B.standing bank.now) self.new bank.now }
+        ensures { Ends B.did (λ s. due_select
+            (select (B.state bank.now).apps (seat_of (B.standing bank.now) s self.old) (parts_of apdu.now)))
+            (view_of B.state B.named B.room B.standing bank.now) self.old bank.now (Ok (ruled result reply.new))
+            (view_of B.state B.named B.room B.standing bank.now) self.new bank.now }
     {
         let selection = match selection(bank, apdu) {
-            Err(refusal) => return Routed::Answer(refusal.reply()),
+            Err(refusal) => {
+                refusal.say(reply);
+                return Ruling::Answer;
+            }
             Ok(selection) => selection,
         };
-        let slot = selection.slot;
+        let chosen = selection.slot;
         self.selected = Some(selection);
-        Routed::Fresh(slot, selected_reply(bank, slot, apdu))
+        say_selected(bank, chosen, apdu, reply);
+        Ruling::Fresh(chosen)
     }
 
     // OPEN: BE 12.
-    fn open<B: Bank, L: Ledger>(&mut self, bank: &B, apdu: &Apdu, steps: &mut Steps<L>) -> Routed
+    fn open<B: Bank, L: Ledger>(
+        &mut self,
+        bank: &B,
+        apdu: &Apdu,
+        reply: &mut Reply,
+        steps: &mut Steps<L>,
+    ) -> Ruling
         requires going { (B.state bank.now).stopped ≡ false }
         requires fits { Fits (view_of B.state B.named B.room B.standing bank.now) self.old }
-        ensures ends { Ends B.did (λ s. due_manager (open_load (B.room bank.now) (B.state bank.now).apps (seat_of (B.standing bank.now) s self.old) (parts_of apdu.now))) (view_of B.state B.named B.room B.standing bank.now) self.old bank.now (Ok result) (view_of B.state B.named B.room B.standing bank.now) self.new bank.now }
+        ensures ends { Ends B.did (λ s. due_manager
+            (open_load (B.room bank.now) (B.state bank.now).apps (seat_of (B.standing bank.now) s self.old)
+            (parts_of apdu.now))) (view_of B.state B.named B.room B.standing bank.now) self.old bank.now
+            (Ok (ruled result reply.new)) (view_of B.state B.named B.room B.standing bank.now) self.new bank.now }
         ensures rises { steps.old ≤ steps.new }
         ensures ticks { steps.new ≤ steps.old + (B.state bank.now).ticks }
     {
         match open(bank, apdu, steps) {
-            Err(refusal) => Routed::Answer(refusal.reply()),
+            Err(cause) => {
+                cause.say(reply);
+                Ruling::Answer
+            }
             Ok(load) => {
                 self.load = Some(load);
-                Routed::Answer(Status::Done.reply())
+                Status::Done.say(reply);
+                Ruling::Answer
             }
         }
     }
 
     // LOAD CODE, DATA, DIR and FCI: BE 24, 26, 20 and 22.
-    fn load_part<B: Bank>(&mut self, bank: &mut B, part: Part, apdu: &Apdu) -> Result<Routed, Stop>
+    fn load_part<B: Bank>(
+        &mut self,
+        bank: &mut B,
+        part: Part,
+        apdu: &Apdu,
+        reply: &mut Reply,
+    ) -> Result<Ruling, Stop>
         requires going { (B.state bank.old).stopped ≡ false }
         requires fits { Fits (view_of B.state B.named B.room B.standing bank.old) self.old }
-        ensures { Ends B.did (λ s. due_manager (load_part part (seat_of (B.standing bank.old) s self.old) (parts_of apdu.now))) (view_of B.state B.named B.room B.standing bank.old) self.old bank.old result (view_of B.state B.named B.room B.standing bank.new) self.new bank.new }
+        ensures { Ends B.did (λ s. due_manager
+            (load_part part (seat_of (B.standing bank.old) s self.old) (parts_of apdu.now)))
+            (view_of B.state B.named B.room B.standing bank.old) self.old bank.old (placed result reply.new)
+            (view_of B.state B.named B.room B.standing bank.new) self.new bank.new }
     {
         if let Some(refusal) = load_refusal(&self.load, part, apdu) {
-            return Ok(Routed::Answer(refusal.reply()));
+            refusal.say(reply);
+            return Ok(Ruling::Answer);
         }
         let Some(load) = &mut self.load else {
-            return Ok(Routed::Answer(Status::Conditions.reply()));
+            Status::Conditions.say(reply);
+            return Ok(Ruling::Answer);
         };
         fill(load, bank, part, apdu.body)?;
-        Ok(Routed::Answer(Status::Done.reply()))
+        Status::Done.say(reply);
+        Ok(Ruling::Answer)
     }
 
     // CREATE: BE 16.
-    fn create<B: Bank>(&mut self, bank: &mut B, apdu: &Apdu) -> Result<Routed, Stop>
+    fn create<B: Bank>(
+        &mut self,
+        bank: &mut B,
+        apdu: &Apdu,
+        reply: &mut Reply,
+    ) -> Result<Ruling, Stop>
         requires going { (B.state bank.old).stopped ≡ false }
         requires fits { Fits (view_of B.state B.named B.room B.standing bank.old) self.old }
-        ensures { Ends B.did (λ s. due_manager (create (B.state bank.old).apps (seat_of (B.standing bank.old) s self.old) (parts_of apdu.now))) (view_of B.state B.named B.room B.standing bank.old) self.old bank.old result (view_of B.state B.named B.room B.standing bank.new) self.new bank.new }
+        ensures { Ends B.did (λ s. due_manager
+            (create (B.state bank.old).apps (seat_of (B.standing bank.old) s self.old) (parts_of apdu.now)))
+            (view_of B.state B.named B.room B.standing bank.old) self.old bank.old (placed result reply.new)
+            (view_of B.state B.named B.room B.standing bank.new) self.new bank.new }
     {
         let aid = match creation(&self.load, bank, apdu) {
-            Err(refusal) => return Ok(Routed::Answer(refusal.reply())),
+            Err(refusal) => {
+                refusal.say(reply);
+                return Ok(Ruling::Answer);
+            }
             Ok(aid) => aid,
         };
         let Some(load) = &self.load else {
-            return Ok(Routed::Answer(Status::Conditions.reply()));
+            Status::Conditions.say(reply);
+            return Ok(Ruling::Answer);
         };
         bank.create(load.site(), &aid)?;
         self.load = None;
-        Ok(Routed::Answer(Status::Done.reply()))
+        Status::Done.say(reply);
+        Ok(Ruling::Answer)
     }
 
     // DELETE: BE 18.
-    fn delete<B: Bank>(&mut self, bank: &mut B, apdu: &Apdu) -> Result<Routed, Stop>
+    fn delete<B: Bank>(
+        &mut self,
+        bank: &mut B,
+        apdu: &Apdu,
+        reply: &mut Reply,
+    ) -> Result<Ruling, Stop>
         requires going { (B.state bank.old).stopped ≡ false }
         requires fits { Fits (view_of B.state B.named B.room B.standing bank.old) self.old }
-        ensures { Ends B.did (λ s. due_manager (delete (B.state bank.old).apps (seat_of (B.standing bank.old) s self.old) (parts_of apdu.now))) (view_of B.state B.named B.room B.standing bank.old) self.old bank.old result (view_of B.state B.named B.room B.standing bank.new) self.new bank.new }
+        ensures { Ends B.did (λ s. due_manager
+            (delete (B.state bank.old).apps (seat_of (B.standing bank.old) s self.old) (parts_of apdu.now)))
+            (view_of B.state B.named B.room B.standing bank.old) self.old bank.old (placed result reply.new)
+            (view_of B.state B.named B.room B.standing bank.new) self.new bank.new }
     {
         let slot = match deletion(&self.selected, bank, apdu) {
-            Err(refusal) => return Ok(Routed::Answer(refusal.reply())),
+            Err(refusal) => {
+                refusal.say(reply);
+                return Ok(Ruling::Answer);
+            }
             Ok(slot) => slot,
         };
         bank.delete(slot)?;
         self.load = None;
-        Ok(Routed::Answer(Status::Done.reply()))
+        Status::Done.say(reply);
+        Ok(Ruling::Answer)
     }
 }

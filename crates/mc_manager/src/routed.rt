@@ -11,3 +11,11 @@ pub enum Routed {
     Fresh(Slot, Reply),
     Pass(Slot),
 }
+
+/// How the manager deals with a command whose reply stands beside it: `Answer` and `Fresh` have it there, `Pass` has none.
+#[derive(Clone, Copy, Debug, PartialEq, Eq)]
+pub enum Ruling {
+    Answer,
+    Fresh(Slot),
+    Pass(Slot),
+}

@@ -1,4 +1,4 @@
-ghost use Rattle.std.specs.Prelude.{◌≡◌, false, take, Some, IsSome, IfOk, IfErr};
+ghost use Rattle.std.specs.Prelude.{◌≡◌, false, take, Some, IsSome, IfOk, IfErr, []};
 ghost use Rattle.mc_model.specs.Manager.{first_status, select_refusals, select_body};
 ghost use Rattle.mc_apdu.specs.Command.{parts_of};
 ghost use Rattle.mc_bank.specs.Bank.{app_of};
@@ -18,7 +18,8 @@ use mc_bank::{Bank, Slot};
 pub fn selection<B: Bank>(bank: &B, apdu: &Apdu) -> Result<Selection, Status>
     requires going { (B.state bank.now).stopped ≡ false }
     ensures selected { IfOk result (λ s. CanSelect (B.state bank.now).apps (B.named bank.now) (parts_of apdu.now) s) }
-    ensures refused { IfErr result (λ e. first_status (select_refusals (B.state bank.now).apps (parts_of apdu.now)) ≡ Some (word_of e)) }
+    ensures refused { IfErr result (λ e. first_status (select_refusals (B.state bank.now).apps (parts_of apdu.now))
+        ≡ Some (word_of e)) }
 {
     if apdu.p2 != 0x00 && apdu.p2 != 0x0C {
         return Err(Status::WrongParameters);
@@ -32,43 +33,42 @@ pub fn selection<B: Bank>(bank: &B, apdu: &Apdu) -> Result<Selection, Status>
     }
 }
 
-/// The reply to the SELECT of an application.
-pub fn selected_reply<B: Bank>(bank: &B, slot: Slot, apdu: &Apdu) -> Reply
+/// Makes a reply that to the SELECT of an application: with P2 00 the front of its FCI.
+pub fn say_selected<B: Bank>(bank: &B, slot: Slot, apdu: &Apdu, reply: &mut Reply)
     requires going { (B.state bank.now).stopped ≡ false }
     requires there { IsSome (B.named bank.now slot) }
-    ensures { Says (select_body (parts_of apdu.now) (app_of (B.state bank.now).apps (B.named bank.now slot))) 0x9000 result }
+    ensures { Says (select_body (parts_of apdu.now) (app_of (B.state bank.now).apps (B.named bank.now slot))) 0x9000
+        reply.new }
 {
-    let body = data_of(bank, slot, apdu);
-    Reply {
-        body,
-        sw: Status::Done.word(),
-    }
+    put_data(bank, slot, apdu, &mut reply.body);
+    reply.sw = Status::Done.word();
 }
 
-// The data of the reply: with P2 00 the front of the FCI.
-fn data_of<B: Bank>(bank: &B, slot: Slot, apdu: &Apdu) -> ArrayVec<u8, 1024>
+// Puts the data of the reply: with P2 00 the front of the FCI.
+fn put_data<B: Bank>(bank: &B, slot: Slot, apdu: &Apdu, body: &mut ArrayVec<u8, 1024>)
     requires going { (B.state bank.now).stopped ≡ false }
     requires there { IsSome (B.named bank.now slot) }
-    ensures { result.items ≡ select_body (parts_of apdu.now) (app_of (B.state bank.now).apps (B.named bank.now slot)) }
+    ensures { body.new.items ≡ select_body (parts_of apdu.now)
+        (app_of (B.state bank.now).apps (B.named bank.now slot)) }
 {
+    body.clear();
     if apdu.p2 != 0x00 {
-        return ArrayVec::new();
+        return;
     }
-    fci_front(bank, slot, apdu.le.unwrap_or(0))
+    put_fci(bank, slot, apdu.le.unwrap_or(0), body);
 }
 
-// The first bytes of the FCI, at most so many.
+// Puts the first bytes of the FCI, at most so many.
 #[tactic(auto, using(crate::proofs::SelectLemmas::take_least))]
-fn fci_front<B: Bank>(bank: &B, slot: Slot, most: u16) -> ArrayVec<u8, 1024>
+fn put_fci<B: Bank>(bank: &B, slot: Slot, most: u16, body: &mut ArrayVec<u8, 1024>)
     requires going { (B.state bank.now).stopped ≡ false }
     requires there { IsSome (B.named bank.now slot) }
-    ensures { result.items ≡ take most (app_of (B.state bank.now).apps (B.named bank.now slot)).fci }
+    requires empty { body.old.items ≡ [] }
+    ensures { body.new.items ≡ take most (app_of (B.state bank.now).apps (B.named bank.now slot)).fci }
 {
     let facts = bank.facts(slot);
     let len = most.min(facts.sizes.fci) as usize;
     let mut fci = [0; 128];
     bank.fci(slot, 0, &mut fci[..len]);
-    let mut body = ArrayVec::new();
     let _room = body.try_extend_from_slice(&fci[..len]);
-    body
 }

@@ -2,7 +2,6 @@ ghost use Rattle.std.specs.Prelude.{◌≡◌, []};
 ghost use Rattle.mc_manager.specs.Due.{Says};
 ghost use Rattle.mc_manager.specs.Status.{word_of};
 
-use arrayvec::ArrayVec;
 use mc_apdu::Reply;
 
 /// How a command of the manager ends (status words of ISO/IEC 7816-4).
@@ -48,13 +47,11 @@ impl Status {
         }
     }
 
-    /// The reply that is this status alone.
-    pub fn reply(self) -> Reply
-        ensures { Says [] (word_of self) result }
+    /// Makes a reply this status alone.
+    pub fn say(self, reply: &mut Reply)
+        ensures { Says [] (word_of self) reply.new }
     {
-        Reply {
-            body: ArrayVec::new(),
-            sw: self.word(),
-        }
+        reply.body.clear();
+        reply.sw = self.word();
     }
 }

@@ -37,10 +37,12 @@ pub trait Nvm {
         ensures lent { same self.old self.new };
 
     /// A write by the relation keeps the rules of devices.
-    ghost obeys: { (d : Self) (at : ℕ) (w : List ℕ) (a : Answer) (e : Self) → (state d).on ≡ true → wrote d at w a e → Wrote (state d) at w a (state e) };
+    ghost obeys: { (d : Self) (at : ℕ) (w : List ℕ) (a : Answer) (e : Self) → (state d).on ≡ true → wrote d at w a e
+        → Wrote (state d) at w a (state e) };
 
     /// A write by the relation has its place in the device and a word of eight bytes.
-    ghost fits: { (d : Self) (at : ℕ) (w : List ℕ) (a : Answer) (e : Self) → wrote d at w a e → (at < length (state d).words) × (length w ≡ 8) };
+    ghost fits: { (d : Self) (at : ℕ) (w : List ℕ) (a : Answer) (e : Self) → wrote d at w a e
+        → (at < length (state d).words) × (length w ≡ 8) };
 
     /// A write keeps which device is lent.
     ghost keeps: { (d : Self) (at : ℕ) (w : List ℕ) (a : Answer) (e : Self) → wrote d at w a e → same d e };
@@ -61,7 +63,10 @@ pub trait Bench: Nvm {
     fn arm(&mut self, k: u32, fill: Word)
         requires { 1 ≤ k }
         ensures state { Self.state self.new ≡ Self.state self.old }
-        ensures bench { bench self.new ≡ record (bench self.old) { cut = Some (record { writes = k; fill = fill }); arms = next_count (bench self.old).arms } }
+        ensures bench { bench self.new ≡ record (bench self.old) {
+          cut = Some (record { writes = k; fill = fill });
+          arms = next_count (bench self.old).arms;
+        } }
         ensures lent { Self.same self.old self.new };
 
     /// Takes both fuses away.
@@ -79,7 +84,8 @@ pub trait Bench: Nvm {
     /// Sets one word at a place below the length. It is no write and needs no power.
     fn poke(&mut self, at: u32, word: Word)
         requires { at < length (Self.state self.old).words }
-        ensures state { Self.state self.new ≡ record (Self.state self.old) { words = slice_set (Self.state self.old).words at word } }
+        ensures state { Self.state self.new
+            ≡ record (Self.state self.old) { words = slice_set (Self.state self.old).words at word } }
         ensures bench { bench self.new ≡ record (bench self.old) { pokes = next_count (bench self.old).pokes } }
         ensures lent { Self.same self.old self.new };
 
@@ -88,11 +94,15 @@ pub trait Bench: Nvm {
     fn wear(&mut self, k: u32, fill: Word)
         requires { 1 ≤ k }
         ensures state { Self.state self.new ≡ Self.state self.old }
-        ensures bench { bench self.new ≡ record (bench self.old) { worn = Some (record { writes = k; fill = fill }); wears = next_count (bench self.old).wears } }
+        ensures bench { bench self.new ≡ record (bench self.old) {
+          worn = Some (record { writes = k; fill = fill });
+          wears = next_count (bench self.old).wears;
+        } }
         ensures lent { Self.same self.old self.new };
 
     /// A write by the relation is stopped by the fuses and by nothing else, or by a bench that is not steady.
-    ghost burns: { (d : Self) (at : ℕ) (w : List ℕ) (a : Answer) (e : Self) → (Self.state d).on ≡ true → Self.wrote d at w a e → BenchWrote (Self.state d) (bench d) at a (Self.state e) (bench e) };
+    ghost burns: { (d : Self) (at : ℕ) (w : List ℕ) (a : Answer) (e : Self) → (Self.state d).on ≡ true
+        → Self.wrote d at w a e → BenchWrote (Self.state d) (bench d) at a (Self.state e) (bench e) };
 }
 
 impl<N: Nvm> Nvm for &mut N {

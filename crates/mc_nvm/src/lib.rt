@@ -1,6 +1,7 @@
 #![tactic(auto)]
 
-// Memory that holds words of eight bytes, whose writes may stop: what it means, and devices that live in memory.
+//! Memory that holds words of eight bytes, whose writes may stop: what it means, and devices that live in memory.
+
 mod device;
 mod fuse;
 mod probe;

@@ -81,6 +81,24 @@ impl SimNvm {
         ensures answer { result ≡ answer_to (next_due refused self.old) }
         ensures after { self.new ≡ after_write self.old at word (next_due refused self.old) }
     {
+        // Nearly all writes meet no fuse, and copying two of them takes longer than a write.
+        match (&self.cut, &self.worn) {
+            (None, None) if !refused => {
+                self.words[at as usize] = word;
+                Ok(())
+            }
+            _ => self.write_by_fuses(at, word, refused),
+        }
+    }
+
+    // The same write by the fuses that there are.
+    #[inline(never)]
+    fn write_by_fuses(&mut self, at: u32, word: Word, refused: bool) -> Result<(), Stop>
+        requires { at < length self.old.words }
+        ensures sound { Sound self.old }
+        ensures answer { result ≡ answer_to (next_due refused self.old) }
+        ensures after { self.new ≡ after_write self.old at word (next_due refused self.old) }
+    {
         let due = next(self.cut, self.worn, refused);
         self.cut = nearer(self.cut);
         self.worn = nearer(self.worn);

@@ -56,7 +56,8 @@ impl Tape {
 
     /// The entries, where they are all there.
     pub fn entries(&self) -> Option<&[Entry]>
-        ensures { MatchOption result (self.now.told ≡ None) (λ entries. self.now.told ≡ Some (map entry_of entries.now)) }
+        ensures { MatchOption result (self.now.told ≡ None)
+            (λ entries. self.now.told ≡ Some (map entry_of entries.now)) }
     {
         if self.over {
             return None;

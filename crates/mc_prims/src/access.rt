@@ -75,7 +75,8 @@ impl Block {
         requires key { length key.now ≡ model.key_len (cipher_of cipher) }
         requires whole { length self.old % model.block_len (cipher_of cipher) ≡ 0 }
         ensures size { length self.new ≡ length self.old }
-        ensures turned { self.new ≡ ecb (turned way (cipher_of cipher) key.now) (model.block_len (cipher_of cipher)) self.old }
+        ensures turned { self.new ≡ ecb (turned way (cipher_of cipher) key.now)
+            (model.block_len (cipher_of cipher)) self.old }
     {
         let len = self.len as usize;
         cipher.turn_each(way, key, &mut self.bytes[..len]);

@@ -35,7 +35,11 @@ pub fn manipulate_top<B: Bank, const N: usize>(
     requires op { op ≤ 3 }
     requires low { 1 ≤ N }
     requires high { N ≤ 255 }
-    ensures { CausesAct B.did B.state B.named (scene bank.old bank.new frame.old frame.new public.old public.new) ((A04, is_under (shown (B.state bank.old) (B.named bank.old) frame.old) N) ∷ []) (model.going (model.bits_done (shown (B.state bank.old) (B.named bank.old) frame.old) public.old op (top (shown (B.state bank.old) (B.named bank.old) frame.old) N) mask.now)) result }
+    ensures { CausesAct B.did B.state B.named (scene bank.old bank.new frame.old frame.new public.old public.new)
+        ((A04, is_under (shown (B.state bank.old) (B.named bank.old) frame.old) N)
+        ∷ []) (model.going
+        (model.bits_done (shown (B.state bank.old) (B.named bank.old) frame.old) public.old op
+        (top (shown (B.state bank.old) (B.named bank.old) frame.old) N) mask.now)) result }
 {
     let mut value = [0; N];
     pop_into(frame, &mut value)?;
@@ -51,7 +55,8 @@ fn manipulate<const N: usize>(op: u8, value: &mut [u8; N], mask: &[u8; N]) -> bo
     requires low { 1 ≤ N }
     requires high { N ≤ 255 }
     ensures value { value.new ≡ model.manipulated op value.old mask.now }
-    ensures zero { result ≡ is_zero (cond (op == 3) (and_blocks value.old mask.now) (model.manipulated op value.old mask.now)) }
+    ensures zero { result ≡ is_zero (cond (op == 3) (and_blocks value.old mask.now)
+        (model.manipulated op value.old mask.now)) }
 {
     match op {
         0 => {
@@ -84,7 +89,11 @@ pub fn shift_top<B: Bank>(
     requires high { len ≤ 16 }
     requires some { 1 ≤ by }
     requires inside { by < 8 * len }
-    ensures { CausesAct B.did B.state B.named (scene bank.old bank.new frame.old frame.new public.old public.new) ((A04, is_under (shown (B.state bank.old) (B.named bank.old) frame.old) len) ∷ []) (model.going (model.shifted (shown (B.state bank.old) (B.named bank.old) frame.old) public.old (shift_block side (top (shown (B.state bank.old) (B.named bank.old) frame.old) len) by))) result }
+    ensures { CausesAct B.did B.state B.named (scene bank.old bank.new frame.old frame.new public.old public.new)
+        ((A04, is_under (shown (B.state bank.old) (B.named bank.old) frame.old) len)
+        ∷ []) (model.going
+        (model.shifted (shown (B.state bank.old) (B.named bank.old) frame.old) public.old
+        (shift_block side (top (shown (B.state bank.old) (B.named bank.old) frame.old) len) by))) result }
 {
     let mut bytes = [0; 16];
     let value = &mut bytes[..len as usize];

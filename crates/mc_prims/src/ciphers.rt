@@ -70,7 +70,8 @@ impl Cipher {
     pub fn turn_each(self, way: Way, key: &[u8], message: &mut [u8])
         requires key { length key.now ≡ model.key_len (cipher_of self) }
         requires whole { length message.old % model.block_len (cipher_of self) ≡ 0 }
-        ensures { message.new ≡ ecb (turned way (cipher_of self) key.now) (model.block_len (cipher_of self)) message.old }
+        ensures { message.new ≡ ecb (turned way (cipher_of self) key.now)
+            (model.block_len (cipher_of self)) message.old }
     {
         let size = self.block_len() as usize;
         for i in 0..message.len() / size {

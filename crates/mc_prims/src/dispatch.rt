@@ -44,7 +44,8 @@ pub fn prim<B: Bank>(
 ) -> Result<Next, Halt>
     requires going { (B.state bank.old).stopped ≡ false }
     requires fits { Fits (B.state bank.old) (B.named bank.old) frame.old }
-    ensures { RowActs B.did B.state B.named (scene bank.old bank.new frame.old frame.new public.old public.new) (Prim set number args.now) (known around.now) result }
+    ensures { RowActs B.did B.state B.named (scene bank.old bank.new frame.old frame.new public.old public.new)
+        (Prim set number args.now) (known around.now) result }
 {
     let Some(primitive) = Primitive::of(set, number) else {
         return Err(Halt::Abend(Abend::A06));
@@ -73,7 +74,8 @@ fn run<B: Bank>(
     requires fits { Fits (B.state bank.old) (B.named bank.old) frame.old }
     requires args { model.has_bad_argument (primitive_of primitive) args.now ≡ false }
     requires room { length frame.old.frame.fixed ≤ 4096 }
-    ensures { PrimActs B.did B.state B.named (scene bank.old bank.new frame.old frame.new public.old public.new) (primitive_of primitive) args.now (known around.now) result }
+    ensures { PrimActs B.did B.state B.named (scene bank.old bank.new frame.old frame.new public.old public.new)
+        (primitive_of primitive) args.now (known around.now) result }
 {
     match primitive {
         Primitive::CheckCase => check_case(around.case, frame, public, bank),

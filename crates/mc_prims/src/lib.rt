@@ -1,6 +1,7 @@
 #![tactic(auto)]
 
-// The primitives of the byte code machine.
+//! The primitives of the byte code machine.
+
 mod access;
 mod bits;
 mod ciphers;

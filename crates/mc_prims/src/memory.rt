@@ -24,7 +24,8 @@ pub fn copy_memory<B: Bank>(
 ) -> Result<Next, Halt>
     requires going { (B.state bank.old).stopped ≡ false }
     requires fits { Fits (B.state bank.old) (B.named bank.old) frame.old }
-    ensures { PrimActs B.did B.state B.named (scene bank.old bank.new frame.old frame.new public.old public.new) MemoryCopy [] alone result }
+    ensures { PrimActs B.did B.state B.named
+        (scene bank.old bank.new frame.old frame.new public.old public.new) MemoryCopy [] alone result }
 {
     let (len, to, from) = pop_three(frame)?;
     let len = as_length(len)?;
@@ -44,7 +45,8 @@ pub fn copy_fixed<B: Bank>(
     requires going { (B.state bank.old).stopped ≡ false }
     requires fits { Fits (B.state bank.old) (B.named bank.old) frame.old }
     requires args { model.has_bad_argument CopyFixed args.now ≡ false }
-    ensures { PrimActs B.did B.state B.named (scene bank.old bank.new frame.old frame.new public.old public.new) CopyFixed args.now alone result }
+    ensures { PrimActs B.did B.state B.named
+        (scene bank.old bank.new frame.old frame.new public.old public.new) CopyFixed args.now alone result }
 {
     let (to, from) = pop_two(frame)?;
     let block = Block::read(bank, frame, public, from, args[0])?;
@@ -61,7 +63,8 @@ pub fn compare_memory<B: Bank>(
 ) -> Result<Next, Halt>
     requires going { (B.state bank.old).stopped ≡ false }
     requires fits { Fits (B.state bank.old) (B.named bank.old) frame.old }
-    ensures { PrimActs B.did B.state B.named (scene bank.old bank.new frame.old frame.new public.old public.new) MemoryCompare [] alone result }
+    ensures { PrimActs B.did B.state B.named
+        (scene bank.old bank.new frame.old frame.new public.old public.new) MemoryCompare [] alone result }
 {
     let (len, first, second) = pop_three(frame)?;
     let len = as_length(len)?;
@@ -79,7 +82,8 @@ pub fn compare_fixed<B: Bank>(
     requires going { (B.state bank.old).stopped ≡ false }
     requires fits { Fits (B.state bank.old) (B.named bank.old) frame.old }
     requires args { model.has_bad_argument CompareFixed args.now ≡ false }
-    ensures { PrimActs B.did B.state B.named (scene bank.old bank.new frame.old frame.new public.old public.new) CompareFixed args.now alone result }
+    ensures { PrimActs B.did B.state B.named
+        (scene bank.old bank.new frame.old frame.new public.old public.new) CompareFixed args.now alone result }
 {
     let (first, second) = pop_two(frame)?;
     compare_bytes(args[0], first, second, frame, public, bank)
@@ -97,7 +101,9 @@ fn compare_bytes<B: Bank>(
     requires going { (B.state bank.old).stopped ≡ false }
     requires fits { Fits (B.state bank.old) (B.named bank.old) frame.old }
     requires len { 1 ≤ len }
-    ensures { CausesAct B.did B.state B.named (scene bank.old bank.new frame.old frame.new public.old public.new) (compare_causes (shown (B.state bank.old) (B.named bank.old) frame.old) len first second) (flags_compared (shown (B.state bank.old) (B.named bank.old) frame.old) public.old len first second) result }
+    ensures { CausesAct B.did B.state B.named (scene bank.old bank.new frame.old frame.new public.old public.new)
+        (compare_causes (shown (B.state bank.old) (B.named bank.old) frame.old) len first second)
+        (flags_compared (shown (B.state bank.old) (B.named bank.old) frame.old) public.old len first second) result }
 {
     let first = Block::read(bank, frame, public, first, len)?;
     let second = Block::read(bank, frame, public, second, len)?;
@@ -111,7 +117,8 @@ fn compare_bytes<B: Bank>(
 pub fn digest<B: Bank>(frame: &mut Frame, public: &mut Public, bank: &mut B) -> Result<Next, Halt>
     requires going { (B.state bank.old).stopped ≡ false }
     requires fits { Fits (B.state bank.old) (B.named bank.old) frame.old }
-    ensures { PrimActs B.did B.state B.named (scene bank.old bank.new frame.old frame.new public.old public.new) Digest [] alone result }
+    ensures { PrimActs B.did B.state B.named
+        (scene bank.old bank.new frame.old frame.new public.old public.new) Digest [] alone result }
 {
     let (len, from, to) = pop_three(frame)?;
     // The length of the digest does not hang on the one that was read: its place is tested first.
@@ -129,7 +136,8 @@ pub fn look_up<B: Bank>(frame: &mut Frame, public: &mut Public, bank: &mut B) ->
     requires going { (B.state bank.old).stopped ≡ false }
     requires fits { Fits (B.state bank.old) (B.named bank.old) frame.old }
     requires room { length frame.old.frame.fixed ≤ 4096 }
-    ensures { PrimActs B.did B.state B.named (scene bank.old bank.new frame.old frame.new public.old public.new) Lookup [] alone result }
+    ensures { PrimActs B.did B.state B.named
+        (scene bank.old bank.new frame.old frame.new public.old public.new) Lookup [] alone result }
 {
     let (value, at) = pop_byte_and_word(frame)?;
     let (count, behind) = read_count(bank, frame, public, at)?;
@@ -144,7 +152,10 @@ pub fn look_up<B: Bank>(frame: &mut Frame, public: &mut Public, bank: &mut B) ->
 fn tell_place(place: u8, found: bool, frame: &mut Frame) -> Result<Next, Halt>
     requires room { frame.old.frame.dt + 1 ≤ 0x8200 }
     ensures done { result ≡ Ok Go }
-    ensures told { frame.new ≡ record frame.old { frame = flagged (pushed frame.old.frame (place ∷ [])) frame.old.frame.c found } }
+    ensures told { frame.new ≡ record frame.old {
+      frame = flagged
+          (pushed frame.old.frame (place ∷ [])) frame.old.frame.c found;
+    } }
 {
     push(frame, &[place])?;
     frame.set_flags(frame.c(), found);

@@ -26,7 +26,11 @@ pub fn turn_message<B: Bank>(
     requires going { (B.state bank.old).stopped ≡ false }
     requires fits { Fits (B.state bank.old) (B.named bank.old) frame.old }
     requires message { model.is_message (cipher_of cipher) len ≡ true }
-    ensures { CausesAct B.did B.state B.named (scene bank.old bank.new frame.old frame.new public.old public.new) (model.cipher_causes (cipher_of cipher) len (shown (B.state bank.old) (B.named bank.old) frame.old)) (model.going (model.cipher_done (turned way (cipher_of cipher)) (cipher_of cipher) len (shown (B.state bank.old) (B.named bank.old) frame.old) public.old)) result }
+    ensures { CausesAct B.did B.state B.named (scene bank.old bank.new frame.old frame.new public.old public.new)
+        (model.cipher_causes (cipher_of cipher) len (shown (B.state bank.old) (B.named bank.old) frame.old))
+        (model.going
+        (model.cipher_done (turned way (cipher_of cipher)) (cipher_of cipher) len
+        (shown (B.state bank.old) (B.named bank.old) frame.old) public.old)) result }
 {
     let (from, to, key) = pop_three(frame)?;
     let mut message = Block::read(bank, frame, public, from, len)?;
@@ -48,7 +52,8 @@ pub fn sign_message<B: Bank>(
     requires going { (B.state bank.old).stopped ≡ false }
     requires fits { Fits (B.state bank.old) (B.named bank.old) frame.old }
     requires message { model.is_message (cipher_of cipher) (slice_index args.now 0) ≡ true }
-    ensures { PrimActs B.did B.state B.named (scene bank.old bank.new frame.old frame.new public.old public.new) (model.Sign (cipher_of cipher)) args.now alone result }
+    ensures { PrimActs B.did B.state B.named (scene bank.old bank.new frame.old frame.new public.old public.new)
+        (model.Sign (cipher_of cipher)) args.now alone result }
 {
     let (start, from, to, key) = pop_four(frame)?;
     let mut last = Block::read(bank, frame, public, start, cipher.block_len())?;

@@ -19,7 +19,8 @@ pub fn delegate<B: Bank>(frame: &mut Frame, public: &mut Public, bank: &mut B) -
     requires going { (B.state bank.old).stopped ≡ false }
     requires fits { Fits (B.state bank.old) (B.named bank.old) frame.old }
     requires room { length frame.old.frame.fixed ≤ 4096 }
-    ensures { PrimActs B.did B.state B.named (scene bank.old bank.new frame.old frame.new public.old public.new) DelegateTo [] alone result }
+    ensures { PrimActs B.did B.state B.named
+        (scene bank.old bank.new frame.old frame.new public.old public.new) DelegateTo [] alone result }
 {
     let at = pop_word(frame)?;
     let (len, behind) = read_count(bank, frame, public, at)?;
@@ -43,7 +44,9 @@ pub fn tell_delegator<B: Bank>(
 ) -> Result<Next, Halt>
     requires going { (B.state bank.old).stopped ≡ false }
     requires fits { Fits (B.state bank.old) (B.named bank.old) frame.old }
-    ensures { PrimActs B.did B.state B.named (scene bank.old bank.new frame.old frame.new public.old public.new) DelegatorAid [] (record alone { delegator = delegator }) result }
+    ensures { PrimActs B.did B.state B.named
+        (scene bank.old bank.new frame.old frame.new public.old public.new) DelegatorAid []
+        (record alone { delegator = delegator }) result }
 {
     let at = pop_word(frame)?;
     let c = frame.c();

@@ -22,7 +22,9 @@ pub fn check_case<B: Bank>(
 ) -> Result<Next, Halt>
     requires going { (B.state bank.old).stopped ≡ false }
     requires fits { Fits (B.state bank.old) (B.named bank.old) frame.old }
-    ensures { PrimActs B.did B.state B.named (scene bank.old bank.new frame.old frame.new public.old public.new) CheckCase [] (record alone { case = case }) result }
+    ensures { PrimActs B.did B.state B.named
+        (scene bank.old bank.new frame.old frame.new public.old public.new) CheckCase []
+        (record alone { case = case }) result }
 {
     let asked = pop_byte(frame)?;
     if asked < 1 || asked > 4 {
@@ -41,7 +43,8 @@ pub fn load_flags<B: Bank>(
 ) -> Result<Next, Halt>
     requires going { (B.state bank.old).stopped ≡ false }
     requires fits { Fits (B.state bank.old) (B.named bank.old) frame.old }
-    ensures { PrimActs B.did B.state B.named (scene bank.old bank.new frame.old frame.new public.old public.new) LoadCcr [] alone result }
+    ensures { PrimActs B.did B.state B.named
+        (scene bank.old bank.new frame.old frame.new public.old public.new) LoadCcr [] alone result }
 {
     push(frame, &[2 * frame.c() as u8 + frame.z() as u8])?;
     Ok(Next::Go)
@@ -56,7 +59,8 @@ pub fn store_flags<B: Bank>(
 ) -> Result<Next, Halt>
     requires going { (B.state bank.old).stopped ≡ false }
     requires fits { Fits (B.state bank.old) (B.named bank.old) frame.old }
-    ensures { PrimActs B.did B.state B.named (scene bank.old bank.new frame.old frame.new public.old public.new) StoreCcr [] alone result }
+    ensures { PrimActs B.did B.state B.named
+        (scene bank.old bank.new frame.old frame.new public.old public.new) StoreCcr [] alone result }
 {
     let flags = pop_byte(frame)?;
     frame.set_flags(flags / 2 % 2 == 1, flags % 2 == 1);
@@ -74,7 +78,8 @@ pub fn set_protection<B: Bank>(
     requires going { (B.state bank.old).stopped ≡ false }
     requires fits { Fits (B.state bank.old) (B.named bank.old) frame.old }
     requires args { model.has_bad_argument SetProtection args.now ≡ false }
-    ensures { PrimActs B.did B.state B.named (scene bank.old bank.new frame.old frame.new public.old public.new) SetProtection args.now alone result }
+    ensures { PrimActs B.did B.state B.named
+        (scene bank.old bank.new frame.old frame.new public.old public.new) SetProtection args.now alone result }
 {
     protect(bank, frame, args[0])?;
     Ok(Next::Go)

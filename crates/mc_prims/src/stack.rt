@@ -55,7 +55,8 @@ pub fn pop_two(frame: &mut Frame) -> Result<(u16, u16), Abend>
 
 /// Pops three words; the first lies deepest.
 pub fn pop_three(frame: &mut Frame) -> Result<(u16, u16, u16), Abend>
-    ensures { Pops result (named frame.old.frame 6, named frame.old.frame 4, named frame.old.frame 2) 6 frame.old frame.new }
+    ensures { Pops result (named frame.old.frame 6, named frame.old.frame 4, named frame.old.frame 2) 6 frame.old
+        frame.new }
 {
     let (second, third) = pop_two(frame)?;
     let first = pop_word(frame)?;
@@ -64,7 +65,13 @@ pub fn pop_three(frame: &mut Frame) -> Result<(u16, u16, u16), Abend>
 
 /// Pops four words; the first lies deepest.
 pub fn pop_four(frame: &mut Frame) -> Result<(u16, u16, u16, u16), Abend>
-    ensures { Pops result (named frame.old.frame 8, named frame.old.frame 6, named frame.old.frame 4, named frame.old.frame 2) 8 frame.old frame.new }
+    ensures { Pops result (
+      named frame.old.frame 8,
+      named frame.old.frame 6,
+      named frame.old.frame 4,
+      named
+          frame.old.frame 2,
+    ) 8 frame.old frame.new }
 {
     let (second, third, fourth) = pop_three(frame)?;
     let first = pop_word(frame)?;

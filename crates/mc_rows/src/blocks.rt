@@ -24,7 +24,8 @@ pub fn change_block<B: Bank>(
     requires going { (B.state bank.old).stopped ≡ false }
     requires fits { Fits (B.state bank.old) (B.named bank.old) frame.old }
     requires tag { tag ≤ 7 }
-    ensures { Acts B.did B.state B.named (scene bank.old bank.new frame.old frame.new public.old public.new) (change_end kind (shown (B.state bank.old) (B.named bank.old) frame.old) public.old tag off n) result }
+    ensures { Acts B.did B.state B.named (scene bank.old bank.new frame.old frame.new public.old public.new)
+        (change_end kind (shown (B.state bank.old) (B.named bank.old) frame.old) public.old tag off n) result }
 {
     check_unary(kind, n)?;
     let count = n as usize;
@@ -51,7 +52,9 @@ fn change_in<B: Bank>(
     requires going { (B.state bank.old).stopped ≡ false }
     requires fits { Fits (B.state bank.old) (B.named bank.old) frame.old }
     requires tag { tag ≤ 7 }
-    ensures { Acts B.did B.state B.named (scene bank.old bank.new frame.old frame.new public.old public.new) (changed_end kind (shown (B.state bank.old) (B.named bank.old) frame.old) public.old tag off (length value.old)) result }
+    ensures { Acts B.did B.state B.named (scene bank.old bank.new frame.old frame.new public.old public.new)
+        (changed_end kind (shown (B.state bank.old) (B.named bank.old) frame.old) public.old tag off
+        (length value.old)) result }
 {
     let at = place(frame, tag, off, value.len() as u16)?;
     load(bank, frame, public, at, value)?;
@@ -74,7 +77,8 @@ pub fn clear_block<B: Bank>(
     requires going { (B.state bank.old).stopped ≡ false }
     requires fits { Fits (B.state bank.old) (B.named bank.old) frame.old }
     requires tag { tag ≤ 7 }
-    ensures { RowActs B.did B.state B.named (scene bank.old bank.new frame.old frame.new public.old public.new) (Clearn tag off n) alone result }
+    ensures { RowActs B.did B.state B.named (scene bank.old bank.new frame.old frame.new public.old public.new)
+        (Clearn tag off n) alone result }
 {
     check_block(n)?;
     let at = place(frame, tag, off, n as u16)?;
@@ -97,7 +101,8 @@ pub fn test_block<B: Bank>(
     requires going { (B.state bank.old).stopped ≡ false }
     requires fits { Fits (B.state bank.old) (B.named bank.old) frame.old }
     requires tag { tag ≤ 7 }
-    ensures { RowActs B.did B.state B.named (scene bank.old bank.new frame.old frame.new public.old public.new) (Testn tag off n) alone result }
+    ensures { RowActs B.did B.state B.named (scene bank.old bank.new frame.old frame.new public.old public.new)
+        (Testn tag off n) alone result }
 {
     check_block(n)?;
     let mut buffer = [0; 255];

@@ -22,7 +22,8 @@ pub fn branch<B: Bank>(
 ) -> Result<Next, Halt>
     requires going { (B.state bank.old).stopped ≡ false }
     requires fits { Fits (B.state bank.old) (B.named bank.old) frame.old }
-    ensures { RowActs B.did B.state B.named (scene bank.old bank.new frame.old frame.new public.old public.new) (Branch cond d) alone result }
+    ensures { RowActs B.did B.state B.named (scene bank.old bank.new frame.old frame.new public.old public.new)
+        (Branch cond d) alone result }
 {
     if holds(frame, cond) {
         let to = moved(frame.at(), d)?;
@@ -43,7 +44,8 @@ pub fn jump<B: Bank>(
 ) -> Result<Next, Halt>
     requires going { (B.state bank.old).stopped ≡ false }
     requires fits { Fits (B.state bank.old) (B.named bank.old) frame.old }
-    ensures { RowActs B.did B.state B.named (scene bank.old bank.new frame.old frame.new public.old public.new) (Jump cond to) alone result }
+    ensures { RowActs B.did B.state B.named (scene bank.old bank.new frame.old frame.new public.old public.new)
+        (Jump cond to) alone result }
 {
     let to = target(frame, cond, to)?;
     if holds(frame, cond) {
@@ -64,7 +66,8 @@ pub fn call<B: Bank>(
 ) -> Result<Next, Halt>
     requires going { (B.state bank.old).stopped ≡ false }
     requires fits { Fits (B.state bank.old) (B.named bank.old) frame.old }
-    ensures { RowActs B.did B.state B.named (scene bank.old bank.new frame.old frame.new public.old public.new) (Call cond to) alone result }
+    ensures { RowActs B.did B.state B.named (scene bank.old bank.new frame.old frame.new public.old public.new)
+        (Call cond to) alone result }
 {
     let to = target(frame, cond, to)?;
     if holds(frame, cond) {
@@ -85,7 +88,8 @@ pub fn return_with<B: Bank>(
 ) -> Result<Next, Halt>
     requires going { (B.state bank.old).stopped ≡ false }
     requires fits { Fits (B.state bank.old) (B.named bank.old) frame.old }
-    ensures { RowActs B.did B.state B.named (scene bank.old bank.new frame.old frame.new public.old public.new) (Retio i o) alone result }
+    ensures { RowActs B.did B.state B.named (scene bank.old bank.new frame.old frame.new public.old public.new)
+        (Retio i o) alone result }
 {
     leave(frame, i, o)?;
     Ok(Next::Go)
@@ -144,7 +148,8 @@ fn target(frame: &mut Frame, cond: u8, to: u16) -> Result<u16, Abend>
 // Leaves a call: its top `o` bytes stay, and the `i` bytes below it go. Abend 04 where no such call lies on the stack,
 // 02 where it returns to no place, and then nothing changes.
 fn leave(frame: &mut Frame, i: u8, o: u8) -> Result<(), Abend>
-    ensures due { Returns result (no_return frame.old.frame i o) (no_place frame.old.frame (Some (saved frame.old.frame 2))) }
+    ensures due { Returns result (no_return frame.old.frame i o)
+        (no_place frame.old.frame (Some (saved frame.old.frame 2))) }
     ensures back { OnOk result (frame.new ≡ record frame.old { frame = come_back frame.old.frame i o }) }
     ensures unchanged { OnErr result (frame.new ≡ frame.old) }
 {

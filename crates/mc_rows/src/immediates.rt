@@ -24,7 +24,8 @@ pub fn set<B: Bank>(
     requires tag { tag ≤ 7 }
     requires low { 1 ≤ length bytes.now }
     requires high { length bytes.now ≤ 2 }
-    ensures { Acts B.did B.state B.named (scene bank.old bank.new frame.old frame.new public.old public.new) (set_end (shown (B.state bank.old) (B.named bank.old) frame.old) public.old tag off bytes.now) result }
+    ensures { Acts B.did B.state B.named (scene bank.old bank.new frame.old frame.new public.old public.new)
+        (set_end (shown (B.state bank.old) (B.named bank.old) frame.old) public.old tag off bytes.now) result }
 {
     let at = place(frame, tag, off, bytes.len() as u16)?;
     store(bank, frame, public, at, bytes)?;
@@ -45,7 +46,8 @@ pub fn compare_with<B: Bank>(
     requires tag { tag ≤ 7 }
     requires low { 1 ≤ length bytes.now }
     requires high { length bytes.now ≤ 2 }
-    ensures { Acts B.did B.state B.named (scene bank.old bank.new frame.old frame.new public.old public.new) (compare_end (shown (B.state bank.old) (B.named bank.old) frame.old) public.old tag off bytes.now) result }
+    ensures { Acts B.did B.state B.named (scene bank.old bank.new frame.old frame.new public.old public.new)
+        (compare_end (shown (B.state bank.old) (B.named bank.old) frame.old) public.old tag off bytes.now) result }
 {
     let mut buffer = [0; 2];
     let value = &mut buffer[..bytes.len()];
@@ -71,7 +73,8 @@ pub fn combine_with<B: Bank>(
     requires tag { tag ≤ 7 }
     requires low { 1 ≤ length bytes.now }
     requires high { length bytes.now ≤ 2 }
-    ensures { Acts B.did B.state B.named (scene bank.old bank.new frame.old frame.new public.old public.new) (combine_end kind (shown (B.state bank.old) (B.named bank.old) frame.old) public.old tag off bytes.now) result }
+    ensures { Acts B.did B.state B.named (scene bank.old bank.new frame.old frame.new public.old public.new)
+        (combine_end kind (shown (B.state bank.old) (B.named bank.old) frame.old) public.old tag off bytes.now) result }
 {
     let mut buffer = [0; 2];
     let value = &mut buffer[..bytes.len()];

@@ -1,6 +1,7 @@
 #![tactic(auto)]
 
-// The rows of the byte code machine but those of primitives.
+//! The rows of the byte code machine but those of primitives.
+
 mod blocks;
 mod bytes;
 mod flow;

@@ -67,7 +67,8 @@ pub fn read_address<B: Bank>(
 ) -> Result<u16, Abend>
     requires going { (B.state bank.now).stopped ≡ false }
     requires fits { Fits (B.state bank.now) (B.named bank.now) frame.now }
-    ensures { Gives result (is_outside (shown (B.state bank.now) (B.named bank.now) frame.now) at 2) Abend.A03 (address_at (shown (B.state bank.now) (B.named bank.now) frame.now) public.now at) }
+    ensures { Gives result (is_outside (shown (B.state bank.now) (B.named bank.now) frame.now) at 2) Abend.A03
+        (address_at (shown (B.state bank.now) (B.named bank.now) frame.now) public.now at) }
 {
     let mut address = [0; 2];
     load(bank, frame, public, at, &mut address)?;
@@ -89,7 +90,8 @@ pub fn read_first<B: Bank>(
     requires tag { tag ≤ 7 }
     requires low { 1 ≤ length into.old }
     requires high { length into.old ≤ 255 }
-    ensures first { FirstRead result (shown (B.state bank.now) (B.named bank.now) frame.now) public.now tag off (length into.old) into.new }
+    ensures first { FirstRead result (shown (B.state bank.now) (B.named bank.now) frame.now) public.now tag off
+        (length into.old) into.new }
     ensures second { OnOk result (is_under frame.now.frame (length into.old) ≡ false) }
 {
     let count = into.len() as u16;

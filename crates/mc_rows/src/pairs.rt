@@ -24,7 +24,8 @@ pub fn combine_pair<B: Bank>(
     requires going { (B.state bank.old).stopped ≡ false }
     requires fits { Fits (B.state bank.old) (B.named bank.old) frame.old }
     requires tag { tag ≤ 7 }
-    ensures { Acts B.did B.state B.named (scene bank.old bank.new frame.old frame.new public.old public.new) (pair_end kind (shown (B.state bank.old) (B.named bank.old) frame.old) public.old tag off n) result }
+    ensures { Acts B.did B.state B.named (scene bank.old bank.new frame.old frame.new public.old public.new)
+        (pair_end kind (shown (B.state bank.old) (B.named bank.old) frame.old) public.old tag off n) result }
 {
     check_binary(kind, n)?;
     let count = n as usize;
@@ -53,7 +54,9 @@ fn combine_in<B: Bank>(
     requires going { (B.state bank.old).stopped ≡ false }
     requires fits { Fits (B.state bank.old) (B.named bank.old) frame.old }
     requires tag { tag ≤ 7 }
-    ensures { Acts B.did B.state B.named (scene bank.old bank.new frame.old frame.new public.old public.new) (paired_end kind (shown (B.state bank.old) (B.named bank.old) frame.old) public.old tag off (length first.old)) result }
+    ensures { Acts B.did B.state B.named (scene bank.old bank.new frame.old frame.new public.old public.new)
+        (paired_end kind (shown (B.state bank.old) (B.named bank.old) frame.old) public.old tag off
+        (length first.old)) result }
 {
     let at = read_first(tag, off, first, frame, public, bank)?;
     let second = top(frame, first.len() as u8);
@@ -76,7 +79,8 @@ pub fn compare_pair<B: Bank>(
     requires going { (B.state bank.old).stopped ≡ false }
     requires fits { Fits (B.state bank.old) (B.named bank.old) frame.old }
     requires tag { tag ≤ 7 }
-    ensures { RowActs B.did B.state B.named (scene bank.old bank.new frame.old frame.new public.old public.new) (Cmpn tag off n) alone result }
+    ensures { RowActs B.did B.state B.named (scene bank.old bank.new frame.old frame.new public.old public.new)
+        (Cmpn tag off n) alone result }
 {
     check_block(n)?;
     let mut buffer = [0; 255];

@@ -20,7 +20,8 @@ pub fn registers<B: Bank>(
     requires going { (B.state bank.old).stopped ≡ false }
     requires fits { Fits (B.state bank.old) (B.named bank.old) frame.old }
     requires family { IsRegisterRow ins.now }
-    ensures { RowActs B.did B.state B.named (scene bank.old bank.new frame.old frame.new public.old public.new) ins.now alone result }
+    ensures { RowActs B.did B.state B.named
+        (scene bank.old bank.new frame.old frame.new public.old public.new) ins.now alone result }
 {
     match *ins {
         Ins::Nop => Ok(Next::Go),

@@ -36,7 +36,8 @@ pub fn step<B: Bank>(
     requires fits { Fits (B.state bank.old) (B.named bank.old) frame.old }
     requires shaped { Shaped ins.now }
     requires row { IsNoPrimitive ins.now }
-    ensures { RowActs B.did B.state B.named (scene bank.old bank.new frame.old frame.new public.old public.new) ins.now alone result }
+    ensures { RowActs B.did B.state B.named
+        (scene bank.old bank.new frame.old frame.new public.old public.new) ins.now alone result }
 {
     match *ins {
         Ins::Nop
@@ -77,7 +78,8 @@ fn step_tagged<B: Bank>(
     requires fits { Fits (B.state bank.old) (B.named bank.old) frame.old }
     requires shaped { Shaped ins.now }
     requires family { IsTagged ins.now }
-    ensures { RowActs B.did B.state B.named (scene bank.old bank.new frame.old frame.new public.old public.new) ins.now alone result }
+    ensures { RowActs B.did B.state B.named
+        (scene bank.old bank.new frame.old frame.new public.old public.new) ins.now alone result }
 {
     match *ins {
         Ins::Load { tag, off, n } => load_block(tag, off, n, frame, public, bank),
@@ -127,7 +129,8 @@ fn step_block<B: Bank>(
     requires fits { Fits (B.state bank.old) (B.named bank.old) frame.old }
     requires shaped { Shaped ins.now }
     requires family { IsBlockRow ins.now }
-    ensures { RowActs B.did B.state B.named (scene bank.old bank.new frame.old frame.new public.old public.new) ins.now alone result }
+    ensures { RowActs B.did B.state B.named
+        (scene bank.old bank.new frame.old frame.new public.old public.new) ins.now alone result }
 {
     match *ins {
         Ins::Clearn { tag, off, n } => clear_block(tag, off, n, frame, public, bank),

@@ -24,7 +24,8 @@ pub fn load_block<B: Bank>(
     requires going { (B.state bank.old).stopped ≡ false }
     requires fits { Fits (B.state bank.old) (B.named bank.old) frame.old }
     requires tag { tag ≤ 7 }
-    ensures { RowActs B.did B.state B.named (scene bank.old bank.new frame.old frame.new public.old public.new) (Load tag off n) alone result }
+    ensures { RowActs B.did B.state B.named (scene bank.old bank.new frame.old frame.new public.old public.new)
+        (Load tag off n) alone result }
 {
     check_block(n)?;
     let mut buffer = [0; 255];
@@ -48,7 +49,8 @@ pub fn store_block<B: Bank>(
     requires going { (B.state bank.old).stopped ≡ false }
     requires fits { Fits (B.state bank.old) (B.named bank.old) frame.old }
     requires tag { tag ≤ 7 }
-    ensures { RowActs B.did B.state B.named (scene bank.old bank.new frame.old frame.new public.old public.new) (Store tag off n) alone result }
+    ensures { RowActs B.did B.state B.named (scene bank.old bank.new frame.old frame.new public.old public.new)
+        (Store tag off n) alone result }
 {
     check_block(n)?;
     let count = n as u16;
@@ -74,7 +76,8 @@ pub fn load_indirect<B: Bank>(
     requires going { (B.state bank.old).stopped ≡ false }
     requires fits { Fits (B.state bank.old) (B.named bank.old) frame.old }
     requires tag { tag ≤ 7 }
-    ensures { RowActs B.did B.state B.named (scene bank.old bank.new frame.old frame.new public.old public.new) (Loadi tag off n) alone result }
+    ensures { RowActs B.did B.state B.named (scene bank.old bank.new frame.old frame.new public.old public.new)
+        (Loadi tag off n) alone result }
 {
     check_block(n)?;
     let at = place(frame, tag, off, 2)?;
@@ -99,7 +102,8 @@ pub fn store_indirect<B: Bank>(
     requires going { (B.state bank.old).stopped ≡ false }
     requires fits { Fits (B.state bank.old) (B.named bank.old) frame.old }
     requires tag { tag ≤ 7 }
-    ensures { RowActs B.did B.state B.named (scene bank.old bank.new frame.old frame.new public.old public.new) (Storei tag off n) alone result }
+    ensures { RowActs B.did B.state B.named (scene bank.old bank.new frame.old frame.new public.old public.new)
+        (Storei tag off n) alone result }
 {
     check_block(n)?;
     let to = address_under(n, tag, off, frame, public, bank)?;
@@ -122,7 +126,8 @@ pub fn load_address<B: Bank>(
     requires going { (B.state bank.old).stopped ≡ false }
     requires fits { Fits (B.state bank.old) (B.named bank.old) frame.old }
     requires tag { tag ≤ 7 }
-    ensures { RowActs B.did B.state B.named (scene bank.old bank.new frame.old frame.new public.old public.new) (Loada tag off) alone result }
+    ensures { RowActs B.did B.state B.named (scene bank.old bank.new frame.old frame.new public.old public.new)
+        (Loada tag off) alone result }
 {
     let at = operand(frame, tag, off, 0)?;
     push(frame, &word(at))?;
@@ -142,7 +147,8 @@ pub fn index<B: Bank>(
     requires going { (B.state bank.old).stopped ≡ false }
     requires fits { Fits (B.state bank.old) (B.named bank.old) frame.old }
     requires tag { tag ≤ 7 }
-    ensures { RowActs B.did B.state B.named (scene bank.old bank.new frame.old frame.new public.old public.new) (Index tag off size) alone result }
+    ensures { RowActs B.did B.state B.named (scene bank.old bank.new frame.old frame.new public.old public.new)
+        (Index tag off size) alone result }
 {
     let at = indexed(frame, tag, off, size)?;
     push(frame, &word(at))?;

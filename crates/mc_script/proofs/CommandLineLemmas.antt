@@ -151,19 +151,19 @@ module _ {N R : Type 0} (state : N → DeviceState) (bench : N → BenchState) (
 
   -- ---- a command that was stopped
 
-  pub command_stopped : (p : Player N) (u e f : Card N) (cmd : Command) (how : Stop) (before after : R) → p.power ≡ power.On → IsReady state p.card → state (device_in u) ≡ state (device_of p)
+  pub command_stopped : (p : Player N) (u e f : Card N) (cmd : Command) (o : Outcome) (how : Stop) (before after : R) → p.power ≡ power.On → IsReady state p.card → state (device_in u) ≡ state (device_of p)
       → bench (device_in u) ≡ armed_bench p.armed (bench (device_of p)) → u ≡ with_device p.card (device_in u)
       → Ran state wrote told u (line_command (card_in state u) (seat_in state u) p.budget (command_line cmd)) (Err how) e before after
       → state (device_in f) ≡ state (device_in e) → bench (device_in f) ≡ record (bench (device_in e)) { cut = None; worn = None }
-      → LineDone state bench told p (command_line cmd) before after (Some (answer_after_stop how p.armed)) (record p { card = f; power = power_after_stop how; armed = armed.Not })
-  command_stopped p u e f cmd how before after on_is ready same is rest ran kept free (Cold m b r) n at = absurd (cc (sym at.stands.0 ∙ on_is))
-  command_stopped p u e f cmd how before after on_is ready same is rest ran kept free (Hot w) n at =
+      → LineDone state bench told p (command_line cmd) before after (Some (answer_after_stop how p.armed)) (record p { card = f; power = power_after_stop how; armed = armed.Not; outcome = o })
+  command_stopped p u e f cmd o how before after on_is ready same is rest ran kept free (Cold m b r) n at = absurd (cc (sym at.stands.0 ∙ on_is))
+  command_stopped p u e f cmd o how before after on_is ready same is rest ran kept free (Hot w) n at =
       let c = p.card in
       let k = p.budget in
       let a = p.armed in
       let d = device_in f in
       let ans = answer_after_stop how a in
-      let q : Player N = record p { card = f; power = power_after_stop how; armed = armed.Not } in
+      let q : Player N = record p { card = f; power = power_after_stop how; armed = armed.Not; outcome = o } in
       let l = command_line cmd in
       let on : IsCard state c w.base w.live = subst (λ (y : Power). LiveIs state y c w.base w.live) on_is at.stands.0 in
       let r = asked c w cmd in
@@ -199,12 +199,12 @@ module _ {N R : Type 0} (state : N → DeviceState) (bench : N → BenchState) (
       (worn_entry i x (Some how), lined state bench told p q (Hot w) (n, l) (worn_entry i x (Some how)) (command_step n l w card r (Some t)) (Some ans) before after step_on stepped tells.2)
 
   -- the same, of the power and the answer that are these
-  pub command_stopped_as : (p : Player N) (u e f : Card N) (cmd : Command) (how : Stop) (pw : Power) (ans : Answer) (before after : R) → p.power ≡ power.On → IsReady state p.card → state (device_in u) ≡ state (device_of p)
+  pub command_stopped_as : (p : Player N) (u e f : Card N) (cmd : Command) (o : Outcome) (how : Stop) (pw : Power) (ans : Answer) (before after : R) → p.power ≡ power.On → IsReady state p.card → state (device_in u) ≡ state (device_of p)
       → bench (device_in u) ≡ armed_bench p.armed (bench (device_of p)) → u ≡ with_device p.card (device_in u)
       → Ran state wrote told u (line_command (card_in state u) (seat_in state u) p.budget (command_line cmd)) (Err how) e before after
       → state (device_in f) ≡ state (device_in e) → bench (device_in f) ≡ record (bench (device_in e)) { cut = None; worn = None } → pw ≡ power_after_stop how → ans ≡ answer_after_stop how p.armed
-      → LineDone state bench told p (command_line cmd) before after (Some ans) (record p { card = f; power = pw; armed = armed.Not })
-  command_stopped_as p u e f cmd how pw ans before after on_is ready same is rest ran kept free goes says =
-      subst (λ (x : Power). LineDone state bench told p (command_line cmd) before after (Some ans) (record p { card = f; power = x; armed = armed.Not })) (sym goes)
-      (subst (λ (x : Answer). LineDone state bench told p (command_line cmd) before after (Some x) (record p { card = f; power = power_after_stop how; armed = armed.Not })) (sym says)
-      (command_stopped p u e f cmd how before after on_is ready same is rest ran kept free))
+      → LineDone state bench told p (command_line cmd) before after (Some ans) (record p { card = f; power = pw; armed = armed.Not; outcome = o })
+  command_stopped_as p u e f cmd o how pw ans before after on_is ready same is rest ran kept free goes says =
+      subst (λ (x : Power). LineDone state bench told p (command_line cmd) before after (Some ans) (record p { card = f; power = x; armed = armed.Not; outcome = o })) (sym goes)
+      (subst (λ (x : Answer). LineDone state bench told p (command_line cmd) before after (Some x) (record p { card = f; power = power_after_stop how; armed = armed.Not; outcome = o })) (sym says)
+      (command_stopped p u e f cmd o how before after on_is ready same is rest ran kept free))

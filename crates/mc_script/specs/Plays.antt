@@ -5,8 +5,8 @@ use Rattle.mc_model.specs.Device.{DeviceState, BenchState, Entry, GrowsBy}
 use Rattle.mc_model.specs.DeckGrammar.{DeckLine}
 use Rattle.mc_model.specs.Play.{State, WornAt, Step, armed_in, plays, start, last_state, Possible, Stands, steady_worn, tape_worn, Accounts, MayHit, moves_of, steady_at, worn_in, words_left, AccountsForLine}
 use Rattle.mc_model.specs.Laws.{HoldsOf}
-use Rattle.mc_model.specs.Transcript.{line_text}
-use Rattle.mc_model.specs.TraceText.{turn_lines, shown_turns}
+pub use Rattle.mc_model.specs.Transcript.{plain_text, texts}
+pub use Rattle.mc_model.specs.TraceText.{traced_text}
 use Rattle.mc_base.specs.Streams.{Grew}
 use Rattle.mc_base.specs.declared.refusals.WriteFault.{WriteFault}
 use Rattle.mc_script.specs.Counting.{LineCounts, PlayCounts}
@@ -66,19 +66,6 @@ pub record LeadsTo (s : State) (ls : List (ℕ × DeckLine)) (ws : List (Option 
   pub rest : (ks : List (ℕ × DeckLine)) (vs : List (Option WornAt)) (c : Bench) → Played u ks vs b c → Played s (ls ++ ks) (ws ++ vs) a c
 
 -- ---- their text
-
--- the text of a line in a transcript
-abbrev pub plain_text : Step → List ℕ
-plain_text t = line_text t.number t.result
-
--- the text of a line in a trace
-abbrev pub traced_text : Step → List ℕ
-traced_text t = turn_lines (shown_turns t.turns t.stop) ++ line_text t.number t.result
-
--- the texts of lines, joined
-abbrev pub texts : (Step → List ℕ) → List Step → List ℕ
-texts f [] = []
-texts f (t ∷ ts) = f t ++ texts f ts
 
 -- The last of some lines is the first whose text is not wholly written: the texts before it were, and a front of its own.
 pub record CutText (f : Step → List ℕ) (a : Sunk) (ts : List Step) (b : Sunk) : Type 0 where

@@ -5,6 +5,7 @@ ghost use Rattle.mc_deck.specs.Lines.{GoodLine};
 ghost use Rattle.mc_card.specs.Parts.{device_in, card_in, seat_in, IsReady};
 ghost use Rattle.mc_script.specs.Commands.{command_line};
 ghost use Rattle.mc_script.specs.Runs.{Ran};
+ghost use Rattle.mc_card.specs.Ends.{put_in};
 
 use crate::loading::{LoadCommands, send};
 use crate::runner::Runner;
@@ -40,19 +41,22 @@ fn with_name(header: [u8; 4], aid: &Aid) -> ArrayVec<u8, 21>
     bytes
 }
 
-/// Runs the command or the commands of a line on a card.
+/// Runs the command or the commands of a line on a card, whose outcome is put in place of another.
 pub fn run_line<N: Nvm, R: Runner, L: Ledger>(
     card: &mut Card<N>,
     command: &Command<'_>,
     budget: u32,
     runner: &mut R,
+    into: &mut Outcome,
     steps: &mut Steps<L>,
-) -> Result<Outcome, Stop>
+) -> Result<(), Stop>
     requires ready { IsReady N.state card.old }
     requires some { 1 ≤ budget }
     requires budget { budget ≤ 65536 }
     requires good { GoodLine (command_line command.now) }
-    ensures done { Ran N.state N.wrote R.told card.old (line_command (card_in N.state card.old) (seat_in N.state card.old) budget (command_line command.now)) result card.new runner.old runner.new }
+    ensures done { Ran N.state N.wrote R.told card.old
+        (line_command (card_in N.state card.old) (seat_in N.state card.old) budget (command_line command.now))
+        (put_in result into.new) card.new runner.old runner.new }
     ensures lent { N.same (device_in card.old) (device_in card.new) }
 {
     match command {
@@ -60,22 +64,24 @@ pub fn run_line<N: Nvm, R: Runner, L: Ledger>(
             card,
             with_name([0x00, 0xA4, 0x04, 0x0C], aid).as_slice(),
             budget,
+            into,
             steps,
         ),
         Command::Delete(aid) => runner.run(
             card,
             with_name([0xBE, 0x18, 0x00, 0x00], aid).as_slice(),
             budget,
+            into,
             steps,
         ),
-        Command::Apdu(bytes) => runner.run(card, bytes, budget, steps),
+        Command::Apdu(bytes) => runner.run(card, bytes, budget, into, steps),
         Command::Load {
             unit,
             fixed,
             session,
         } => {
             let mut commands = LoadCommands::new(unit, *fixed, *session);
-            send(card, &mut commands, budget, runner, steps)
+            send(card, &mut commands, budget, runner, into, steps)
         }
     }
 }

@@ -15,7 +15,8 @@ impl<N: Bench> Player<N> {
     /// Plays all lines of a deck, and tells nothing of them.
     pub fn deck<L: Ledger>(&mut self, deck: &Deck, steps: &mut Steps<L>)
         requires playing { IsPlaying N.state N.bench self.old }
-        ensures done { (s : State) → IsAt N.state N.bench self.old s → DeckPlayed N.state N.bench self.old s deck.now self.new }
+        ensures done { (s : State) → IsAt N.state N.bench self.old s
+            → DeckPlayed N.state N.bench self.old s deck.now self.new }
         ensures lent { N.same (device_of self.old) (device_of self.new) }
     {
         for i in 0..deck.len() {

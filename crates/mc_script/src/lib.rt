@@ -1,6 +1,7 @@
 #![tactic(auto)]
 
-// Decks played on a device: their transcripts, their summaries and their traces.
+//! Decks played on a device: their transcripts, their summaries and their traces.
+
 mod answer;
 mod armed;
 mod commands;

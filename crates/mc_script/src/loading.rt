@@ -9,6 +9,7 @@ ghost use Rattle.mc_machine.specs.Turns.{outcome_value};
 ghost use Rattle.mc_card.specs.Parts.{device_in, card_in, seat_in, IsReady};
 ghost use Rattle.mc_script.specs.Classes.{IsManaged};
 ghost use Rattle.mc_script.specs.Runs.{Ran};
+ghost use Rattle.mc_card.specs.Ends.{put_in};
 
 use crate::runner::Runner;
 use arrayvec::ArrayVec;
@@ -101,7 +102,9 @@ fn bytes_of(number: u16) -> [u8; 2]
 // The command OPEN: the lengths of the code, of the static segment, of the data, of the session, of DIR and of FCI.
 fn open_command(unit: &Unit<'_>, fixed: u16, session: u16) -> [u8; 17]
     requires { FitsUnit unit.now.code.now unit.now.init.now unit.now.dir.now unit.now.fci.now }
-    ensures { result ≡ 0xBE ∷ 0x12 ∷ 0x00 ∷ 0x00 ∷ 12 ∷ (bytes2 (length unit.now.code.now) ++ bytes2 fixed ++ bytes2 (length unit.now.init.now) ++ bytes2 session ++ bytes2 (length unit.now.dir.now) ++ bytes2 (length unit.now.fci.now)) }
+    ensures { result ≡ 0xBE ∷ 0x12 ∷ 0x00 ∷ 0x00 ∷ 12
+        ∷ (bytes2 (length unit.now.code.now) ++ bytes2 fixed ++ bytes2 (length unit.now.init.now) ++ bytes2 session
+        ++ bytes2 (length unit.now.dir.now) ++ bytes2 (length unit.now.fci.now)) }
 {
     let [code_high, code_low] = bytes_of(unit.code.len() as u16);
     let [fixed_high, fixed_low] = bytes_of(fixed);
@@ -229,26 +232,44 @@ pub fn done() -> Outcome
     })
 }
 
-/// Sends commands of class BE to a card in turn, up to the first that is not answered by 9000 alone.
+// Puts the outcome of commands that were all answered by 9000 alone in place of another.
+fn put_done(into: &mut Outcome)
+    ensures { outcome_value into.new ≡ status 0x9000 }
+{
+    match into {
+        Outcome::Reply(reply) => {
+            reply.body.clear();
+            reply.sw = 0x9000;
+        }
+        Outcome::Abend(_) => *into = done(),
+    }
+}
+
+/// Sends commands of class BE to a card in turn, up to the first that is not answered by 9000 alone. Its outcome is put in place of
+/// another.
 pub fn send<N: Nvm, R: Runner, L: Ledger>(
     card: &mut Card<N>,
     commands: &mut LoadCommands<'_>,
     budget: u32,
     runner: &mut R,
+    into: &mut Outcome,
     steps: &mut Steps<L>,
-) -> Result<Outcome, Stop>
+) -> Result<(), Stop>
     requires ready { IsReady N.state card.old }
     requires some { 1 ≤ budget }
     requires budget { budget ≤ 65536 }
     requires managed { AllByRecursion IsManaged commands.old }
-    ensures done { Ran N.state N.wrote R.told card.old (send (card_in N.state card.old) (seat_in N.state card.old) budget commands.old) result card.new runner.old runner.new }
+    ensures done { Ran N.state N.wrote R.told card.old
+        (send (card_in N.state card.old) (seat_in N.state card.old) budget commands.old)
+        (put_in result into.new) card.new runner.old runner.new }
     ensures lent { N.same (device_in card.old) (device_in card.new) }
 {
     while let Some(bytes) = commands.next() {
-        let outcome = runner.run(card, bytes.as_slice(), budget, steps)?;
-        if !is_done(&outcome) {
-            return Ok(outcome);
+        runner.run(card, bytes.as_slice(), budget, into, steps)?;
+        if !is_done(into) {
+            return Ok(());
         }
     }
-    Ok(done())
+    put_done(into);
+    Ok(())
 }

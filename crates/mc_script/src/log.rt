@@ -35,7 +35,8 @@ impl<'a, T: Sink> Log<'a, T> {
         requires shaped { IfSome turn.now.ins Shaped }
         requires low { 1 ≤ turn.now.depth }
         requires high { turn.now.depth ≤ 4 }
-        ensures tells { (wrote : Option ℕ) → LogKeeps T.taken T.faults self.old (turn_value turn.now wrote ∷ []) self.new }
+        ensures tells { (wrote : Option ℕ)
+            → LogKeeps T.taken T.faults self.old (turn_value turn.now wrote ∷ []) self.new }
     {
         if self.fault.is_none() {
             self.fault = put(self.out, line_of(turn).as_slice()).err();
@@ -48,28 +49,37 @@ impl<'a, T: Sink> Runner for Log<'a, T> {
 
     ghost silent = { λ r. record { lines = logged_none (log_in T.taken T.faults r); same = refl } };
 
-    ghost onward = { λ q r s ts us first rest. record { lines = logged_on (log_in T.taken T.faults q) (log_in T.taken T.faults r) (log_in T.taken T.faults s) ts us first.lines rest.lines; same = rest.same ∙ first.same } };
+    ghost onward = { λ q r s ts us first rest.
+        record {
+          lines = logged_on (log_in T.taken T.faults q) (log_in T.taken T.faults r)
+              (log_in T.taken T.faults s) ts us first.lines rest.lines;
+          same = rest.same ∙ first.same;
+        } };
 
     fn run<N: Nvm, L: Ledger>(
         &mut self,
         card: &mut Card<N>,
         bytes: &[u8],
         budget: u32,
+        into: &mut Outcome,
         steps: &mut Steps<L>,
-    ) -> Result<Outcome, Stop> {
+    ) -> Result<(), Stop> {
         if let Some(outcome) = card.begin(bytes, budget, steps)? {
-            return Ok(outcome);
+            *into = outcome;
+            return Ok(());
         }
         for _turn in 0..budget {
             let turn = card.turn(steps)?;
             self.tell(&turn);
             if let Some(outcome) = turn.end {
-                return Ok(outcome);
+                *into = outcome;
+                return Ok(());
             }
         }
         let turn = card.turn(steps)?;
         self.tell(&turn);
-        Ok(turn.end.unwrap())
+        *into = turn.end.unwrap();
+        Ok(())
     }
 }
 

@@ -26,7 +26,9 @@ fn play_lines<N: Bench, S: Script, L: Ledger>(
 ) -> N
     requires fuses { IsUnfused (N.bench device) }
     requires fault { S.fault script.old ≡ None }
-    ensures plays { PlaysFrom (text_by S.text) (start (N.state device).words) deck.now (record { device = N.state device; bench = N.bench device }) (S.out script.old) (ended (S.fault script.new)) (record { device = N.state result; bench = N.bench result }) (S.out script.new) }
+    ensures plays { PlaysFrom (text_by S.text) (start (N.state device).words) deck.now
+        (record { device = N.state device; bench = N.bench device }) (S.out script.old) (ended (S.fault script.new))
+        (record { device = N.state result; bench = N.bench result }) (S.out script.new) }
     ensures lent { N.same device result }
     ensures same { S.same script.old script.new }
 {
@@ -52,7 +54,10 @@ pub fn play<N: Bench, T: Sink, L: Ledger>(
     steps: &mut Steps<L>,
 ) -> Result<(), WriteFault>
     requires { IsUnfused (N.bench dev.old) }
-    ensures plays { PlaysDeck plain_text deck.now (record { device = N.state dev.old; bench = N.bench dev.old }) (record { taken = T.taken out.old; faults = T.faults out.old }) result (record { device = N.state dev.new; bench = N.bench dev.new }) (record { taken = T.taken out.new; faults = T.faults out.new }) }
+    ensures plays { PlaysDeck plain_text deck.now (record { device = N.state dev.old; bench = N.bench dev.old })
+        (record { taken = T.taken out.old; faults = T.faults out.old }) result
+        (record { device = N.state dev.new; bench = N.bench dev.new })
+        (record { taken = T.taken out.new; faults = T.faults out.new }) }
 {
     let mut script = Plain {
         out: &mut *out,
@@ -73,7 +78,10 @@ pub fn trace<N: Bench, T: Sink, L: Ledger>(
     steps: &mut Steps<L>,
 ) -> Result<(), WriteFault>
     requires { IsUnfused (N.bench dev.old) }
-    ensures plays { PlaysDeck traced_text deck.now (record { device = N.state dev.old; bench = N.bench dev.old }) (record { taken = T.taken out.old; faults = T.faults out.old }) result (record { device = N.state dev.new; bench = N.bench dev.new }) (record { taken = T.taken out.new; faults = T.faults out.new }) }
+    ensures plays { PlaysDeck traced_text deck.now (record { device = N.state dev.old; bench = N.bench dev.old })
+        (record { taken = T.taken out.old; faults = T.faults out.old }) result
+        (record { device = N.state dev.new; bench = N.bench dev.new })
+        (record { taken = T.taken out.new; faults = T.faults out.new }) }
 {
     let mut script = Log {
         out: &mut *out,
@@ -96,7 +104,10 @@ pub fn summarise<N: Bench, T: Sink, L: Ledger>(
 ) -> Result<(), WriteFault>
     requires fuses { IsUnfused (N.bench dev.old) }
     requires dumps { DumpsLast deck.now }
-    ensures sums { SumsDeck summary deck.now (record { device = N.state dev.old; bench = N.bench dev.old }) (record { taken = T.taken out.old; faults = T.faults out.old }) result (record { device = N.state dev.new; bench = N.bench dev.new }) (record { taken = T.taken out.new; faults = T.faults out.new }) }
+    ensures sums { SumsDeck summary deck.now (record { device = N.state dev.old; bench = N.bench dev.old })
+        (record { taken = T.taken out.old; faults = T.faults out.old }) result
+        (record { device = N.state dev.new; bench = N.bench dev.new })
+        (record { taken = T.taken out.new; faults = T.faults out.new }) }
 {
     let mut script = Plain {
         out: &mut *out,

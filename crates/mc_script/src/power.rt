@@ -113,7 +113,8 @@ impl<N: Bench> Player<N> {
     ) -> Answer
         requires playing { IsPlaying N.state N.bench self.old }
         requires good { GoodLine (command_line command.now) }
-        ensures done { LineDone N.state N.bench R.told self.old (command_line command.now) runner.old runner.new (Some result) self.new }
+        ensures done { LineDone N.state N.bench R.told self.old (command_line command.now) runner.old runner.new
+            (Some result) self.new }
         ensures lent { N.same (device_of self.old) (device_of self.new) }
     {
         match self.power {
@@ -146,19 +147,24 @@ impl<N: Bench> Player<N> {
         requires most { self.old.budget ≤ 65536 }
         requires can { CanArm self.old.armed }
         requires good { GoodLine (command_line command.now) }
-        ensures done { LineDone N.state N.bench R.told self.old (command_line command.now) runner.old runner.new (Some result) self.new }
+        ensures done { LineDone N.state N.bench R.told self.old (command_line command.now) runner.old runner.new
+            (Some result) self.new }
         ensures lent { N.same (device_of self.old) (device_of self.new) }
     {
         let armed = self.armed;
         self.armed = Armed::Not;
         arm(&mut self.card, armed);
-        let outcome = run_line(&mut self.card, command, self.budget, runner, steps);
+        let ended = run_line(
+            &mut self.card,
+            command,
+            self.budget,
+            runner,
+            &mut self.outcome,
+            steps,
+        );
         self.card.disarm();
-        match outcome {
-            Ok(outcome) => {
-                self.outcome = outcome;
-                Answer::Outcome
-            }
+        match ended {
+            Ok(()) => Answer::Outcome,
             Err(stop) => {
                 self.power = power_after_stop(stop);
                 answer_after_stop(stop, armed)

@@ -20,8 +20,13 @@ use mc_nvm::Bench;
 // Sets words of a device in order.
 fn poke_all<N: Bench>(card: &mut Card<N>, list: &[(u16, Word)])
     requires { AllByRecursion (λ p. p.0 < length (N.state (device_in card.old)).words) list.now }
-    ensures state { N.state (device_in card.new) ≡ record (N.state (device_in card.old)) { words = laid (N.state (device_in card.old)).words list.now } }
-    ensures bench { N.bench (device_in card.new) ≡ record (N.bench (device_in card.old)) { pokes = raised (N.bench (device_in card.old)).pokes (length list.now) } }
+    ensures state { N.state (device_in card.new)
+        ≡ record (N.state (device_in card.old)) { words = laid (N.state (device_in card.old)).words list.now } }
+    ensures bench { N.bench (device_in card.new)
+        ≡ record (N.bench (device_in card.old)) {
+          pokes = raised (N.bench (device_in card.old)).pokes
+              (length list.now);
+        } }
     ensures lent { N.same (device_in card.old) (device_in card.new) }
 {
     for (at, word) in list {
@@ -31,8 +36,10 @@ fn poke_all<N: Bench>(card: &mut Card<N>, list: &[(u16, Word)])
 
 // Sets the words of an empty card.
 fn format<N: Bench>(card: &mut Card<N>)
-    ensures state { N.state (device_in card.new) ≡ record (N.state (device_in card.old)) { words = formatted (N.state (device_in card.old)).words } }
-    ensures bench { N.bench (device_in card.new) ≡ record (N.bench (device_in card.old)) { pokes = raised (N.bench (device_in card.old)).pokes 5 } }
+    ensures state { N.state (device_in card.new)
+        ≡ record (N.state (device_in card.old)) { words = formatted (N.state (device_in card.old)).words } }
+    ensures bench { N.bench (device_in card.new)
+        ≡ record (N.bench (device_in card.old)) { pokes = raised (N.bench (device_in card.old)).pokes 5 } }
     ensures lent { N.same (device_in card.old) (device_in card.new) }
 {
     let words = format_words(card.len());
@@ -41,8 +48,13 @@ fn format<N: Bench>(card: &mut Card<N>)
 
 // Sets one word of a device, where it has the place.
 fn poke<N: Bench>(card: &mut Card<N>, at: u16, fill: Word)
-    ensures state { N.state (device_in card.new) ≡ record (N.state (device_in card.old)) { words = slice_set (N.state (device_in card.old)).words at fill } }
-    ensures bench { N.bench (device_in card.new) ≡ record (N.bench (device_in card.old)) { pokes = raised (N.bench (device_in card.old)).pokes (cond (nat_lt at (length (N.state (device_in card.old)).words)) 1 0) } }
+    ensures state { N.state (device_in card.new)
+        ≡ record (N.state (device_in card.old)) { words = slice_set (N.state (device_in card.old)).words at fill } }
+    ensures bench { N.bench (device_in card.new)
+        ≡ record (N.bench (device_in card.old)) {
+          pokes = raised (N.bench (device_in card.old)).pokes
+              (cond (nat_lt at (length (N.state (device_in card.old)).words)) 1 0);
+        } }
     ensures lent { N.same (device_in card.old) (device_in card.new) }
 {
     if (at as u32) < card.len() {

@@ -3,6 +3,7 @@ ghost use Rattle.std.specs.Prelude.{◌≡◌, ◌≤◌, ◌++◌, List, []};
 ghost use Rattle.mc_model.specs.Chain.{Turn as ModelTurn};
 ghost use Rattle.mc_card.specs.Parts.{device_in, due, IsReady};
 ghost use Rattle.mc_script.specs.Runs.{Ran};
+ghost use Rattle.mc_card.specs.Ends.{put_in};
 
 use mc_base::{Steps, Stop};
 use mc_card::Card;
@@ -15,19 +16,21 @@ pub trait Runner {
     /// What it has told before, the turns in order, and what it has told afterwards.
     ghost told: { Self → List ModelTurn → Self → Type 0 };
 
-    /// One command on a card, with a budget of 1 to 65,536 instructions. The turns that are told are those of its run, and where a
-    /// write stopped those before the turn whose write it was.
+    /// One command on a card, whose outcome is put in place of another, with a budget of 1 to 65,536 instructions. The turns that are
+    /// told are those of its run, and where a write stopped those before the turn whose write it was.
     fn run<N: Nvm, L: Ledger>(
         &mut self,
         card: &mut Card<N>,
         bytes: &[u8],
         budget: u32,
+        into: &mut Outcome,
         steps: &mut Steps<L>,
-    ) -> Result<Outcome, Stop>
+    ) -> Result<(), Stop>
         requires ready { IsReady N.state card.old }
         requires some { 1 ≤ budget }
         requires budget { budget ≤ 65536 }
-        ensures done { Ran N.state N.wrote told card.old (due N.state card.old bytes.now budget) result card.new self.old self.new }
+        ensures done { Ran N.state N.wrote told card.old (due N.state card.old bytes.now budget)
+            (put_in result into.new) card.new self.old self.new }
         ensures lent { N.same (device_in card.old) (device_in card.new) };
 
     /// Where there are no turns, nothing is told.
@@ -53,8 +56,9 @@ impl Runner for Silent {
         card: &mut Card<N>,
         bytes: &[u8],
         budget: u32,
+        into: &mut Outcome,
         steps: &mut Steps<L>,
-    ) -> Result<Outcome, Stop> {
-        card.command(bytes, budget, steps)
+    ) -> Result<(), Stop> {
+        card.command_into(bytes, budget, into, steps)
     }
 }

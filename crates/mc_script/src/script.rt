@@ -35,7 +35,10 @@ pub trait Script: Runner {
     /// Writes the result of a line behind the text of the turns that were told in it, unless its sink failed before.
     fn tell<N: Bench>(&mut self, number: u32, player: &Player<N>, answer: &Option<Answer>)
         requires playing { IsPlaying N.state N.bench player.now }
-        ensures tells { (before : Self) (ts : List ModelTurn) → fault before ≡ None → Self.told before ts self.old → Puts (out before) (text ts ++ line_text number (option_map (answer_value N.state player.now) answer.now)) (ended (fault self.new)) (out self.new) }
+        ensures tells { (before : Self) (ts : List ModelTurn) → fault before ≡ None → Self.told before ts self.old
+            → Puts (out before) (text ts
+            ++ line_text number (option_map (answer_value N.state player.now) answer.now)) (ended (fault self.new))
+            (out self.new) }
         ensures same { same self.old self.new };
 
     /// Whether all was written.
@@ -72,9 +75,10 @@ impl<'a, T: Sink> Runner for Plain<'a, T> {
         card: &mut Card<N>,
         bytes: &[u8],
         budget: u32,
+        into: &mut Outcome,
         steps: &mut Steps<L>,
-    ) -> Result<Outcome, Stop> {
-        card.command(bytes, budget, steps)
+    ) -> Result<(), Stop> {
+        card.command_into(bytes, budget, into, steps)
     }
 }
 

@@ -23,8 +23,10 @@ impl<N: Bench> Player<N> {
     /// Copies static bytes of an application that `static_len` knows, from a place on; they lie in its segment.
     pub fn static_of(&self, aid: &Aid, at: u16, into: &mut [u8])
         requires playing { IsPlaying N.state N.bench self.now }
-        requires range { (fixed : List ℕ) × (statics_in N.state self.now aid.now ≡ Some fixed) × (at + length into.old ≤ length fixed) }
-        ensures { (fixed : List ℕ) → statics_in N.state self.now aid.now ≡ Some fixed → into.new ≡ take (length into.old) (drop at fixed) }
+        requires range { (fixed : List ℕ) × (statics_in N.state self.now aid.now ≡ Some fixed)
+            × (at + length into.old ≤ length fixed) }
+        ensures { (fixed : List ℕ) → statics_in N.state self.now aid.now ≡ Some fixed
+            → into.new ≡ take (length into.old) (drop at fixed) }
     {
         self.card.static_of(aid, at, into);
     }

@@ -54,11 +54,14 @@ impl Counts {
         requires offs { self.offs < 18446744073709551615 }
         requires readies { self.readies < 18446744073709551615 }
         ensures lines { result.lines ≡ self.lines + 1 }
-        ensures replies { result.replies ≡ self.replies + cond (is_reply (answer_value N.state player.now answer.now)) 1 0 }
-        ensures abends { result.abends ≡ self.abends + cond (is_abend (answer_value N.state player.now answer.now)) 1 0 }
+        ensures replies { result.replies ≡ self.replies
+            + cond (is_reply (answer_value N.state player.now answer.now)) 1 0 }
+        ensures abends { result.abends ≡ self.abends
+            + cond (is_abend (answer_value N.state player.now answer.now)) 1 0 }
         ensures cuts { result.cuts ≡ self.cuts + cond (is_cut (answer_value N.state player.now answer.now)) 1 0 }
         ensures offs { result.offs ≡ self.offs + cond (is_off (answer_value N.state player.now answer.now)) 1 0 }
-        ensures readies { result.readies ≡ self.readies + cond (is_ready (answer_value N.state player.now answer.now)) 1 0 }
+        ensures readies { result.readies ≡ self.readies
+            + cond (is_ready (answer_value N.state player.now answer.now)) 1 0 }
     {
         Counts {
             lines: self.lines + 1,
@@ -124,7 +127,8 @@ fn is_ready<N: Bench>(player: &Player<N>, answer: &Answer) -> bool
 /// The counts with those of a line, where it answers.
 pub fn counted<N: Bench>(counts: Counts, player: &Player<N>, answer: &Option<Answer>) -> Counts
     requires { (rs : List LineResult) × Counted counts rs × (length rs < 18446744073709551615) }
-    ensures { (rs : List LineResult) → Counted counts rs → Counted result (rs ++ listed (option_map (answer_value N.state player.now) answer.now)) }
+    ensures { (rs : List LineResult) → Counted counts rs
+        → Counted result (rs ++ listed (option_map (answer_value N.state player.now) answer.now)) }
 {
     match answer {
         Some(answer) => counts.with(player, answer),
@@ -153,7 +157,8 @@ fn add_count(line: &mut Line, word: &[u8], count: u64)
 
 /// Writes the line of the counts.
 pub fn put_counts<T: Sink>(out: &mut T, counts: &Counts) -> Result<(), WriteFault>
-    ensures { (rs : List LineResult) → Counted counts.now rs → Puts (sunk_in T.taken T.faults out.old) (count_line rs) result (sunk_in T.taken T.faults out.new) }
+    ensures { (rs : List LineResult) → Counted counts.now rs
+        → Puts (sunk_in T.taken T.faults out.old) (count_line rs) result (sunk_in T.taken T.faults out.new) }
 {
     let mut line = ArrayVec::new();
     add_count(&mut line, b"lines ", counts.lines);

@@ -24,7 +24,8 @@ use std::sync::ledger::Ledger;
 // Plays all lines of a deck, and counts their results.
 fn tally<N: Bench, L: Ledger>(player: &mut Player<N>, deck: &Deck, steps: &mut Steps<L>) -> Counts
     requires { IsPlaying N.state N.bench player.old }
-    ensures tallied { (s : State) → IsAt N.state N.bench player.old s → Tallied N.state N.bench s deck.now (bench_of N.state N.bench player.old) player.new result }
+    ensures tallied { (s : State) → IsAt N.state N.bench player.old s
+        → Tallied N.state N.bench s deck.now (bench_of N.state N.bench player.old) player.new result }
     ensures lent { N.same (device_of player.old) (device_of player.new) }
 {
     let mut counts = Counts::new();
@@ -45,7 +46,9 @@ fn put_dump<N: Bench, T: Sink>(
     line: &Line<'_>,
 ) -> Result<(), WriteFault>
     requires { IsPlaying N.state N.bench player.now }
-    ensures { (s : State) → IsAt N.state N.bench player.now s → Puts (sunk_in T.taken T.faults out.old) (dump_text s (line_of line.now)) result (sunk_in T.taken T.faults out.new) }
+    ensures { (s : State) → IsAt N.state N.bench player.now s
+        → Puts (sunk_in T.taken T.faults out.old) (dump_text s (line_of line.now)) result
+        (sunk_in T.taken T.faults out.new) }
 {
     let Line::Dump(aid) = line else {
         return Ok(());
@@ -64,7 +67,8 @@ fn put_dumps<N: Bench, T: Sink>(
     deck: &Deck,
 ) -> Result<(), WriteFault>
     requires { IsPlaying N.state N.bench player.now }
-    ensures { (s : State) → IsAt N.state N.bench player.now s → Puts (sunk_in T.taken T.faults out.old) (dumps_text s deck.now) result (sunk_in T.taken T.faults out.new) }
+    ensures { (s : State) → IsAt N.state N.bench player.now s
+        → Puts (sunk_in T.taken T.faults out.old) (dumps_text s deck.now) result (sunk_in T.taken T.faults out.new) }
 {
     for i in 0..deck.len() {
         let (_number, line) = deck.line(i);
@@ -82,7 +86,9 @@ fn put_summary<N: Bench, T: Sink>(
     deck: &Deck,
 ) -> Result<(), WriteFault>
     requires { IsPlaying N.state N.bench player.now }
-    ensures { (s : State) (rs : List LineResult) → IsAt N.state N.bench player.now s → Counted counts.now rs → Puts (sunk_in T.taken T.faults out.old) (count_line rs ++ dumps_text s deck.now) result (sunk_in T.taken T.faults out.new) }
+    ensures { (s : State) (rs : List LineResult) → IsAt N.state N.bench player.now s → Counted counts.now rs
+        → Puts (sunk_in T.taken T.faults out.old) (count_line rs
+        ++ dumps_text s deck.now) result (sunk_in T.taken T.faults out.new) }
 {
     put_counts(out, counts)?;
     put_dumps(out, text, player, deck)
@@ -97,7 +103,10 @@ pub fn sum_lines<N: Bench, T: Sink, L: Ledger>(
 ) -> N
     requires fuses { IsUnfused (N.bench device) }
     requires dumps { DumpsLast deck.now }
-    ensures sums { SumsFrom summary (start (N.state device).words) deck.now (record { device = N.state device; bench = N.bench device }) (sunk_in T.taken T.faults script.old.out.now) (ended script.new.fault) (record { device = N.state result; bench = N.bench result }) (sunk_in T.taken T.faults script.new.out.now) }
+    ensures sums { SumsFrom summary (start (N.state device).words) deck.now
+        (record { device = N.state device; bench = N.bench device }) (sunk_in T.taken T.faults script.old.out.now)
+        (ended script.new.fault) (record { device = N.state result; bench = N.bench result })
+        (sunk_in T.taken T.faults script.new.out.now) }
     ensures lent { N.same device result }
     ensures same { script.new.out.ghost_name ≡ script.old.out.ghost_name }
 {

@@ -32,7 +32,8 @@ pub type Text = ArrayVec<u8, 8211>;
 // Adds why an image is no card.
 fn add_unusable(text: &mut Text, unusable: &Unusable)
     requires { array_vec_len text.old ≤ 11 }
-    ensures text { text.new.items ≡ text.old.items ++ codes "unusable " ++ cause_text unusable.now.cause ++ codes " " ++ decimal unusable.now.place }
+    ensures text { text.new.items ≡ text.old.items ++ codes "unusable " ++ cause_text unusable.now.cause ++ codes " "
+        ++ decimal unusable.now.place }
     ensures short { array_vec_len text.new ≤ 8210 }
 {
     add(text, b"unusable ");
@@ -83,7 +84,8 @@ fn add_piece<N: Nvm>(text: &mut Text, card: &Card<N>, aid: &Aid, at: u16, count:
     requires range { at + count ≤ length (app_of (card_in N.state card.now).apps (Some aid.now)).fixed }
     requires small { count ≤ 256 }
     requires room { array_vec_len text.old + 2 * count ≤ 8211 }
-    ensures text { text.new.items ≡ text.old.items ++ hex_text (take count (drop at (app_of (card_in N.state card.now).apps (Some aid.now)).fixed)) }
+    ensures text { text.new.items ≡ text.old.items
+        ++ hex_text (take count (drop at (app_of (card_in N.state card.now).apps (Some aid.now)).fixed)) }
     ensures length { array_vec_len text.new ≡ array_vec_len text.old + 2 * count }
 {
     let mut bytes = [0; PIECE];
@@ -99,7 +101,8 @@ fn add_bytes<N: Nvm>(text: &mut Text, card: &Card<N>, aid: &Aid, len: u16)
     requires len { len ≡ length (app_of (card_in N.state card.now).apps (Some aid.now)).fixed }
     requires most { len ≤ 4096 }
     requires room { array_vec_len text.old ≤ 18 }
-    ensures text { text.new.items ≡ text.old.items ++ hex_text (app_of (card_in N.state card.now).apps (Some aid.now)).fixed }
+    ensures text { text.new.items ≡ text.old.items
+        ++ hex_text (app_of (card_in N.state card.now).apps (Some aid.now)).fixed }
     ensures short { array_vec_len text.new ≤ 8210 }
 {
     let mut at = 0;
@@ -114,7 +117,8 @@ fn add_bytes<N: Nvm>(text: &mut Text, card: &Card<N>, aid: &Aid, len: u16)
 fn add_static<N: Nvm>(text: &mut Text, card: &Card<N>, aid: &Aid)
     requires up { IsUp N.state card.now }
     requires room { array_vec_len text.old ≤ 11 }
-    ensures text { text.new.items ≡ text.old.items ++ shown (static_of (lookup (card_in N.state card.now).apps aid.now)) }
+    ensures text { text.new.items ≡ text.old.items
+        ++ shown (static_of (lookup (card_in N.state card.now).apps aid.now)) }
     ensures short { array_vec_len text.new ≤ 8210 }
 {
     match card.static_len(aid) {
@@ -131,7 +135,8 @@ fn add_static<N: Nvm>(text: &mut Text, card: &Card<N>, aid: &Aid)
 fn add_dump<N: Bench>(text: &mut Text, player: &Player<N>, aid: &Aid)
     requires playing { IsPlaying N.state N.bench player.now }
     requires room { array_vec_len text.old ≤ 11 }
-    ensures text { text.new.items ≡ text.old.items ++ shown (dump_value N.state player.now.power player.now.card aid.now) }
+    ensures text { text.new.items ≡ text.old.items
+        ++ shown (dump_value N.state player.now.power player.now.card aid.now) }
     ensures short { array_vec_len text.new ≤ 8210 }
 {
     match player.power {
@@ -194,7 +199,9 @@ pub fn put_answer<N: Bench, T: Sink>(
     answer: &Option<Answer>,
 ) -> Result<(), WriteFault>
     requires playing { IsPlaying N.state N.bench player.now }
-    ensures { Puts (sunk_in T.taken T.faults out.old) (line_text number (option_map (answer_value N.state player.now) answer.now)) result (sunk_in T.taken T.faults out.new) }
+    ensures { Puts (sunk_in T.taken T.faults out.old)
+        (line_text number (option_map (answer_value N.state player.now) answer.now)) result
+        (sunk_in T.taken T.faults out.new) }
 {
     match answer {
         Some(answer) => {

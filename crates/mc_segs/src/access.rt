@@ -90,8 +90,10 @@ pub fn load<B: Bank>(
 ) -> Result<(), Abend>
     requires going { (B.state bank.now).stopped ≡ false }
     requires fits { Fits (B.state bank.now) (B.named bank.now) frame.now }
-    ensures abend { IfDue result (model.is_outside (shown (B.state bank.now) (B.named bank.now) frame.now) at (length into.old)) Abend.A03 }
-    ensures bytes { OnOk result (into.new ≡ model.bytes_at (shown (B.state bank.now) (B.named bank.now) frame.now) public.now at (length into.old)) }
+    ensures abend { IfDue result (model.is_outside (shown (B.state bank.now) (B.named bank.now) frame.now) at
+        (length into.old)) Abend.A03 }
+    ensures bytes { OnOk result (into.new
+        ≡ model.bytes_at (shown (B.state bank.now) (B.named bank.now) frame.now) public.now at (length into.old)) }
     ensures unchanged { OnErr result (into.new ≡ into.old) }
 {
     if into.is_empty() {
@@ -111,7 +113,8 @@ fn read_static<B: Bank>(bank: &B, frame: &Frame, at: u16, into: &mut [u8])
     requires going { (B.state bank.now).stopped ≡ false }
     requires fits { Fits (B.state bank.now) (B.named bank.now) frame.now }
     requires range { at + length into.old ≤ length frame.now.frame.fixed }
-    ensures { into.new ≡ take (length into.old) (drop at (model.static_bytes (shown (B.state bank.now) (B.named bank.now) frame.now))) }
+    ensures { into.new ≡ take (length into.old)
+        (drop at (model.static_bytes (shown (B.state bank.now) (B.named bank.now) frame.now))) }
 {
     bank.fixed(frame.slot, at, into);
     for (number, word) in frame.pending.list() {
@@ -147,7 +150,9 @@ pub fn store<B: Bank>(
     requires fits { Fits (B.state bank.old) (B.named bank.old) frame.old }
     requires low { 1 ≤ length from.now }
     requires high { length from.now ≤ 255 }
-    ensures { Stores B.did B.state B.named (scene bank.old bank.new frame.old frame.new public.old public.new) at (length from.now) (model.written (shown (B.state bank.old) (B.named bank.old) frame.old) public.old at from.now) result }
+    ensures { Stores B.did B.state B.named (scene bank.old bank.new frame.old frame.new public.old public.new) at
+        (length from.now)
+        (model.written (shown (B.state bank.old) (B.named bank.old) frame.old) public.old at from.now) result }
 {
     match place_of(frame, at, from.len()) {
         Some(Place::Static(i)) if frame.protected => keep_static(bank, frame, i, from)?,

@@ -136,6 +136,14 @@ impl Frame {
         Session::of(&self.dynamic[..self.session_len as usize])
     }
 
+    /// Keeps the session bytes in place of others.
+    #[inline(always)]
+    pub fn keep_session(&self, session: &mut Session)
+        ensures { session.new ≡ session_of self.now.frame }
+    {
+        session.set(&self.dynamic[..self.session_len as usize]);
+    }
+
     /// Sets the code address, and nothing else.
     pub fn go(&mut self, at: u16)
         ensures { self.new ≡ record self.old { frame = record self.old.frame { at = at } } }

@@ -1,6 +1,7 @@
 #![tactic(auto)]
 
-// The segments of a running application: its frame, the public bytes of its chain, and the accesses to both.
+//! The segments of a running application: its frame, the public bytes of its chain, and the accesses to both.
+
 mod access;
 mod bytes;
 mod ends;

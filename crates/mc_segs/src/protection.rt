@@ -21,7 +21,8 @@ pub fn protect<B: Bank>(bank: &mut B, frame: &mut Frame, mode: u8) -> Result<(),
     requires going { (B.state bank.old).stopped ≡ false }
     requires fits { Fits (B.state bank.old) (B.named bank.old) frame.old }
     requires mode { mode ≤ 3 }
-    ensures { Protects B.did B.state B.named (scene bank.old bank.new frame.old frame.new [] []) (model.protect (shown (B.state bank.old) (B.named bank.old) frame.old) [] mode) result }
+    ensures { Protects B.did B.state B.named (scene bank.old bank.new frame.old frame.new [] [])
+        (model.protect (shown (B.state bank.old) (B.named bank.old) frame.old) [] mode) result }
 {
     if !commits(mode) {
         drop_pending(frame, mode >= 2);
@@ -53,7 +54,8 @@ fn commit_pending<B: Bank>(bank: &mut B, frame: &Frame) -> Result<(), Stop>
     requires fits { Fits (B.state bank.old) (B.named bank.old) frame.now }
     ensures items { let m = shown (B.state bank.old) (B.named bank.old) frame.now in
         Committed B.did m.name m.fixed (model.committed m m.pieces) bank.old result bank.new }
-    ensures fixed { OnOk result (IsCommitted (B.state bank.old) (B.state bank.new) (B.named bank.old) (B.named bank.new) frame.now (model.static_bytes (shown (B.state bank.old) (B.named bank.old) frame.now))) }
+    ensures fixed { OnOk result (IsCommitted (B.state bank.old) (B.state bank.new) (B.named bank.old)
+        (B.named bank.new) frame.now (model.static_bytes (shown (B.state bank.old) (B.named bank.old) frame.now))) }
     ensures going { OnOk result ((B.state bank.new).stopped ≡ false) }
 {
     let words = frame.pending.list();
@@ -70,8 +72,10 @@ pub fn commit_static<B: Bank>(bank: &mut B, frame: &Frame, at: u16, from: &[u8])
     requires low { 1 ≤ length from.now }
     requires high { length from.now ≤ 255 }
     requires range { at + length from.now ≤ length frame.now.frame.fixed }
-    ensures items { Commits B.did B.state B.named (scene bank.old bank.new frame.now frame.now [] []) (model.static_written false (shown (B.state bank.old) (B.named bank.old) frame.now) [] at from.now) result }
-    ensures done { OnOk result (Left B.did B.state B.named (scene bank.old bank.new frame.now frame.now [] []) (model.static_written false (shown (B.state bank.old) (B.named bank.old) frame.now) [] at from.now)) }
+    ensures items { Commits B.did B.state B.named (scene bank.old bank.new frame.now frame.now [] [])
+        (model.static_written false (shown (B.state bank.old) (B.named bank.old) frame.now) [] at from.now) result }
+    ensures done { OnOk result (Left B.did B.state B.named (scene bank.old bank.new frame.now frame.now [] [])
+        (model.static_written false (shown (B.state bank.old) (B.named bank.old) frame.now) [] at from.now)) }
 {
     let mut words = Pending::new();
     put_bytes(bank, frame.slot, frame.fixed_len, &mut words, at, from);
@@ -85,8 +89,10 @@ pub fn keep_static<B: Bank>(bank: &B, frame: &mut Frame, at: u16, from: &[u8]) -
     requires low { 1 ≤ length from.now }
     requires high { length from.now ≤ 255 }
     requires range { at + length from.now ≤ length frame.old.frame.fixed }
-    ensures abend { IfDue result (model.passes_limit true (shown (B.state bank.now) (B.named bank.now) frame.old) (Some (model.Static at)) (length from.now)) Abend.A08 }
-    ensures kept { OnOk result (Left B.did B.state B.named (scene bank.now bank.now frame.old frame.new [] []) (model.static_written true (shown (B.state bank.now) (B.named bank.now) frame.old) [] at from.now)) }
+    ensures abend { IfDue result (model.passes_limit true (shown (B.state bank.now) (B.named bank.now) frame.old)
+        (Some (model.Static at)) (length from.now)) Abend.A08 }
+    ensures kept { OnOk result (Left B.did B.state B.named (scene bank.now bank.now frame.old frame.new [] [])
+        (model.static_written true (shown (B.state bank.now) (B.named bank.now) frame.old) [] at from.now)) }
     ensures unchanged { OnErr result (frame.new ≡ frame.old) }
 {
     let count = (at % 8 + from.len() as u16 - 1) / 8 + 1;
@@ -167,7 +173,8 @@ fn put_piece<B: Bank>(
     requires range { 8 * number < len }
     requires place { at + length piece.now ≤ 8 }
     requires room { pending_at words.old number ≡ None → length words.old < 64 }
-    ensures { PutsPiece (app_of (B.state bank.now).apps (B.named bank.now slot)).fixed words.old number at piece.now words.new }
+    ensures { PutsPiece (app_of (B.state bank.now).apps (B.named bank.now slot)).fixed words.old number at piece.now
+        words.new }
 {
     let mut word = word_of(bank, slot, len, words, number);
     write(&mut word, at, piece);
@@ -202,7 +209,9 @@ fn fresh_word<B: Bank>(bank: &B, slot: Slot, len: u16, number: u16) -> Word
     requires there { IsSome (B.named bank.now slot) }
     requires len { len ≡ length (app_of (B.state bank.now).apps (B.named bank.now slot)).fixed }
     requires range { 8 * number < len }
-    ensures { (k : ℕ) → k < 8 → 8 * number + k < len → slice_index result k ≡ slice_index (app_of (B.state bank.now).apps (B.named bank.now slot)).fixed (8 * number + k) }
+    ensures { (k : ℕ) → k < 8 → 8 * number + k < len
+        → slice_index result k
+        ≡ slice_index (app_of (B.state bank.now).apps (B.named bank.now slot)).fixed (8 * number + k) }
 {
     let mut word = [0; 8];
     let count = (len - 8 * number).min(8) as usize;

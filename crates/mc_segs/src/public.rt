@@ -1,4 +1,5 @@
 ghost use Rattle.std.specs.Prelude.{◌≡◌, ◌≤◌, length};
+ghost use Rattle.mc_model.specs.Bytes.{zeros};
 ghost use Rattle.mc_model.specs.Frame.{new_public, with_la, with_sw};
 ghost use Rattle.mc_apdu.specs.Command.{parts_of};
 
@@ -24,22 +25,39 @@ impl Model for Public {
 }
 
 impl Public {
+    /// A public segment of zeros, before a command.
+    pub fn blank() -> Public
+        ensures { result ≡ zeros 1041 }
+    {
+        Public { bytes: [0; 1041] }
+    }
+
+    /// Makes a blank one the public segment of a command of ISO/IEC 7816-4 with at most 1,024 bytes of data, before its first instruction.
+    #[inline(always)]
+    pub fn open(&mut self, apdu: &Apdu)
+        requires blank { self.old ≡ zeros 1041 }
+        requires data { length apdu.now.body.now ≤ 1024 }
+        ensures { self.new ≡ new_public (parts_of apdu.now) }
+    {
+        let lc = apdu.body.len() as u16;
+        write(&mut self.bytes, 0, apdu.body);
+        write(
+            &mut self.bytes,
+            1028,
+            &[apdu.cla, apdu.ins, apdu.p1, apdu.p2, apdu.p3],
+        );
+        write(&mut self.bytes, 1033, &words(lc, apdu.le.unwrap_or(0)));
+        write(&mut self.bytes, 1039, &word(0x9000));
+    }
+
     /// The public segment of a command of ISO/IEC 7816-4 with at most 1,024 bytes of data, before its first instruction.
     pub fn new(apdu: &Apdu) -> Public
         requires { length apdu.now.body.now ≤ 1024 }
         ensures { result ≡ new_public (parts_of apdu.now) }
     {
-        let mut bytes = [0; 1041];
-        let lc = apdu.body.len() as u16;
-        write(&mut bytes, 0, apdu.body);
-        write(
-            &mut bytes,
-            1028,
-            &[apdu.cla, apdu.ins, apdu.p1, apdu.p2, apdu.p3],
-        );
-        write(&mut bytes, 1033, &words(lc, apdu.le.unwrap_or(0)));
-        write(&mut bytes, 1039, &word(0x9000));
-        Public { bytes }
+        let mut public = Public::blank();
+        public.open(apdu);
+        public
     }
 
     /// The whole segment, 1,041 bytes.

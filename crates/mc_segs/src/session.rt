@@ -50,6 +50,17 @@ impl Session {
         }
     }
 
+    /// Makes the session bytes these, at most 256.
+    #[inline(always)]
+    pub fn set(&mut self, bytes: &[u8])
+        requires { length bytes.now ≤ 256 }
+        ensures { self.new ≡ bytes.now }
+    {
+        self.bytes = [0; 256];
+        write(&mut self.bytes, 0, bytes);
+        self.len = bytes.len();
+    }
+
     /// The session bytes.
     pub fn bytes(&self) -> &[u8]
         ensures value { result.now ≡ self.now }

@@ -54,7 +54,8 @@ pub fn discard(frame: &mut Frame, count: u8) -> Result<(), Abend>
 pub fn pop(frame: &mut Frame, into: &mut [u8]) -> Result<(), Abend>
     ensures abend { IfDue result (model.is_under frame.old.frame (length into.old)) Abend.A04 }
     ensures bytes { OnOk result (into.new ≡ model.top frame.old.frame (length into.old)) }
-    ensures popped { OnOk result (frame.new ≡ record frame.old { frame = model.popped frame.old.frame (length into.old) }) }
+    ensures popped { OnOk result (frame.new
+        ≡ record frame.old { frame = model.popped frame.old.frame (length into.old) }) }
     ensures unchanged { OnErr result ((frame.new ≡ frame.old) × (into.new ≡ into.old)) }
 {
     if into.len() > (frame.dt - frame.floor()) as usize {

@@ -1,5 +1,5 @@
 -- Pending words by place.
-use Rattle.std.proofs.Common.{◌≡◌, ◌≢◌, ℕ, ◌+◌, ◌≤◌, ◌<◌, Bool, true, false, cond, List, [], ◌∷◌, length, get_or, Some, None, refl, sym, subst, ◌∙◌, arith, one-add}
+use Rattle.std.proofs.Common.{◌≡◌, ◌≢◌, ℕ, ◌+◌, ◌-◌, ◌≤◌, ◌<◌, Bool, true, false, cond, List, [], ◌∷◌, length, get_or, Some, None, refl, sym, subst, ◌∙◌, arith, one-add}
 use Rattle.std.proofs.Math.ListN.{set}
 use Rattle.std.specs.Prelude.{nat_le, position, insert, not}
 use Rattle.std.specs.List.{position_or_len, AllByRecursion}
@@ -36,6 +36,15 @@ place_none n ws e =
     let past = ltb-false (position_or_len (λ w. nat_le n w.0) ws) (length ws) (first_none _ (position_or_len (λ w. nat_le n w.0) ws) e) in
     let within = prefix_len-le-length (λ (w : Entry). not (nat_le n w.0)) ws in
     omega (arith, place_is n ws)
+
+-- a number above the last one stands behind all: it is above the first one too
+behind_all : (n least : ℕ) (w : Entry) (ws : List Entry) → Ascend least (numbers (w ∷ ws)) → (get_or (w ∷ ws) (length ws) nothing).0 < n → (w.0 < n) × (length (w ∷ ws) ≡ place n (w ∷ ws))
+behind_all n least w [] asc above = grind (arith, nat_tests)
+behind_all n least w (v ∷ vs) asc above = grind (arith, nat_tests, behind_all n (w.0 + 1) v vs)
+
+pub place_behind : (n : ℕ) (ws : List Entry) → ArePending ws → 0 < length ws → (get_or ws (length ws - 1) nothing).0 < n → length ws ≡ place n ws
+place_behind n [] are some above = absurd (omega arith)
+place_behind n (w ∷ ws) are some above = (behind_all n 0 w ws are.ascending (subst (λ (k : ℕ). (get_or (w ∷ ws) k nothing).0 < n) (omega arith) above)).1
 
 -- a word whose number is there is put in its place
 pub put_there : (n : ℕ) (b : List ℕ) (ws : List Entry) (i : ℕ) → i ≡ place n ws → i < length ws → (get_or ws i nothing).0 ≡ n → put_word n b ws ≡ set ws i (n, b)

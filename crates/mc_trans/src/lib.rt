@@ -1,6 +1,7 @@
 #![tactic(auto)]
 
-// The static words that an application has written under protection and not yet committed.
+//! The static words that an application has written under protection and not yet committed.
+
 mod laws;
 mod pending;
 

@@ -90,16 +90,30 @@ impl Pending {
     }
 }
 
-// The place of the first word whose number is not below this one, or behind the last word.
+// The place of the first word whose number is not below this one, or behind the last word. Words mostly come ascending, so the last one
+// is looked at first.
 #[tactic(auto, using(crate::proofs::Words::place_some, crate::proofs::Words::place_none))]
 fn place_of(words: &[(u16, Word)], at: u16) -> usize
+    requires { ArePending words.now }
     ensures value { result ≡ place at words.now }
     ensures bound { result ≤ length words.now }
 {
+    if are_below(words, at) {
+        return words.len();
+    }
     match first_from(words, at) {
         Some(place) => place,
         None => words.len(),
     }
+}
+
+// Whether the last of some words has a number below this one: so have all.
+#[tactic(auto, using(crate::proofs::Words::place_behind))]
+fn are_below(words: &[(u16, Word)], at: u16) -> bool
+    requires { ArePending words.now }
+    ensures { result ≡ true → length words.now ≡ place at words.now }
+{
+    !words.is_empty() && words[words.len() - 1].0 < at
 }
 
 // The place of the first word whose number is not below this one.

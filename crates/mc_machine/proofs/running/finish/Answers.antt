@@ -43,7 +43,7 @@ pub returns-in-Some : goal.returns-in-Some
 returns-in-Some g c ch r =
     let u = c.loop-turn.invariant.underway ch r in
     let f = underway_ends g.B.Bank.did g.B.Bank.state g.B.Bank.named c.args.bank.now (ran c.args.left ch) c.args.steps.now c.args.left c.loop-turn._turn c.loop-turn.bank c.act.new.bank c.loop-turn.chain c.act.new.chain c.loop-turn.steps c.act.new.steps u c.in_ok-end.field-0 c.in-Some.end c.in-Some.is (c.in_ok-end.ensures.done u.chain u.runs) (c.in_ok-end.ensures.ticks u.chain u.runs) in
-    record { writes = f.writes; going = f.going; count = f.count; session = c.session.ensures ∙ f.session; outcome = c.outcome.ensures ∙ f.outcome }
+    record { writes = f.writes; going = f.going; count = f.count; session = c.session.ensures ∙ f.session; outcome = c.put_end.ensures ∙ f.outcome }
 
 pub returns : goal.returns
 returns g c ch r =

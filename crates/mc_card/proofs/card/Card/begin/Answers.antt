@@ -16,52 +16,52 @@ use Rattle.mc_card.proofs.card.Card.begin.Goals as goal
 
 pub returns-in_default-clause-done : goal.returns-in_default-clause-done
 returns-in_default-clause-done g c =
-    wrong-begun g.N.Nvm.state g.N.Nvm.wrote g.met.N.Nvm.obeys c.args.self.now c.args.bytes.now c.args.budget c.wrong_length.result c.requires.ready c.in_default.ensures.read c.wrong_length.ensures
+    wrong-begun g.N.Nvm.state g.N.Nvm.wrote g.met.N.Nvm.obeys c.args.self.now c.args.bytes.now c.args.budget (outcome.Reply c.wrong_length.new.reply) c.requires.ready c.in_default.ensures.read c.wrong_length.ensures
 
-pub returns-in_err-reply-clause-done : goal.returns-in_err-reply-clause-done
-returns-in_err-reply-clause-done g c =
+pub returns-in_err-direct-clause-done : goal.returns-in_err-direct-clause-done
+returns-in_err-direct-clause-done g c =
     let old = c.args.self.now in
     let a = parts_of c.in-Ok.apdu in
     let p = err_from_is_err_and c.from_residual.result c.from_residual.ensures.1 in
     subst (λ (r : Result (Option Outcome) Stop). Begun g.N.Nvm.state g.N.Nvm.wrote old c.args.bytes.now c.args.budget r c.direct.new.self) (sym (p.1 ∙ ap (λ (s : Stop). Err s) p.2))
-    (answered-begun g.N.Nvm.state g.N.Nvm.wrote g.met.N.Nvm.obeys a old c.direct.new.self c.args.bytes.now c.args.budget (Err c.in_err-reply.field-0.0) c.in-Ok.ensures.read c.in_err-reply.ensures.done)
+    (answered-begun g.N.Nvm.state g.N.Nvm.wrote g.met.N.Nvm.obeys a old c.direct.new.self c.args.bytes.now c.args.budget (Err c.in_err-direct.field-0.0) c.in-Ok.ensures.read c.in_err-direct.ensures.done)
 
 pub returns-in-Answered-clause-done : goal.returns-in-Answered-clause-done
 returns-in-Answered-clause-done g c =
     let old = c.args.self.now in
     let a = parts_of c.in-Ok.apdu in
-    answered-begun g.N.Nvm.state g.N.Nvm.wrote g.met.N.Nvm.obeys a old c.direct.new.self c.args.bytes.now c.args.budget (Ok (outcome.Reply c.in-Answered.reply)) c.in-Ok.ensures.read
-    (subst (λ (x : Directed). Directs g.N.Nvm.state g.N.Nvm.wrote old a (Ok x) c.direct.new.self) c.in-Answered.is c.in_ok-reply.ensures.done)
+    answered-begun g.N.Nvm.state g.N.Nvm.wrote g.met.N.Nvm.obeys a old c.direct.new.self c.args.bytes.now c.args.budget (Ok (outcome.Reply c.direct.new.reply)) c.in-Ok.ensures.read
+    (subst (λ (x : Directed). Directs g.N.Nvm.state g.N.Nvm.wrote old a (Ok x) c.direct.new.reply c.direct.new.self) c.in-Answered.is c.in_ok-direct.ensures.done)
 
 pub begin-requires-clause-session : goal.begin-requires-clause-session
 begin-requires-clause-session g c =
     let old = c.args.self.now in
     let a = parts_of c.in-Ok.apdu in
     passed-session g.N.Nvm.state g.N.Nvm.wrote g.met.N.Nvm.obeys old c.direct.new.self a c.in-Passed.slot c.requires.ready
-    (subst (λ (x : Directed). Directs g.N.Nvm.state g.N.Nvm.wrote old a (Ok x) c.direct.new.self) c.in-Passed.is c.in_ok-reply.ensures.done)
+    (subst (λ (x : Directed). Directs g.N.Nvm.state g.N.Nvm.wrote old a (Ok x) c.direct.new.reply c.direct.new.self) c.in-Passed.is c.in_ok-direct.ensures.done)
 
 pub returns-in-Passed-clause-done : goal.returns-in-Passed-clause-done
 returns-in-Passed-clause-done g c =
     let old = c.args.self.now in
     let a = parts_of c.in-Ok.apdu in
     passed-begun g.N.Nvm.state g.N.Nvm.wrote g.met.N.Nvm.obeys old c.direct.new.self a c.in-Passed.slot c.args.budget c.args.bytes.now c.begin.result c.requires.ready
-    (subst (λ (x : Directed). Directs g.N.Nvm.state g.N.Nvm.wrote old a (Ok x) c.direct.new.self) c.in-Passed.is c.in_ok-reply.ensures.done)
+    (subst (λ (x : Directed). Directs g.N.Nvm.state g.N.Nvm.wrote old a (Ok x) c.direct.new.reply c.direct.new.self) c.in-Passed.is c.in_ok-direct.ensures.done)
     c.in-Ok.ensures.read c.begin.ensures.runs c.begin.ensures.left
 
 pub returns-in_default-clause-ended : goal.returns-in_default-clause-ended
 returns-in_default-clause-ended g c =
     none-ended g.N.Nvm.state g.N.Nvm.wrote g.met.N.Nvm.obeys c.args.self.now c.args.self.now c.requires.ready.up refl
 
-pub returns-in_err-reply-clause-ended : goal.returns-in_err-reply-clause-ended
-returns-in_err-reply-clause-ended g c =
+pub returns-in_err-direct-clause-ended : goal.returns-in_err-direct-clause-ended
+returns-in_err-direct-clause-ended g c =
     let old = c.args.self.now in
     let p = err_from_is_err_and c.from_residual.result c.from_residual.ensures.1 in
     subst (λ (r : Result (Option Outcome) Stop). Ended (answer_of r) (g.N.Nvm.state (device_in old)) (g.N.Nvm.state (device_in c.direct.new.self))) (sym (p.1 ∙ ap (λ (s : Stop). Err s) p.2))
-    (commanded-ended g.N.Nvm.state g.N.Nvm.wrote g.met.N.Nvm.obeys _ old c.direct.new.self (Err c.in_err-reply.field-0.0) c.requires.ready (c.in_err-reply.ensures.done.commanded 1))
+    (commanded-ended g.N.Nvm.state g.N.Nvm.wrote g.met.N.Nvm.obeys _ old c.direct.new.self (Err c.in_err-direct.field-0.0) c.requires.ready (c.in_err-direct.ensures.done.commanded 1))
 
 pub returns-in-Answered-clause-ended : goal.returns-in-Answered-clause-ended
 returns-in-Answered-clause-ended g c =
-    commanded-ended g.N.Nvm.state g.N.Nvm.wrote g.met.N.Nvm.obeys _ c.args.self.now c.direct.new.self (Ok (outcome.Reply c.in-Answered.reply)) c.requires.ready (returns-in-Answered-clause-done g c).commanded
+    commanded-ended g.N.Nvm.state g.N.Nvm.wrote g.met.N.Nvm.obeys _ c.args.self.now c.direct.new.self (Ok (outcome.Reply c.direct.new.reply)) c.requires.ready (returns-in-Answered-clause-done g c).commanded
 
 pub returns-in-Passed-clause-ended : goal.returns-in-Passed-clause-ended
 returns-in-Passed-clause-ended g c =

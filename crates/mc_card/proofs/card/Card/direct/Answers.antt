@@ -2,7 +2,8 @@ use Rattle.std.proofs.Common.{Result, refl, sym, ◌∙◌, ap, subst, Ok, Err}
 use Rattle.std.proofs.lemmas.Result.{err_from_is_err_and}
 use Rattle.mc_model.specs.declared.device.Stop.{Stop}
 use Rattle.mc_apdu.specs.Command.{parts_of}
-use Rattle.mc_manager.specs.declared.routed.Routed.{Routed}
+use Rattle.mc_manager.specs.declared.routed.Ruling.{Ruling}
+use Rattle.mc_manager.specs.Ruled.{ruled}
 use Rattle.mc_card.specs.declared.card.Card.{Card}
 use Rattle.mc_card.specs.declared.managing.Directed.{Directed}
 use Rattle.mc_card.specs.Managing.{Directs}
@@ -13,62 +14,62 @@ use Rattle.mc_card.proofs.card.Card.direct.Goals as goal
 pub returns-in-Answer-clause-done : goal.returns-in-Answer-clause-done
 returns-in-Answer-clause-done g c =
     let old = c.args.self.now in
-    let new = record old { store = c.command.new.bank; manager = c.command.new.self } in
+    let new = record old { store = c.rule.new.bank; manager = c.rule.new.self } in
     let a = parts_of c.args.apdu.now in
-    answered-done g.N.Nvm.state g.N.Nvm.wrote g.met.N.Nvm.obeys a old new c.in-Answer.reply c.requires.ready refl refl
-    (subst (λ (x : Routed). DirectEnds g.N.Nvm.state g.N.Nvm.wrote old a (Ok x) new) c.in-Answer.is c.in_ok-reply.ensures.ends)
+    answered-done g.N.Nvm.state g.N.Nvm.wrote g.met.N.Nvm.obeys a old new c.rule.new.reply c.requires.ready refl refl
+    (subst (λ (x : Ruling). DirectEnds g.N.Nvm.state g.N.Nvm.wrote old a (Ok (ruled x c.rule.new.reply)) new) c.in-Answer.is c.in_ok-rule.ensures.ends)
 
 pub returns-in-Fresh-clause-done : goal.returns-in-Fresh-clause-done
 returns-in-Fresh-clause-done g c =
     let old = c.args.self.now in
-    let new = record old { store = c.command.new.bank; manager = c.command.new.self; session = c.session_of-self.result } in
+    let new = record old { store = c.rule.new.bank; manager = c.rule.new.self; session = c.session_of-self.result } in
     let a = parts_of c.args.apdu.now in
-    selected-done g.N.Nvm.state g.N.Nvm.wrote g.met.N.Nvm.obeys a old new c.in-Fresh.slot c.in-Fresh.reply c.requires.ready c.session_of-self.ensures refl
-    (subst (λ (x : Routed). DirectEnds g.N.Nvm.state g.N.Nvm.wrote old a (Ok x) new) c.in-Fresh.is c.in_ok-reply.ensures.ends)
+    selected-done g.N.Nvm.state g.N.Nvm.wrote g.met.N.Nvm.obeys a old new c.in-Fresh.slot c.rule.new.reply c.requires.ready c.session_of-self.ensures refl
+    (subst (λ (x : Ruling). DirectEnds g.N.Nvm.state g.N.Nvm.wrote old a (Ok (ruled x c.rule.new.reply)) new) c.in-Fresh.is c.in_ok-rule.ensures.ends)
 
 pub session_of-self-requires-clause-there : goal.session_of-self-requires-clause-there
 session_of-self-requires-clause-there g c =
     let old = c.args.self.now in
-    let new = record old { store = c.command.new.bank; manager = c.command.new.self } in
+    let new = record old { store = c.rule.new.bank; manager = c.rule.new.self } in
     let a = parts_of c.args.apdu.now in
-    fresh-slot g.N.Nvm.state g.N.Nvm.wrote g.met.N.Nvm.obeys a old new c.in-Fresh.slot c.in-Fresh.reply c.requires.ready
-    (subst (λ (x : Routed). DirectEnds g.N.Nvm.state g.N.Nvm.wrote old a (Ok x) new) c.in-Fresh.is c.in_ok-reply.ensures.ends)
+    fresh-slot g.N.Nvm.state g.N.Nvm.wrote g.met.N.Nvm.obeys a old new c.in-Fresh.slot c.rule.new.reply c.requires.ready
+    (subst (λ (x : Ruling). DirectEnds g.N.Nvm.state g.N.Nvm.wrote old a (Ok (ruled x c.rule.new.reply)) new) c.in-Fresh.is c.in_ok-rule.ensures.ends)
 
 pub returns-in-Pass-clause-done : goal.returns-in-Pass-clause-done
 returns-in-Pass-clause-done g c =
     let old = c.args.self.now in
-    let new = record old { store = c.command.new.bank; manager = c.command.new.self } in
+    let new = record old { store = c.rule.new.bank; manager = c.rule.new.self } in
     let a = parts_of c.args.apdu.now in
     passed-done g.N.Nvm.state g.N.Nvm.wrote g.met.N.Nvm.obeys a old new c.in-Pass.slot refl refl
-    (subst (λ (x : Routed). DirectEnds g.N.Nvm.state g.N.Nvm.wrote old a (Ok x) new) c.in-Pass.is c.in_ok-reply.ensures.ends)
+    (subst (λ (x : Ruling). DirectEnds g.N.Nvm.state g.N.Nvm.wrote old a (Ok (ruled x c.rule.new.reply)) new) c.in-Pass.is c.in_ok-rule.ensures.ends)
 
-pub returns-in_err-reply-clause-done : goal.returns-in_err-reply-clause-done
-returns-in_err-reply-clause-done g c =
+pub returns-in_err-rule-clause-done : goal.returns-in_err-rule-clause-done
+returns-in_err-rule-clause-done g c =
     let old = c.args.self.now in
-    let new = record old { store = c.command.new.bank; manager = c.command.new.self } in
+    let new = record old { store = c.rule.new.bank; manager = c.rule.new.self } in
     let a = parts_of c.args.apdu.now in
     let p = err_from_is_err_and c.from_residual.result c.from_residual.ensures.1 in
-    subst (λ (r : Result Directed Stop). Directs g.N.Nvm.state g.N.Nvm.wrote old a r new) (sym (p.1 ∙ ap (λ (s : Stop). Err s) p.2))
-    (stopped-done g.N.Nvm.state g.N.Nvm.wrote g.met.N.Nvm.obeys a old new c.in_err-reply.field-0.0 c.requires.ready c.in_err-reply.ensures.ends)
+    subst (λ (r : Result Directed Stop). Directs g.N.Nvm.state g.N.Nvm.wrote old a r c.rule.new.reply new) (sym (p.1 ∙ ap (λ (s : Stop). Err s) p.2))
+    (stopped-done g.N.Nvm.state g.N.Nvm.wrote g.met.N.Nvm.obeys a old new c.in_err-rule.field-0.0 c.requires.ready c.in_err-rule.ensures.ends)
 
-pub returns-in_err-reply-clause-lent : goal.returns-in_err-reply-clause-lent
-returns-in_err-reply-clause-lent g c =
+pub returns-in_err-rule-clause-lent : goal.returns-in_err-rule-clause-lent
+returns-in_err-rule-clause-lent g c =
     let old = c.args.self.now in
-    let new = record old { store = c.command.new.bank; manager = c.command.new.self } in
+    let new = record old { store = c.rule.new.bank; manager = c.rule.new.self } in
     let a = parts_of c.args.apdu.now in
     answered-same g.N.Nvm.state g.N.Nvm.wrote g.N.Nvm.same g.met.N.Nvm.keeps g.met.N.Nvm.itself g.met.N.Nvm.onward a old new _
-    (stopped-done g.N.Nvm.state g.N.Nvm.wrote g.met.N.Nvm.obeys a old new c.in_err-reply.field-0.0 c.requires.ready c.in_err-reply.ensures.ends)
+    (stopped-done g.N.Nvm.state g.N.Nvm.wrote g.met.N.Nvm.obeys a old new c.in_err-rule.field-0.0 c.requires.ready c.in_err-rule.ensures.ends)
 
 pub returns-in-Answer-clause-lent : goal.returns-in-Answer-clause-lent
 returns-in-Answer-clause-lent g c =
     let old = c.args.self.now in
-    let new = record old { store = c.command.new.bank; manager = c.command.new.self } in
+    let new = record old { store = c.rule.new.bank; manager = c.rule.new.self } in
     answered-same g.N.Nvm.state g.N.Nvm.wrote g.N.Nvm.same g.met.N.Nvm.keeps g.met.N.Nvm.itself g.met.N.Nvm.onward (parts_of c.args.apdu.now) old new _ (returns-in-Answer-clause-done g c)
 
 pub returns-in-Fresh-clause-lent : goal.returns-in-Fresh-clause-lent
 returns-in-Fresh-clause-lent g c =
     let old = c.args.self.now in
-    let new = record old { store = c.command.new.bank; manager = c.command.new.self; session = c.session_of-self.result } in
+    let new = record old { store = c.rule.new.bank; manager = c.rule.new.self; session = c.session_of-self.result } in
     answered-same g.N.Nvm.state g.N.Nvm.wrote g.N.Nvm.same g.met.N.Nvm.keeps g.met.N.Nvm.itself g.met.N.Nvm.onward (parts_of c.args.apdu.now) old new _ (returns-in-Fresh-clause-done g c)
 
 pub returns-in-Pass-clause-lent : goal.returns-in-Pass-clause-lent

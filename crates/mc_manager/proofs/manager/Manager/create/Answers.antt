@@ -24,5 +24,5 @@ returns g c =
     let v = view_of g.B.Bank.state g.B.Bank.named g.B.Bank.room g.B.Bank.standing c.args.bank.now in
     let w = view_of g.B.Bank.state g.B.Bank.named g.B.Bank.room g.B.Bank.standing c.create.new.self in
     let can = can_enter v c.args.self.now c.self.inside.load c.in-Some.load c.in-Ok.aid (parts_of c.args.apdu.now) (ap (λ (m : Held). m.load) c.self.view_is) c.in-Some.is c.requires.fits c.in-Ok.ensures.created in
-    ends_created g.B.Bank.did v c.args.self.now c.in-Some.load c.in-Ok.aid (parts_of c.args.apdu.now) c.args.bank.now c.reply-2.result w _ c.create.new.self c.site.result.now c.site.ensures can c.requires.fits
-    c.in_ok-create.ensures.items c.in_ok-create.ensures.apps c.in_ok-create.ensures.slots c.reply-2.ensures (ap (λ (m : Held). m.selected) c.self.view_is) refl
+    ends_created g.B.Bank.did v c.args.self.now c.in-Some.load c.in-Ok.aid (parts_of c.args.apdu.now) c.args.bank.now c.say-2.new.reply w _ c.create.new.self c.site.result.now c.site.ensures can c.requires.fits
+    c.in_ok-create.ensures.items c.in_ok-create.ensures.apps c.in_ok-create.ensures.slots c.say-2.ensures (ap (λ (m : Held). m.selected) c.self.view_is) refl

@@ -12,10 +12,10 @@ pub returns-in-Some : goal.returns-in-Some
 returns-in-Some g c =
     let v = view_of g.B.Bank.state g.B.Bank.named g.B.Bank.room g.B.Bank.standing c.args.bank.now in
     let load = ap (λ (m : Held). m.load) c.self.view_is in
-    ends_refused g.B.Bank.did _ v c.args.self.now c.args.bank.now c.reply.result (word_of c.in-Some.refusal)
+    ends_refused g.B.Bank.did _ v c.args.self.now c.args.bank.now c.say.new.reply (word_of c.in-Some.refusal)
     (load_refused v c.args.self.now c.self.inside.load c.args.part _ (word_of c.in-Some.refusal) load
     (c.load_refusal.ensures v (λ l is. c.requires.fits.load l (sym load ∙ is)) ∙ ap (option_map word_of) c.in-Some.is))
-    c.reply.ensures c.requires.going c.requires.fits
+    c.say.ensures c.requires.going c.requires.fits
 
 pub returns-in_default-load : goal.returns-in_default-load
 returns-in_default-load g c =
@@ -55,5 +55,5 @@ returns g c =
     let can = can_load v c.args.self.now c.self.inside.load c.in-Some-load.load c.args.part (parts_of c.args.apdu.now) (ap (λ (m : Held). m.load) c.self.view_is) c.in-Some-load.is c.requires.fits
     (λ fits. c.load_refusal.ensures v fits ∙ ap (option_map word_of) c.in_default.is) in
     let filled = c.in_ok-fill.ensures in
-    ends_loaded g.B.Bank.did v c.args.self.now c.in-Some-load.load c.args.part (parts_of c.args.apdu.now) c.args.bank.now c.reply-2.result w c.fill.new.load _ c.fill.new.bank can c.requires.fits
-    filled.items filled.apps filled.slots filled.open filled.fits c.reply-2.ensures (ap (λ (m : Held). m.selected) c.self.view_is) refl
+    ends_loaded g.B.Bank.did v c.args.self.now c.in-Some-load.load c.args.part (parts_of c.args.apdu.now) c.args.bank.now c.say-2.new.reply w c.fill.new.load _ c.fill.new.bank can c.requires.fits
+    filled.items filled.apps filled.slots filled.open filled.fits c.say-2.ensures (ap (λ (m : Held). m.selected) c.self.view_is) refl

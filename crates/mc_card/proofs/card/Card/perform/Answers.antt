@@ -1,0 +1,57 @@
+use Rattle.std.proofs.Common.{Result, sym, ◌∙◌, ap, subst, Ok, Err}
+use Rattle.std.proofs.lemmas.Result.{err_from_is_err_and}
+use Rattle.mc_model.specs.declared.device.Stop.{Stop}
+use Rattle.mc_apdu.specs.Command.{parts_of}
+use Rattle.mc_machine.specs.declared.outcome.End.{End}
+use Rattle.mc_machine.specs.Turns.{placed}
+use Rattle.mc_machine.specs.declared.outcome.Outcome.TheVariants as outcome
+use Rattle.mc_card.specs.declared.managing.Directed.{Directed}
+use Rattle.mc_card.specs.Managing.{Directs}
+use Rattle.mc_card.specs.Parts.{due}
+use Rattle.mc_card.specs.Ends.{Commanded}
+use Rattle.mc_card.proofs.CommandLemmas.{wrong-done, answered-begun, passed-commanded, passed-session, passed-steps, run_of, run-did, run-counted}
+use Rattle.mc_card.proofs.card.Card.perform.Goals as goal
+
+pub returns-in_default-clause-done : goal.returns-in_default-clause-done
+returns-in_default-clause-done g c =
+    wrong-done g.N.Nvm.state g.N.Nvm.wrote g.met.N.Nvm.obeys c.args.self.now c.args.bytes.now c.args.budget (outcome.Reply c.wrong_length.new.reply) c.requires.ready c.in_default.ensures.read c.wrong_length.ensures
+
+pub returns-in_err-direct-clause-done : goal.returns-in_err-direct-clause-done
+returns-in_err-direct-clause-done g c =
+    let old = c.args.self.now in
+    let a = parts_of c.in-Ok.apdu in
+    let p = err_from_is_err_and c.from_residual.result c.from_residual.ensures.1 in
+    subst (λ (r : Result End Stop). Commanded g.N.Nvm.state g.N.Nvm.wrote old (due g.N.Nvm.state old c.args.bytes.now c.args.budget) (placed r c.direct.new.reply) c.direct.new.self) (sym (p.1 ∙ ap (λ (s : Stop). Err s) p.2))
+    (answered-begun g.N.Nvm.state g.N.Nvm.wrote g.met.N.Nvm.obeys a old c.direct.new.self c.args.bytes.now c.args.budget (Err c.in_err-direct.field-0.0) c.in-Ok.ensures.read c.in_err-direct.ensures.done).commanded
+
+pub returns-in-Answered-clause-done : goal.returns-in-Answered-clause-done
+returns-in-Answered-clause-done g c =
+    let old = c.args.self.now in
+    let a = parts_of c.in-Ok.apdu in
+    (answered-begun g.N.Nvm.state g.N.Nvm.wrote g.met.N.Nvm.obeys a old c.direct.new.self c.args.bytes.now c.args.budget (Ok (outcome.Reply c.direct.new.reply)) c.in-Ok.ensures.read
+    (subst (λ (x : Directed). Directs g.N.Nvm.state g.N.Nvm.wrote old a (Ok x) c.direct.new.reply c.direct.new.self) c.in-Answered.is c.in_ok-direct.ensures.done)).commanded
+
+pub run_into-requires-clause-session : goal.run_into-requires-clause-session
+run_into-requires-clause-session g c =
+    let old = c.args.self.now in
+    let a = parts_of c.in-Ok.apdu in
+    passed-session g.N.Nvm.state g.N.Nvm.wrote g.met.N.Nvm.obeys old c.direct.new.self a c.in-Passed.slot c.requires.ready
+    (subst (λ (x : Directed). Directs g.N.Nvm.state g.N.Nvm.wrote old a (Ok x) c.direct.new.reply c.direct.new.self) c.in-Passed.is c.in_ok-direct.ensures.done)
+
+pub returns-in-Passed-clause-done : goal.returns-in-Passed-clause-done
+returns-in-Passed-clause-done g c =
+    let old = c.args.self.now in
+    let a = parts_of c.in-Ok.apdu in
+    passed-commanded g.N.Nvm.state g.N.Nvm.wrote g.met.N.Nvm.obeys old c.direct.new.self a c.in-Passed.slot c.args.budget c.args.bytes.now (placed c.run_into.result c.run_into.new.reply) c.run_into.new.bank c.run_into.new.session c.requires.ready
+    (subst (λ (x : Directed). Directs g.N.Nvm.state g.N.Nvm.wrote old a (Ok x) c.direct.new.reply c.direct.new.self) c.in-Passed.is c.in_ok-direct.ensures.done)
+    c.in-Ok.ensures.read
+    (run-did g.N.Nvm.state g.N.Nvm.wrote g.met.N.Nvm.obeys c.direct.new.self (run_of g.N.Nvm.state g.N.Nvm.wrote g.met.N.Nvm.obeys c.direct.new.self c.in-Passed.slot a c.args.budget) (placed c.run_into.result c.run_into.new.reply) c.run_into.new.bank c.run_into.new.session c.direct.new.steps c.run_into.new.steps c.run_into.ensures)
+
+pub returns-in-Passed-clause-steps : goal.returns-in-Passed-clause-steps
+returns-in-Passed-clause-steps g c =
+    let old = c.args.self.now in
+    let a = parts_of c.in-Ok.apdu in
+    let counted = run-counted g.N.Nvm.state g.N.Nvm.wrote g.met.N.Nvm.obeys c.direct.new.self (run_of g.N.Nvm.state g.N.Nvm.wrote g.met.N.Nvm.obeys c.direct.new.self c.in-Passed.slot a c.args.budget) (placed c.run_into.result c.run_into.new.reply) c.run_into.new.bank c.run_into.new.session c.direct.new.steps c.run_into.new.steps c.run_into.ensures in
+    passed-steps g.N.Nvm.state g.N.Nvm.wrote g.met.N.Nvm.obeys old c.direct.new.self a c.in-Passed.slot c.args.budget c.args.bytes.now (placed c.run_into.result c.run_into.new.reply) c.args.steps.now c.direct.new.steps c.run_into.new.steps _ c.requires.ready
+    (subst (λ (x : Directed). Directs g.N.Nvm.state g.N.Nvm.wrote old a (Ok x) c.direct.new.reply c.direct.new.self) c.in-Passed.is c.in_ok-direct.ensures.done)
+    c.in-Ok.ensures.read c.in_ok-direct.ensures.rises c.in_ok-direct.ensures.ticks counted.0 counted.1

@@ -1,0 +1,19 @@
+-- A ruling of the manager with the reply that stands beside it, as the answer of a command.
+use Rattle.std.specs.Prelude.{Result, Ok, Err}
+use Rattle.mc_model.specs.declared.device.Stop.{Stop}
+use Rattle.mc_apdu.specs.declared.reply.Reply.{Reply}
+use Rattle.mc_manager.specs.declared.routed.Routed.{Routed}
+use Rattle.mc_manager.specs.declared.routed.Routed.TheVariants as routed
+use Rattle.mc_manager.specs.declared.routed.Ruling.{Ruling}
+use Rattle.mc_manager.specs.declared.routed.Ruling.TheVariants.{Answer, Fresh, Pass}
+
+-- a ruling with its reply
+abbrev pub ruled : Ruling → Reply → Routed
+ruled Answer r = routed.Answer r
+ruled (Fresh slot) r = routed.Fresh slot r
+ruled (Pass slot) r = routed.Pass slot
+
+-- the same where a stop may have come
+abbrev pub placed : Result Ruling Stop → Reply → Result Routed Stop
+placed (Ok x) r = Ok (ruled x r)
+placed (Err s) r = Err s
