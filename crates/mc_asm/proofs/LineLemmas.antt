@@ -6,7 +6,7 @@ use Rattle.mc_model.specs.Assembly.{Form, Bare, OfByte, OfBytes, OfWord, OfWords
 use Rattle.mc_model.specs.Bytes.{lookup}
 use Rattle.mc_model.specs.declared.assembler.AsmCause.{AsmCause}
 use Rattle.mc_asm.specs.Items.{texts}
-use Rattle.mc_asm.proofs.TextLemmas.{pieces_at, pieces_cut}
+use Rattle.mc_text.proofs.ReadingLemmas.{pieces_at, pieces_cut}
 
 -- a bound on the turns that are left
 abbrev pub left_of : Option (List ℕ) → ℕ

@@ -9,13 +9,13 @@ use Rattle.mc_model.specs.Text.{◌>>=◌, ok_as, err_as, only_if, lines, number
 use Rattle.mc_model.specs.declared.assembler.AsmCause.{AsmCause}
 use Rattle.mc_model.specs.declared.assembler.AsmCause.TheVariants.{TooLong, LabelTwice}
 use Rattle.mc_model.specs.Assembly.{Line, Laid, Placed, is_new, with_label, line_read, line_laid, laid_lines, size, emitted, joined_code, assembled_lines}
-use Rattle.mc_asm.specs.Texts.{next_line}
+use Rattle.mc_text.specs.Reading.{next_line}
 use Rattle.mc_asm.specs.Refusals.{Refuses}
 use Rattle.mc_asm.specs.declared.line.NumberedLine.{NumberedLine}
 use Rattle.mc_asm.specs.declared.refusal.AsmRefusal.{AsmRefusal}
 use Rattle.mc_asm.specs.declared.refusal.AsmRefusal.TheVariants.{At, NoMemory}
 use Rattle.mc_asm.specs.Passes.{label_and_end, places, code_and_end, coded, numbered_lines}
-use Rattle.mc_asm.proofs.TextLemmas.{lines_at, lines_from, rest_of}
+use Rattle.mc_text.proofs.ReadingLemmas.{lines_at, lines_from, rest_of}
 
 -- a label that was put, and the others
 pub label_found : (k q : List ℕ) (p : ℕ) (o : Option ℕ) (l : List (List ℕ × ℕ)) → o ≡ lookup l q → cond (is_eq (slice_cmp nat_cmp k q)) (Some p) o ≡ cond (bytes_eq k q) (Some p) (lookup l q)

@@ -10,7 +10,7 @@ use Rattle.mc_model.specs.Code.{Shaped, Stands, spell, front, from_place}
 use Rattle.mc_model.specs.Listing.{text_of, line_before, listed_one, length_of, listed_from, listed}
 use Rattle.mc_model.specs.Assembly.{assembled, line_laid}
 use Rattle.mc_isa.proofs.PlaceLemmas.{decoded_stands}
-use Rattle.mc_asm.specs.Texts.{next_line, without_return}
+use Rattle.mc_text.specs.Reading.{next_line, without_return}
 use Rattle.mc_asm.specs.Passes.{places, coded, label_and_end, code_and_end}
 use Rattle.mc_asm.proofs.PassLemmas.{two_passes, numbered_some, places_more, places_end, coded_more, coded_end}
 use Rattle.mc_asm.proofs.ListingLemmas.{whole_listed, no_bytes, front_some}

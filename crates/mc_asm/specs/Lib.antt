@@ -1,6 +1,5 @@
 pub use Rattle.mc_model.specs.Assembly
 pub use Rattle.mc_model.specs.Listing
-pub mod Texts
 pub mod Numbers
 pub mod Parts
 pub mod Forms

@@ -1,14 +1,6 @@
--- Numbers in the range that the assembler keeps, and digits that follow others.
-use Rattle.std.specs.Prelude.{ℕ, ℤ, pos, negsuc, ◌-◌, ◌<◌, cond, nat_le, List, map, Option, Some, None, option_map}
-use Rattle.mc_model.specs.Text.{every, is_digit, digits_onto, hex_values}
-
--- a number, or 65,536 in the place of a greater one
-abbrev pub capped : ℕ → ℕ
-capped n = cond (nat_le n 65536) n 65536
-
--- the number that decimal digits spell behind those that spell n
-abbrev pub decimal_behind : ℕ → List ℕ → Option ℕ
-decimal_behind n t = cond (every is_digit t) (Some (digits_onto 10 n (map (λ c. c - 48) t))) None
+-- Hexadecimal digits that follow others, and the range of signed numbers.
+use Rattle.std.specs.Prelude.{ℕ, ℤ, pos, negsuc, ◌<◌, List, Option, option_map}
+use Rattle.mc_model.specs.Text.{digits_onto, hex_values}
 
 -- the number that hexadecimal digits spell behind those that spell n
 abbrev pub hex_behind : ℕ → List ℕ → Option ℕ

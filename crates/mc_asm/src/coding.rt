@@ -11,10 +11,10 @@ use crate::item::Item;
 use crate::labels::{Labels, end_of, labels_of, place_of};
 use crate::line::{NumberedLine, read_line};
 use crate::refusal::AsmRefusal;
-use crate::text::next_line;
 use arrayvec::ArrayVec;
 use mc_isa::encode;
 use mc_model::{AsmCause, Ins};
+use mc_text::next_line;
 use std::alloc::Global;
 
 // The displacement of a branch at a place: the distance from the place behind the branch.
@@ -38,7 +38,9 @@ fn emitted<'a>(
     requires ready { Ready item.now }
     requires place { place ≤ 8192 }
     ensures size { IfOk result (λ v. array_vec_len v ≡ size (item_of item.now)) }
-    ensures code { (l : List (List ℕ × ℕ)) → AreLabels labels.now l → MatchResult result (λ v. emitted l place (item_of item.now) ≡ Ok v.items) (λ e. emitted l place (item_of item.now) ≡ Err e) }
+    ensures code { (l : List (List ℕ × ℕ)) → AreLabels labels.now l
+        → MatchResult result (λ v. emitted l place (item_of item.now) ≡ Ok v.items)
+        (λ e. emitted l place (item_of item.now) ≡ Err e) }
 {
     match *item {
         Item::Nothing => Ok(ArrayVec::new()),
@@ -73,7 +75,9 @@ fn code_and_end<'a>(
     labels: &Labels<'a>,
 ) -> Result<(ArrayVec<u8, 6>, u16), AsmCause>
     requires { place ≤ 8192 }
-    ensures value { (l : List (List ℕ × ℕ)) → AreLabels labels.now l → MatchResult result (λ p. code_and_end l place line.now ≡ Ok (p.0.items, p.1)) (λ e. code_and_end l place line.now ≡ Err e) }
+    ensures value { (l : List (List ℕ × ℕ)) → AreLabels labels.now l
+        → MatchResult result (λ p. code_and_end l place line.now ≡ Ok (p.0.items, p.1))
+        (λ e. code_and_end l place line.now ≡ Err e) }
     ensures size { IfOk result (λ p. p.1 ≡ place + array_vec_len p.0) }
     ensures bound { IfOk result (λ p. p.1 ≤ 8192) }
 {
@@ -88,7 +92,9 @@ fn code_of<'a>(
     lines: &[NumberedLine<'a>],
     labels: &Labels<'a>,
 ) -> Result<Vec<u8>, AsmRefusal>
-    ensures code { (l : List (List ℕ × ℕ)) → AreLabels labels.now l → MatchResult result (λ v. coded l 0 (numbered_lines lines.now) ≡ Ok v.items) (λ e. Refuses (coded l 0 (numbered_lines lines.now)) e) }
+    ensures code { (l : List (List ℕ × ℕ)) → AreLabels labels.now l
+        → MatchResult result (λ v. coded l 0 (numbered_lines lines.now) ≡ Ok v.items)
+        (λ e. Refuses (coded l 0 (numbered_lines lines.now)) e) }
     ensures short { IfOk result (λ v. vec_len v ≤ 8192) }
 {
     let mut code = Vec::new(alloc);
@@ -120,7 +126,8 @@ pub fn assemble_lines(alloc: Global, lines: &[NumberedLine<'_>]) -> Result<Vec<u
 // thousand million bytes, is answered as want of memory.
 #[tactic(auto, using(crate::proofs::PassLemmas::line_more))]
 fn push_line<'a>(lines: &mut Vec<NumberedLine<'a>>, text: &'a [u8]) -> Result<(), AsmRefusal>
-    ensures pushed { OnOk result (numbered_lines lines.new.items ≡ numbered_lines lines.old.items ++ (vec_len lines.old + 1, text.now) ∷ []) }
+    ensures pushed { OnOk result (numbered_lines lines.new.items
+        ≡ numbered_lines lines.old.items ++ (vec_len lines.old + 1, text.now) ∷ []) }
     ensures len { OnOk result (vec_len lines.new ≡ vec_len lines.old + 1) }
     ensures memory { IfErr result (λ e. e ≡ NoMemory) }
 {

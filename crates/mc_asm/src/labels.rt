@@ -28,7 +28,8 @@ pub fn place_of<'a>(labels: &Labels<'a>, label: &'a [u8]) -> Option<u16>
 
 // Whether a label was not given before.
 fn is_new<'a>(labels: &Labels<'a>, label: Option<&'a [u8]>) -> bool
-    ensures { (l : List (List ℕ × ℕ)) → AreLabels labels.now l → result ≡ is_new l (option_map (λ t. t.now) label.entry) }
+    ensures { (l : List (List ℕ × ℕ)) → AreLabels labels.now l
+        → result ≡ is_new l (option_map (λ t. t.now) label.entry) }
 {
     match label {
         None => true,
@@ -42,7 +43,8 @@ fn put_label<'a>(
     label: Option<&'a [u8]>,
     place: u16,
 ) -> Result<(), AsmRefusal>
-    ensures put { OnOk result ((l : List (List ℕ × ℕ)) → AreLabels labels.old l → AreLabels labels.new (with_label l (option_map (λ t. t.now) label.entry) place)) }
+    ensures put { OnOk result ((l : List (List ℕ × ℕ)) → AreLabels labels.old l
+        → AreLabels labels.new (with_label l (option_map (λ t. t.now) label.entry) place)) }
     ensures memory { IfErr result (λ e. e ≡ NoMemory) }
 {
     let Some(label) = label else {
@@ -91,7 +93,8 @@ fn label_and_end<'a>(
     labels: &Labels<'a>,
 ) -> Result<(Option<&'a [u8]>, u16), AsmCause>
     requires { place ≤ 8192 }
-    ensures value { (l : List (List ℕ × ℕ)) → AreLabels labels.now l → ok_as (λ p. (option_map (λ t. t.now) p.0, p.1)) result ≡ label_and_end l place line.now }
+    ensures value { (l : List (List ℕ × ℕ)) → AreLabels labels.now l
+        → ok_as (λ p. (option_map (λ t. t.now) p.0, p.1)) result ≡ label_and_end l place line.now }
     ensures bound { IfOk result (λ p. p.1 ≤ 8192) }
 {
     let line = read_line(line)?;
@@ -104,7 +107,8 @@ fn label_and_end<'a>(
 /// The labels of lines. The refusal is that of the first line that has a cause of its own: every cause but an unknown
 /// label and a far branch.
 pub fn labels_of<'a>(alloc: Global, lines: &[NumberedLine<'a>]) -> Result<Labels<'a>, AsmRefusal>
-    ensures found { IfOk result (λ m. (l : List (List ℕ × ℕ)) × (places [] 0 (numbered_lines lines.now) ≡ Ok l) × AreLabels m l) }
+    ensures found { IfOk result (λ m. (l : List (List ℕ × ℕ)) × (places [] 0 (numbered_lines lines.now) ≡ Ok l)
+        × AreLabels m l) }
     ensures refused { IfErr result (λ e. Refuses (places [] 0 (numbered_lines lines.now)) e) }
 {
     let mut labels = BTreeMap::new(alloc);

@@ -1,6 +1,7 @@
 #![tactic(auto)]
 
-// The assembler and the listing.
+//! The assembler and the listing.
+
 mod coding;
 mod item;
 mod labels;
@@ -10,7 +11,6 @@ mod listing;
 mod number;
 mod operand;
 mod refusal;
-mod text;
 mod words;
 
 pub use coding::{assemble, assemble_lines};
@@ -19,4 +19,3 @@ pub use line::NumberedLine;
 pub use listing::list;
 pub use mc_model::{AsmCause, DecodeFault};
 pub use refusal::{AsmRefusal, ListRefusal};
-pub use text::{cut_blank, next_line};

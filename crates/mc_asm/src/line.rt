@@ -7,10 +7,10 @@ ghost use Rattle.mc_asm.specs.Items.{item_of, line_of, texts, Ready};
 
 use crate::item::{Item, worded};
 use crate::operand::is_label;
-use crate::text::{cut, cut_blank, trim};
 use crate::words::form_named;
 use arrayvec::ArrayVec;
 use mc_model::AsmCause;
+use mc_text::{cut, cut_blank, trim};
 
 /// A line of a text without its end, and its number.
 #[derive(Clone, Copy, Debug, PartialEq, Eq)]

@@ -1,53 +1,11 @@
 // Numbers of operands.
 ghost use Rattle.std.specs.Prelude.{◌≡◌, ◌+◌, ◌*◌, ◌<◌, ◌≤◌, ◌^◌, ℕ, Ok, Err, OnOk, IfOk, IfSome, MatchResult, option_map};
-ghost use Rattle.mc_model.specs.Text.{decimal_number, hex_value};
 ghost use Rattle.mc_model.specs.Assembly.{byte, word, hex_number, natural, number_operand, signed_operand};
-ghost use Rattle.mc_asm.specs.Numbers.{capped, FitsHalf};
+ghost use Rattle.mc_asm.specs.Numbers.{FitsHalf};
+ghost use Rattle.mc_text.specs.Reading.{capped};
 
-use crate::text::is_digit;
 use mc_model::AsmCause;
-
-// A number that is greater than every operand may be.
-const LIMIT: u32 = 65536;
-
-// The number that decimal digits spell behind others.
-fn with_digit(number: u32, digit: u8) -> u32
-    requires number { number ≤ 65536 }
-    requires digit { digit < 10 }
-    ensures { result ≡ capped (number * 10 + digit) }
-{
-    LIMIT.min(number * 10 + digit as u32)
-}
-
-// The number that decimal digits spell.
-fn decimal_number(digits: &[u8]) -> Option<u32>
-    ensures { result ≡ option_map capped (decimal_number digits.now) }
-{
-    if digits.is_empty() {
-        return None;
-    }
-    let mut number = 0;
-    for digit in digits {
-        if !is_digit(*digit) {
-            return None;
-        }
-        number = with_digit(number, *digit - b'0');
-    }
-    Some(number)
-}
-
-// The value of a hexadecimal digit in either case.
-fn hex_value(digit: u8) -> Option<u32>
-    ensures value { result ≡ hex_value digit }
-    ensures bound { IfSome result (λ v. v < 16) }
-{
-    match digit {
-        b'0'..=b'9' => Some((digit - b'0') as u32),
-        b'A'..=b'F' => Some((digit - b'A') as u32 + 10),
-        b'a'..=b'f' => Some((digit - b'a') as u32 + 10),
-        _ => None,
-    }
-}
+use mc_text::{decimal_number, hex_value};
 
 // The number that 1 to 4 hexadecimal digits spell.
 fn hex_number(digits: &[u8]) -> Option<u32>
@@ -57,19 +15,19 @@ fn hex_number(digits: &[u8]) -> Option<u32>
     if digits.is_empty() || digits.len() > 4 {
         return None;
     }
-    let mut number = 0;
+    let mut number: u32 = 0;
     for digit in digits {
-        number = number * 16 + hex_value(*digit)?;
+        number = number * 16 + hex_value(*digit)? as u32;
     }
     Some(number)
 }
 
 // A number without a sign.
-fn natural(text: &[u8]) -> Option<u32>
+fn natural(text: &[u8]) -> Option<u64>
     ensures { result ≡ option_map capped (natural text.now) }
 {
     match text {
-        [b'0', b'x', digits @ ..] => hex_number(digits),
+        [b'0', b'x', digits @ ..] => Some(hex_number(digits)? as u64),
         _ => decimal_number(text),
     }
 }
@@ -83,10 +41,10 @@ fn number_operand(text: &[u8], high: u32) -> Result<u32, AsmCause>
     let Some(number) = natural(text) else {
         return Err(AsmCause::BadNumber);
     };
-    if number > high {
+    if number > high as u64 {
         return Err(AsmCause::OutOfRange);
     }
-    Ok(number)
+    Ok(number as u32)
 }
 
 /// An operand of one byte.
@@ -114,7 +72,7 @@ fn signed_operand(text: &[u8], half: u32) -> Result<i32, AsmCause>
         let Some(number) = decimal_number(digits) else {
             return Err(AsmCause::BadNumber);
         };
-        if number > half {
+        if number > half as u64 {
             return Err(AsmCause::OutOfRange);
         }
         return Ok(-(number as i32));
@@ -122,7 +80,7 @@ fn signed_operand(text: &[u8], half: u32) -> Result<i32, AsmCause>
     let Some(number) = natural(text) else {
         return Err(AsmCause::BadNumber);
     };
-    if number >= half {
+    if number >= half as u64 {
         return Err(AsmCause::OutOfRange);
     }
     Ok(number as i32)

@@ -1,33 +1,13 @@
 // Operands by their form.
 ghost use Rattle.std.specs.Prelude.{◌≡◌, ◌+◌, ◌<◌, ◌≤◌, ◌==◌, ℕ, List, length, option_map, Some, None, Ok, Err, IfOk, IfSome, Result};
-ghost use Rattle.mc_model.specs.Text.{every, is_name_character};
 ghost use Rattle.mc_model.specs.Assembly.{is_label, condition, address, place_among, both, first_cause};
 ghost use Rattle.mc_model.specs.Listing.{register_names};
 ghost use Rattle.mc_model.specs.declared.assembler.AsmCause.{AsmCause};
 ghost use Rattle.mc_asm.specs.Parts.{two_parts};
 
 use crate::number::offset;
-use crate::text::{cut, is_digit};
 use mc_model::AsmCause;
-
-// A letter, a digit or the underscore.
-fn is_name_character(character: u8) -> bool
-    ensures { result ≡ is_name_character character }
-{
-    character.is_ascii_alphanumeric() || character == b'_'
-}
-
-// Letters, digits and underscores alone.
-fn has_name_characters(text: &[u8]) -> bool
-    ensures { result ≡ every is_name_character text.now }
-{
-    for character in text {
-        if !is_name_character(*character) {
-            return false;
-        }
-    }
-    true
-}
+use mc_text::{cut, has_name_characters, is_digit};
 
 /// Whether a text has the form of a label: 1 to 32 letters, digits and underscores, of which the first is no digit.
 pub fn is_label(text: &[u8]) -> bool

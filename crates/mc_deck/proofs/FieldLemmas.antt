@@ -4,7 +4,7 @@ use Rattle.std.specs.Prelude.{filter, not, nat_eq}
 use Rattle.std.specs.List.{AllByRecursion}
 use Rattle.mc_model.specs.Text.{first_cut, fields, is_blank, is_empty, pieces}
 use Rattle.mc_asm.specs.Items.{texts}
-use Rattle.mc_asm.proofs.TextLemmas.{pieces_at, pieces_cut}
+use Rattle.mc_text.proofs.ReadingLemmas.{pieces_at, pieces_cut}
 
 -- the fields of the text that is left
 abbrev pub fields_left : Option (List ℕ) → List (List ℕ)

@@ -53,11 +53,17 @@ all_spelled t =
     ]
 
 -- digits that the crate reads, and others
+pub bytes_spelled : (t bs : List ℕ) → decode_of t ≡ Ok bs → hex_bytes t ≡ Some bs
+bytes_spelled t bs h = all_spelled t ∙ ap read_bytes h
+
+pub bytes_misspelled : (t : List ℕ) (e : FromHexError) → decode_of t ≡ Err e → hex_bytes t ≡ None
+bytes_misspelled t e h = all_spelled t ∙ ap read_bytes h
+
 pub spelled : (t bs : List ℕ) → decode_of t ≡ Ok bs → hex_field t ≡ Ok bs
-spelled t bs h = rw (all_spelled t ∙ ap read_bytes h) refl
+spelled t bs h = rw (bytes_spelled t bs h) refl
 
 pub misspelled : (t : List ℕ) (e : FromHexError) → decode_of t ≡ Err e → hex_field t ≡ Err BadHex
-misspelled t e h = rw (all_spelled t ∙ ap read_bytes h) refl
+misspelled t e h = rw (bytes_misspelled t e h) refl
 
 -- a digit is a digit of some byte
 pub some_bytes : (t bs : List ℕ) → decode_of t ≡ Ok bs → 0 < length t → 0 < length bs

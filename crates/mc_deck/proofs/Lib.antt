@@ -1,5 +1,4 @@
 pub mod HexLemmas
-pub mod NumberLemmas
 pub mod FieldLemmas
 pub mod LineLemmas
 pub mod NameLemmas

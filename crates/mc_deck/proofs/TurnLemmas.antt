@@ -15,7 +15,7 @@ use Rattle.mc_deck.specs.declared.unit.OwnedUnit.{OwnedUnit}
 use Rattle.mc_deck.specs.declared.line.OwnedLine.{OwnedLine}
 use Rattle.mc_deck.specs.declared.section.Section.{Section}
 use Rattle.mc_deck.specs.declared.reading.Reader.{Reader}
-use Rattle.mc_asm.specs.Texts.{next_line}
+use Rattle.mc_text.specs.Reading.{next_line}
 use Rattle.mc_asm.proofs.PassLemmas.{numbered_some, numbered_none}
 use Rattle.mc_deck.specs.Refused.{Refused}
 use Rattle.mc_deck.specs.Statements.{stated_of, Fits, InContext}

@@ -1,7 +1,6 @@
 pub use Rattle.mc_model.specs.DeckGrammar
 pub use Rattle.mc_model.specs.Generator
 pub mod Refused
-pub mod Numbers
 pub mod Lines
 pub mod Decks
 pub mod Contexts

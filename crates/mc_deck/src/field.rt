@@ -1,34 +1,14 @@
 // The kinds of fields.
 ghost use Rattle.std.specs.Prelude.{◌≡◌, ◌+◌, ◌*◌, ◌<◌, ◌≤◌, ◌^◌, length, Ok, Err, IfOk, IfErr, MatchResult, option_map};
-ghost use Rattle.mc_model.specs.Text.{decimal_number, every, is_digit, is_name, is_name_character};
 ghost use Rattle.mc_model.specs.DeckGrammar.{aid_field, bytes_field, fill_field, hex_field, name_field, number_field};
 ghost use Rattle.mc_deck.specs.Refused.{Faulty};
-ghost use Rattle.mc_deck.specs.Numbers.{capped};
 
 use crate::refusal::Fault;
 use hex::FromHexError;
 use mc_base::{Aid, Word};
 use mc_model::DeckCause;
+use mc_text::{decimal_number, has_name_characters};
 use std::alloc::Global;
-
-// Letters, digits and the underscore.
-fn is_name_character(character: u8) -> bool
-    ensures { result ≡ is_name_character character }
-{
-    character.is_ascii_alphanumeric() || character == b'_'
-}
-
-// Whether all characters may stand in a name.
-fn has_name_characters(text: &[u8]) -> bool
-    ensures { result ≡ every is_name_character text.now }
-{
-    for character in text {
-        if !is_name_character(*character) {
-            return false;
-        }
-    }
-    true
-}
 
 /// A name: 1 to 32 letters, digits and underscores.
 pub fn name_field(text: &[u8]) -> Result<&[u8], DeckCause>
@@ -76,35 +56,6 @@ pub fn fill_field(alloc: Global, text: &[u8]) -> Result<Word, Fault>
         [a, b, c, d, e, f, g, h] => Ok([*a, *b, *c, *d, *e, *f, *g, *h]),
         _ => Err(Fault::Cause(DeckCause::OutOfRange)),
     }
-}
-
-// A number that is greater than every field may be.
-const LIMIT: u64 = 4294967296;
-
-// The number that decimal digits spell behind others.
-fn with_digit(number: u64, digit: u8) -> u64
-    requires number { number ≤ 4294967296 }
-    requires digit { digit < 10 }
-    ensures { result ≡ capped (number * 10 + digit) }
-{
-    LIMIT.min(number * 10 + digit as u64)
-}
-
-// The number that decimal digits spell.
-fn decimal_number(digits: &[u8]) -> Option<u64>
-    ensures { result ≡ option_map capped (decimal_number digits.now) }
-{
-    if digits.is_empty() {
-        return None;
-    }
-    let mut number = 0;
-    for digit in digits {
-        if !digit.is_ascii_digit() {
-            return None;
-        }
-        number = with_digit(number, *digit - b'0');
-    }
-    Some(number)
 }
 
 /// A decimal number from `low` to `high`; leading zeros are good.

@@ -146,7 +146,8 @@ fn units(alloc: Global) -> Result<Vec<OwnedUnit>, AllocError>
 
 // The first eight lines.
 fn opening(alloc: Global) -> Result<Vec<(u32, OwnedLine)>, AllocError>
-    ensures lines { IfOk result (λ v. (us : List OwnedUnit) → AreUnits us → said_lines us v.items ≡ numbered 1 opening) }
+    ensures lines { IfOk result (λ v. (us : List OwnedUnit) → AreUnits us
+        → said_lines us v.items ≡ numbered 1 opening) }
     ensures inside { IfOk result (λ v. AllByRecursion (λ l. Inside 3 l.1) v.items) }
 {
     Ok(Vec::from_array(
@@ -190,7 +191,8 @@ fn opening(alloc: Global) -> Result<Vec<(u32, OwnedLine)>, AllocError>
 fn push(lines: &mut Vec<(u32, OwnedLine)>, number: u32, line: OwnedLine) -> Result<(), AllocError>
     requires line { Inside 3 line }
     requires lines { AllByRecursion (λ l. Inside 3 l.1) lines.old.items }
-    ensures said { OnOk result ((us : List OwnedUnit) → said_lines us lines.new.items ≡ said_lines us lines.old.items ++ (number, said us line) ∷ []) }
+    ensures said { OnOk result ((us : List OwnedUnit)
+        → said_lines us lines.new.items ≡ said_lines us lines.old.items ++ (number, said us line) ∷ []) }
     ensures inside { OnOk result (AllByRecursion (λ l. Inside 3 l.1) lines.new.items) }
 {
     lines.push((number, line))?;
@@ -201,7 +203,8 @@ fn push(lines: &mut Vec<(u32, OwnedLine)>, number: u32, line: OwnedLine) -> Resu
 fn push_turns(alloc: Global, lines: &mut Vec<(u32, OwnedLine)>, n: u32) -> Result<(), AllocError>
     requires number { n < 2 ^ 31 }
     requires inside { AllByRecursion (λ l. Inside 3 l.1) lines.old.items }
-    ensures lines { OnOk result ((us : List OwnedUnit) → AreUnits us → said_lines us lines.new.items ≡ said_lines us lines.old.items ++ numbered 9 (turns 4000 n)) }
+    ensures lines { OnOk result ((us : List OwnedUnit) → AreUnits us
+        → said_lines us lines.new.items ≡ said_lines us lines.old.items ++ numbered 9 (turns 4000 n)) }
     ensures inside { OnOk result (AllByRecursion (λ l. Inside 3 l.1) lines.new.items) }
 {
     let mut x = n;
@@ -218,7 +221,8 @@ fn push_turns(alloc: Global, lines: &mut Vec<(u32, OwnedLine)>, n: u32) -> Resul
 // The last four lines.
 fn push_closing(lines: &mut Vec<(u32, OwnedLine)>) -> Result<(), AllocError>
     requires { AllByRecursion (λ l. Inside 3 l.1) lines.old.items }
-    ensures lines { OnOk result ((us : List OwnedUnit) → said_lines us lines.new.items ≡ said_lines us lines.old.items ++ numbered 4009 closing) }
+    ensures lines { OnOk result ((us : List OwnedUnit)
+        → said_lines us lines.new.items ≡ said_lines us lines.old.items ++ numbered 4009 closing) }
     ensures inside { OnOk result (AllByRecursion (λ l. Inside 3 l.1) lines.new.items) }
 {
     push(lines, 4009, OwnedLine::Power)?;

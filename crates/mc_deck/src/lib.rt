@@ -1,6 +1,7 @@
 #![tactic(auto)]
 
-// Decks: the text of a play read line by line, and the deck that a number generates.
+//! Decks: the text of a play read line by line, and the deck that a number generates.
+
 mod bytes;
 mod deck;
 mod field;

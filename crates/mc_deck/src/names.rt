@@ -31,8 +31,10 @@ pub fn no_names<'a>(alloc: Global) -> Names<'a>
 
 /// The place of the unit with a name, `None` where no unit has it.
 pub fn place_of<'a>(names: &Names<'a>, name: &'a [u8]) -> Option<usize>
-    ensures value { (named : List (List ℕ × UnitParts)) → AreNames names.now.places names.now.units.items named → lookup named name.now ≡ option_map (unit_at names.now.units.items) result }
-    ensures inside { (named : List (List ℕ × UnitParts)) → AreNames names.now.places names.now.units.items named → IfSome result (λ i. i < length names.now.units.items) }
+    ensures value { (named : List (List ℕ × UnitParts)) → AreNames names.now.places names.now.units.items named
+        → lookup named name.now ≡ option_map (unit_at names.now.units.items) result }
+    ensures inside { (named : List (List ℕ × UnitParts)) → AreNames names.now.places names.now.units.items named
+        → IfSome result (λ i. i < length names.now.units.items) }
 {
     names.places.get(&name).copied()
 }
@@ -43,7 +45,9 @@ fn put_place<'a>(
     name: &'a [u8],
     place: usize,
 ) -> Result<(), DeckRefusal>
-    ensures put { OnOk result ((us : List OwnedUnit) (u : OwnedUnit) (named : List (List ℕ × UnitParts)) → place ≡ length us → AreNames places.old us named → AreNames places.new (us ++ u ∷ []) ((name.now, owned_parts u) ∷ named)) }
+    ensures put { OnOk result ((us : List OwnedUnit) (u : OwnedUnit) (named : List (List ℕ × UnitParts))
+        → place ≡ length us → AreNames places.old us named
+        → AreNames places.new (us ++ u ∷ []) ((name.now, owned_parts u) ∷ named)) }
     ensures memory { IfErr result (λ e. e ≡ NoMemory) }
 {
     match places.insert(name, place) {
@@ -69,7 +73,9 @@ pub fn give_name<'a>(
     name: &'a [u8],
     unit: OwnedUnit,
 ) -> Result<(), DeckRefusal>
-    ensures names { OnOk result ((named : List (List ℕ × UnitParts)) → AreNames names.old.places names.old.units.items named → AreNames names.new.places names.new.units.items ((name.now, owned_parts unit) ∷ named)) }
+    ensures names { OnOk result ((named : List (List ℕ × UnitParts))
+        → AreNames names.old.places names.old.units.items named
+        → AreNames names.new.places names.new.units.items ((name.now, owned_parts unit) ∷ named)) }
     ensures units { OnOk result (names.new.units.items ≡ names.old.units.items ++ unit ∷ []) }
     ensures memory { IfErr result (λ e. e ≡ NoMemory) }
 {

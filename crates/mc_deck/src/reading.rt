@@ -20,8 +20,9 @@ use crate::section::{Section, ends_section, section_unit};
 use crate::statement::{Statement, keyword_named, read_statement};
 use crate::text::fields;
 use crate::unit::OwnedUnit;
-use mc_asm::{NumberedLine, next_line};
+use mc_asm::NumberedLine;
 use mc_model::DeckCause;
+use mc_text::next_line;
 use std::alloc::Global;
 
 // The number of the first line that no deck has.
@@ -56,8 +57,13 @@ fn worded<'a>(
     fields: &[&'a [u8]],
 ) -> Result<Option<Statement<'a>>, DeckRefusal>
     requires { AllByRecursion (λ t. 0 < length t.now) fields.now }
-    ensures value { (c : Context) → InContext names.now powered c → MatchResult result (λ o. line_stated c number (word.now ∷ texts fields.now) ≡ Ok (option_map (stated_of names.now.units.items c number) o)) (λ e. Refused (line_stated c number (word.now ∷ texts fields.now)) e) }
-    ensures fits { (c : Context) → InContext names.now powered c → IfOk result (λ o. MatchOption o ⊤ (Fits (length names.now.units.items) powered)) }
+    ensures value { (c : Context) → InContext names.now powered c
+        → MatchResult result
+        (λ o. line_stated c number (word.now ∷ texts fields.now)
+        ≡ Ok (option_map (stated_of names.now.units.items c number) o))
+        (λ e. Refused (line_stated c number (word.now ∷ texts fields.now)) e) }
+    ensures fits { (c : Context) → InContext names.now powered c
+        → IfOk result (λ o. MatchOption o ⊤ (Fits (length names.now.units.items) powered)) }
 {
     if is_comment(word) {
         return Ok(None);
@@ -81,8 +87,12 @@ fn statement_of<'a>(
     fields: &[&'a [u8]],
 ) -> Result<Option<Statement<'a>>, DeckRefusal>
     requires { AllByRecursion (λ t. 0 < length t.now) fields.now }
-    ensures value { (c : Context) → InContext names.now powered c → MatchResult result (λ o. line_stated c number (texts fields.now) ≡ Ok (option_map (stated_of names.now.units.items c number) o)) (λ e. Refused (line_stated c number (texts fields.now)) e) }
-    ensures fits { (c : Context) → InContext names.now powered c → IfOk result (λ o. MatchOption o ⊤ (Fits (length names.now.units.items) powered)) }
+    ensures value { (c : Context) → InContext names.now powered c
+        → MatchResult result
+        (λ o. line_stated c number (texts fields.now) ≡ Ok (option_map (stated_of names.now.units.items c number) o))
+        (λ e. Refused (line_stated c number (texts fields.now)) e) }
+    ensures fits { (c : Context) → InContext names.now powered c
+        → IfOk result (λ o. MatchOption o ⊤ (Fits (length names.now.units.items) powered)) }
 {
     match fields {
         [] => Ok(None),
@@ -99,8 +109,12 @@ fn read_line<'a>(
     number: u32,
     text: &'a [u8],
 ) -> Result<Option<Statement<'a>>, DeckRefusal>
-    ensures value { (c : Context) → InContext names.now powered c → MatchResult result (λ o. line_stated c number (fields text.now) ≡ Ok (option_map (stated_of names.now.units.items c number) o)) (λ e. Refused (line_stated c number (fields text.now)) e) }
-    ensures fits { (c : Context) → InContext names.now powered c → IfOk result (λ o. MatchOption o ⊤ (Fits (length names.now.units.items) powered)) }
+    ensures value { (c : Context) → InContext names.now powered c
+        → MatchResult result
+        (λ o. line_stated c number (fields text.now) ≡ Ok (option_map (stated_of names.now.units.items c number) o))
+        (λ e. Refused (line_stated c number (fields text.now)) e) }
+    ensures fits { (c : Context) → InContext names.now powered c
+        → IfOk result (λ o. MatchOption o ⊤ (Fits (length names.now.units.items) powered)) }
 {
     statement_of(alloc, names, powered, number, fields(text).as_slice())
 }
@@ -128,8 +142,10 @@ fn take_unit<'a>(
     unit: OwnedUnit,
 ) -> Result<(), DeckRefusal>
     requires { GoodUnit (owned_parts unit) }
-    ensures took { OnOk result ((c : Context) → Stands reader.old c → Stands reader.new (with_unit c name.now (owned_parts unit))) }
-    ensures lines { OnOk result ((c : Context) → Stands reader.old c → lines_of reader.new ≡ lines_of reader.old ++ (number, Named) ∷ []) }
+    ensures took { OnOk result ((c : Context) → Stands reader.old c
+        → Stands reader.new (with_unit c name.now (owned_parts unit))) }
+    ensures lines { OnOk result ((c : Context) → Stands reader.old c
+        → lines_of reader.new ≡ lines_of reader.old ++ (number, Named) ∷ []) }
     ensures memory { IfErr result (λ e. e ≡ NoMemory) }
 {
     give_name(&mut reader.names, name, unit)?;
@@ -145,7 +161,9 @@ fn take_statement<'a>(
     statement: Statement<'a>,
 ) -> Result<Option<Section<'a>>, DeckRefusal>
     requires { Fits (length reader.old.names.units.items) reader.old.powered statement }
-    ensures took { IfOk result (λ s. (c : Context) → Stands reader.old c → Took reader.old reader.new s (turn_of number (stated_of reader.old.names.units.items c number statement.entry))) }
+    ensures took { IfOk result (λ s. (c : Context) → Stands reader.old c
+        → Took reader.old reader.new s
+        (turn_of number (stated_of reader.old.names.units.items c number statement.entry))) }
     ensures memory { IfErr result (λ e. e ≡ NoMemory) }
 {
     match statement {
@@ -179,7 +197,9 @@ fn between<'a>(
     text: &'a [u8],
 ) -> Result<Option<Section<'a>>, DeckRefusal>
     requires { (c : Context) × Stands reader.old c }
-    ensures turned { (c : Context) → Stands reader.old c → MatchResult result (λ s. Turned reader.old reader.new s (between c number (fields text.now))) (λ e. Refused (between c number (fields text.now)) e) }
+    ensures turned { (c : Context) → Stands reader.old c
+        → MatchResult result (λ s. Turned reader.old reader.new s (between c number (fields text.now)))
+        (λ e. Refused (between c number (fields text.now)) e) }
 {
     match read_line(alloc, &reader.names, reader.powered, number, text) {
         Err(refusal) => Err(refusal),
@@ -194,7 +214,8 @@ fn push_text<'a>(
     number: u32,
     text: &'a [u8],
 ) -> Result<(), DeckRefusal>
-    ensures lines { OnOk result (numbered_lines lines.new.items ≡ numbered_lines lines.old.items ++ (number, text.now) ∷ []) }
+    ensures lines { OnOk result (numbered_lines lines.new.items
+        ≡ numbered_lines lines.old.items ++ (number, text.now) ∷ []) }
     ensures memory { IfErr result (λ e. e ≡ NoMemory) }
 {
     match lines.push(NumberedLine { number, text }) {
@@ -211,7 +232,10 @@ fn within<'a>(
     number: u32,
     text: &'a [u8],
 ) -> Result<Option<Section<'a>>, DeckRefusal>
-    ensures turned { (c : Context) → Stands reader.old c → MatchResult result (λ s. Turned reader.old reader.new s (turn_in (Within (section_of section.entry) c) (number, text.now))) (λ e. Refused (turn_in (Within (section_of section.entry) c) (number, text.now)) e) }
+    ensures turned { (c : Context) → Stands reader.old c
+        → MatchResult result
+        (λ s. Turned reader.old reader.new s (turn_in (Within (section_of section.entry) c) (number, text.now)))
+        (λ e. Refused (turn_in (Within (section_of section.entry) c) (number, text.now)) e) }
 {
     let mut section = section;
     if ends_section(text) {
@@ -235,7 +259,10 @@ fn turn<'a>(
     text: &'a [u8],
 ) -> Result<Option<Section<'a>>, DeckRefusal>
     requires { (c : Context) × Stands reader.old c }
-    ensures turned { (c : Context) → Stands reader.old c → MatchResult result (λ s. Turned reader.old reader.new s (turn_at (number == 20001) (mode_of section.entry c) (number, text.now))) (λ e. Refused (turn_at (number == 20001) (mode_of section.entry c) (number, text.now)) e) }
+    ensures turned { (c : Context) → Stands reader.old c
+        → MatchResult result
+        (λ s. Turned reader.old reader.new s (turn_at (number == 20001) (mode_of section.entry c) (number, text.now)))
+        (λ e. Refused (turn_at (number == 20001) (mode_of section.entry c) (number, text.now)) e) }
     ensures few { OnOk result (number ≢ 20001) }
 {
     if number == TOO_MANY {

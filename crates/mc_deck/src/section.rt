@@ -65,7 +65,8 @@ fn has_data(line: &[u8]) -> bool
 
 // The bytes of a line `DATA HEX`.
 fn data_hex(alloc: Global, fields: &[&[u8]]) -> Result<Vec<u8>, Fault>
-    ensures { MatchResult result (λ v. data_hex (texts fields.now) ≡ Ok v.items) (λ e. Faulty (data_hex (texts fields.now)) e) }
+    ensures { MatchResult result (λ v. data_hex (texts fields.now) ≡ Ok v.items)
+        (λ e. Faulty (data_hex (texts fields.now)) e) }
 {
     match fields {
         [_, hex] => hex_field(alloc, hex),
@@ -76,7 +77,8 @@ fn data_hex(alloc: Global, fields: &[&[u8]]) -> Result<Vec<u8>, Fault>
 // The data of a line of a section, none of a line that goes to the assembler.
 #[tactic(auto, using(crate::proofs::SectionLemmas::data_five, crate::proofs::SectionLemmas::hex_five))]
 fn data_of_line(alloc: Global, line: &[u8]) -> Result<Vec<u8>, Fault>
-    ensures { MatchResult result (λ v. data_of_line (fields line.now) ≡ Ok v.items) (λ e. Faulty (data_of_line (fields line.now)) e) }
+    ensures { MatchResult result (λ v. data_of_line (fields line.now) ≡ Ok v.items)
+        (λ e. Faulty (data_of_line (fields line.now)) e) }
 {
     let fields = fields(line);
     if !is_data(fields.as_slice()) {
@@ -87,7 +89,8 @@ fn data_of_line(alloc: Global, line: &[u8]) -> Result<Vec<u8>, Fault>
 
 // The data of a section.
 fn section_data(alloc: Global, lines: &[NumberedLine<'_>]) -> Result<Vec<u8>, DeckRefusal>
-    ensures { MatchResult result (λ v. section_data (numbered_lines lines.now) ≡ Ok v.items) (λ e. Refused (section_data (numbered_lines lines.now)) e) }
+    ensures { MatchResult result (λ v. section_data (numbered_lines lines.now) ≡ Ok v.items)
+        (λ e. Refused (section_data (numbered_lines lines.now)) e) }
 {
     let mut bytes = Vec::new(alloc);
     for line in lines {
@@ -121,7 +124,8 @@ fn section_program<'a>(
 
 // The code of the lines of a section.
 fn section_code(alloc: Global, lines: &[NumberedLine<'_>]) -> Result<Vec<u8>, DeckRefusal>
-    ensures value { MatchResult result (λ v. section_code (numbered_lines lines.now) ≡ Ok v.items) (λ e. Refused (section_code (numbered_lines lines.now)) e) }
+    ensures value { MatchResult result (λ v. section_code (numbered_lines lines.now) ≡ Ok v.items)
+        (λ e. Refused (section_code (numbered_lines lines.now)) e) }
     ensures short { IfOk result (λ v. vec_len v ≤ 8192) }
 {
     let program = section_program(alloc, lines)?;
@@ -142,7 +146,8 @@ fn judged(
     number: u32,
 ) -> Result<OwnedUnit, DeckRefusal>
     requires { vec_len code ≤ 8192 }
-    ensures value { MatchResult result (λ u. unit_judged number (made_unit aid.now code.items init.items) ≡ Ok (owned_parts u)) (λ e. Refused (unit_judged number (made_unit aid.now code.items init.items)) e) }
+    ensures value { MatchResult result (λ u. unit_judged number (made_unit aid.now code.items init.items)
+        ≡ Ok (owned_parts u)) (λ e. Refused (unit_judged number (made_unit aid.now code.items init.items)) e) }
     ensures good { IfOk result (λ u. GoodUnit (owned_parts u)) }
 {
     if code.is_empty() {
@@ -161,7 +166,8 @@ pub fn section_unit(
     section: &Section<'_>,
     number: u32,
 ) -> Result<OwnedUnit, DeckRefusal>
-    ensures value { MatchResult result (λ u. section_unit (section_of section.now) number ≡ Ok (owned_parts u)) (λ e. Refused (section_unit (section_of section.now) number) e) }
+    ensures value { MatchResult result (λ u. section_unit (section_of section.now) number ≡ Ok (owned_parts u))
+        (λ e. Refused (section_unit (section_of section.now) number) e) }
     ensures good { IfOk result (λ u. GoodUnit (owned_parts u)) }
 {
     let init = section_data(alloc, section.lines.as_slice())?;

@@ -96,7 +96,9 @@ pub fn keyword_named(word: &[u8]) -> Option<Keyword>
 // `format`, which stands before each `power`.
 #[tactic(auto, unfolding(mc_model::specs::DeckGrammar::stated))]
 fn format_statement<'a>(powered: bool, fields: &[&'a [u8]]) -> Result<Statement<'a>, Fault>
-    ensures value { (us : List OwnedUnit) (c : Context) (n : ℕ) → powered ≡ c.powered → MatchResult result (λ s. stated c n FormatWord (texts fields.now) ≡ Ok (stated_of us c n s)) (λ e. Faulty (stated c n FormatWord (texts fields.now)) e) }
+    ensures value { (us : List OwnedUnit) (c : Context) (n : ℕ) → powered ≡ c.powered
+        → MatchResult result (λ s. stated c n FormatWord (texts fields.now) ≡ Ok (stated_of us c n s))
+        (λ e. Faulty (stated c n FormatWord (texts fields.now)) e) }
     ensures fits { (m : ℕ) → IfOk result (Fits m powered) }
 {
     match fields {
@@ -113,7 +115,9 @@ fn format_statement<'a>(powered: bool, fields: &[&'a [u8]]) -> Result<Statement<
 // `power`.
 #[tactic(auto, unfolding(mc_model::specs::DeckGrammar::stated))]
 fn power_statement<'a>(powered: bool, fields: &[&'a [u8]]) -> Result<Statement<'a>, Fault>
-    ensures value { (us : List OwnedUnit) (c : Context) (n : ℕ) → MatchResult result (λ s. stated c n PowerWord (texts fields.now) ≡ Ok (stated_of us c n s)) (λ e. Faulty (stated c n PowerWord (texts fields.now)) e) }
+    ensures value { (us : List OwnedUnit) (c : Context) (n : ℕ)
+        → MatchResult result (λ s. stated c n PowerWord (texts fields.now) ≡ Ok (stated_of us c n s))
+        (λ e. Faulty (stated c n PowerWord (texts fields.now)) e) }
     ensures fits { (m : ℕ) → IfOk result (Fits m powered) }
 {
     match fields {
@@ -130,7 +134,10 @@ fn unit_line<'a>(
     name: &'a [u8],
     hex: &[u8],
 ) -> Result<Statement<'a>, Fault>
-    ensures value { (us : List OwnedUnit) (c : Context) (n : ℕ) → AreNames names.now.places names.now.units.items c.units → MatchResult result (λ s. stated c n UnitWord (name.now ∷ hex.now ∷ []) ≡ Ok (stated_of us c n s)) (λ e. Faulty (stated c n UnitWord (name.now ∷ hex.now ∷ [])) e) }
+    ensures value { (us : List OwnedUnit) (c : Context) (n : ℕ)
+        → AreNames names.now.places names.now.units.items c.units
+        → MatchResult result (λ s. stated c n UnitWord (name.now ∷ hex.now ∷ []) ≡ Ok (stated_of us c n s))
+        (λ e. Faulty (stated c n UnitWord (name.now ∷ hex.now ∷ [])) e) }
     ensures fits { (m : ℕ) (powered : Bool) → IfOk result (Fits m powered) }
 {
     let name = name_field(name)?;
@@ -157,7 +164,10 @@ fn unit_statement<'a>(
     names: &Names<'a>,
     fields: &[&'a [u8]],
 ) -> Result<Statement<'a>, Fault>
-    ensures value { (us : List OwnedUnit) (c : Context) (n : ℕ) → AreNames names.now.places names.now.units.items c.units → MatchResult result (λ s. stated c n UnitWord (texts fields.now) ≡ Ok (stated_of us c n s)) (λ e. Faulty (stated c n UnitWord (texts fields.now)) e) }
+    ensures value { (us : List OwnedUnit) (c : Context) (n : ℕ)
+        → AreNames names.now.places names.now.units.items c.units
+        → MatchResult result (λ s. stated c n UnitWord (texts fields.now) ≡ Ok (stated_of us c n s))
+        (λ e. Faulty (stated c n UnitWord (texts fields.now)) e) }
     ensures fits { (m : ℕ) (powered : Bool) → IfOk result (Fits m powered) }
 {
     match two(fields) {
@@ -168,7 +178,8 @@ fn unit_statement<'a>(
 
 // The unit that the bytes are.
 fn unit_of(alloc: Global, bytes: &[u8]) -> Result<OwnedUnit, Fault>
-    ensures value { MatchResult result (λ u. err_as Unit (unit_read bytes.now) ≡ Ok (owned_parts u)) (λ e. Faulty (err_as Unit (unit_read bytes.now)) e) }
+    ensures value { MatchResult result (λ u. err_as Unit (unit_read bytes.now) ≡ Ok (owned_parts u))
+        (λ e. Faulty (err_as Unit (unit_read bytes.now)) e) }
     ensures good { IfOk result (λ u. GoodUnit (owned_parts u)) }
 {
     match read_unit(bytes) {
@@ -179,7 +190,8 @@ fn unit_of(alloc: Global, bytes: &[u8]) -> Result<OwnedUnit, Fault>
 
 // A name that no unit has.
 fn new_name<'a>(names: &Names<'a>, name: &'a [u8]) -> Result<(), DeckCause>
-    ensures { (c : Context) → AreNames names.now.places names.now.units.items c.units → MatchResult result (λ _. new_name c name.now ≡ Ok name.now) (λ e. new_name c name.now ≡ Err e) }
+    ensures { (c : Context) → AreNames names.now.places names.now.units.items c.units
+        → MatchResult result (λ _. new_name c name.now ≡ Ok name.now) (λ e. new_name c name.now ≡ Err e) }
 {
     if place_of(names, name).is_some() {
         return Err(DeckCause::NameTwice);
@@ -194,7 +206,10 @@ fn app_statement<'a>(
     names: &Names<'a>,
     fields: &[&'a [u8]],
 ) -> Result<Statement<'a>, Fault>
-    ensures value { (us : List OwnedUnit) (c : Context) (n : ℕ) → AreNames names.now.places names.now.units.items c.units → MatchResult result (λ s. stated c n AppWord (texts fields.now) ≡ Ok (stated_of us c n s)) (λ e. Faulty (stated c n AppWord (texts fields.now)) e) }
+    ensures value { (us : List OwnedUnit) (c : Context) (n : ℕ)
+        → AreNames names.now.places names.now.units.items c.units
+        → MatchResult result (λ s. stated c n AppWord (texts fields.now) ≡ Ok (stated_of us c n s))
+        (λ e. Faulty (stated c n AppWord (texts fields.now)) e) }
     ensures fits { (m : ℕ) (powered : Bool) → IfOk result (Fits m powered) }
 {
     let [name, aid] = fields else {
@@ -209,8 +224,12 @@ fn app_statement<'a>(
 // `load NAME STATIC SESSION`.
 #[tactic(auto, unfolding(mc_model::specs::DeckGrammar::stated))]
 fn load_statement<'a>(names: &Names<'a>, fields: &[&'a [u8]]) -> Result<Statement<'a>, Fault>
-    ensures value { (c : Context) (n : ℕ) → AreNames names.now.places names.now.units.items c.units → MatchResult result (λ s. stated c n LoadWord (texts fields.now) ≡ Ok (stated_of names.now.units.items c n s)) (λ e. Faulty (stated c n LoadWord (texts fields.now)) e) }
-    ensures fits { (c : Context) (powered : Bool) → AreNames names.now.places names.now.units.items c.units → IfOk result (Fits (length names.now.units.items) powered) }
+    ensures value { (c : Context) (n : ℕ) → AreNames names.now.places names.now.units.items c.units
+        → MatchResult result
+        (λ s. stated c n LoadWord (texts fields.now) ≡ Ok (stated_of names.now.units.items c n s))
+        (λ e. Faulty (stated c n LoadWord (texts fields.now)) e) }
+    ensures fits { (c : Context) (powered : Bool) → AreNames names.now.places names.now.units.items c.units
+        → IfOk result (Fits (length names.now.units.items) powered) }
 {
     let [name, fixed, session] = fields else {
         return Err(Fault::Cause(DeckCause::BadLine));
@@ -231,7 +250,9 @@ fn load_statement<'a>(names: &Names<'a>, fields: &[&'a [u8]]) -> Result<Statemen
 // `select AID`.
 #[tactic(auto, unfolding(mc_model::specs::DeckGrammar::stated))]
 fn select_statement<'a>(alloc: Global, fields: &[&'a [u8]]) -> Result<Statement<'a>, Fault>
-    ensures value { (us : List OwnedUnit) (c : Context) (n : ℕ) → MatchResult result (λ s. stated c n SelectWord (texts fields.now) ≡ Ok (stated_of us c n s)) (λ e. Faulty (stated c n SelectWord (texts fields.now)) e) }
+    ensures value { (us : List OwnedUnit) (c : Context) (n : ℕ)
+        → MatchResult result (λ s. stated c n SelectWord (texts fields.now) ≡ Ok (stated_of us c n s))
+        (λ e. Faulty (stated c n SelectWord (texts fields.now)) e) }
     ensures fits { (m : ℕ) (powered : Bool) → IfOk result (Fits m powered) }
 {
     match fields {
@@ -243,7 +264,9 @@ fn select_statement<'a>(alloc: Global, fields: &[&'a [u8]]) -> Result<Statement<
 // `delete AID`.
 #[tactic(auto, unfolding(mc_model::specs::DeckGrammar::stated))]
 fn delete_statement<'a>(alloc: Global, fields: &[&'a [u8]]) -> Result<Statement<'a>, Fault>
-    ensures value { (us : List OwnedUnit) (c : Context) (n : ℕ) → MatchResult result (λ s. stated c n DeleteWord (texts fields.now) ≡ Ok (stated_of us c n s)) (λ e. Faulty (stated c n DeleteWord (texts fields.now)) e) }
+    ensures value { (us : List OwnedUnit) (c : Context) (n : ℕ)
+        → MatchResult result (λ s. stated c n DeleteWord (texts fields.now) ≡ Ok (stated_of us c n s))
+        (λ e. Faulty (stated c n DeleteWord (texts fields.now)) e) }
     ensures fits { (m : ℕ) (powered : Bool) → IfOk result (Fits m powered) }
 {
     match fields {
@@ -255,7 +278,9 @@ fn delete_statement<'a>(alloc: Global, fields: &[&'a [u8]]) -> Result<Statement<
 // `dump AID`.
 #[tactic(auto, unfolding(mc_model::specs::DeckGrammar::stated))]
 fn dump_statement<'a>(alloc: Global, fields: &[&'a [u8]]) -> Result<Statement<'a>, Fault>
-    ensures value { (us : List OwnedUnit) (c : Context) (n : ℕ) → MatchResult result (λ s. stated c n DumpWord (texts fields.now) ≡ Ok (stated_of us c n s)) (λ e. Faulty (stated c n DumpWord (texts fields.now)) e) }
+    ensures value { (us : List OwnedUnit) (c : Context) (n : ℕ)
+        → MatchResult result (λ s. stated c n DumpWord (texts fields.now) ≡ Ok (stated_of us c n s))
+        (λ e. Faulty (stated c n DumpWord (texts fields.now)) e) }
     ensures fits { (m : ℕ) (powered : Bool) → IfOk result (Fits m powered) }
 {
     match fields {
@@ -268,7 +293,9 @@ fn dump_statement<'a>(alloc: Global, fields: &[&'a [u8]]) -> Result<Statement<'a
 #[tactic(auto, unfolding(mc_model::specs::DeckGrammar::stated))]
 fn apdu_statement<'a>(alloc: Global, fields: &[&'a [u8]]) -> Result<Statement<'a>, Fault>
     requires { AllByRecursion (λ t. 0 < length t.now) fields.now }
-    ensures value { (us : List OwnedUnit) (c : Context) (n : ℕ) → MatchResult result (λ s. stated c n ApduWord (texts fields.now) ≡ Ok (stated_of us c n s)) (λ e. Faulty (stated c n ApduWord (texts fields.now)) e) }
+    ensures value { (us : List OwnedUnit) (c : Context) (n : ℕ)
+        → MatchResult result (λ s. stated c n ApduWord (texts fields.now) ≡ Ok (stated_of us c n s))
+        (λ e. Faulty (stated c n ApduWord (texts fields.now)) e) }
     ensures fits { (m : ℕ) (powered : Bool) → IfOk result (Fits m powered) }
 {
     match fields {
@@ -280,7 +307,9 @@ fn apdu_statement<'a>(alloc: Global, fields: &[&'a [u8]]) -> Result<Statement<'a
 // `budget N`.
 #[tactic(auto, unfolding(mc_model::specs::DeckGrammar::stated))]
 fn budget_statement<'a>(fields: &[&'a [u8]]) -> Result<Statement<'a>, Fault>
-    ensures value { (us : List OwnedUnit) (c : Context) (n : ℕ) → MatchResult result (λ s. stated c n BudgetWord (texts fields.now) ≡ Ok (stated_of us c n s)) (λ e. Faulty (stated c n BudgetWord (texts fields.now)) e) }
+    ensures value { (us : List OwnedUnit) (c : Context) (n : ℕ)
+        → MatchResult result (λ s. stated c n BudgetWord (texts fields.now) ≡ Ok (stated_of us c n s))
+        (λ e. Faulty (stated c n BudgetWord (texts fields.now)) e) }
     ensures fits { (m : ℕ) (powered : Bool) → IfOk result (Fits m powered) }
 {
     match fields {
@@ -292,7 +321,9 @@ fn budget_statement<'a>(fields: &[&'a [u8]]) -> Result<Statement<'a>, Fault>
 // `cut K FILL`.
 #[tactic(auto, unfolding(mc_model::specs::DeckGrammar::stated))]
 fn cut_statement<'a>(alloc: Global, fields: &[&'a [u8]]) -> Result<Statement<'a>, Fault>
-    ensures value { (us : List OwnedUnit) (c : Context) (n : ℕ) → MatchResult result (λ s. stated c n CutWord (texts fields.now) ≡ Ok (stated_of us c n s)) (λ e. Faulty (stated c n CutWord (texts fields.now)) e) }
+    ensures value { (us : List OwnedUnit) (c : Context) (n : ℕ)
+        → MatchResult result (λ s. stated c n CutWord (texts fields.now) ≡ Ok (stated_of us c n s))
+        (λ e. Faulty (stated c n CutWord (texts fields.now)) e) }
     ensures fits { (m : ℕ) (powered : Bool) → IfOk result (Fits m powered) }
 {
     match fields {
@@ -308,7 +339,9 @@ fn cut_statement<'a>(alloc: Global, fields: &[&'a [u8]]) -> Result<Statement<'a>
 // `fail K`.
 #[tactic(auto, unfolding(mc_model::specs::DeckGrammar::stated))]
 fn fail_statement<'a>(fields: &[&'a [u8]]) -> Result<Statement<'a>, Fault>
-    ensures value { (us : List OwnedUnit) (c : Context) (n : ℕ) → MatchResult result (λ s. stated c n FailWord (texts fields.now) ≡ Ok (stated_of us c n s)) (λ e. Faulty (stated c n FailWord (texts fields.now)) e) }
+    ensures value { (us : List OwnedUnit) (c : Context) (n : ℕ)
+        → MatchResult result (λ s. stated c n FailWord (texts fields.now) ≡ Ok (stated_of us c n s))
+        (λ e. Faulty (stated c n FailWord (texts fields.now)) e) }
     ensures fits { (m : ℕ) (powered : Bool) → IfOk result (Fits m powered) }
 {
     match fields {
@@ -324,7 +357,9 @@ fn poke_statement<'a>(
     powered: bool,
     fields: &[&'a [u8]],
 ) -> Result<Statement<'a>, Fault>
-    ensures value { (us : List OwnedUnit) (c : Context) (n : ℕ) → powered ≡ c.powered → MatchResult result (λ s. stated c n PokeWord (texts fields.now) ≡ Ok (stated_of us c n s)) (λ e. Faulty (stated c n PokeWord (texts fields.now)) e) }
+    ensures value { (us : List OwnedUnit) (c : Context) (n : ℕ) → powered ≡ c.powered
+        → MatchResult result (λ s. stated c n PokeWord (texts fields.now) ≡ Ok (stated_of us c n s))
+        (λ e. Faulty (stated c n PokeWord (texts fields.now)) e) }
     ensures fits { (m : ℕ) → IfOk result (Fits m powered) }
 {
     match fields {
@@ -349,8 +384,12 @@ pub fn read_statement<'a>(
     fields: &[&'a [u8]],
 ) -> Result<Statement<'a>, Fault>
     requires { AllByRecursion (λ t. 0 < length t.now) fields.now }
-    ensures value { (c : Context) (n : ℕ) → InContext names.now powered c → MatchResult result (λ s. stated c n (keyword_of keyword) (texts fields.now) ≡ Ok (stated_of names.now.units.items c n s)) (λ e. Faulty (stated c n (keyword_of keyword) (texts fields.now)) e) }
-    ensures fits { (c : Context) → InContext names.now powered c → IfOk result (Fits (length names.now.units.items) powered) }
+    ensures value { (c : Context) (n : ℕ) → InContext names.now powered c
+        → MatchResult result
+        (λ s. stated c n (keyword_of keyword) (texts fields.now) ≡ Ok (stated_of names.now.units.items c n s))
+        (λ e. Faulty (stated c n (keyword_of keyword) (texts fields.now)) e) }
+    ensures fits { (c : Context) → InContext names.now powered c
+        → IfOk result (Fits (length names.now.units.items) powered) }
 {
     match keyword {
         Keyword::Format => format_statement(powered, fields),

@@ -5,7 +5,7 @@ ghost use Rattle.mc_model.specs.Text.{fields};
 ghost use Rattle.mc_asm.specs.Items.{texts};
 
 use arrayvec::ArrayVec;
-use mc_asm::cut_blank;
+use mc_text::cut_blank;
 
 /// The first five fields of a line: no statement has more than four.
 pub fn fields<'a>(line: &'a [u8]) -> ArrayVec<&'a [u8], 5>

@@ -1,8 +1,15 @@
 #![tactic(auto)]
 
-// Small texts written to a sink, one behind the other: words, decimal numbers, and bytes in hexadecimal.
+//! Small texts: words, decimal numbers and bytes in hexadecimal, written to a sink one behind the other; and characters, numbers, fields and
+//! lines of texts that are read.
+
 mod gather;
 mod pieces;
+mod reading;
 
 pub use gather::{add, add_decimal, add_hex};
-pub use pieces::{put, put_decimal, put_hex, put_number};
+pub use pieces::{digit, put, put_decimal, put_hex, put_number};
+pub use reading::{
+    cut, cut_blank, decimal_number, has_name_characters, hex_value, is_blank, is_digit, next_line,
+    trim, trim_front,
+};

@@ -28,13 +28,14 @@ pub fn put_decimal<T: Sink>(out: &mut T, number: u32) -> Result<(), WriteFault>
 
 /// Writes a number in decimal behind a word.
 pub fn put_number<T: Sink>(out: &mut T, word: &[u8], number: u32) -> Result<(), WriteFault>
-    ensures { Puts (sunk_in T.taken T.faults out.old) (word.now ++ decimal number) result (sunk_in T.taken T.faults out.new) }
+    ensures { Puts (sunk_in T.taken T.faults out.old) (word.now
+        ++ decimal number) result (sunk_in T.taken T.faults out.new) }
 {
     put(out, word)?;
     put_decimal(out, number)
 }
 
-// The digit of a number below 16.
+/// The upper case hexadecimal digit of a number below 16.
 pub fn digit(value: u8) -> u8
     requires { value < 16 }
     ensures { result ≡ hex_digit value }

@@ -1,6 +1,7 @@
 #![tactic(auto)]
 
-// The lines of a trace: one for each executed instruction.
+//! The lines of a trace: one for each executed instruction.
+
 mod line;
 mod worked;
 

@@ -3,7 +3,6 @@ ghost use Rattle.std.specs.Prelude.{◌≡◌, ◌+◌, ◌≤◌, ◌++◌, ◌
 ghost use Rattle.arrayvec.specs.ArrayVec.{array_vec_len};
 ghost use Rattle.mc_model.specs.Bytes.{bytes2};
 ghost use Rattle.mc_model.specs.Code.{Shaped};
-ghost use Rattle.mc_model.specs.Listing.{hex_digit};
 ghost use Rattle.mc_model.specs.Transcript.{hex_text};
 ghost use Rattle.mc_model.specs.TraceText.{bit_text, ins_text, turn_line};
 ghost use Rattle.mc_machine.specs.Turns.{turn_value};
@@ -11,6 +10,7 @@ ghost use Rattle.mc_machine.specs.Turns.{turn_value};
 use arrayvec::ArrayVec;
 use mc_isa::{Ins, text_of};
 use mc_machine::Turn;
+use mc_text::digit;
 
 type Line = ArrayVec<u8, 96>;
 
@@ -31,23 +31,15 @@ fn put_field(line: &mut Line, text: &[u8])
     put(line, text);
 }
 
-// One hexadecimal digit.
-fn digit(d: u16) -> u8
-    requires { d ≤ 15 }
-    ensures { result ≡ hex_digit d }
-{
-    if d < 10 { 48 + d as u8 } else { 55 + d as u8 }
-}
-
 // A word in four hexadecimal digits.
 fn hexadecimal(word: u16) -> [u8; 4]
     ensures { result ≡ hex_text (bytes2 word) }
 {
     [
-        digit(word / 4096 % 16),
-        digit(word / 256 % 16),
-        digit(word / 16 % 16),
-        digit(word % 16),
+        digit((word / 4096 % 16) as u8),
+        digit((word / 256 % 16) as u8),
+        digit((word / 16 % 16) as u8),
+        digit((word % 16) as u8),
     ]
 }
 

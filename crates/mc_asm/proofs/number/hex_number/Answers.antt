@@ -1,7 +1,7 @@
 use Rattle.std.proofs.Common.{◌+◌, arith, sym, drop, ◌∙◌}
 use Rattle.std.proofs.Common.{get_or, ap}
 use Rattle.mc_asm.specs.Numbers.{hex_behind}
-use Rattle.mc_asm.proofs.TextLemmas.{rest_of}
+use Rattle.mc_text.proofs.ReadingLemmas.{rest_of}
 use Rattle.mc_asm.proofs.NumberLemmas.{hex_step, hex_room, hex_next, hex_end}
 use Rattle.mc_asm.proofs.number.hex_number.Goals as goal
 

@@ -1,9 +1,8 @@
 use Rattle.std.proofs.Common.{◌+◌, ◌*◌, ◌-◌, get_or, ap, drop, sym, ◌∙◌}
 use Rattle.std.specs.Prelude.{option_map}
-use Rattle.mc_asm.specs.Numbers.{capped, decimal_behind}
-use Rattle.mc_asm.proofs.TextLemmas.{rest_of}
-use Rattle.mc_asm.proofs.NumberLemmas.{decimal_step, capped_is}
-use Rattle.mc_asm.proofs.number.decimal_number.Goals as goal
+use Rattle.mc_text.specs.Reading.{capped, decimal_behind}
+use Rattle.mc_text.proofs.ReadingLemmas.{decimal_step, capped_is, rest_of}
+use Rattle.mc_text.proofs.reading.decimal_number.Goals as goal
 
 pub loop-digit-preserved : goal.loop-digit-preserved
 loop-digit-preserved c =

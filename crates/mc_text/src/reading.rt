@@ -1,10 +1,10 @@
-// Lines and parts of a text.
-ghost use Rattle.std.specs.Prelude.{◌≡◌, ◌+◌, ◌<◌, ◌==◌, ◌||◌, not, length, position, option_map, IfSome, MatchOption, None, Some};
-ghost use Rattle.mc_model.specs.Text.{first_cut, is_blank, is_digit, trim, trim_front, trim_end};
-ghost use Rattle.mc_asm.specs.Texts.{cut_at, next_line, without_return};
+// Texts that are read: characters, numbers, cuts, lines, and blanks that fall.
+ghost use Rattle.std.specs.Prelude.{◌≡◌, ◌+◌, ◌*◌, ◌<◌, ◌≤◌, ◌==◌, length, position, option_map, IfSome};
+ghost use Rattle.mc_model.specs.Text.{decimal_number, every, first_cut, hex_value, is_blank, is_digit, is_name_character, trim, trim_front, trim_end};
+ghost use Rattle.mc_text.specs.Reading.{capped, cut_at, next_line, without_return};
 
-// Whether a character is a space or a tab.
-fn is_blank(character: u8) -> bool
+/// Whether a character is a space or a tab.
+pub fn is_blank(character: u8) -> bool
     ensures { result ≡ is_blank character }
 {
     character == b' ' || character == b'\t'
@@ -15,6 +15,68 @@ pub fn is_digit(character: u8) -> bool
     ensures { result ≡ is_digit character }
 {
     character.is_ascii_digit()
+}
+
+// Letters, digits and the underscore.
+fn is_name_character(character: u8) -> bool
+    ensures { result ≡ is_name_character character }
+{
+    character.is_ascii_alphanumeric() || character == b'_'
+}
+
+/// Whether a text has letters, digits and underscores alone.
+pub fn has_name_characters(text: &[u8]) -> bool
+    ensures { result ≡ every is_name_character text.now }
+{
+    for character in text {
+        if !is_name_character(*character) {
+            return false;
+        }
+    }
+    true
+}
+
+/// The value of a hexadecimal digit in either case; none where the character is no digit.
+pub fn hex_value(digit: u8) -> Option<u8>
+    ensures value { result ≡ hex_value digit }
+    ensures bound { IfSome result (λ v. v < 16) }
+{
+    match digit {
+        b'0'..=b'9' => Some(digit - b'0'),
+        b'A'..=b'F' => Some(digit - b'A' + 10),
+        b'a'..=b'f' => Some(digit - b'a' + 10),
+        _ => None,
+    }
+}
+
+// A number that is greater than every number of a deck, an operand or a word may be.
+const LIMIT: u64 = 4294967296;
+
+// The number that decimal digits spell behind others.
+fn with_digit(number: u64, digit: u8) -> u64
+    requires number { number ≤ 4294967296 }
+    requires digit { digit < 10 }
+    ensures { result ≡ capped (number * 10 + digit) }
+{
+    LIMIT.min(number * 10 + digit as u64)
+}
+
+/// The number that decimal digits spell, and 4,294,967,296 where it is greater; leading zeros are good. None where there is no
+/// character, or one that is no digit.
+pub fn decimal_number(digits: &[u8]) -> Option<u64>
+    ensures { result ≡ option_map capped (decimal_number digits.now) }
+{
+    if digits.is_empty() {
+        return None;
+    }
+    let mut number = 0;
+    for digit in digits {
+        if !is_digit(*digit) {
+            return None;
+        }
+        number = with_digit(number, *digit - b'0');
+    }
+    Some(number)
 }
 
 // A text before and behind a place, the whole where there is none.
@@ -46,7 +108,7 @@ fn blank_place(text: &[u8]) -> Option<usize>
 }
 
 /// What stands before the first of these characters, and what behind it, where there is one.
-#[tactic(auto, using(crate::proofs::TextLemmas::first_cut_at))]
+#[tactic(auto, using(crate::proofs::ReadingLemmas::first_cut_at))]
 pub fn cut(text: &[u8], character: u8) -> (&[u8], Option<&[u8]>)
     ensures front { result.0.now ≡ (first_cut (λ c. c == character) text.now).0 }
     ensures behind { option_map (λ rest. rest.now) result.1 ≡ (first_cut (λ c. c == character) text.now).1 }
@@ -56,7 +118,7 @@ pub fn cut(text: &[u8], character: u8) -> (&[u8], Option<&[u8]>)
 }
 
 /// What stands before the first blank, and what behind it, where there is one.
-#[tactic(auto, using(crate::proofs::TextLemmas::first_cut_at))]
+#[tactic(auto, using(crate::proofs::ReadingLemmas::first_cut_at))]
 pub fn cut_blank(text: &[u8]) -> (&[u8], Option<&[u8]>)
     ensures front { result.0.now ≡ (first_cut is_blank text.now).0 }
     ensures behind { option_map (λ rest. rest.now) result.1 ≡ (first_cut is_blank text.now).1 }
@@ -88,8 +150,8 @@ pub fn next_line(text: &[u8]) -> Option<(&[u8], &[u8])>
     }
 }
 
-// A text without the blanks before it.
-fn trim_front(text: &[u8]) -> &[u8]
+/// A text without the blanks before it.
+pub fn trim_front(text: &[u8]) -> &[u8]
     ensures { result.now ≡ trim_front text.now }
 {
     let mut rest = text;

@@ -1,6 +1,6 @@
 use Rattle.std.proofs.Common.{sym, ◌∙◌}
-use Rattle.mc_asm.proofs.TextLemmas.{trim_end_falls, trim_end_stays}
-use Rattle.mc_asm.proofs.text.trim_end.Goals as goal
+use Rattle.mc_text.proofs.ReadingLemmas.{trim_end_falls, trim_end_stays}
+use Rattle.mc_text.proofs.reading.trim_end.Goals as goal
 
 pub returns-then-not-is_blank : goal.returns-then-not-is_blank
 returns-then-not-is_blank c =

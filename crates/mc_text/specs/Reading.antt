@@ -1,6 +1,14 @@
--- Texts, cut at the first character that cuts.
-use Rattle.std.specs.Prelude.{ℕ, suc, ◌-◌, cond, ◌==◌, List, [], length, take, drop, slice_index, Option, Some, None}
-use Rattle.mc_model.specs.Text.{first_cut, is_empty}
+-- Texts that are read: a number in the range that is kept, and a text that is cut at the first character that cuts.
+use Rattle.std.specs.Prelude.{ℕ, suc, ◌-◌, cond, nat_le, ◌==◌, List, [], map, length, take, drop, slice_index, Option, Some, None}
+use Rattle.mc_model.specs.Text.{every, is_digit, digits_onto, first_cut, is_empty}
+
+-- a number, or 4,294,967,296 in the place of a greater one
+abbrev pub capped : ℕ → ℕ
+capped n = cond (nat_le n 4294967296) n 4294967296
+
+-- the number that decimal digits spell behind those that spell n
+abbrev pub decimal_behind : ℕ → List ℕ → Option ℕ
+decimal_behind n t = cond (every is_digit t) (Some (digits_onto 10 n (map (λ c. c - 48) t))) None
 
 -- what stands before a place, and what behind it, where there is one
 abbrev pub cut_at : List ℕ → Option ℕ → List ℕ × Option (List ℕ)

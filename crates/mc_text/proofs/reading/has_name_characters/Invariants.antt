@@ -1,6 +1,6 @@
 use Rattle.std.proofs.Common.{◌≡◌, drop}
 use Rattle.mc_model.specs.Text.{every, is_name_character}
-use Rattle.mc_asm.proofs.operand.has_name_characters.Given as goal
+use Rattle.mc_text.proofs.reading.has_name_characters.Given as goal
 
 -- what is left passes where the whole passes
 abbrev pub invariant-loop-character : goal.invariant-loop-character

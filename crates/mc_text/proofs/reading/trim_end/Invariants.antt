@@ -1,6 +1,6 @@
 use Rattle.std.proofs.Common.{◌≡◌, length}
 use Rattle.mc_model.specs.Text.{trim_end}
-use Rattle.mc_asm.proofs.text.trim_end.Given as goal
+use Rattle.mc_text.proofs.reading.trim_end.Given as goal
 
 -- what is left trims to what the whole trims to
 abbrev pub invariant-loop-rest : goal.invariant-loop-rest
