@@ -33,3 +33,5 @@ pub mod ClosingPlaces
 pub mod ClosingSteps
 pub mod ClosingTables
 pub mod ClosingWhole
+pub mod TurnsTold
+pub mod CheckedPlays

@@ -3,6 +3,8 @@ pub mod Seen
 pub mod Judging
 pub mod Checked
 pub mod Verdicts
+pub mod Turns
+pub mod Plays
 pub mod Standing
 pub mod CallList
 pub mod Searching

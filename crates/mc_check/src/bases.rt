@@ -85,7 +85,8 @@ impl Search {
     // Begins with a routine: it is open.
     fn enter(&mut self, routine: u16) -> Result<(), AllocError>
         requires { routine < length self.old.progress.items }
-        ensures progress { OnOk result (self.new.progress.items ≡ slice_set self.old.progress.items routine Progress.Open) }
+        ensures progress { OnOk result (self.new.progress.items
+            ≡ slice_set self.old.progress.items routine Progress.Open) }
         ensures stack { OnOk result (self.new.stack.items ≡ self.old.stack.items ++ routine ∷ []) }
     {
         self.stack.push(routine)?;
@@ -119,7 +120,8 @@ impl Search {
         ensures len { OnOk result (length self.new.progress.items ≡ length self.old.progress.items) }
         ensures searches { OnOk result (Searches calls.now self.new.progress.items self.new.stack.items) }
         ensures seen { OnOk result (StaySeen self.old.progress.items self.new.progress.items) }
-        ensures nearer { OnOk result (left self.new.progress.items self.new.stack.items < left self.old.progress.items self.old.stack.items) }
+        ensures nearer { OnOk result (left self.new.progress.items self.new.stack.items
+            < left self.old.progress.items self.old.stack.items) }
         ensures ring { IfErr result (IsRing calls.now) }
     {
         match base_of(self.progress.as_slice(), calls, routine) {

@@ -87,7 +87,8 @@ fn same_counts(code: &[u8], found: Found, known: Counts, counts: Counts) -> Resu
 
 impl Closing {
     fn new(alloc: Global, len: usize) -> Result<Closing, Fault>
-        ensures empty { IfOk result (λ s. closing.tables_of s ≡ record { table = replicate len None; counts = replicate len None; work = [] }) }
+        ensures empty { IfOk result (λ s. closing.tables_of s
+            ≡ record { table = replicate len None; counts = replicate len None; work = [] }) }
         ensures due { IfErr result (λ e. e ≡ Fault.NoMemory) }
     {
         Ok(Closing {
@@ -123,10 +124,12 @@ impl Closing {
         requires fit { closing.IsFit code.now (closing.tables_of self.old) }
         requires here { IsIn self.old.table.items (closing.found_fact found) }
         requires found { closing.IsFound code.now found }
-        requires calls { (routine : ℕ) × (shape.call_target found.seen.ins ≡ Some routine) × closing.IsReal code.now routine counts }
+        requires calls { (routine : ℕ) × (shape.call_target found.seen.ins ≡ Some routine)
+            × closing.IsReal code.now routine counts }
         ensures fit { OnOk result (closing.IsFit code.now (closing.tables_of self.new)) }
         ensures adds { OnOk result (closing.Adds (closing.tables_of self.old) (closing.tables_of self.new)) }
-        ensures back { OnOk result (closing.ComesBack self.new.table.items (closing.found_fact found) found.seen.next counts.less counts.more) }
+        ensures back { OnOk result (closing.ComesBack self.new.table.items
+            (closing.found_fact found) found.seen.next counts.less counts.more) }
         ensures due { IfErr result (λ fault. IsDue code.now fault) }
     {
         let less = u16::from(counts.less);
@@ -157,7 +160,8 @@ impl Closing {
         requires real { closing.IsReal code.now routine counts }
         ensures fit { OnOk result (closing.IsFit code.now (closing.tables_of self.new)) }
         ensures adds { OnOk result (closing.Adds (closing.tables_of self.old) (closing.tables_of self.new)) }
-        ensures back { OnOk result ((f : stack.Fact) → IsIn self.old.table.items f → f.place ≡ place → closing.ComesBackFrom code.now self.new.table.items routine counts f) }
+        ensures back { OnOk result ((f : stack.Fact) → IsIn self.old.table.items f → f.place ≡ place
+            → closing.ComesBackFrom code.now self.new.table.items routine counts f) }
         ensures due { IfErr result (λ fault. IsDue code.now fault) }
     {
         let Some(entry) = self.table[place as usize] else {
@@ -177,7 +181,9 @@ impl Closing {
         requires real { closing.IsReal code.now routine counts }
         ensures fit { OnOk result (closing.IsFit code.now (closing.tables_of self.new)) }
         ensures adds { OnOk result (closing.Adds (closing.tables_of self.old) (closing.tables_of self.new)) }
-        ensures back { OnOk result ((f : stack.Fact) → IsIn self.new.table.items f → closing.ComesBackFrom code.now self.new.table.items routine counts f ⊎ closing.IsAmong self.new.work.items f.place) }
+        ensures back { OnOk result ((f : stack.Fact) → IsIn self.new.table.items f
+            → closing.ComesBackFrom code.now self.new.table.items routine counts f ⊎ closing.IsAmong
+            self.new.work.items f.place) }
         ensures due { IfErr result (λ fault. IsDue code.now fault) }
     {
         for place in 0..code.len() as u16 {
@@ -194,7 +200,8 @@ impl Closing {
         requires found { closing.IsFound code.now found }
         requires returns { shape.counts found.seen.ins ≡ Some (counts.less, counts.more) }
         ensures state { OnOk result (closing.IsOpen code.now self.new.work.items (closing.tables_of self.new)) }
-        ensures left { OnOk result (closing.left (closing.tables_of self.new) ≤ closing.left (closing.tables_of self.old)) }
+        ensures left { OnOk result (closing.left (closing.tables_of self.new)
+            ≤ closing.left (closing.tables_of self.old)) }
         ensures due { IfErr result (λ fault. IsDue code.now fault) }
     {
         let Routine::At(routine) = found.entry.routine else {
@@ -218,7 +225,9 @@ impl Closing {
         requires calls { (routine : ℕ) × (shape.call_target found.seen.ins ≡ Some routine) }
         ensures fit { OnOk result (closing.IsFit code.now (closing.tables_of self.new)) }
         ensures adds { OnOk result (closing.Adds (closing.tables_of self.old) (closing.tables_of self.new)) }
-        ensures passes { OnOk result (shape.is_conditional found.seen.ins ≡ true → IsIn self.new.table.items (stack.fact (closing.found_fact found).routine found.seen.next found.entry.height)) }
+        ensures passes { OnOk result (shape.is_conditional found.seen.ins ≡ true
+            → IsIn self.new.table.items
+            (stack.fact (closing.found_fact found).routine found.seen.next found.entry.height)) }
         ensures due { IfErr result (λ fault. IsDue code.now fault) }
     {
         if !is_conditional(found.seen.ins) {
@@ -237,7 +246,8 @@ impl Closing {
         requires calls { shape.call_target found.seen.ins ≡ Some routine }
         ensures fit { OnOk result (closing.IsFit code.now (closing.tables_of self.new)) }
         ensures adds { OnOk result (closing.Adds (closing.tables_of self.old) (closing.tables_of self.new)) }
-        ensures back { OnOk result ((c : Counts) → slice_get self.new.counts.items routine ≡ Some (Some c) → closing.ComesBack self.new.table.items (closing.found_fact found) found.seen.next c.less c.more) }
+        ensures back { OnOk result ((c : Counts) → slice_get self.new.counts.items routine ≡ Some (Some c)
+            → closing.ComesBack self.new.table.items (closing.found_fact found) found.seen.next c.less c.more) }
         ensures due { IfErr result (λ fault. IsDue code.now fault) }
     {
         match self.counts[routine as usize] {
@@ -255,7 +265,8 @@ impl Closing {
         requires low { found.entry.height ≤ HIGHEST }
         requires calls { shape.call_target found.seen.ins ≡ Some routine }
         ensures state { OnOk result (closing.IsOpen code.now self.new.work.items (closing.tables_of self.new)) }
-        ensures left { OnOk result (closing.left (closing.tables_of self.new) ≤ closing.left (closing.tables_of self.old)) }
+        ensures left { OnOk result (closing.left (closing.tables_of self.new)
+            ≤ closing.left (closing.tables_of self.old)) }
         ensures due { IfErr result (λ fault. IsDue code.now fault) }
     {
         let entry = Entry {
@@ -277,7 +288,10 @@ impl Closing {
         requires plain { shape.call_target found.seen.ins ≡ None }
         ensures fit { OnOk result (closing.IsFit code.now (closing.tables_of self.new)) }
         ensures adds { OnOk result (closing.Adds (closing.tables_of self.old) (closing.tables_of self.new)) }
-        ensures goes { OnOk result (shape.goes_on found.seen.ins ≡ true → IsIn self.new.table.items (stack.fact (closing.found_fact found).routine found.seen.next (shape.height_after found.seen.ins found.entry.height))) }
+        ensures goes { OnOk result (shape.goes_on found.seen.ins ≡ true
+            → IsIn self.new.table.items
+            (stack.fact (closing.found_fact found).routine found.seen.next
+            (shape.height_after found.seen.ins found.entry.height))) }
         ensures due { IfErr result (λ fault. IsDue code.now fault) }
     {
         if !goes_on(found.seen.ins) {
@@ -299,7 +313,8 @@ impl Closing {
         requires low { found.entry.height ≤ HIGHEST }
         ensures fit { OnOk result (closing.IsFit code.now (closing.tables_of self.new)) }
         ensures adds { OnOk result (closing.Adds (closing.tables_of self.old) (closing.tables_of self.new)) }
-        ensures jumps { OnOk result ((to : ℕ) → shape.jump_target found.seen.ins found.seen.next ≡ Some (Some to) → IsIn self.new.table.items (stack.fact (closing.found_fact found).routine to found.entry.height)) }
+        ensures jumps { OnOk result ((to : ℕ) → shape.jump_target found.seen.ins found.seen.next ≡ Some (Some to)
+            → IsIn self.new.table.items (stack.fact (closing.found_fact found).routine to found.entry.height)) }
         ensures due { IfErr result (λ fault. IsDue code.now fault) }
     {
         match jump_target(found.seen.ins, found.seen.next) {
@@ -318,7 +333,8 @@ impl Closing {
         requires plain { shape.call_target found.seen.ins ≡ None }
         requires stays { shape.counts found.seen.ins ≡ None }
         ensures state { OnOk result (closing.IsOpen code.now self.new.work.items (closing.tables_of self.new)) }
-        ensures left { OnOk result (closing.left (closing.tables_of self.new) ≤ closing.left (closing.tables_of self.old)) }
+        ensures left { OnOk result (closing.left (closing.tables_of self.new)
+            ≤ closing.left (closing.tables_of self.old)) }
         ensures due { IfErr result (λ fault. IsDue code.now fault) }
     {
         self.go_on(code, found)?;
@@ -332,7 +348,8 @@ impl Closing {
         requires here { IsIn self.old.table.items (closing.found_fact found) }
         requires found { closing.IsFound code.now found }
         ensures state { OnOk result (closing.IsOpen code.now self.new.work.items (closing.tables_of self.new)) }
-        ensures left { OnOk result (closing.left (closing.tables_of self.new) ≤ closing.left (closing.tables_of self.old)) }
+        ensures left { OnOk result (closing.left (closing.tables_of self.new)
+            ≤ closing.left (closing.tables_of self.old)) }
         ensures due { IfErr result (λ fault. IsDue code.now fault) }
     {
         if let Some(counts) = return_counts(found.seen.ins) {
@@ -353,7 +370,8 @@ impl Closing {
         requires inside { place < length code.now }
         requires state { closing.IsOpen code.now (place ∷ self.old.work.items) (closing.tables_of self.old) }
         ensures state { OnOk result (closing.IsOpen code.now self.new.work.items (closing.tables_of self.new)) }
-        ensures left { OnOk result (closing.left (closing.tables_of self.new) ≤ closing.left (closing.tables_of self.old)) }
+        ensures left { OnOk result (closing.left (closing.tables_of self.new)
+            ≤ closing.left (closing.tables_of self.old)) }
         ensures due { IfErr result (λ fault. IsDue code.now fault) }
     {
         match self.table[place as usize] {

@@ -60,7 +60,8 @@ fn depth_at(
     has_calls: bool,
 ) -> Result<u16, Refusal>
     requires { length code.now ≤ 8192 }
-    ensures { result ≡ depth_of session place base height (has_calls && not (plain_at session height (decoded code.now place))) }
+    ensures { result ≡ depth_of session place base height (has_calls
+        && not (plain_at session height (decoded code.now place))) }
 {
     let depth = u64::from(base) + u64::from(height);
     if u64::from(session) + depth > ROOM {

@@ -1,10 +1,12 @@
 #![tactic(auto)]
 
-// The stack checker: which code never abends for want or for too much of stack, and never runs outside itself.
+//! The stack checker: which code never abends for want or for too much of stack, and never runs outside itself.
+
 mod bases;
 mod calls;
 mod closing;
 mod judging;
+mod laws;
 #[cfg(test)]
 mod rows;
 mod shape;
@@ -13,5 +15,6 @@ mod uses;
 mod verdict;
 mod writing;
 
+pub use laws::checked_plays;
 pub use mc_model::CheckCause;
 pub use verdict::{Verdict, check};

@@ -38,7 +38,8 @@ fn put_frame<T: Sink>(out: &mut T, bytes: &[u8]) -> Result<(), WriteFault>
 
 // Writes a reply: its data and its status.
 fn put_reply<T: Sink>(out: &mut T, reply: &Reply) -> Result<(), WriteFault>
-    ensures { Puts (sunk_in T.taken T.faults out.old) (framed (reply.now.body.items ++ bytes2 reply.now.sw)) result (sunk_in T.taken T.faults out.new) }
+    ensures { Puts (sunk_in T.taken T.faults out.old) (framed (reply.now.body.items ++ bytes2 reply.now.sw)) result
+        (sunk_in T.taken T.faults out.new) }
 {
     let mut bytes = ArrayVec::<u8, LONGEST>::new();
     bytes.try_extend_from_slice(reply.body.as_slice()).unwrap();
@@ -49,7 +50,8 @@ fn put_reply<T: Sink>(out: &mut T, reply: &Reply) -> Result<(), WriteFault>
 
 // Writes how a command ended.
 fn put_outcome<T: Sink>(out: &mut T, outcome: &Outcome) -> Result<(), WriteFault>
-    ensures { Puts (sunk_in T.taken T.faults out.old) (framed (outcome_bytes (outcome_value outcome.now))) result (sunk_in T.taken T.faults out.new) }
+    ensures { Puts (sunk_in T.taken T.faults out.old) (framed (outcome_bytes (outcome_value outcome.now))) result
+        (sunk_in T.taken T.faults out.new) }
 {
     match outcome {
         Outcome::Reply(reply) => put_reply(out, reply),
@@ -63,7 +65,8 @@ fn put_result<T: Sink>(
     answer: &Option<Answer>,
     outcome: &Outcome,
 ) -> Result<(), WriteFault>
-    ensures { Puts (sunk_in T.taken T.faults out.old) (framed (answer_bytes outcome.now answer.now)) result (sunk_in T.taken T.faults out.new) }
+    ensures { Puts (sunk_in T.taken T.faults out.old) (framed (answer_bytes outcome.now answer.now)) result
+        (sunk_in T.taken T.faults out.new) }
 {
     match answer {
         Some(Answer::Outcome) => put_outcome(out, outcome),
@@ -79,7 +82,8 @@ pub fn put_answer<T: Sink>(
     answer: &Option<Answer>,
     outcome: &Outcome,
 ) -> Result<(), WriteFault>
-    ensures { Puts (sunk_in T.taken T.faults out.old) (sent (replied (meaning_of request.now) outcome.now answer.now)) result (sunk_in T.taken T.faults out.new) }
+    ensures { Puts (sunk_in T.taken T.faults out.old)
+        (sent (replied (meaning_of request.now) outcome.now answer.now)) result (sunk_in T.taken T.faults out.new) }
 {
     match request {
         Request::Atr => put_frame(out, &ATR),

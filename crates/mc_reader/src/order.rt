@@ -74,7 +74,9 @@ fn number(bytes: &[u8]) -> u32
 // Whether an order has so many bytes of data, and P1 and P2 are 0.
 fn check_form(size: usize, p1: u8, p2: u8, body: &[u8]) -> Result<(), Refusal>
     ensures size { OnOk result (length body.now ≡ size) }
-    ensures form { (order : Result DeckLine ℕ) → MatchResult result (λ _. plain_order size p1 p2 body.now order ≡ order) (λ r. plain_order size p1 p2 body.now order ≡ Err (status_of r)) }
+    ensures form { (order : Result DeckLine ℕ)
+        → MatchResult result (λ _. plain_order size p1 p2 body.now order ≡ order)
+        (λ r. plain_order size p1 p2 body.now order ≡ Err (status_of r)) }
 {
     if body.len() != size {
         return Err(Refusal::WrongLength);

@@ -50,7 +50,8 @@ fn fill<S: Source>(source: &mut S, into: &mut [u8]) -> Result<usize, Failed>
 /// ends before it. No byte behind the frame is taken.
 pub fn read_frame<S: Source>(source: &mut S, room: &mut [u8]) -> Result<Option<usize>, FrameFault>
     requires { length room.old ≡ 65535 }
-    ensures reads { Reads (S.left source.old) (S.faults source.old) (S.left source.new) (S.faults source.new) room.new result }
+    ensures reads { Reads (S.left source.old) (S.faults source.old) (S.left source.new)
+        (S.faults source.new) room.new result }
     ensures counted { S.faults source.old ≤ S.faults source.new }
 {
     let mut size = [0; 2];

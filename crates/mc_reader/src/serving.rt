@@ -50,7 +50,9 @@ fn serve_frame<N: Bench, T: Sink, L: Ledger>(
     steps: &mut Steps<L>,
 ) -> Result<(), WriteFault>
     requires { IsPlaying N.state N.bench player.old }
-    ensures serves { (s : State) (n : ℕ) → IsAt N.state N.bench player.old s → ServesFrame N.state N.bench player.old s n (meaning powered.old frame.now) (sunk_in T.taken T.faults out.old) result player.new (sunk_in T.taken T.faults out.new) }
+    ensures serves { (s : State) (n : ℕ) → IsAt N.state N.bench player.old s
+        → ServesFrame N.state N.bench player.old s n (meaning powered.old frame.now)
+        (sunk_in T.taken T.faults out.old) result player.new (sunk_in T.taken T.faults out.new) }
     ensures power { powered.new ≡ power_after powered.old (meaning powered.old frame.now) }
     ensures lent { N.same (device_of player.old) (device_of player.new) }
 {
@@ -70,7 +72,18 @@ fn serve_frames<S: Source, T: Sink, N: Bench, L: Ledger>(
 ) -> Result<(), ServeError>
     requires playing { IsPlaying N.state N.bench player.old }
     requires room { length room.old ≡ 65535 }
-    ensures served { (s : State) (n : ℕ) → IsAt N.state N.bench player.old s → ServedFrom s n result (record { left_old = S.left input.old; left = S.left input.new; reads_old = S.faults input.old; reads = S.faults input.new; out_old = sunk_in T.taken T.faults out.old; out = sunk_in T.taken T.faults out.new; dev_old = bench_of N.state N.bench player.old; dev = bench_of N.state N.bench player.new }) }
+    ensures served { (s : State) (n : ℕ) → IsAt N.state N.bench player.old s
+        → ServedFrom s n result
+        (record {
+          left_old = S.left input.old;
+          left = S.left input.new;
+          reads_old = S.faults input.old;
+          reads = S.faults input.new;
+          out_old = sunk_in T.taken T.faults out.old;
+          out = sunk_in T.taken T.faults out.new;
+          dev_old = bench_of N.state N.bench player.old;
+          dev = bench_of N.state N.bench player.new;
+        }) }
     ensures lent { N.same (device_of player.old) (device_of player.new) }
 {
     let mut powered = false;
@@ -99,7 +112,16 @@ pub fn serve<S: Source, T: Sink, N: Bench, L: Ledger>(
     steps: &mut Steps<L>,
 ) -> Result<(), ServeError>
     requires { IsUnfused (N.bench dev.old) }
-    ensures { Serves deck.now result (record { left_old = S.left input.old; left = S.left input.new; reads_old = S.faults input.old; reads = S.faults input.new; out_old = sunk_in T.taken T.faults out.old; out = sunk_in T.taken T.faults out.new; dev_old = record { device = N.state dev.old; bench = N.bench dev.old }; dev = record { device = N.state dev.new; bench = N.bench dev.new } }) }
+    ensures { Serves deck.now result (record {
+      left_old = S.left input.old;
+      left = S.left input.new;
+      reads_old = S.faults input.old;
+      reads = S.faults input.new;
+      out_old = sunk_in T.taken T.faults out.old;
+      out = sunk_in T.taken T.faults out.new;
+      dev_old = record { device = N.state dev.old; bench = N.bench dev.old };
+      dev = record { device = N.state dev.new; bench = N.bench dev.new };
+    }) }
 {
     let mut room = vec![in alloc; 0; LONGEST_FRAME]?;
     let mut player = Player::new(&mut *dev);

@@ -1,5 +1,4 @@
 pub mod TextLemmas
-pub mod NumberLemmas
 pub mod CodeLemmas
 pub mod CheckingLemmas
 pub mod DumpLemmas

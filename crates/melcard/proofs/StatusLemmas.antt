@@ -17,7 +17,7 @@ use Rattle.melcard.specs.declared.status.Status.TheVariants.{Done, Refused, NoFo
 use Rattle.melcard.specs.Jobs.{usage}
 use Rattle.melcard.specs.Verdicts.{Verdict, Whole, Refusal, Plays, Sums}
 use Rattle.melcard.specs.Running.{Ends, PlaysInput, RejectsJob, WritesInput}
-use Rattle.melcard.specs.Statuses.{bench_of, ended, Around, IsDue, IsSummed, IsWritten, Says, SaysDone, Untouched}
+use Rattle.melcard.specs.Statuses.{bench_of, ended, Around, IsDue, IsSummed, IsWritten, Says, SaysDone, TakesAtMost, Untouched}
 
 -- ---- results
 
@@ -34,9 +34,9 @@ err_always (Ok x) p = tt
 err_always (Err e) p = p
 
 -- a job that is rejected for want of memory alone
-pub memory_only : {X : Type 0} (work : Job) (a : Around) (r : Result X Rejection) → IfErr r (λ e. e ≡ rejection.NoMemory) → IfErr r (RejectsJob work a)
-memory_only work a (Ok x) only = tt
-memory_only work a (Err e) only = subst (λ (e : Rejection). RejectsJob work a e) (sym only) tt
+pub memory_only : {X : Type 0} (work : Job) (a : Around) (r : Result X Rejection) → TakesAtMost work a → IfErr r (λ e. e ≡ rejection.NoMemory) → IfErr r (RejectsJob work a)
+memory_only work a (Ok x) source only = tt
+memory_only work a (Err e) source only = subst (λ (e : Rejection). RejectsJob work a e) (sym only) source
 
 -- a text that was put, by what the call says of its piece
 pub puts_by : (a b : Sunk) (piece text : List ℕ) (r : Result (Unit {0}) Fault) → piece ≡ text → OnOk r (Grew a.taken b.taken piece) → OnErr r (Rose a.faults b.faults) → OnErr r (GrewByPart a.taken b.taken piece)
@@ -73,21 +73,26 @@ says_written Kept f s a kept w = says_done Kept (job.Write f) a w.written.result
 due_still : (work : Job) (a : Around) (x : Sunk) (v : Verdict) → IsDue work (record a { out = x }) v → IsDue work a v
 due_still (job.Generate n) a x v due = (record { left = (due.0).left; reads = (due.0).reads }, due.1)
 due_still (job.Play t) a x v due = elim due [
-  | inl more ↦ inl (record { over = more.over; is = more.is })
+  | inl more ↦ inl (record { over = more.over; no_further = more.no_further; is = more.is })
   | inr whole ↦ inr (record { input = whole.input; read = whole.read; is = whole.is })
 ]
 due_still (job.Write f) a x v due = elim due [
-  | inl more ↦ inl (record { over = more.over; is = more.is })
+  | inl more ↦ inl (record { over = more.over; no_further = more.no_further; is = more.is })
   | inr whole ↦ inr (record { input = whole.input; read = whole.read; is = whole.is })
 ]
+
+takes_still : (work : Job) (a : Around) (x : Sunk) → TakesAtMost work (record a { out = x }) → TakesAtMost work a
+takes_still (job.Generate n) a x takes = record { left = takes.left; reads = takes.reads }
+takes_still (job.Play t) a x takes = takes
+takes_still (job.Write f) a x takes = takes
 
 -- a job that was rejected ended
 says_rejected : (Kept : Type 0) (work : Job) (a : Around) (x : Sunk) (e : Rejection) (s : Status) → Kept → RejectsJob work (record a { out = x }) e → Ends e a.out_old s a.out → Says Kept s (Some work) a
 says_rejected Kept work a x (rejection.Refusal line) s kept why ends =
     let written : IsWritten Refused line.items s a = record { result = ends.0; status = ends.1; written = ends.2 } in
     says_refused Kept work a ends.0 s ends.1 (record { verdict = Refusal line.items; due = due_still work a x (Refusal line.items) why; done = written; kept = kept })
-says_rejected Kept work a x rejection.ReadFault s kept why ends = subst (λ s. Says Kept s (Some work) a) (sym ends.0) (why.0, record { cause = why.1; written = ends.1; kept = kept })
-says_rejected Kept work a x rejection.NoMemory s kept why ends = subst (λ s. Says Kept s (Some work) a) (sym ends.0) (record { written = ends.1; kept = kept })
+says_rejected Kept work a x rejection.ReadFault s kept why ends = subst (λ s. Says Kept s (Some work) a) (sym ends.0) (why.0, record { cause = why.1; source = takes_still work a x why.2; written = ends.1; kept = kept })
+says_rejected Kept work a x rejection.NoMemory s kept why ends = subst (λ s. Says Kept s (Some work) a) (sym ends.0) (record { source = takes_still work a x why; written = ends.1; kept = kept })
 
 -- the words name no job, and the usage line was written
 pub says_no_form : (Kept : Type 0) (form : Option Job) (a : Around) (r : Result (Unit {0}) Fault) (s : Status) → form ≡ None → s ≡ ended NoForm r → Kept → Untouched a → Puts a.out_old usage r a.out → Says Kept s form a

@@ -1,7 +1,7 @@
 -- What the code has of listed code and of rejected input, and what it stands for.
-use Rattle.std.specs.Prelude.{◌≡◌, ℕ, not, List, [], ◌∷◌, ◌++◌, filter, ok_or, Result, Ok, Err, ⊤}
+use Rattle.std.specs.Prelude.{◌≡◌, ℕ, not, List, [], ◌∷◌, ◌++◌, filter, ok_or, option_map, Result, Ok, Err, ⊤}
 use Rattle.mc_model.specs.Text
-use Rattle.mc_model.specs.Text.{CodeFault, hex_values, is_blank}
+use Rattle.mc_model.specs.Text.{CodeFault, ◌>>=◌, hex_values, is_blank, ok_as}
 use Rattle.melcard.specs.declared.code.CodeRefusal.{CodeRefusal}
 use Rattle.melcard.specs.declared.rejection.Rejection.{Rejection}
 use Rattle.melcard.specs.declared.rejection.Rejection.TheVariants as rejection
@@ -12,7 +12,12 @@ use Rattle.melcard.specs.declared.code.CodeRefusal.TheVariants.{BadHex, TooLarge
 
 -- the digits of one line of code
 abbrev pub line_digits : ℕ → List ℕ → Result (List ℕ) CodeFault
-line_digits number line = ok_or (hex_values (filter (λ c. not (is_blank c)) line)) (Text.BadHex number)
+line_digits number line = let digits = filter (λ c. not (is_blank c)) line in ok_or (option_map (λ values. digits) (hex_values digits)) (Text.BadHex number)
+
+-- the digits of numbered lines of code
+abbrev pub text_digits : List (ℕ × List ℕ) → Result (List ℕ) CodeFault
+text_digits [] = Ok []
+text_digits (l ∷ ls) = line_digits l.0 l.1 >>= λ digits. ok_as (λ rest. digits ++ rest) (text_digits ls)
 
 -- the refusal is the one of the definition, or for want of memory
 abbrev pub RefusesCode : {A : Type 0} → Result A CodeFault → CodeRefusal → Type 0

@@ -1,5 +1,5 @@
 -- What the parts of a job do, and why a job is not done.
-use Rattle.std.specs.Prelude.{◌≡◌, ℕ, List, Option, Result, ⊤}
+use Rattle.std.specs.Prelude.{◌≡◌, ℕ, List, Option, Result}
 use Rattle.mc_model.specs.Counts.{Rose}
 use Rattle.mc_model.specs.DeckGrammar.{DeckLine}
 use Rattle.mc_base.specs.Streams.{TookMore}
@@ -14,19 +14,19 @@ use Rattle.melcard.specs.declared.rejection.Rejection.TheVariants as rejection
 use Rattle.melcard.specs.declared.status.Status.{Status}
 use Rattle.melcard.specs.declared.status.Status.TheVariants.{Done, Refused, ReadFault, NoMemory}
 use Rattle.melcard.specs.Verdicts.{Whole, Refusal, Plays, input_limit, too_long}
-use Rattle.melcard.specs.Statuses.{Around, ended, IsDue, IsReading, IsWritten, IsPlayed}
+use Rattle.melcard.specs.Statuses.{Around, ended, IsDue, IsReading, IsWritten, IsPlayed, TakesAtMost, TookLimited}
 
 -- why an input was not read
 abbrev pub RejectsRead : Option (List ℕ) → Option (List ℕ) → ℕ → ℕ → Rejection → Type 0
-RejectsRead old new reads_old reads (rejection.Refusal line) = TookMore old new input_limit × (line.items ≡ too_long)
-RejectsRead old new reads_old reads rejection.ReadFault = Rose reads_old reads
-RejectsRead old new reads_old reads rejection.NoMemory = ⊤
+RejectsRead old new reads_old reads (rejection.Refusal line) = TookMore old new input_limit × TookLimited old new × (line.items ≡ too_long)
+RejectsRead old new reads_old reads rejection.ReadFault = Rose reads_old reads × TookLimited old new
+RejectsRead old new reads_old reads rejection.NoMemory = TookLimited old new
 
 -- why a job was not done
 abbrev pub RejectsJob : Job → Around → Rejection → Type 0
 RejectsJob job a (rejection.Refusal line) = IsDue job a (Refusal line.items)
-RejectsJob job a rejection.ReadFault = IsReading job × Rose a.reads_old a.reads
-RejectsJob job a rejection.NoMemory = ⊤
+RejectsJob job a rejection.ReadFault = IsReading job × Rose a.reads_old a.reads × TakesAtMost job a
+RejectsJob job a rejection.NoMemory = TakesAtMost job a
 
 -- the deck that an input spells was played
 pub record PlaysInput (t : Telling) (s : Status) (a : Around) : Type 0 where

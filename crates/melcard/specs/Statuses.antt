@@ -1,13 +1,17 @@
 -- What the top call says of the outside at each of its statuses.
-use Rattle.std.specs.Prelude.{◌≡◌, ℕ, ◌≤◌, ◌<◌, ◌⊎◌, List, length, Option, Some, None, Result, Ok, Err, ⊤}
+use Rattle.std.specs.Prelude.{◌≡◌, ℕ, ◌+◌, ◌≤◌, ◌<◌, ◌⊎◌, List, length, Option, Some, None, Result, Ok, Err, ⊤}
 use Rattle.mc_model.specs.Counts.{Rose}
 use Rattle.mc_model.specs.Device.{DeviceState, BenchState}
 use Rattle.mc_model.specs.DeckGrammar.{DeckLine}
 use Rattle.mc_model.specs.Generator.{generated, summary}
+use Rattle.mc_model.specs.Play as play
 use Rattle.mc_model.specs.Play.{Step}
-use Rattle.mc_base.specs.Streams.{Took, AtEnd, TookMore}
+use Rattle.mc_base.specs.Streams.{Took, AtEnd, TookAtMost, TookMore}
 use Rattle.mc_base.specs.declared.refusals.WriteFault.{WriteFault as Fault}
-use Rattle.mc_text.specs.Texts.{Sunk, Puts}
+use Rattle.mc_base.specs.declared.sink.Sink as sink
+use Rattle.mc_base.specs.declared.source.Source as source
+use Rattle.mc_text.specs.Texts.{sunk_in, Sunk, Puts}
+use Rattle.mc_check.specs.Plays.{KeepToVerdicts}
 use Rattle.mc_script.specs.Plays.{Bench, plain_text, traced_text, PlaysDeck, SumsDeck}
 use Rattle.melcard.specs.declared.job.Job.{Job}
 use Rattle.melcard.specs.declared.job.Job.TheVariants as job
@@ -44,6 +48,21 @@ pub record Around : Type 0 where
 abbrev pub bench_of : {N : Type 0} → (N → DeviceState) → (N → BenchState) → N → Bench
 bench_of state bench dev = record { device = state dev; bench = bench dev }
 
+-- the outside by the values of a call, before and after it
+abbrev pub outside : {S T N : Type 0} → source.Ghosts S → sink.Ghosts T → (N → DeviceState) → (N → BenchState)
+    → S → S → T → T → N → N → Around
+outside s t state bench in_old in_new out_old out_new dev_old dev_new =
+    record {
+      left_old = s.left in_old;
+      left = s.left in_new;
+      reads_old = s.faults in_old;
+      reads = s.faults in_new;
+      out_old = sunk_in t.taken t.faults out_old;
+      out = sunk_in t.taken t.faults out_new;
+      dev_old = bench_of state bench dev_old;
+      dev = bench_of state bench dev_new;
+    }
+
 -- the source was not touched
 pub record Untouched (a : Around) : Type 0 where
   pub left : a.left ≡ a.left_old
@@ -63,9 +82,14 @@ pub record Stands (job : Job) (a : Around) (v : Verdict) : Type 0 where
   pub read : ReadWhole a.left_old a.left input
   pub is : StandsFor job input v
 
--- more was read than the limit allows
+-- no more was read than the limit and one byte behind it
+abbrev pub TookLimited : Option (List ℕ) → Option (List ℕ) → Type 0
+TookLimited old new = TookAtMost old new (input_limit + 1)
+
+-- more was read than the limit allows, and no more than the byte that shows it
 pub record IsTooLong (a : Around) (v : Verdict) : Type 0 where
   pub over : TookMore a.left_old a.left input_limit
+  pub no_further : TookLimited a.left_old a.left
   pub is : v ≡ Refusal too_long
 
 -- what a job is to do: by its number, or by what was read
@@ -73,6 +97,12 @@ abbrev pub IsDue : Job → Around → Verdict → Type 0
 IsDue (job.Generate n) a v = Untouched a × (v ≡ Sums (generated n))
 IsDue (job.Play t) a v = IsTooLong a v ⊎ Stands (job.Play t) a v
 IsDue (job.Write f) a v = IsTooLong a v ⊎ Stands (job.Write f) a v
+
+-- what a job takes of its source: one that generates nothing, and any other no more than the limit and one byte behind it
+abbrev pub TakesAtMost : Job → Around → Type 0
+TakesAtMost (job.Generate n) a = Untouched a
+TakesAtMost (job.Play t) a = TookLimited a.left_old a.left
+TakesAtMost (job.Write f) a = TookLimited a.left_old a.left
 
 -- ---- what was done
 
@@ -92,17 +122,19 @@ pub record IsWritten (good : Status) (text : List ℕ) (s : Status) (a : Around)
   pub status : s ≡ ended good result
   pub written : Puts a.out_old text result a.out
 
--- a deck was played and told, whole or up to a fault
+-- A deck was played and told, whole or up to a fault. Accepted code on its card keeps to its verdict.
 pub record IsPlayed (t : Telling) (lines : List (ℕ × DeckLine)) (s : Status) (a : Around) : Type 0 where
   pub result : Result (Unit {0}) Fault
   pub status : s ≡ ended Done result
   pub plays : PlaysDeck (told t) lines a.dev_old a.out_old result a.dev a.out
+  pub checked : KeepToVerdicts (play.plays (play.start a.dev_old.device.words) plays.from.lines plays.from.worn)
 
--- a deck was played and summarised, whole or up to a fault
+-- A deck was played and summarised, whole or up to a fault. Accepted code on its card keeps to its verdict.
 pub record IsSummed (lines : List (ℕ × DeckLine)) (s : Status) (a : Around) : Type 0 where
   pub result : Result (Unit {0}) Fault
   pub status : s ≡ ended Done result
   pub sums : SumsDeck summary lines a.dev_old a.out_old result a.dev a.out
+  pub checked : KeepToVerdicts (play.plays (play.start a.dev_old.device.words) lines sums.worn)
 
 -- what an input stands for was done
 abbrev pub IsDone : Verdict → Status → Around → Type 0
@@ -128,13 +160,15 @@ pub record SaysDone (Kept : Type 0) (job : Job) (s : Status) (a : Around) : Type
   pub kept : IsKept Kept verdict
 
 -- the source failed
-pub record SaysReadFault (Kept : Type 0) (a : Around) : Type 0 where
+pub record SaysReadFault (Kept : Type 0) (job : Job) (a : Around) : Type 0 where
   pub cause : Rose a.reads_old a.reads
+  pub source : TakesAtMost job a
   pub written : a.out ≡ a.out_old
   pub kept : Kept
 
 -- memory was short before the first byte
-pub record SaysNoMemory (Kept : Type 0) (a : Around) : Type 0 where
+pub record SaysNoMemory (Kept : Type 0) (job : Job) (a : Around) : Type 0 where
+  pub source : TakesAtMost job a
   pub written : a.out ≡ a.out_old
   pub kept : Kept
 
@@ -152,8 +186,8 @@ IsReading (job.Write f) = ⊤
 
 -- what each status says, by the job that the words name: what never comes is empty
 abbrev pub Says : Type 0 → Status → Option Job → Around → Type 0
-Says Kept ReadFault (Some job) a = IsReading job × SaysReadFault Kept a
-Says Kept NoMemory (Some job) a = SaysNoMemory Kept a
+Says Kept ReadFault (Some job) a = IsReading job × SaysReadFault Kept job a
+Says Kept NoMemory (Some job) a = SaysNoMemory Kept job a
 Says Kept NoForm (Some job) a = ⊥
 Says Kept Done (Some job) a = SaysDone Kept job Done a
 Says Kept Refused (Some job) a = SaysDone Kept job Refused a

@@ -12,7 +12,7 @@ use Rattle.mc_model.specs.declared.deck.DeckCause.{DeckCause}
 use Rattle.mc_model.specs.declared.instruction.DecodeFault.{DecodeFault}
 use Rattle.mc_check.specs.declared.verdict.Verdict.{Verdict as CodeVerdict}
 use Rattle.mc_check.specs.declared.verdict.Verdict.TheVariants.{Accept, Refuse}
-use Rattle.mc_check.specs.Verdicts.{IsVerdictOf}
+use Rattle.mc_check.specs.Verdicts.{IsVerdictOf, KeepsTo}
 use Rattle.melcard.specs.declared.job.Job.{Job}
 use Rattle.melcard.specs.declared.job.Job.TheVariants as job
 use Rattle.melcard.specs.declared.job.Telling.{Telling}
@@ -88,15 +88,16 @@ verdict_text (Refuse place cause) = codes "refuse " ++ decimal place ++ codes " 
 abbrev pub verdict_line : ℕ → CodeVerdict → List ℕ
 verdict_line number v = decimal number ++ codes " " ++ verdict_text v ++ codes "\n"
 
--- the first load line, and the text of the rest
+-- the first load line: its verdict holds of its code, which keeps to it in every run; and the text of the rest
 pub record IsJudged (number : ℕ) (code : List ℕ) (session : ℕ) (Rest : List ℕ → Type 0) (text : List ℕ) : Type 0 where
   pub verdict : CodeVerdict
   pub holds : IsVerdictOf code session verdict
+  pub keeps : KeepsTo code session verdict
   pub behind : List ℕ
   pub rest : Rest behind
   pub parts : text ≡ verdict_line number verdict ++ behind
 
--- a text with a line for each load line, in order, each with a verdict that holds of its code
+-- a text with a line for each load line, in order, each with a verdict that holds of its code and that its code keeps to
 unfoldable pub AreVerdicts : List (ℕ × DeckLine) → List ℕ → Type 0
 AreVerdicts [] text = text ≡ []
 AreVerdicts ((n, line.Load u fixed session) ∷ ls) text = IsJudged n u.code session (AreVerdicts ls) text

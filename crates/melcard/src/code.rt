@@ -1,11 +1,11 @@
 // Code that is given as hexadecimal digits.
 ghost use Rattle.std.specs.Prelude.{◌≡◌, ◌≤◌, ◌<◌, ◌++◌, ◌∷◌, [], length, vec_len, option_map, Ok, IfOk, IfErr, OnOk};
-ghost use Rattle.std.specs.List.{AllByRecursion};
-ghost use Rattle.mc_model.specs.Text.{is_blank, hex_value, paired, lines, numbered, ok_as, code_digits, code_text_read};
-ghost use Rattle.melcard.specs.Judging.{line_digits, RefusesCode};
+ghost use Rattle.mc_model.specs.Text.{hex_bytes, lines, numbered, ok_as, code_text_read};
+ghost use Rattle.melcard.specs.Judging.{line_digits, text_digits, RefusesCode};
 ghost use Rattle.melcard.specs.Verdicts.{input_limit};
 
-use mc_asm::next_line;
+use hex::FromHexError;
+use mc_text::{hex_value, is_blank, next_line};
 use std::alloc::{AllocError, Global};
 
 /// Why a text is no code.
@@ -34,43 +34,26 @@ impl From<AllocError> for CodeRefusal {
 // The most bytes of code.
 const CODE_LIMIT: usize = 8192;
 
-// Whether a character is a space or a tab.
-fn is_blank(character: u8) -> bool
-    ensures { result ≡ is_blank character }
-{
-    character == b' ' || character == b'\t'
-}
-
-// The value of a hexadecimal digit in either case.
-fn hex_value(character: u8) -> Option<u8>
-    ensures { result ≡ hex_value character }
-{
-    match character {
-        b'0'..=b'9' => Some(character - b'0'),
-        b'A'..=b'F' => Some(character - b'A' + 10),
-        b'a'..=b'f' => Some(character - b'a' + 10),
-        _ => None,
-    }
-}
-
-// Adds the value of one character of a line, and none for a blank.
+// Adds one character of a line, and none for a blank.
 fn push_digit(digits: &mut Vec<u8>, number: u32, character: u8) -> Result<(), CodeRefusal>
-    ensures ok { OnOk result (ok_as (λ vs. digits.old.items ++ vs) (line_digits number (character ∷ [])) ≡ Ok digits.new.items) }
+    ensures ok { OnOk result (ok_as (λ vs. digits.old.items ++ vs) (line_digits number (character ∷ []))
+        ≡ Ok digits.new.items) }
     ensures refused { IfErr result (λ e. RefusesCode (line_digits number (character ∷ [])) e) }
 {
     if is_blank(character) {
         return Ok(());
     }
-    let Some(value) = hex_value(character) else {
+    if hex_value(character).is_none() {
         return Err(CodeRefusal::BadHex(number));
-    };
-    digits.extend_from_slice(&[value])?;
+    }
+    digits.extend_from_slice(&[character])?;
     Ok(())
 }
 
-// Adds the values of the digits of a line.
+// Adds the digits of a line.
 fn push_line(digits: &mut Vec<u8>, number: u32, line: &[u8]) -> Result<(), CodeRefusal>
-    ensures ok { OnOk result (ok_as (λ vs. digits.old.items ++ vs) (line_digits number line.now) ≡ Ok digits.new.items) }
+    ensures ok { OnOk result (ok_as (λ vs. digits.old.items ++ vs) (line_digits number line.now)
+        ≡ Ok digits.new.items) }
     ensures refused { IfErr result (λ e. RefusesCode (line_digits number line.now) e) }
 {
     for character in line {
@@ -79,12 +62,12 @@ fn push_line(digits: &mut Vec<u8>, number: u32, line: &[u8]) -> Result<(), CodeR
     Ok(())
 }
 
-// The values of the digits of all lines, and how many lines there are.
+// The digits of all lines, and how many lines there are.
 fn digits_of(alloc: Global, text: &[u8]) -> Result<(Vec<u8>, u32), CodeRefusal>
     requires { length text.now ≤ input_limit }
-    ensures digits { IfOk result (λ r. code_digits (numbered 1 (lines text.now)) ≡ Ok r.0.items) }
+    ensures digits { IfOk result (λ r. text_digits (numbered 1 (lines text.now)) ≡ Ok r.0.items) }
     ensures lines { IfOk result (λ r. r.1 ≡ length (lines text.now)) }
-    ensures refused { IfErr result (λ e. RefusesCode (code_digits (numbered 1 (lines text.now))) e) }
+    ensures refused { IfErr result (λ e. RefusesCode (text_digits (numbered 1 (lines text.now))) e) }
 {
     let mut digits = Vec::new(alloc);
     let mut count: u32 = 0;
@@ -97,21 +80,15 @@ fn digits_of(alloc: Global, text: &[u8]) -> Result<(Vec<u8>, u32), CodeRefusal>
     Ok((digits, count))
 }
 
-// The bytes that two digits each spell, none where their number is odd.
-fn paired(alloc: Global, digits: &[u8]) -> Result<Option<Vec<u8>>, AllocError>
-    requires { AllByRecursion (λ v. v < 16) digits.now }
-    ensures { IfOk result (λ r. option_map (λ code. code.items) r ≡ paired digits.now) }
+// The bytes that hexadecimal digits spell, none where their number is odd.
+#[tactic(auto, using(mc_deck::proofs::HexLemmas::bytes_spelled, mc_deck::proofs::HexLemmas::bytes_misspelled))]
+fn bytes_of(alloc: Global, digits: &[u8]) -> Result<Option<Vec<u8>>, AllocError>
+    ensures { IfOk result (λ r. option_map (λ code. code.items) r ≡ hex_bytes digits.now) }
 {
-    let mut code = Vec::new(alloc);
-    let mut rest = digits;
-    while let [high, low, behind @ ..] = rest {
-        code.extend_from_slice(&[*high * 16 + *low])?;
-        rest = behind;
-    }
-    if rest.is_empty() {
-        Ok(Some(code))
-    } else {
-        Ok(None)
+    match hex::decode(alloc, digits) {
+        Ok(code) => Ok(Some(code)),
+        Err(FromHexError::OutOfMemory) => Err(AllocError),
+        Err(_) => Ok(None),
     }
 }
 
@@ -124,7 +101,7 @@ pub fn read_code(alloc: Global, text: &[u8]) -> Result<Vec<u8>, CodeRefusal>
     ensures short { IfOk result (λ v. vec_len v ≤ 8192) }
 {
     let (digits, lines) = digits_of(alloc, text)?;
-    let Some(code) = paired(alloc, digits.as_slice())? else {
+    let Some(code) = bytes_of(alloc, digits.as_slice())? else {
         return Err(CodeRefusal::BadHex(lines));
     };
     if code.len() > CODE_LIMIT {

@@ -30,7 +30,8 @@ pub fn deck_of(alloc: Global, text: &[u8]) -> Result<Deck, Rejection>
 
 // The code of an assembly text.
 fn assembled(alloc: Global, text: &[u8]) -> Result<Vec<u8>, Rejection>
-    ensures { MatchResult result (λ t. Whole t.items ≡ of_assembly (assembled text.now)) (Rejects (λ v. v ≡ of_assembly (assembled text.now))) }
+    ensures { MatchResult result (λ t. Whole t.items
+        ≡ of_assembly (assembled text.now)) (Rejects (λ v. v ≡ of_assembly (assembled text.now))) }
 {
     match assemble(alloc, text) {
         Ok(code) => Ok(hex_line(alloc, code.as_slice())?),
@@ -42,7 +43,8 @@ fn assembled(alloc: Global, text: &[u8]) -> Result<Vec<u8>, Rejection>
 // The listing of code.
 fn listed(alloc: Global, code: &[u8]) -> Result<Vec<u8>, Rejection>
     requires { length code.now ≤ 8192 }
-    ensures { MatchResult result (λ t. Whole t.items ≡ of_listing (listed code.now)) (Rejects (λ v. v ≡ of_listing (listed code.now))) }
+    ensures { MatchResult result (λ t. Whole t.items
+        ≡ of_listing (listed code.now)) (Rejects (λ v. v ≡ of_listing (listed code.now))) }
 {
     match list(alloc, code) {
         Ok(text) => Ok(text),
@@ -56,7 +58,8 @@ fn listed(alloc: Global, code: &[u8]) -> Result<Vec<u8>, Rejection>
 // The listing of code that is given as hexadecimal digits.
 fn read_and_listed(alloc: Global, text: &[u8]) -> Result<Vec<u8>, Rejection>
     requires { length text.now ≤ input_limit }
-    ensures { MatchResult result (λ t. Whole t.items ≡ of_code (code_text_read text.now)) (Rejects (λ v. v ≡ of_code (code_text_read text.now))) }
+    ensures { MatchResult result (λ t. Whole t.items
+        ≡ of_code (code_text_read text.now)) (Rejects (λ v. v ≡ of_code (code_text_read text.now))) }
 {
     match read_code(alloc, text) {
         Ok(code) => listed(alloc, code.as_slice()),
@@ -68,7 +71,8 @@ fn read_and_listed(alloc: Global, text: &[u8]) -> Result<Vec<u8>, Rejection>
 
 // What the checker says of the code of a deck.
 fn checked(alloc: Global, text: &[u8]) -> Result<Vec<u8>, Rejection>
-    ensures { MatchResult result (λ t. IsCheckOf (deck_read text.now) (Whole t.items)) (Rejects (IsCheckOf (deck_read text.now))) }
+    ensures { MatchResult result (λ t. IsCheckOf (deck_read text.now) (Whole t.items))
+        (Rejects (IsCheckOf (deck_read text.now))) }
 {
     let deck = deck_of(alloc, text)?;
     Ok(verdicts_of(alloc, &deck)?)

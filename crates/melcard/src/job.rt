@@ -1,7 +1,8 @@
 // The jobs of the program, and the words that name them.
-ghost use Rattle.std.specs.Prelude.{◌≡◌, ◌≤◌, length, IfSome};
-ghost use Rattle.mc_model.specs.Text.{decimal_number};
+ghost use Rattle.std.specs.Prelude.{◌≡◌, ◌≤◌, IfSome};
 ghost use Rattle.melcard.specs.Jobs.{generated_number, job_named, job_of, Fits};
+
+use mc_text::decimal_number;
 
 /// What is told of a play.
 #[derive(Clone, Copy, Debug, PartialEq, Eq)]
@@ -32,24 +33,6 @@ pub enum Job {
     Generate(u32),
     /// To write a text of the input.
     Write(Form),
-}
-
-// The number that at most 10 decimal digits spell.
-fn decimal_number(digits: &[u8]) -> Option<u64>
-    requires { length digits.now ≤ 10 }
-    ensures { result ≡ decimal_number digits.now }
-{
-    if digits.is_empty() {
-        return None;
-    }
-    let mut number: u64 = 0;
-    for digit in digits {
-        if !digit.is_ascii_digit() {
-            return None;
-        }
-        number = number * 10 + (*digit - b'0') as u64;
-    }
-    Some(number)
 }
 
 // The number of a generated deck: 1 to 10 decimal digits, up to 2,147,483,647.

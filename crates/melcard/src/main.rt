@@ -1,5 +1,7 @@
 #![tactic(auto)]
 
+//! The card, its assembler and its checker, over the standard streams.
+
 mod checking;
 mod code;
 #[cfg(test)]

@@ -65,7 +65,8 @@ pub fn counter_code()
 /// The first refused line of an assembly text by itself, and where there is none, the first unknown label.
 #[tactic(auto, unfolding(crate::specs::Computed::code_verdict))]
 pub fn refused_texts()
-    ensures number { code_verdict (codes "BRANCH ALL,away\nPUSHB 256\nBYTES 1\n") ≡ Refusal (codes "line 2 OutOfRange\n") }
+    ensures number { code_verdict (codes "BRANCH ALL,away\nPUSHB 256\nBYTES 1\n")
+        ≡ Refusal (codes "line 2 OutOfRange\n") }
     ensures label { code_verdict (codes "here: NOP\nBRANCH ALL,away\n") ≡ Refusal (codes "line 2 UnknownLabel\n") }
 {}
 

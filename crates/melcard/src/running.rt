@@ -8,7 +8,7 @@ ghost use Rattle.melcard.specs.declared.job.Job.TheVariants as job;
 ghost use Rattle.melcard.specs.declared.rejection.Rejection.TheVariants as rejection;
 ghost use Rattle.melcard.specs.Jobs.{greatest_number, job_of, Fits};
 ghost use Rattle.melcard.specs.Running.{Ends, PlaysInput, RejectsJob, RejectsRead, WritesInput};
-ghost use Rattle.melcard.specs.Statuses.{bench_of, ended, number_of, told, Completes, IsSummed, ReadWhole, Says};
+ghost use Rattle.melcard.specs.Statuses.{bench_of, ended, number_of, outside, told, Completes, IsSummed, ReadWhole, Says};
 ghost use Rattle.mc_script.specs.Plays.{Bench as Told, PlaysDeck};
 
 use crate::form::{deck_of, text_of};
@@ -29,7 +29,8 @@ const INPUT_LIMIT: usize = 1_048_576;
 // Reads an input to its end.
 fn read_input<S: Source>(alloc: Global, input: &mut S) -> Result<Vec<u8>, Rejection>
     ensures read { IfOk result (λ t. ReadWhole (S.left input.old) (S.left input.new) t.items) }
-    ensures rejected { IfErr result (RejectsRead (S.left input.old) (S.left input.new) (S.faults input.old) (S.faults input.new)) }
+    ensures rejected { IfErr result (RejectsRead (S.left input.old) (S.left input.new) (S.faults input.old)
+        (S.faults input.new)) }
 {
     match read_all(alloc, input, INPUT_LIMIT) {
         Ok(text) => Ok(text),
@@ -58,7 +59,9 @@ fn play_as<T: Sink, N: Bench, L: Ledger>(
     steps: &mut Steps<L>,
 ) -> Result<(), WriteFault>
     requires { IsUnfused (N.bench dev.old) }
-    ensures { PlaysDeck (told telling) deck.now (bench_of N.state N.bench dev.old) (sunk_in T.taken T.faults out.old) result (bench_of N.state N.bench dev.new) (sunk_in T.taken T.faults out.new) }
+    ensures { PlaysDeck (told telling) deck.now (bench_of N.state N.bench dev.old)
+        (sunk_in T.taken T.faults out.old) result (bench_of N.state N.bench dev.new)
+        (sunk_in T.taken T.faults out.new) }
 {
     match telling {
         Telling::Transcript => play(deck, dev, out, steps),
@@ -76,8 +79,10 @@ fn tell<S: Source, T: Sink, N: Bench, L: Ledger>(
     steps: &mut Steps<L>,
 ) -> Result<Status, Rejection>
     requires { IsUnfused (N.bench dev.old) }
-    ensures done { IfOk result (λ s. PlaysInput telling s (record { left_old = S.left input.old; left = S.left input.new; reads_old = S.faults input.old; reads = S.faults input.new; out_old = sunk_in T.taken T.faults out.old; out = sunk_in T.taken T.faults out.new; dev_old = bench_of N.state N.bench dev.old; dev = bench_of N.state N.bench dev.new })) }
-    ensures rejected { IfErr result (RejectsJob (job.Play telling) (record { left_old = S.left input.old; left = S.left input.new; reads_old = S.faults input.old; reads = S.faults input.new; out_old = sunk_in T.taken T.faults out.old; out = sunk_in T.taken T.faults out.new; dev_old = bench_of N.state N.bench dev.old; dev = bench_of N.state N.bench dev.new })) }
+    ensures done { IfOk result (λ s. PlaysInput telling s
+        (outside S.Source T.Sink N.state N.bench input.old input.new out.old out.new dev.old dev.new)) }
+    ensures rejected { IfErr result (RejectsJob (job.Play telling)
+        (outside S.Source T.Sink N.state N.bench input.old input.new out.old out.new dev.old dev.new)) }
     ensures out { IfErr result (λ e. out.new ≡ out.old) }
     ensures device { IfErr result (λ e. dev.new ≡ dev.old) }
 {
@@ -96,7 +101,19 @@ fn sum<T: Sink, N: Bench, L: Ledger>(
 ) -> Result<Status, Rejection>
     requires number { number ≤ greatest_number }
     requires fuses { IsUnfused (N.bench dev.old) }
-    ensures done { (old new : Option (List ℕ)) (reads_old reads : ℕ) → IfOk result (λ s. IsSummed (generated number) s (record { left_old = old; left = new; reads_old = reads_old; reads = reads; out_old = sunk_in T.taken T.faults out.old; out = sunk_in T.taken T.faults out.new; dev_old = bench_of N.state N.bench dev.old; dev = bench_of N.state N.bench dev.new })) }
+    ensures done { (old new : Option (List ℕ)) (reads_old reads : ℕ)
+        → IfOk result
+        (λ s. IsSummed (generated number) s
+        (record {
+          left_old = old;
+          left = new;
+          reads_old = reads_old;
+          reads = reads;
+          out_old = sunk_in T.taken T.faults out.old;
+          out = sunk_in T.taken T.faults out.new;
+          dev_old = bench_of N.state N.bench dev.old;
+          dev = bench_of N.state N.bench dev.new;
+        })) }
     ensures rejected { IfErr result (λ e. e ≡ rejection.NoMemory) }
     ensures out { IfErr result (λ e. out.new ≡ out.old) }
     ensures device { IfErr result (λ e. dev.new ≡ dev.old) }
@@ -112,8 +129,31 @@ fn write<S: Source, T: Sink>(
     input: &mut S,
     out: &mut T,
 ) -> Result<Status, Rejection>
-    ensures done { (before after : Told) → IfOk result (λ s. WritesInput form s (record { left_old = S.left input.old; left = S.left input.new; reads_old = S.faults input.old; reads = S.faults input.new; out_old = sunk_in T.taken T.faults out.old; out = sunk_in T.taken T.faults out.new; dev_old = before; dev = after })) }
-    ensures rejected { (before after : Told) → IfErr result (RejectsJob (job.Write form) (record { left_old = S.left input.old; left = S.left input.new; reads_old = S.faults input.old; reads = S.faults input.new; out_old = sunk_in T.taken T.faults out.old; out = sunk_in T.taken T.faults out.new; dev_old = before; dev = after })) }
+    ensures done { (before after : Told) → IfOk result
+        (λ s. WritesInput form s
+        (record {
+          left_old = S.left input.old;
+          left = S.left input.new;
+          reads_old = S.faults input.old;
+          reads = S.faults input.new;
+          out_old = sunk_in T.taken T.faults out.old;
+          out = sunk_in T.taken T.faults out.new;
+          dev_old = before;
+          dev = after;
+        })) }
+    ensures rejected { (before after : Told)
+        → IfErr result
+        (RejectsJob (job.Write form)
+        (record {
+          left_old = S.left input.old;
+          left = S.left input.new;
+          reads_old = S.faults input.old;
+          reads = S.faults input.new;
+          out_old = sunk_in T.taken T.faults out.old;
+          out = sunk_in T.taken T.faults out.new;
+          dev_old = before;
+          dev = after;
+        })) }
     ensures out { IfErr result (λ e. out.new ≡ out.old) }
 {
     let bytes = read_input(alloc, input)?;
@@ -143,7 +183,8 @@ fn run<S: Source, T: Sink, N: Bench, L: Ledger>(
 ) -> Status
     requires fits { Fits job }
     requires fuses { IsUnfused (N.bench dev.old) }
-    ensures { Says (dev.new ≡ dev.old) result (Some job) (record { left_old = S.left input.old; left = S.left input.new; reads_old = S.faults input.old; reads = S.faults input.new; out_old = sunk_in T.taken T.faults out.old; out = sunk_in T.taken T.faults out.new; dev_old = bench_of N.state N.bench dev.old; dev = bench_of N.state N.bench dev.new }) }
+    ensures { Says (dev.new ≡ dev.old) result (Some job)
+        (outside S.Source T.Sink N.state N.bench input.old input.new out.old out.new dev.old dev.new) }
 {
     let done = match job {
         Job::Play(telling) => tell(alloc, telling, input, out, dev, steps),
@@ -168,8 +209,14 @@ pub fn melcard<S: Source, T: Sink, N: Bench, L: Ledger>(
     steps: &mut Steps<L>,
 ) -> u8
     requires { IsUnfused (N.bench dev.old) }
-    ensures says { (s : Status) × (result ≡ number_of s) × Says (dev.new ≡ dev.old) s (job_of words.now) (record { left_old = S.left input.old; left = S.left input.new; reads_old = S.faults input.old; reads = S.faults input.new; out_old = sunk_in T.taken T.faults out.old; out = sunk_in T.taken T.faults out.new; dev_old = bench_of N.state N.bench dev.old; dev = bench_of N.state N.bench dev.new }) }
-    ensures complete { (s : Status) → result ≡ number_of s → IfSome (job_of words.now) (λ job. Completes s job (record { left_old = S.left input.old; left = S.left input.new; reads_old = S.faults input.old; reads = S.faults input.new; out_old = sunk_in T.taken T.faults out.old; out = sunk_in T.taken T.faults out.new; dev_old = bench_of N.state N.bench dev.old; dev = bench_of N.state N.bench dev.new })) }
+    ensures says { (s : Status) × (result ≡ number_of s)
+        × Says (dev.new
+        ≡ dev.old) s (job_of words.now)
+        (outside S.Source T.Sink N.state N.bench input.old input.new out.old out.new dev.old dev.new) }
+    ensures complete { (s : Status) → result ≡ number_of s
+        → IfSome (job_of words.now)
+        (λ job. Completes s job
+        (outside S.Source T.Sink N.state N.bench input.old input.new out.old out.new dev.old dev.new)) }
 {
     let Some(job) = job_of(words) else {
         let usage = b"usage: melcard play | asm | list | gen N | check | trace\n";

@@ -17,7 +17,8 @@ fn put_word<E: Sink>(err: &mut E, word: &str) -> Result<(), WriteFault>
 
 /// Writes the line that refuses a deck: `line N CAUSE`.
 pub fn put_refusal<E: Sink>(err: &mut E, number: u32, cause: &str) -> Result<(), WriteFault>
-    ensures { Puts (sunk_in E.taken E.faults err.old) (at_line number cause.now) result (sunk_in E.taken E.faults err.new) }
+    ensures { Puts (sunk_in E.taken E.faults err.old) (at_line number cause.now) result
+        (sunk_in E.taken E.faults err.new) }
 {
     put_number(err, b"line ", number)?;
     put(err, b" ")?;

@@ -1,6 +1,7 @@
 #![tactic(auto)]
 
-// A card in a reader, over the standard streams.
+//! A card in a reader, over the standard streams.
+
 mod deck;
 mod lines;
 mod running;

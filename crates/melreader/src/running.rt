@@ -72,7 +72,10 @@ fn session<S: Source, T: Sink, E: Sink, N: Bench, L: Ledger>(
     steps: &mut Steps<L>,
 ) -> Status
     requires { IsUnfused (N.bench dev.old) }
-    ensures { (a b : Option Stream) → HasDeck a b found → Says (AreKept input.old input.new out.old out.new dev.old dev.new) result (outside S.Source T.Sink E.Sink N.state N.bench a b input.old input.new out.old out.new err.old err.new dev.old dev.new) }
+    ensures { (a b : Option Stream) → HasDeck a b found
+        → Says (AreKept input.old input.new out.old out.new dev.old dev.new) result
+        (outside S.Source T.Sink E.Sink N.state N.bench a b input.old input.new out.old out.new err.old err.new
+        dev.old dev.new) }
 {
     match found {
         Ok(deck) => end(err, serve(alloc, &deck, input, out, dev, steps)),
@@ -96,7 +99,10 @@ pub fn melreader<D: Source, S: Source, T: Sink, E: Sink, N: Bench, L: Ledger>(
     steps: &mut Steps<L>,
 ) -> u8
     requires { IsUnfused (N.bench dev.old) }
-    ensures { (s : Status) × (result ≡ number_of s) × Says (AreKept input.old input.new out.old out.new dev.old dev.new) s (outside S.Source T.Sink E.Sink N.state N.bench (handed_in D.Source deck.entry) (handed_back D.Source deck.exit) input.old input.new out.old out.new err.old err.new dev.old dev.new) }
+    ensures { (s : Status) × (result ≡ number_of s)
+        × Says (AreKept input.old input.new out.old out.new dev.old dev.new) s
+        (outside S.Source T.Sink E.Sink N.state N.bench (handed_in D.Source deck.entry)
+        (handed_back D.Source deck.exit) input.old input.new out.old out.new err.old err.new dev.old dev.new) }
 {
     match deck {
         Some(source) => {

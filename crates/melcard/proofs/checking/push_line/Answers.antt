@@ -8,4 +8,4 @@ returns-in_default c = nothing_added c.args.number c.args.line.now c.args.text.n
 
 pub returns : goal.returns
 returns c =
-    verdict_added c.push_verdict.result c.args.number (line_of c.args.line.now) _ _ c.in-Load.session c.in_ok-verdict.verdict c.args.text.now.items c.push_verdict.new.text.items (ap line_of c.in-Load.is) c.in_ok-verdict.ensures.verdict c.push_verdict.ensures
+    verdict_added c.push_verdict.result c.args.number (line_of c.args.line.now) _ _ c.in-Load.session c.in_ok-verdict.verdict c.args.text.now.items c.push_verdict.new.text.items (ap line_of c.in-Load.is) c.in_ok-verdict.ensures.verdict c.in_ok-verdict.ensures.runs c.push_verdict.ensures

@@ -1,8 +1,6 @@
-use Rattle.std.proofs.Common.{◌<◌, ◌≤◌, ℕ, List, arith, length, Some, None, sym, subst}
-use Rattle.std.specs.List.{AllByRecursion}
+use Rattle.std.proofs.Common.{◌<◌, ◌≤◌, arith, length, Some, None}
 use Rattle.std.proofs.lemmas.Result.{err_from_is_err_and}
-use Rattle.melcard.proofs.CodeLemmas.{digits_small, digits_refused, code_odd, code_large, code_fits, pairs_found}
-use Rattle.mc_model.specs.Text.{lines, numbered}
+use Rattle.melcard.proofs.CodeLemmas.{digits_refused, code_odd, code_large, code_fits, bytes_found}
 use Rattle.melcard.proofs.code.read_code.Goals as goal
 
 pub returns-in_err-digits-clause-refused : goal.returns-in_err-digits-clause-refused
@@ -10,23 +8,19 @@ returns-in_err-digits-clause-refused c =
     let p = err_from_is_err_and c.from_residual.result c.from_residual.ensures.1 in
     rw (p.1, p.2) (digits_refused c.args.text.now c.in_err-digits.field-0.0 c.in_err-digits.ensures.refused)
 
-pub paired-requires : goal.paired-requires
-paired-requires c =
-    subst (λ (vs : List ℕ). AllByRecursion (λ v. v < 16) vs) (sym c.as_slice.ensures.value) (digits_small (numbered 1 (lines c.args.text.now)) c.in_ok-digits.digits.items c.in_ok-digits.ensures.digits)
-
 pub returns-in_default-clause-refused : goal.returns-in_default-clause-refused
 returns-in_default-clause-refused c =
-    let pairs = pairs_found (λ v. v.items) c.in_ok-code.field-0 None c.as_slice.result.now c.in_ok-digits.digits.items c.in_default.is c.as_slice.ensures.value c.in_ok-code.ensures in
-    code_odd c.args.text.now c.in_ok-digits.digits.items c.in_ok-digits.lines c.in_ok-digits.ensures.digits c.in_ok-digits.ensures.lines pairs
+    let bytes = bytes_found (λ v. v.items) c.in_ok-code.field-0 None c.as_slice.result.now c.in_ok-digits.digits.items c.in_default.is c.as_slice.ensures.value c.in_ok-code.ensures in
+    code_odd c.args.text.now c.in_ok-digits.digits.items c.in_ok-digits.lines c.in_ok-digits.ensures.digits c.in_ok-digits.ensures.lines bytes
 
 pub returns-then-len-gt-CODE_LIMIT-clause-refused : goal.returns-then-len-gt-CODE_LIMIT-clause-refused
 returns-then-len-gt-CODE_LIMIT-clause-refused c =
-    let pairs = pairs_found (λ v. v.items) c.in_ok-code.field-0 (Some c.in-Some.code) c.as_slice.result.now c.in_ok-digits.digits.items c.in-Some.is c.as_slice.ensures.value c.in_ok-code.ensures in
+    let bytes = bytes_found (λ v. v.items) c.in_ok-code.field-0 (Some c.in-Some.code) c.as_slice.result.now c.in_ok-digits.digits.items c.in-Some.is c.as_slice.ensures.value c.in_ok-code.ensures in
     let over : 8192 < length c.in-Some.code.items = omega arith in
-    code_large c.args.text.now c.in_ok-digits.digits.items c.in_ok-digits.lines c.in_ok-digits.ensures.digits c.in_ok-digits.ensures.lines c.in-Some.code.items pairs over
+    code_large c.args.text.now c.in_ok-digits.digits.items c.in_ok-digits.lines c.in_ok-digits.ensures.digits c.in_ok-digits.ensures.lines c.in-Some.code.items bytes over
 
 pub returns-clause-code : goal.returns-clause-code
 returns-clause-code c =
-    let pairs = pairs_found (λ v. v.items) c.in_ok-code.field-0 (Some c.in-Some.code) c.as_slice.result.now c.in_ok-digits.digits.items c.in-Some.is c.as_slice.ensures.value c.in_ok-code.ensures in
+    let bytes = bytes_found (λ v. v.items) c.in_ok-code.field-0 (Some c.in-Some.code) c.as_slice.result.now c.in_ok-digits.digits.items c.in-Some.is c.as_slice.ensures.value c.in_ok-code.ensures in
     let fits : length c.in-Some.code.items ≤ 8192 = omega arith in
-    code_fits c.args.text.now c.in_ok-digits.digits.items c.in_ok-digits.lines c.in_ok-digits.ensures.digits c.in_ok-digits.ensures.lines c.in-Some.code.items pairs fits
+    code_fits c.args.text.now c.in_ok-digits.digits.items c.in_ok-digits.lines c.in_ok-digits.ensures.digits c.in_ok-digits.ensures.lines c.in-Some.code.items bytes fits

@@ -69,7 +69,7 @@ returns-in-Err g c =
           let work = job.Generate w.in-Generate.number in
           let a : Around = around left reads taken writes state bench input input out did.new.out dev did.new.dev in
           rejected_at left reads taken writes state bench input all.input input out all.out did.new.out end.new.out dev all.dev did.new.dev c.args.job work all.done did.result why end.result
-          c.in-Err.is w.input-is w.out-is w.dev-is w.done-is w.in-Generate.is (memory_only work a did.result did.ensures.rejected) did.ensures.out did.ensures.device end.ensures
+          c.in-Err.is w.input-is w.out-is w.dev-is w.done-is w.in-Generate.is (memory_only work a did.result (record { left = refl; reads = refl }) did.ensures.rejected) did.ensures.out did.ensures.device end.ensures
       | in-Write w ↦
           let did = w.write-done in
           let kept = err_always {P = dev ≡ dev} did.result refl in

@@ -1,8 +1,9 @@
 use Rattle.std.proofs.Common.{ℕ, List, subst}
 use Rattle.mc_model.specs.DeckGrammar.{DeckLine}
-use Rattle.mc_model.specs.Generator.{summary}
+use Rattle.mc_model.specs.Generator.{generated, summary}
 use Rattle.mc_script.specs.Plays.{SumsDeck}
 use Rattle.mc_text.specs.Texts.{sunk_in}
+use Rattle.mc_check.proofs.CheckedPlays.{checked_plays_law}
 use Rattle.melcard.specs.Statuses.{bench_of}
 use Rattle.melcard.proofs.DumpLemmas.{generated_last}
 use Rattle.melcard.proofs.running.sum.Goals as goal
@@ -16,8 +17,10 @@ returns-clause-done g c = λ old new reads_old reads.
     let after = bench_of g.N.Nvm.state g.N.Bench.bench c.summarise.new.dev in
     let from = sunk_in g.T.Sink.taken g.T.Sink.faults c.args.out.now in
     let to = sunk_in g.T.Sink.taken g.T.Sink.faults c.summarise.new.out in
+    let sums = subst (λ (ls : List (ℕ × DeckLine)). SumsDeck summary ls before from c.summarise.result after to) c.in_ok-deck.ensures c.summarise.ensures.sums in
     record {
       result = c.summarise.result;
       status = c.ended.ensures;
-      sums = subst (λ (ls : List (ℕ × DeckLine)). SumsDeck summary ls before from c.summarise.result after to) c.in_ok-deck.ensures c.summarise.ensures.sums;
+      sums = sums;
+      checked = checked_plays_law (generated c.args.number) before.device.words sums.worn;
     }

@@ -1,5 +1,6 @@
 use Rattle.std.proofs.Common.{◌∙◌, ap, sym, inr}
 use Rattle.mc_model.specs.DeckGrammar.{deck_read}
+use Rattle.mc_check.proofs.CheckedPlays.{checked_plays_law}
 use Rattle.melcard.specs.Verdicts.{of_deck}
 use Rattle.melcard.proofs.running.tell.Goals as goal
 
@@ -9,5 +10,10 @@ returns-clause-done g c =
     record {
       lines = c.in_ok-deck.deck;
       due = inr (record { input = c.in_ok-text.text.items; read = c.in_ok-text.ensures.read; is = is });
-      played = record { result = c.play_as.result; status = c.ended.ensures; plays = c.play_as.ensures };
+      played = record {
+        result = c.play_as.result;
+        status = c.ended.ensures;
+        plays = c.play_as.ensures;
+        checked = checked_plays_law c.play_as.ensures.from.lines (g.N.Nvm.state c.args.dev.now).words c.play_as.ensures.from.worn;
+      };
     }

@@ -1,0 +1,86 @@
+-- What accepted code keeps to wherever a run begins well, it keeps to in every turn of a play.
+use Rattle.std.proofs.Common.{ℕ, zero, suc, Bool, true, false, List, [], ◌∷◌, Option, Some, None}
+use Rattle.std.specs.Prelude.{drop}
+use Rattle.std.specs.List.{AllByRecursion}
+use Rattle.mc_model.proofs.ImageLemmas.{all-append}
+use Rattle.mc_model.specs.Apdu.{ApduParts}
+use Rattle.mc_model.specs.Card.{App, Card}
+use Rattle.mc_model.specs.Chain.{Chain, Turn, Follows, Continues, Ends, acted}
+use Rattle.mc_model.specs.Items.{card_done}
+use Rattle.mc_model.specs.Manager.{Selected, Seat, Route, WrongLength, WrongClass, ToSelect, ToManager, ToApplication, route}
+use Rattle.mc_model.specs.DeckGrammar.{DeckLine}
+use Rattle.mc_model.specs.Laws.{bytes_of}
+use Rattle.mc_model.specs.Play.{WornAt, Live, Running, Unpowered, Muted, Base, OnCard, AtFault, State, Cold, Hot, command, is_done, first_worn, plays, start, step}
+use Rattle.mc_family.specs.Begins.{BehindDone, OnPassed, OnRouted, OnSent, OnTaken, OnLine, OnEachRun}
+use Rattle.mc_family.proofs.EachRun.{each_run}
+use Rattle.mc_check.specs.Checked.{RunsCode, IsCalm, OnFollows, RunsCalmly}
+use Rattle.mc_check.specs.Plays.{TellsCalmly, CheckedPlaysLaw}
+use Rattle.mc_check.specs.Turns.{turns_on, turns_from, turns_passed, turns_routed, turns_behind, turns_sent, turns_taken, turns_in}
+use Rattle.mc_check.proofs.TurnsTold.{line_tells}
+
+module _ (code : List ℕ) (session deepest : ℕ) where
+  -- what is said of a turn with its chain
+  abbrev Calm : Chain × Turn → Type 0
+  Calm p = RunsCode code session p.0 → IsCalm session deepest p.1
+
+  abbrev Runs : ℕ → Chain → Type 0
+  Runs = RunsCalmly code session deepest
+
+  -- ---- runs
+
+  on_calm : (f : Follows) (holds : Chain → Type 0) (rest : Chain → List (Chain × Turn)) → OnFollows f holds → ((c : Chain) → holds c → AllByRecursion Calm (rest c)) → AllByRecursion Calm (turns_on f rest)
+  on_calm (Ends o) holds rest h more = tt
+  on_calm (Continues c) holds rest h more = more c h
+
+  run_calm : (n : ℕ) (ch : Chain) → Runs n ch → AllByRecursion Calm (turns_from n ch)
+  unfolding turns_from RunsCalmly
+  run_calm zero ch h = (h, tt)
+  run_calm (suc n) ch h = (h.0, on_calm (acted ch).follows (λ c. Runs n c) (λ c. turns_from n c) h.1 (λ c k. run_calm n c k))
+
+  -- ---- commands
+
+  passed_calm : (m : List (List ℕ × App)) (budget : ℕ) (o : Option Selected) (a : ApduParts) → OnPassed Runs m budget o a → AllByRecursion Calm (turns_passed m budget o a)
+  passed_calm m budget None a h = tt
+  passed_calm m budget (Some s) a h = run_calm budget _ h
+
+  routed_calm : (m : List (List ℕ × App)) (seat : Seat) (budget : ℕ) (r : Route) → OnRouted Runs m seat budget r → AllByRecursion Calm (turns_routed m seat budget r)
+  routed_calm m seat budget (ToApplication a) h = passed_calm m budget seat.selected a h
+  routed_calm m seat budget WrongLength h = tt
+  routed_calm m seat budget WrongClass h = tt
+  routed_calm m seat budget (ToSelect a) h = tt
+  routed_calm m seat budget (ToManager a) h = tt
+
+  behind_calm : (d : Bool) (later : Type 0) (ts : List (Chain × Turn)) → (later → AllByRecursion Calm ts) → BehindDone d later → AllByRecursion Calm (turns_behind d ts)
+  behind_calm true later ts more h = more h
+  behind_calm false later ts more h = tt
+
+  sent_calm : (c : Card) (seat : Seat) (budget : ℕ) (bs : List (List ℕ)) → OnSent Runs c seat budget bs → AllByRecursion Calm (turns_sent c seat budget bs)
+  sent_calm c seat budget [] h = tt
+  sent_calm c seat budget (b ∷ bs) h =
+      let r = command c seat b budget in
+      let d = card_done c r.items in
+      let rest = turns_sent d r.seat budget bs in
+      all-append Calm (turns_routed c.apps seat budget (route b)) (turns_behind (is_done r.outcome) rest) (routed_calm c.apps seat budget (route b) h.0)
+      (behind_calm (is_done r.outcome) (OnSent Runs d r.seat budget bs) rest (λ k. sent_calm d r.seat budget bs k) h.1)
+
+  -- ---- lines
+
+  taken_calm : (v : Live) (b : Base) (budget : ℕ) (bs : List (List ℕ)) → OnTaken Runs v b budget bs → AllByRecursion Calm (turns_taken v b budget bs)
+  taken_calm (Running seat) (OnCard c) budget bs h = sent_calm c seat budget bs h
+  taken_calm (Running seat) (AtFault cause p) budget bs h = tt
+  taken_calm Unpowered b budget bs h = tt
+  taken_calm Muted b budget bs h = tt
+
+  line_calm : (s : State) (bs : List (List ℕ)) → OnLine Runs s bs → AllByRecursion Calm (turns_in s bs)
+  line_calm (Cold m b a) bs h = tt
+  line_calm (Hot s) bs h = taken_calm s.live s.base s.budget bs h
+
+  plays_calm : (s : State) (ls : List (ℕ × DeckLine)) (ws : List (Option WornAt)) → OnEachRun Runs (plays s ls ws) → AllByRecursion (TellsCalmly code session deepest) (plays s ls ws)
+  unfolding plays
+  plays_calm s [] ws h = tt
+  plays_calm s (l ∷ ls) ws h =
+      let t = step s l (first_worn ws) in
+      (record { told = line_tells s l (first_worn ws); calm = line_calm t.before (bytes_of t.line) h.0 }, plays_calm t.after ls (drop 1 ws) h.1)
+
+pub checked_plays_law : CheckedPlaysLaw
+checked_plays_law ls m ws code session deepest keeps = plays_calm code session deepest (start m) ls ws (each_run (RunsCalmly code session deepest) keeps ls m ws)

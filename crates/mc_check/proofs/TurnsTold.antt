@@ -1,0 +1,139 @@
+-- The turns that a line tells are those of its runs.
+use Rattle.std.proofs.Common.{◌≡◌, ℕ, zero, suc, Bool, true, false, List, [], ◌∷◌, ◌++◌, Option, Some, None, refl, sym, ap, subst, ◌∙◌}
+use Rattle.std.proofs.lemmas.List.{map-append, append-nil}
+use Rattle.mc_model.specs.Apdu.{ApduParts}
+use Rattle.mc_model.specs.Card.{Card}
+use Rattle.mc_model.specs.Chain.{Chain, Turn, Acted, Ran, Follows, Continues, Ends, acted, chain_session, ran, ran_on}
+use Rattle.mc_model.specs.Chain.{start as begun}
+use Rattle.mc_model.specs.Items.{card_done}
+use Rattle.mc_model.specs.Manager.{Selected, Seat, Route, WrongLength, WrongClass, ToSelect, ToManager, ToApplication, Managed, Declines, Accepts, select, manage, room_on, route}
+use Rattle.mc_model.specs.DeckGrammar.{DeckLine}
+use Rattle.mc_model.specs.DeckGrammar as line
+use Rattle.mc_model.specs.Laws.{bytes_of}
+use Rattle.mc_model.specs.Play.{WornAt, Live, Running, Unpowered, Muted, Base, OnCard, AtFault, Warm, State, Cold, Hot, Step, Command, Armed, command, managed, passed, by_route, is_done, send, sent_on, line_command, card_line, hot_step, cold_step, step, select_bytes, delete_bytes}
+use Rattle.mc_check.specs.Turns.{turns_on, turns_from, turns_passed, turns_routed, turns_behind, turns_sent, turns_taken, turns_in, turns_with, bare}
+
+-- ---- runs
+
+bare_append : (xs ys : List (Chain × Turn)) → bare (xs ++ ys) ≡ bare xs ++ bare ys
+bare_append xs ys = map-append (λ (t : Chain × Turn). t.1) xs ys
+
+on_told : (ch : Chain) (t : Acted) (session : List ℕ) (f : Follows) (rest : Chain → List (Chain × Turn)) (run : Chain → Ran) → ((c : Chain) → bare (rest c) ≡ (run c).turns) → bare ((ch, t.turn) ∷ turns_on f rest) ≡ (ran_on t session f run).turns
+on_told ch t session (Ends o) rest run h = refl
+on_told ch t session (Continues c) rest run h = ap (λ (ts : List Turn). t.turn ∷ ts) (h c)
+
+run_told : (n : ℕ) (ch : Chain) → bare (turns_from n ch) ≡ (ran n ch).turns
+unfolding turns_from ran
+run_told zero ch = refl
+run_told (suc n) ch = on_told ch (acted ch) (chain_session ch) (acted ch).follows (λ c. turns_from n c) (λ c. ran n c) (λ c. run_told n c)
+
+-- ---- commands
+
+passed_told : (c : Card) (seat : Seat) (budget : ℕ) (o : Option Selected) (a : ApduParts) → bare (turns_passed c.apps budget o a) ≡ (passed c seat o a budget).turns
+passed_told c seat budget None a = refl
+passed_told c seat budget (Some s) a = run_told budget (begun c.apps s.name s.session a)
+
+managed_told : (c : Card) (seat : Seat) (m : Managed) → [] ≡ (managed c seat m).turns
+managed_told c seat (Declines sw) = refl
+managed_told c seat (Accepts a) = refl
+
+routed_told : (c : Card) (seat : Seat) (budget : ℕ) (r : Route) → bare (turns_routed c.apps seat budget r) ≡ (by_route c seat budget r).turns
+routed_told c seat budget WrongLength = refl
+routed_told c seat budget WrongClass = refl
+routed_told c seat budget (ToSelect a) = managed_told c seat (select c.apps seat a)
+routed_told c seat budget (ToManager a) = managed_told c seat (manage (room_on c) c.apps seat a)
+routed_told c seat budget (ToApplication a) = passed_told c seat budget seat.selected a
+
+command_told : (c : Card) (seat : Seat) (budget : ℕ) (b : List ℕ) → bare (turns_routed c.apps seat budget (route b)) ≡ (command c seat b budget).turns
+unfolding command
+command_told c seat budget b = routed_told c seat budget (route b)
+
+-- a command, and those behind it
+both_told : (d : Bool) (r rest : Command) (xs ys : List (Chain × Turn)) → bare xs ≡ r.turns → bare ys ≡ rest.turns → bare (xs ++ turns_behind d ys) ≡ (sent_on d r rest).turns
+both_told true r rest xs ys h k = bare_append xs ys ∙ ap (λ (ts : List Turn). ts ++ bare ys) h ∙ ap (λ (ts : List Turn). r.turns ++ ts) k
+both_told false r rest xs ys h k = ap bare (append-nil xs) ∙ h
+
+sent_told : (c : Card) (seat : Seat) (budget : ℕ) (bs : List (List ℕ)) → bare (turns_sent c seat budget bs) ≡ (send c seat budget bs).turns
+unfolding send
+sent_told c seat budget [] = refl
+sent_told c seat budget (b ∷ bs) =
+    let r = command c seat b budget in
+    let d = card_done c r.items in
+    both_told (is_done r.outcome) r (send d r.seat budget bs) (turns_routed c.apps seat budget (route b)) (turns_sent d r.seat budget bs) (command_told c seat budget b) (sent_told d r.seat budget bs)
+
+-- a command with nothing behind it
+last_told : (d : Bool) (xs : List (Chain × Turn)) → bare (xs ++ turns_behind d []) ≡ bare xs
+last_told true xs = ap bare (append-nil xs)
+last_told false xs = ap bare (append-nil xs)
+
+one_told : (c : Card) (seat : Seat) (budget : ℕ) (b : List ℕ) → bare (turns_sent c seat budget (b ∷ [])) ≡ (command c seat b budget).turns
+one_told c seat budget b = last_told (is_done (command c seat b budget).outcome) (turns_routed c.apps seat budget (route b)) ∙ command_told c seat budget b
+
+-- ---- lines
+
+line_told : (c : Card) (seat : Seat) (budget : ℕ) (l : DeckLine) → bare (turns_sent c seat budget (bytes_of l)) ≡ (line_command c seat budget l).turns
+line_told c seat budget (line.Select n) = one_told c seat budget (select_bytes n)
+line_told c seat budget (line.Delete n) = one_told c seat budget (delete_bytes n)
+line_told c seat budget (line.Apdu b) = one_told c seat budget b
+line_told c seat budget (line.Load u fixed session) = sent_told c seat budget (bytes_of (line.Load u fixed session))
+line_told c seat budget _ = refl
+
+-- a line tells the turns of its runs, and has the state and the line that it was played in and by
+record Tells (s : State) (l : DeckLine) (t : Step) : Type 0 where
+  before : t.before ≡ s
+  line : t.line ≡ l
+  turns : bare (turns_in s (bytes_of l)) ≡ t.turns
+
+none_taken : (v : Live) (b : Base) (budget : ℕ) → bare (turns_taken v b budget []) ≡ []
+none_taken (Running seat) (OnCard c) budget = refl
+none_taken (Running seat) (AtFault cause p) budget = refl
+none_taken Unpowered b budget = refl
+none_taken Muted b budget = refl
+
+-- the same of a line that is played by what runs
+record TellsOn (n : ℕ) (l : DeckLine) (s : Warm) (v : Live) (b : Base) (w : Option WornAt) : Type 0 where
+  before : (card_line n l s v b w).before ≡ Hot s
+  line : (card_line n l s v b w).line ≡ l
+  turns : bare (turns_taken v b s.budget (bytes_of l)) ≡ (card_line n l s v b w).turns
+
+card_told : (n : ℕ) (l : DeckLine) (s : Warm) (v : Live) (b : Base) (w : Option WornAt) → TellsOn n l s v b w
+card_told n l s (Running seat) (OnCard c) w = record { before = refl; line = refl; turns = line_told c seat s.budget l }
+card_told n l s (Running seat) (AtFault cause p) w = record { before = refl; line = refl; turns = refl }
+card_told n l s Unpowered b w = record { before = refl; line = refl; turns = refl }
+card_told n l s Muted b w = record { before = refl; line = refl; turns = refl }
+
+on_card : (n : ℕ) (l : DeckLine) (s : Warm) (w : Option WornAt) → Tells (Hot s) l (card_line n l s s.live s.base w)
+on_card n l s w = let told = card_told n l s s.live s.base w in record { before = told.before; line = told.line; turns = told.turns }
+
+hot_told : (n : ℕ) (l : DeckLine) (s : Warm) (w : Option WornAt) → Tells (Hot s) l (hot_step n l s w)
+hot_told n (line.Load u fixed session) s w = on_card n (line.Load u fixed session) s w
+hot_told n (line.Select a) s w = on_card n (line.Select a) s w
+hot_told n (line.Delete a) s w = on_card n (line.Delete a) s w
+hot_told n (line.Apdu b) s w = on_card n (line.Apdu b) s w
+hot_told n _ s w = record { before = refl; line = refl; turns = none_taken s.live s.base s.budget }
+
+cold_told : (n : ℕ) (l : DeckLine) (m : List (List ℕ)) (b : ℕ) (a : Armed) (w : Option WornAt) → Tells (Cold m b a) l (cold_step n l m b a w)
+cold_told n line.Format m b a w = record { before = refl; line = refl; turns = refl }
+cold_told n (line.Poke at x) m b a w = record { before = refl; line = refl; turns = refl }
+cold_told n line.Named m b a w = record { before = refl; line = refl; turns = refl }
+cold_told n (line.Budget c) m b a w = record { before = refl; line = refl; turns = refl }
+cold_told n (line.Cut k x) m b a w = record { before = refl; line = refl; turns = refl }
+cold_told n (line.Fail k) m b a w = record { before = refl; line = refl; turns = refl }
+cold_told n (line.Dump x) m b a w = record { before = refl; line = refl; turns = refl }
+cold_told n line.Power m b a w = record { before = refl; line = refl; turns = refl }
+cold_told n (line.Load u fixed session) m b a w = record { before = refl; line = refl; turns = refl }
+cold_told n (line.Select x) m b a w = record { before = refl; line = refl; turns = refl }
+cold_told n (line.Delete x) m b a w = record { before = refl; line = refl; turns = refl }
+cold_told n (line.Apdu x) m b a w = record { before = refl; line = refl; turns = refl }
+
+step_told : (s : State) (l : ℕ × DeckLine) (w : Option WornAt) → Tells s l.1 (step s l w)
+unfolding step
+step_told (Cold m b a) l w = cold_told l.0 l.1 m b a w
+step_told (Hot s) l w = hot_told l.0 l.1 s w
+
+-- the turns of a line are those of the runs that begin in the state before it
+pub line_tells : (s : State) (l : ℕ × DeckLine) (w : Option WornAt) → bare (turns_with (step s l w)) ≡ (step s l w).turns
+line_tells s l w =
+    let t = step s l w in
+    let told = step_told s l w in
+    subst (λ (z : State). bare (turns_in z (bytes_of t.line)) ≡ t.turns) (sym told.before) (subst (λ (k : DeckLine). bare (turns_in s (bytes_of k)) ≡ t.turns) (sym told.line) told.turns)
