@@ -3,8 +3,8 @@ use Rattle.std.proofs.Common.{◌≡◌, ◌+◌, ◌<◌, length, refl, sym, �
 use Rattle.std.specs.Prelude.{◌&&◌, codes, bytes_eq}
 use Rattle.mc_model.specs.Text.{fields, first_cut, cut_or_joined, cut_or_kept, is_blank, is_empty, lines, numbered, pieces, trim_front}
 use Rattle.mc_model.specs.DeckGrammar.{is_end}
-use Rattle.mc_asm.specs.Texts.{next_line}
-use Rattle.mc_asm.proofs.TextLemmas.{pieces_at, pieces_cut}
+use Rattle.mc_text.specs.Reading.{next_line}
+use Rattle.mc_text.proofs.ReadingLemmas.{pieces_at, pieces_cut}
 use Rattle.mc_asm.proofs.PassLemmas.{numbered_some, numbered_none}
 use Rattle.mc_lab.specs.Rising.{Rising}
 use Rattle.mc_lab.proofs.RisingLemmas.{rising-lower}

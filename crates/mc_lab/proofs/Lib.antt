@@ -12,3 +12,8 @@ pub mod SweepTold
 pub mod SweepLawLemmas
 pub mod SweepHits
 pub mod SweepTexts
+mod SweepAccounts
+mod SweepNames
+mod SweepLoops
+mod SweepPlayers
+mod SweepDecks

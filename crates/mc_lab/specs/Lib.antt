@@ -14,4 +14,7 @@ pub mod Judged
 pub mod Computed
 pub mod Sweeps
 pub mod SweepLaws
+pub mod SweepBodies
+pub mod SweepPlayers
+pub mod SweepEnds
 pub mod SweptRows

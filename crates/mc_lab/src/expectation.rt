@@ -5,9 +5,10 @@ ghost use Rattle.mc_model.specs.DeckGrammar.{is_end};
 ghost use Rattle.mc_asm.specs.Passes.{numbered_lines};
 ghost use Rattle.mc_lab.specs.Expectations.{begins_with, behind_field, expectation_at, first_field, expectations, stays_inside};
 
-use crate::field::{first_field, trim};
-use mc_asm::{NumberedLine, next_line};
+use crate::field::first_field;
+use mc_asm::NumberedLine;
 use mc_base::NoMemory;
+use mc_text::{next_line, trim};
 use std::alloc::Global;
 
 // Whether the first field of a line is this word.
@@ -69,7 +70,9 @@ fn push_expectation<'a>(
     number: u32,
     line: &'a [u8],
 ) -> Result<(), NoMemory>
-    ensures { OnOk result (numbered_lines expectations.new.items ≡ numbered_lines expectations.old.items ++ expectation_at (not inside && begins_with (codes "#>") (fields line.now)) (number, line.now)) }
+    ensures { OnOk result (numbered_lines expectations.new.items
+        ≡ numbered_lines expectations.old.items
+        ++ expectation_at (not inside && begins_with (codes "#>") (fields line.now)) (number, line.now)) }
 {
     if !is_expectation(inside, line) {
         return Ok(());

@@ -27,7 +27,8 @@ pub fn some_fail()
 
 /// A comment without a blank behind `#>` is none, nor is `##>`.
 pub fn comments()
-    ensures { expected (codes "format\n#>formatted\n##> formatted\n# > formatted\n") ≡ Ok (codes "expected 0 failed 0\n") }
+    ensures { expected (codes "format\n#>formatted\n##> formatted\n# > formatted\n")
+        ≡ Ok (codes "expected 0 failed 0\n") }
 {}
 
 /// A cut line, a mute card, and lines that a result is wanted of.
@@ -52,5 +53,6 @@ pub fn refused()
 
 /// Within a section a line that begins with `#` is assembly, and refused.
 pub fn sections()
-    ensures outside { expected (codes "format\napp a A000000001\nEXIT\nend\npower\n#> ready 0\nload a 0 0\n#> 9000\n") ≡ Ok (codes "expected 2 failed 0\n") }
+    ensures outside { expected (codes "format\napp a A000000001\nEXIT\nend\npower\n#> ready 0\nload a 0 0\n#> 9000\n")
+        ≡ Ok (codes "expected 2 failed 0\n") }
 {}

@@ -17,7 +17,8 @@ fn put_failed<T: Sink>(
     expectation: &NumberedLine<'_>,
     text: &[u8],
 ) -> Result<(), WriteFault>
-    ensures { Puts (sunk_in T.taken T.faults out.old) (failed_line (expectation_of expectation.now) text.now) result (sunk_in T.taken T.faults out.new) }
+    ensures { Puts (sunk_in T.taken T.faults out.old) (failed_line (expectation_of expectation.now) text.now) result
+        (sunk_in T.taken T.faults out.new) }
 {
     put_number(out, b"line ", expectation.number)?;
     put(out, b" expected ")?;
@@ -34,7 +35,9 @@ pub fn judge<T: Sink>(
     text: &[u8],
 ) -> Result<bool, WriteFault>
     ensures value { IfOk result (λ b. b ≡ holds expectation.now.text.now text.now) }
-    ensures told { Puts (sunk_in T.taken T.faults out.old) (told_of (holds expectation.now.text.now text.now) (expectation_of expectation.now) text.now) (done_of result) (sunk_in T.taken T.faults out.new) }
+    ensures told { Puts (sunk_in T.taken T.faults out.old)
+        (told_of (holds expectation.now.text.now text.now) (expectation_of expectation.now) text.now) (done_of result)
+        (sunk_in T.taken T.faults out.new) }
 {
     if holds(expectation.text, text) {
         return Ok(true);
@@ -53,7 +56,8 @@ fn put_count<T: Sink>(out: &mut T, count: usize) -> Result<(), WriteFault>
 
 /// Writes how many expectations there were, and how many failed.
 pub fn put_counts<T: Sink>(out: &mut T, expected: usize, failed: usize) -> Result<(), WriteFault>
-    ensures { Puts (sunk_in T.taken T.faults out.old) (count_text expected failed) result (sunk_in T.taken T.faults out.new) }
+    ensures { Puts (sunk_in T.taken T.faults out.old) (count_text expected failed) result
+        (sunk_in T.taken T.faults out.new) }
 {
     put(out, b"expected ")?;
     put_count(out, expected)?;

@@ -1,6 +1,7 @@
 #![tactic(auto)]
 
-// The laboratory: expectations that stand in a deck's comments, compared with its play; and sweeps of a deck, with their laws.
+//! The laboratory: expectations that stand in a deck's comments, compared with its play; and sweeps of a deck, with their laws.
+
 mod expectation;
 mod expectation_rows;
 mod expecting;
@@ -9,10 +10,16 @@ mod judging;
 mod matching;
 mod rows;
 mod stage;
+mod sweep_account;
 mod sweep_laws;
+mod sweep_line;
+mod sweep_names;
+mod sweep_play;
 mod sweep_rows;
 mod sweep_text;
+mod sweep_trial;
 mod sweep_word;
+mod sweeping;
 mod trial;
 
 pub use expecting::expect;
@@ -23,4 +30,5 @@ pub use sweep_laws::{
 };
 pub use sweep_text::{Sums, put_sums, put_swept};
 pub use sweep_word::Word;
+pub use sweeping::{SweepFault, sweep};
 pub use trial::{Trial, TrialRefusal, read_trial};

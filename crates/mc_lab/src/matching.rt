@@ -3,7 +3,7 @@ ghost use Rattle.std.specs.Prelude.{◌≡◌, ◌<◌, ◌||◌, ◌==◌, ◌�
 ghost use Rattle.mc_lab.specs.Patterns.{holds, is_any, matches, some_rest, without_blanks};
 ghost use Rattle.mc_lab.specs.Walks.{WalkEnds, WalkIs};
 
-use crate::field::is_blank;
+use mc_text::is_blank;
 
 /// Where a walk of a pattern along a text ends.
 pub enum Walk<'a> {
@@ -17,7 +17,8 @@ pub enum Walk<'a> {
 
 // The first character of a text that is no blank, and what stands behind it.
 fn first_of(text: &[u8]) -> Option<(u8, &[u8])>
-    ensures parts { MatchOption result (without_blanks text.now ≡ []) (λ p. without_blanks text.now ≡ p.0 ∷ without_blanks p.1.now) }
+    ensures parts { MatchOption result (without_blanks text.now ≡ [])
+        (λ p. without_blanks text.now ≡ p.0 ∷ without_blanks p.1.now) }
     ensures shorter { IfSome result (λ p. length p.1.now < length text.now) }
 {
     let mut rest = text;

@@ -35,7 +35,8 @@ pub fn play_lines<N: Bench, L: Ledger>(
     requires playing { IsPlaying N.state N.bench player.old }
     requires order { from ≤ to }
     requires most { to ≤ length deck.now }
-    ensures staged { (whole : List Step) → Staged N.state N.bench whole deck.now player.old from text.old.items → Staged N.state N.bench whole deck.now player.new to text.new.items }
+    ensures staged { (whole : List Step) → Staged N.state N.bench whole deck.now player.old from text.old.items
+        → Staged N.state N.bench whole deck.now player.new to text.new.items }
     ensures playing { IsPlaying N.state N.bench player.new }
 {
     for at in from..to {

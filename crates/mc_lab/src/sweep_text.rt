@@ -27,7 +27,8 @@ fn put_sum<T: Sink>(out: &mut T, number: u128) -> Result<(), WriteFault>
 
 // Writes a run of writes of one word, by the first and the last of them.
 fn put_run<T: Sink>(out: &mut T, word: Word, first: u32, last: u32) -> Result<(), WriteFault>
-    ensures { Puts (sunk_in T.taken T.faults out.old) (run_text (record { first = first; last = last; word = word })) result (sunk_in T.taken T.faults out.new) }
+    ensures { Puts (sunk_in T.taken T.faults out.old)
+        (run_text (record { first = first; last = last; word = word })) result (sunk_in T.taken T.faults out.new) }
 {
     put(out, b" ")?;
     put(out, word.text().as_bytes())?;
@@ -49,7 +50,9 @@ fn run_len(words: &[Word]) -> usize
     requires { 0 < length words.now }
     ensures low { 1 ≤ result }
     ensures high { result ≤ length words.now }
-    ensures run { (k : ℕ) → runs k words.now ≡ record { first = k; last = k + result - 1; word = get_or words.now 0 Before } ∷ runs (k + result) (drop result words.now) }
+    ensures run { (k : ℕ) → runs k words.now
+        ≡ record { first = k; last = k + result - 1; word = get_or words.now 0 Before }
+        ∷ runs (k + result) (drop result words.now) }
 {
     let mut len = 1;
     while len < words.len() {
@@ -64,7 +67,8 @@ fn run_len(words: &[Word]) -> usize
 // Writes the longest runs of the words of a line's writes.
 fn put_runs<T: Sink>(out: &mut T, words: &[Word]) -> Result<(), WriteFault>
     requires { length words.now ≤ 4294967295 }
-    ensures { Puts (sunk_in T.taken T.faults out.old) (runs_text (runs 1 words.now)) result (sunk_in T.taken T.faults out.new) }
+    ensures { Puts (sunk_in T.taken T.faults out.old) (runs_text (runs 1 words.now)) result
+        (sunk_in T.taken T.faults out.new) }
 {
     let mut at = 0;
     while at < words.len() {
@@ -78,7 +82,9 @@ fn put_runs<T: Sink>(out: &mut T, words: &[Word]) -> Result<(), WriteFault>
 /// Writes a swept line, by its number and the words of its writes.
 pub fn put_swept<T: Sink>(out: &mut T, number: u32, words: &[Word]) -> Result<(), WriteFault>
     requires { length words.now ≤ 4294967295 }
-    ensures { Puts (sunk_in T.taken T.faults out.old) (codes "line " ++ decimal number ++ codes " writes " ++ decimal (length words.now) ++ codes ":" ++ runs_text (runs 1 words.now) ++ codes "\n") result (sunk_in T.taken T.faults out.new) }
+    ensures { Puts (sunk_in T.taken T.faults out.old) (codes "line " ++ decimal number ++ codes " writes "
+        ++ decimal (length words.now) ++ codes ":" ++ runs_text (runs 1 words.now)
+        ++ codes "\n") result (sunk_in T.taken T.faults out.new) }
 {
     put(out, b"line ")?;
     put_decimal(out, number)?;
@@ -91,7 +97,8 @@ pub fn put_swept<T: Sink>(out: &mut T, number: u32, words: &[Word]) -> Result<()
 
 /// Writes the sums of a sweep.
 pub fn put_sums<T: Sink>(out: &mut T, sums: &Sums) -> Result<(), WriteFault>
-    ensures { Puts (sunk_in T.taken T.faults out.old) (sums_text sums.now.lines sums.now.writes sums.now.plays) result (sunk_in T.taken T.faults out.new) }
+    ensures { Puts (sunk_in T.taken T.faults out.old) (sums_text sums.now.lines sums.now.writes sums.now.plays) result
+        (sunk_in T.taken T.faults out.new) }
 {
     put(out, b"swept ")?;
     put_sum(out, sums.lines)?;

@@ -1,0 +1,12 @@
+use Rattle.std.proofs.Common.{length}
+use Rattle.mc_lab.specs.SweepBodies.{HasRoom}
+use Rattle.mc_lab.specs.SweepEnds.{AtMost}
+use Rattle.mc_lab.proofs.sweeping.most_writes.Given as goal
+
+-- the most of the lines so far
+abbrev pub invariant-loop-at : goal.invariant-loop-at
+invariant-loop-at g l =
+    record {
+      most : AtMost l.deck l.at l.most;
+      room : HasRoom l.bench.ends l.bench.pair (length l.names);
+    }

@@ -1,0 +1,138 @@
+-- What the code of sweeps holds, and what its plays are.
+use Rattle.std.specs.Prelude.{◌≡◌, ℕ, ◌≤◌, ◌<◌, Bool, true, false, List, [], ◌∷◌, ◌++◌, length, take, get_or, map, option_map, Option, Some, None, bytes_eq}
+use Rattle.arrayvec.specs.ArrayVec.{ArrayVec}
+use Rattle.mc_blocks.specs.declared.image.Unusable.{Unusable}
+use Rattle.mc_model.specs.Image.{opening, Two}
+use Rattle.mc_model.specs.Play.{State, armed_in, is_card_line}
+use Rattle.mc_model.specs.DeckGrammar.{DeckLine}
+use Rattle.mc_model.specs.DeckGrammar as line
+use Rattle.mc_lab.specs.declared.sweep_word.Word.{Word}
+use Rattle.mc_lab.specs.Sweeps.{word_if, word_by, recovered, told, Tried, tried, stepped, played, cut, power, under_cut, under_cuts, writes_behind, is_unarmed, Told, Holds, NoCard}
+use Rattle.mc_lab.specs.SweepLaws.{is_off}
+use Rattle.mc_lab.specs.declared.sweep_account.Account.{Account}
+use Rattle.mc_lab.specs.declared.sweep_trial.Behind.{Behind}
+use Rattle.mc_lab.specs.declared.sweep_trial.Behind.TheVariants as behind
+use Rattle.mc_lab.specs.declared.sweep_trial.Place.{Place}
+use Rattle.mc_lab.specs.declared.sweep_line.Ends.{Ends}
+use Rattle.mc_lab.specs.declared.sweep_line.Pair.{Pair}
+
+-- ---- accounts
+
+-- what is held under a name
+abbrev pub held_value : Option (ArrayVec ℕ) → Option (List ℕ)
+held_value h = option_map (λ b. b.items) h
+
+-- what is told, by the fault and by what is held
+abbrev pub told_with : Option Unusable → List (Option (List ℕ)) → Told
+told_with None h = Holds h
+told_with (Some u) h = NoCard u.cause u.place
+
+-- what an account tells
+abbrev pub account_value : Account → Told
+account_value a = told_with a.fault (map held_value a.held.items)
+
+-- ---- plays
+
+-- the state after a line
+abbrev pub next : State → ℕ × DeckLine → State
+next s l = (stepped s l).after
+
+-- the lines that are played of a line, and of a cut in it
+abbrev pub lines_behind : List (ℕ × DeckLine) → ℕ × DeckLine → Behind → List (ℕ × DeckLine)
+lines_behind front l behind.Nothing = front
+lines_behind front l behind.Whole = front ++ l ∷ []
+lines_behind front l (behind.Cut k fill) = under_cut front l k fill
+lines_behind front l (behind.Twice k fill again) = under_cuts front l k fill again
+
+-- whether the last cut hit its line
+abbrev pub hits : List (ℕ × DeckLine) → ℕ × DeckLine → Behind → Bool
+hits front l behind.Nothing = true
+hits front l behind.Whole = true
+hits front l (behind.Cut k fill) = is_off (stepped (next (played front) (cut l.0 k fill)) l).result
+hits front l (behind.Twice k fill again) = is_off (stepped (next (played (under_cut front l k fill)) (cut l.0 again fill)) (power l.0)).result
+
+-- the numbers of writes are counted from 1
+abbrev pub CanCut : Behind → Type 0
+CanCut behind.Nothing = Unit {0}
+CanCut behind.Whole = Unit {0}
+CanCut (behind.Cut k fill) = 1 ≤ k
+CanCut (behind.Twice k fill again) = (1 ≤ k) × (1 ≤ again)
+
+-- ---- places
+
+-- the line at a place of a deck
+abbrev pub line_at : List (ℕ × DeckLine) → ℕ → ℕ × DeckLine
+line_at ls i = get_or ls i (0, line.Named)
+
+-- the lines before the line of a place, the line, and the names that are told
+abbrev pub front_of : Place → List (ℕ × DeckLine)
+front_of p = take p.at p.deck.now
+
+-- the line of a place
+abbrev pub line_in : Place → ℕ × DeckLine
+line_in p = line_at p.deck.now p.at
+
+-- the names that are told of a place
+abbrev pub names_in : Place → List (List ℕ)
+names_in p = p.names.now
+
+-- the line is one of the deck's
+abbrev pub IsPlace : Place → Type 0
+IsPlace p = p.at < length p.deck.now
+
+-- what is told of a play of a place
+abbrev pub told_in : Place → Behind → Told
+told_in p b = told (names_in p) (lines_behind (front_of p) (line_in p) b)
+
+-- whether the last cut of a play of a place hit its line
+abbrev pub hit_in : Place → Behind → Bool
+hit_in p b = hits (front_of p) (line_in p) b
+
+-- the number of device writes of the line
+abbrev pub writes_in : Place → ℕ
+writes_in p = writes_behind (front_of p) (line_in p)
+
+-- the number of device writes of the recovery behind a cut in it
+abbrev pub again_in : Place → ℕ → List ℕ → ℕ
+again_in p k fill = writes_behind (under_cut (front_of p) (line_in p) k fill) (power (line_in p).0)
+
+-- the recovery behind a cut makes a number of device writes that has two bytes
+abbrev pub IsFewBehind : Place → Behind → Type 0
+IsFewBehind p behind.Nothing = Unit {0}
+IsFewBehind p behind.Whole = Unit {0}
+IsFewBehind p (behind.Cut k fill) = again_in p k fill ≤ 65535
+IsFewBehind p (behind.Twice k fill again) = Unit {0}
+
+-- the states where the recovery behind a cut is cut too
+abbrev pub recovered_in : Place → ℕ → List ℕ → List Told
+recovered_in p k fill = recovered (names_in p) (front_of p) (line_in p) k fill
+
+-- one write of the line
+abbrev pub tried_in : Place → ℕ → Tried
+tried_in p k = tried (names_in p) (front_of p) (line_in p) (told_in p behind.Nothing) (told_in p behind.Whole) k
+
+-- an account has room for the names
+abbrev pub Fits : Account → Place → Type 0
+Fits a p = length a.held.items ≡ length p.names.now
+
+-- each account has room for so many names
+pub record HasRoom (e : Ends) (p : Pair) (n : ℕ) : Type 0 where
+  pub before : length e.before.held.items ≡ n
+  pub after : length e.after.held.items ≡ n
+  pub first : length p.first.held.items ≡ n
+  pub now : length p.now.held.items ≡ n
+
+-- a line to the card for which no stop is armed
+pub record IsOpen (p : Place) : Type 0 where
+  pub card : is_card_line (line_in p).1 ≡ true
+  pub unarmed : is_unarmed (armed_in (played (front_of p))) ≡ true
+
+-- a word that opens no gate
+abbrev pub Shuts : List ℕ → Type 0
+Shuts x = bytes_eq x (opening Two) ≡ false
+
+-- ---- the writes of a line
+
+-- the word of a write by its states, as the code tells it
+abbrev pub word_with : Bool → Bool → Bool → Word
+word_with same before after = word_if same (word_by before after)

@@ -1,0 +1,76 @@
+-- A sweep by its lines, and how the call ends.
+use Rattle.std.specs.Prelude.{◌≡◌, ℕ, ◌+◌, ◌*◌, ◌≤◌, ◌<◌, Bool, true, false, ◌&&◌, List, [], length, take, drop, Result, Ok, Err}
+use Rattle.mc_model.specs.Play.{armed_in, is_card_line}
+use Rattle.mc_model.specs.DeckGrammar.{DeckLine}
+use Rattle.mc_model.specs.DeckGrammar as line
+use Rattle.mc_text.specs.Texts.{Sunk, Writes, Fails}
+use Rattle.mc_lab.specs.Sweeps.{played, is_unarmed, is_swept, swept, swept_if, Swept, sweep_behind, total, writes_behind, names_from}
+use Rattle.mc_lab.specs.declared.sweep_trial.Place.{Place}
+use Rattle.mc_lab.specs.declared.sweep_text.Sums.{Sums}
+use Rattle.mc_lab.specs.declared.sweep_line.Ends.{Ends}
+use Rattle.mc_lab.specs.declared.sweep_line.Pair.{Pair}
+use Rattle.mc_lab.specs.declared.sweeping.SweepFault.{SweepFault}
+use Rattle.mc_lab.specs.declared.sweeping.SweepFault.TheVariants as fault
+use Rattle.mc_lab.specs.SweepBodies.{line_at, front_of, line_in, names_in, HasRoom}
+
+-- ---- lines
+
+-- whether no stop is armed behind a line, by whether none was before it
+abbrev pub free_behind : DeckLine → Bool → Bool
+free_behind (line.Cut k fill) free = false
+free_behind (line.Fail k) free = false
+free_behind line.Power free = true
+free_behind (line.Load u fixed session) free = true
+free_behind (line.Select n) free = true
+free_behind (line.Delete n) free = true
+free_behind (line.Apdu b) free = true
+free_behind l free = free
+
+-- a line to the card behind others, for which no stop is armed
+abbrev pub is_open : List (ℕ × DeckLine) → ℕ × DeckLine → Bool
+is_open front l = is_card_line l.1 && is_unarmed (armed_in (played front))
+
+-- the same of the line at a place of a deck
+abbrev pub is_open_at : List (ℕ × DeckLine) → ℕ → Bool
+is_open_at ls i = is_open (take i ls) (line_at ls i)
+
+-- none of the first so many lines that may be swept makes more device writes
+abbrev pub AtMost : List (ℕ × DeckLine) → ℕ → ℕ → Type 0
+AtMost ls n most = (i : ℕ) → i < n → is_open_at ls i ≡ true → writes_behind (take i ls) (line_at ls i) ≤ most
+
+-- the swept line of a place, if it is one
+abbrev pub swept_in : Place → List Swept
+swept_in p = swept_if (is_swept (front_of p) (line_in p)) (swept (names_in p) (front_of p) (line_in p)) []
+
+-- the swept lines among those from a place of a deck on
+abbrev pub left_from : List (List ℕ) → List (ℕ × DeckLine) → ℕ → List Swept
+left_from names ls i = sweep_behind names (take i ls) (drop i ls)
+
+-- ---- sums
+
+-- sums with those of swept lines
+pub record Adds (a : Sums) (ss : List Swept) (b : Sums) : Type 0 where
+  pub lines : b.lines ≡ a.lines + length ss
+  pub writes : b.writes ≡ a.writes + total (λ s. length s.words) ss
+  pub plays : b.plays ≡ a.plays + total (λ s. s.plays) ss
+
+-- the sums of so many lines
+pub record IsSmall (a : Sums) (n : ℕ) : Type 0 where
+  pub lines : a.lines ≤ n
+  pub writes : a.writes ≤ n * 4294967296
+  pub plays : a.plays ≤ n * 562949953421312
+
+-- ---- ends
+
+-- there is room for a sweep of a deck
+pub record IsRoom (ls : List (ℕ × DeckLine)) (names : List (List ℕ)) (e : Ends) (p : Pair) (words : ℕ) : Type 0 where
+  pub names_are : names ≡ names_from [] ls
+  pub accounts : HasRoom e p (length names)
+  pub most : AtMost ls (length ls) words
+  pub few : words ≤ 4294967295
+
+-- a text was told, by the result; nothing was where there was no room
+abbrev pub Tells : Sunk → List ℕ → Result (Unit {0}) SweepFault → Sunk → Type 0
+Tells a text (Ok u) b = Writes a text b
+Tells a text (Err fault.WriteFault) b = Fails a text b
+Tells a text (Err fault.NoMemory) b = b ≡ a

@@ -1,0 +1,45 @@
+-- What a player stands for in the plays of a sweep.
+use Rattle.std.specs.Prelude.{◌≡◌, ℕ, true, false, Bool, List, option_map, Option, Some, None}
+use Rattle.mc_blocks.specs.declared.image.Unusable.{Unusable}
+use Rattle.mc_model.specs.Device.{DeviceState, BenchState}
+use Rattle.mc_model.specs.Play.{State}
+use Rattle.mc_model.specs.DeckGrammar.{DeckLine}
+use Rattle.mc_script.specs.declared.answer.Answer.{Answer}
+use Rattle.mc_script.specs.declared.answer.Answer.TheVariants as answer
+use Rattle.mc_script.specs.declared.player.Player.{Player}
+use Rattle.mc_script.specs.Players.{answer_value, device_of, IsAt}
+use Rattle.mc_lab.specs.Sweeps.{stepped, played, cut}
+use Rattle.mc_lab.specs.SweepLaws.{is_off}
+use Rattle.mc_lab.specs.declared.sweep_trial.Behind.{Behind}
+use Rattle.mc_lab.specs.SweepBodies.{next, lines_behind, hits}
+
+-- whether a result tells of a cut
+abbrev pub off_in : Option Answer → Bool
+off_in (Some (answer.OffAt k)) = true
+off_in r = false
+
+-- why a power line found no card
+abbrev pub fault_in : Option Answer → Option Unusable
+fault_in (Some (answer.Unusable u)) = Some u
+fault_in r = None
+
+module _ {N : Type 0} (state : N → DeviceState) (bench : N → BenchState) where
+  -- a player stands for a state, and its bench refuses no write by itself
+  pub record IsSteadyAt (p : Player N) (s : State) : Type 0 where
+    pub at : IsAt state bench p s
+    pub steady : (bench (device_of p)).steady ≡ true
+
+  -- a line was played from a state, with its result
+  pub record LineOn (s : State) (l : ℕ × DeckLine) (answer : Option Answer) (q : Player N) : Type 0 where
+    pub at : IsSteadyAt q (next s l)
+    pub answers : option_map (answer_value state q) answer ≡ (stepped s l).result
+
+  -- a line was played from a state with one of its writes cut, where it makes so many
+  pub record CutOn (s : State) (l : ℕ × DeckLine) (n k : ℕ) (fill : List ℕ) (hit : Bool) (q : Player N) : Type 0 where
+    pub at : IsSteadyAt q (next (next s (cut n k fill)) l)
+    pub says : hit ≡ is_off (stepped (next s (cut n k fill)) l).result
+
+  -- what stands behind the lines before a line was played
+  pub record BehindOn (front : List (ℕ × DeckLine)) (l : ℕ × DeckLine) (b : Behind) (hit : Bool) (q : Player N) : Type 0 where
+    pub at : IsSteadyAt q (played (lines_behind front l b))
+    pub says : hit ≡ hits front l b

@@ -1,0 +1,245 @@
+// One line of a sweep: each of its writes is cut, and each of the recovery behind it.
+ghost use Rattle.std.specs.Prelude.{◌≡◌, ◌&&◌, ◌+◌, ◌≤◌, ◌<◌, ◌*◌, length, map, take, IfOk, IfSome, MatchOption};
+ghost use Rattle.mc_lab.specs.Sweeps.{all_same, count_from, plays_of};
+ghost use Rattle.mc_lab.specs.SweepBodies.{account_value, again_in, recovered_in, told_in, tried_in, word_with, writes_in, Fits, HasRoom, IsOpen, IsPlace, Shuts};
+ghost use Rattle.mc_lab.specs.declared.sweep_trial.Behind.TheVariants as behind;
+
+use crate::sweep_account::Account;
+use crate::sweep_trial::{Behind, Place, Trials};
+use crate::sweep_word::Word;
+use mc_base::{NoMemory, Steps};
+use std::alloc::Global;
+use std::sync::ledger::Ledger;
+
+/// The words that a cut leaves.
+const ZEROS: [u8; 8] = [0; 8];
+
+const ONES: [u8; 8] = [0xFF; 8];
+
+/// What is told of the lines before a line, and of those up to its end.
+#[derive(Drop)]
+pub struct Ends {
+    before: Account,
+    after: Account,
+}
+
+/// What is told of the first play of a write, and of the last play.
+#[derive(Drop)]
+pub struct Pair {
+    first: Account,
+    now: Account,
+}
+
+/// A laboratory, and room for what it tells.
+#[derive(Drop)]
+pub struct Bench<D: Trials + Drop> {
+    trials: D,
+    ends: Ends,
+    pair: Pair,
+}
+
+/// A write that was cut: its word, and the plays that tell it.
+#[derive(Clone, Copy, Debug)]
+pub struct Tried {
+    pub word: Word,
+    pub plays: u32,
+}
+
+/// A line whose writes were cut: how many they are, and the plays that tell their words.
+#[derive(Clone, Copy, Debug)]
+pub struct Swept {
+    pub writes: usize,
+    pub plays: u64,
+}
+
+// Whether both are so.
+fn both(a: bool, b: bool) -> bool
+    ensures { result ≡ (a && b) }
+{
+    a && b
+}
+
+// The word of a write by whether its states are one, and what they are.
+fn word_of(is_one: bool, is_before: bool, is_after: bool) -> Word
+    ensures { result ≡ word_with is_one is_before is_after }
+{
+    match (is_one, is_before, is_after) {
+        (false, _, _) => Word::Torn,
+        (true, true, false) => Word::Before,
+        (true, false, true) => Word::After,
+        (true, true, true) => Word::Same,
+        (true, false, false) => Word::Between,
+    }
+}
+
+// Cuts each write of the recovery behind a cut: whether it always leaves the first state, and how many they are.
+fn recoveries<D: Trials, L: Ledger>(
+    trials: &mut D,
+    place: &Place<'_>,
+    k: u32,
+    fill: [u8; 8],
+    pair: &mut Pair,
+    steps: &mut Steps<L>,
+) -> (bool, u16)
+    requires at { IsPlace place.now }
+    requires open { IsOpen place.now }
+    requires low { 1 ≤ k }
+    requires high { k ≤ writes_in place.now }
+    requires shuts { Shuts fill }
+    requires few { again_in place.now k fill ≤ 65535 }
+    requires room { Fits pair.old.now place.now }
+    ensures same { result.0 ≡ all_same (account_value pair.old.first) (recovered_in place.now k fill) }
+    ensures count { result.1 ≡ length (recovered_in place.now k fill) }
+    ensures first { pair.new.first ≡ pair.old.first }
+    ensures room { Fits pair.new.now place.now }
+{
+    let mut same = true;
+    for made in 0..u16::MAX {
+        let again = made as u32 + 1;
+        if !trials.tell(
+            place,
+            Behind::Twice { k, fill, again },
+            &mut pair.now,
+            steps,
+        ) {
+            return (same, made);
+        }
+        same = both(pair.now.is_same(&pair.first), same);
+    }
+    (same, u16::MAX)
+}
+
+// Cuts a write of a line with both fills, and the recovery behind it, where the line makes so many writes.
+fn try_write<D: Trials, L: Ledger>(
+    trials: &mut D,
+    place: &Place<'_>,
+    k: u32,
+    ends: &Ends,
+    pair: &mut Pair,
+    steps: &mut Steps<L>,
+) -> Option<Tried>
+    requires at { IsPlace place.now }
+    requires open { IsOpen place.now }
+    requires low { 1 ≤ k }
+    requires before { account_value ends.now.before ≡ told_in place.now behind.Nothing }
+    requires after { account_value ends.now.after ≡ told_in place.now behind.Whole }
+    requires first { Fits pair.old.first place.now }
+    requires now { Fits pair.old.now place.now }
+    ensures tried { MatchOption result (writes_in place.now < k)
+        (λ t. (k ≤ writes_in place.now) × (t.word ≡ (tried_in place.now k).word)
+        × (t.plays ≡ (tried_in place.now k).plays)) }
+    ensures few_plays { IfSome result (λ t. t.plays ≤ 131072) }
+    ensures first { Fits pair.new.first place.now }
+    ensures now { Fits pair.new.now place.now }
+{
+    if !trials.tell(
+        place,
+        Behind::Cut { k, fill: ZEROS },
+        &mut pair.first,
+        steps,
+    ) {
+        return None;
+    }
+    let (zeros_same, zeros) = recoveries(trials, place, k, ZEROS, pair, steps);
+    let _hit = trials.tell(place, Behind::Cut { k, fill: ONES }, &mut pair.now, steps);
+    let ones_first = pair.now.is_same(&pair.first);
+    let (ones_same, ones) = recoveries(trials, place, k, ONES, pair, steps);
+    let is_one = both(zeros_same, both(ones_first, ones_same));
+    Some(Tried {
+        word: word_of(
+            is_one,
+            pair.first.is_same(&ends.before),
+            pair.first.is_same(&ends.after),
+        ),
+        plays: 2 + zeros as u32 + ones as u32,
+    })
+}
+
+impl<D: Trials + Drop> Bench<D> {
+    /// A bench for so many names.
+    pub fn new(alloc: Global, trials: D, names: usize) -> Result<Bench<D>, NoMemory>
+        ensures { IfOk result (λ bench. HasRoom bench.ends bench.pair names) }
+    {
+        Ok(Bench {
+            trials,
+            ends: Ends {
+                before: Account::new(alloc, names)?,
+                after: Account::new(alloc, names)?,
+            },
+            pair: Pair {
+                first: Account::new(alloc, names)?,
+                now: Account::new(alloc, names)?,
+            },
+        })
+    }
+
+    /// How many device writes a line makes, or `None` where they are more than a `cut` can name.
+    pub fn writes<L: Ledger>(&mut self, place: &Place<'_>, steps: &mut Steps<L>) -> Option<u32>
+        requires at { IsPlace place.now }
+        requires open { IsOpen place.now }
+        requires room { HasRoom self.old.ends self.old.pair (length place.now.names.now) }
+        ensures writes { IfSome result (λ n. n ≡ writes_in place.now) }
+        ensures room { HasRoom self.new.ends self.new.pair (length place.now.names.now) }
+    {
+        for made in 0..u32::MAX {
+            let behind = Behind::Cut {
+                k: made + 1,
+                fill: ZEROS,
+            };
+            if !self.trials.tell(place, behind, &mut self.pair.now, steps) {
+                return Some(made);
+            }
+        }
+        None
+    }
+
+    /// Cuts each write of a line, which makes at most as many as there is room for words.
+    pub fn sweep_line<L: Ledger>(
+        &mut self,
+        place: &Place<'_>,
+        words: &mut [Word],
+        steps: &mut Steps<L>,
+    ) -> Swept
+        requires at { IsPlace place.now }
+        requires open { IsOpen place.now }
+        requires room { HasRoom self.old.ends self.old.pair (length place.now.names.now) }
+        requires words { writes_in place.now ≤ length words.old }
+        requires most { length words.old ≤ 4294967295 }
+        ensures writes { result.writes ≡ writes_in place.now }
+        ensures words { take result.writes words.new
+            ≡ map (λ t. t.word) (map (tried_in place.now) (count_from 1 (writes_in place.now))) }
+        ensures plays { result.plays ≡ plays_of (map (tried_in place.now) (count_from 1 (writes_in place.now))) }
+        ensures few_plays { result.plays ≤ 131072 * result.writes }
+        ensures size { length words.new ≡ length words.old }
+        ensures room { HasRoom self.new.ends self.new.pair (length place.now.names.now) }
+    {
+        let _hit = self
+            .trials
+            .tell(place, Behind::Nothing, &mut self.ends.before, steps);
+        let _hit = self
+            .trials
+            .tell(place, Behind::Whole, &mut self.ends.after, steps);
+        let mut plays = 0;
+        for writes in 0..words.len() {
+            let k = writes as u32 + 1;
+            match try_write(
+                &mut self.trials,
+                place,
+                k,
+                &self.ends,
+                &mut self.pair,
+                steps,
+            ) {
+                None => return Swept { writes, plays },
+                Some(tried) => {
+                    words[writes] = tried.word;
+                    plays += tried.plays as u64;
+                }
+            }
+        }
+        Swept {
+            writes: words.len(),
+            plays,
+        }
+    }
+}

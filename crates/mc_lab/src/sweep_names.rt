@@ -1,0 +1,63 @@
+// The names that a deck speaks of.
+ghost use Rattle.std.specs.Prelude.{◌≡◌, [], ◌∷◌, IfOk, MatchOption};
+ghost use Rattle.mc_model.specs.Bytes.{has_name};
+ghost use Rattle.mc_deck.specs.Lines.{line_of};
+ghost use Rattle.mc_lab.specs.Sweeps.{mentioned, names_from, with_names};
+
+use mc_base::{Aid, NoMemory};
+use mc_deck::{Deck, Line};
+use std::alloc::{AllocError, Global};
+
+// The name that a line mentions; a load mentions that of its unit.
+fn mentioned(line: &Line<'_>) -> Option<Aid>
+    ensures { MatchOption result (mentioned (line_of line.now) ≡ [])
+        (λ name. mentioned (line_of line.now) ≡ name ∷ []) }
+{
+    match line {
+        Line::Load { unit, .. } => Some(unit.aid),
+        Line::Select(aid) => Some(*aid),
+        Line::Delete(aid) => Some(*aid),
+        Line::Dump(aid) => Some(*aid),
+        _ => None,
+    }
+}
+
+// Whether a name is among others.
+fn is_among(names: &[Aid], name: &Aid) -> bool
+    ensures { result ≡ has_name name.now names.now }
+{
+    for known in names {
+        if known.bytes() == name.bytes() {
+            return true;
+        }
+    }
+    false
+}
+
+// Adds the name that a line mentions, where it is new.
+fn add_mentioned(names: &mut Vec<Aid>, line: &Line<'_>) -> Result<(), NoMemory>
+    ensures { IfOk result (λ done. names.new.items ≡ with_names names.old.items (mentioned (line_of line.now))) }
+{
+    let Some(name) = mentioned(line) else {
+        return Ok(());
+    };
+    if is_among(names.as_slice(), &name) {
+        return Ok(());
+    }
+    match names.push(name) {
+        Ok(()) => Ok(()),
+        Err(e) => Err(AllocError::from(e).into()),
+    }
+}
+
+/// The names that the lines of a deck mention, in order of first mention.
+pub fn names_of(alloc: Global, deck: &Deck) -> Result<Vec<Aid>, NoMemory>
+    ensures { IfOk result (λ names. names.items ≡ names_from [] deck.now) }
+{
+    let mut names = Vec::new(alloc);
+    for i in 0..deck.len() {
+        let (_number, line) = deck.line(i);
+        add_mentioned(&mut names, &line)?;
+    }
+    Ok(names)
+}

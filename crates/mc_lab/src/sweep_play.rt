@@ -1,0 +1,291 @@
+// The laboratory's device, and the plays on it.
+ghost use Rattle.std.specs.Prelude.{◌≡◌, ◌≤◌, ◌<◌, ℕ, List, length, map, take, true, IfOk};
+ghost use Rattle.mc_model.specs.Play.{State};
+ghost use Rattle.mc_model.specs.DeckGrammar.{DeckLine};
+ghost use Rattle.mc_deck.specs.Lines.{line_of, GoodLine};
+ghost use Rattle.mc_script.specs.Players.{device_of, statics_in, IsPlaying, IsUnfused};
+ghost use Rattle.mc_lab.specs.Sweeps.{blank, played};
+ghost use Rattle.mc_lab.specs.SweepBodies.{account_value, held_value, hit_in, told_in, CanCut, Fits, IsFewBehind, IsPlace};
+ghost use Rattle.mc_lab.specs.declared.sweep_trial.Behind.TheVariants as behind;
+ghost use Rattle.mc_lab.specs.SweepPlayers.{fault_in, off_in, BehindOn, CutOn, IsSteadyAt, LineOn};
+
+use crate::sweep_account::{Account, Held};
+use crate::sweep_trial::{Behind, Place, Trials};
+use arrayvec::ArrayVec;
+use mc_base::{Aid, NoMemory, Steps, Word};
+use mc_blocks::Unusable;
+use mc_deck::{Deck, Line};
+use mc_nvm::{Bench, Nvm, SimNvm};
+use mc_script::{Answer, Player, Silent};
+use std::alloc::Global;
+use std::marker::Model;
+use std::sync::ledger::Ledger;
+
+/// How many words the laboratory's device has.
+const WORDS: u32 = 8192;
+
+/// A device in memory, which is blank again for each play.
+#[derive(Drop)]
+pub struct Laboratory {
+    device: SimNvm,
+}
+
+impl Model for Laboratory {
+    ghost use Rattle.std.specs.Prelude.{◌≡◌, length};
+    ghost use Rattle.mc_nvm.specs.Sim.{Sim};
+
+    ghost Value = { Sim };
+
+    ghost view = { λ a. a.device };
+
+    ghost invariant = { λ a. length a.device.words ≡ 8192 };
+}
+
+// Whether a cut hit a line.
+fn is_off(answer: &Option<Answer>) -> bool
+    ensures { result ≡ off_in answer.now }
+{
+    matches!(answer, Some(Answer::OffAt(_)))
+}
+
+// Why a power line found no card.
+fn fault_of(answer: &Option<Answer>) -> Option<Unusable>
+    ensures { result ≡ fault_in answer.now }
+{
+    match answer {
+        Some(Answer::Unusable(unusable)) => Some(*unusable),
+        _ => None,
+    }
+}
+
+// Plays a line, and tells nothing of its turns.
+fn play_line<N: Bench, L: Ledger>(
+    player: &mut Player<N>,
+    line: &Line<'_>,
+    steps: &mut Steps<L>,
+) -> Option<Answer>
+    requires playing { IsPlaying N.state N.bench player.old }
+    requires good { GoodLine (line_of line.now) }
+    ensures on { (s : State) (n : ℕ) → IsSteadyAt N.state N.bench player.old s
+        → LineOn N.state N.bench s (n, line_of line.now) result player.new }
+    ensures playing { IsPlaying N.state N.bench player.new }
+    ensures size { length (N.state (device_of player.new)).words ≡ length (N.state (device_of player.old)).words }
+    ensures lent { N.same (device_of player.old) (device_of player.new) }
+{
+    player.line(line, &mut Silent, steps)
+}
+
+// Plays the lines of a deck before one of them.
+fn play_front<N: Bench, L: Ledger>(
+    device: N,
+    deck: &Deck,
+    at: usize,
+    steps: &mut Steps<L>,
+) -> Player<N>
+    requires fuses { IsUnfused (N.bench device) }
+    requires steady { (N.bench device).steady ≡ true }
+    requires words { (N.state device).words ≡ blank }
+    requires place { at ≤ length deck.now }
+    ensures at { IsSteadyAt N.state N.bench result (played (take at deck.now)) }
+    ensures size { length (N.state (device_of result)).words ≡ length (N.state device).words }
+    ensures lent { N.same device (device_of result) }
+{
+    let mut player = Player::new(device);
+    for i in 0..at {
+        let (_number, line) = deck.line(i);
+        let _answer = play_line(&mut player, &line, steps);
+    }
+    player
+}
+
+// Plays a line with one of its writes cut, and tells whether it made so many.
+fn play_cut<N: Bench, L: Ledger>(
+    player: &mut Player<N>,
+    line: &Line<'_>,
+    k: u32,
+    fill: Word,
+    steps: &mut Steps<L>,
+) -> bool
+    requires playing { IsPlaying N.state N.bench player.old }
+    requires good { GoodLine (line_of line.now) }
+    requires low { 1 ≤ k }
+    ensures on { (s : State) (i n : ℕ) → IsSteadyAt N.state N.bench player.old s
+        → CutOn N.state N.bench s (n, line_of line.now) i k fill result player.new }
+    ensures playing { IsPlaying N.state N.bench player.new }
+    ensures size { length (N.state (device_of player.new)).words ≡ length (N.state (device_of player.old)).words }
+    ensures lent { N.same (device_of player.old) (device_of player.new) }
+{
+    let _armed = play_line(player, &Line::Cut { k, fill }, steps);
+    let answer = play_line(player, line, steps);
+    is_off(&answer)
+}
+
+// Plays a line with one of its writes cut, and behind it a power line with one of its own, and tells whether that made so many.
+fn play_twice<N: Bench, L: Ledger>(
+    player: &mut Player<N>,
+    line: &Line<'_>,
+    k: u32,
+    fill: Word,
+    again: u32,
+    steps: &mut Steps<L>,
+) -> bool
+    requires playing { IsPlaying N.state N.bench player.old }
+    requires good { GoodLine (line_of line.now) }
+    requires low { 1 ≤ k }
+    requires first { 1 ≤ again }
+    ensures on { (front : List (ℕ × DeckLine)) (n : ℕ) → IsSteadyAt N.state N.bench player.old (played front)
+        → BehindOn N.state N.bench front (n, line_of line.now) (behind.Twice k fill again) result player.new }
+    ensures size { length (N.state (device_of player.new)).words ≡ length (N.state (device_of player.old)).words }
+    ensures lent { N.same (device_of player.old) (device_of player.new) }
+{
+    let _hit = play_cut(player, line, k, fill, steps);
+    play_cut(player, &Line::Power, again, fill, steps)
+}
+
+// Plays what stands behind the lines before a line, and tells whether the last cut hit its line.
+fn play_behind<N: Bench, L: Ledger>(
+    player: &mut Player<N>,
+    line: &Line<'_>,
+    behind: Behind,
+    steps: &mut Steps<L>,
+) -> bool
+    requires playing { IsPlaying N.state N.bench player.old }
+    requires good { GoodLine (line_of line.now) }
+    requires cuts { CanCut behind }
+    ensures on { (front : List (ℕ × DeckLine)) (n : ℕ) → IsSteadyAt N.state N.bench player.old (played front)
+        → BehindOn N.state N.bench front (n, line_of line.now) behind result player.new }
+    ensures size { length (N.state (device_of player.new)).words ≡ length (N.state (device_of player.old)).words }
+    ensures lent { N.same (device_of player.old) (device_of player.new) }
+{
+    match behind {
+        Behind::Nothing => true,
+        Behind::Whole => {
+            let _answer = play_line(player, line, steps);
+            true
+        }
+        Behind::Cut { k, fill } => play_cut(player, line, k, fill, steps),
+        Behind::Twice { k, fill, again } => play_twice(player, line, k, fill, again, steps),
+    }
+}
+
+// The static bytes under a name, and none where it is absent or no card runs.
+fn held_now<N: Bench>(player: &Player<N>, name: &Aid) -> Held
+    requires { IsPlaying N.state N.bench player.now }
+    ensures { held_value result ≡ statics_in N.state player.now name.now }
+{
+    let len = player.static_len(name)?;
+    let mut bytes = [0; 4096];
+    let held = &mut bytes[..len as usize];
+    player.static_of(name, 0, held);
+    Some(kept(held))
+}
+
+// Bytes that are kept.
+fn kept(bytes: &[u8]) -> ArrayVec<u8, 4096>
+    requires { length bytes.now ≤ 4096 }
+    ensures { result.items ≡ bytes.now }
+{
+    let mut kept = ArrayVec::new();
+    kept.try_extend_from_slice(bytes).unwrap();
+    kept
+}
+
+// Takes down what is held under each name.
+fn take_held<N: Bench>(held: &mut [Held], player: &Player<N>, names: &[Aid])
+    requires playing { IsPlaying N.state N.bench player.now }
+    requires room { length held.old ≡ length names.now }
+    ensures held { map held_value held.new ≡ map (statics_in N.state player.now) names.now }
+{
+    for i in 0..names.len() {
+        held[i] = held_now(player, &names[i]);
+    }
+}
+
+// Takes down what is told of a player behind a power line, by what that line answered.
+fn take_down<N: Bench>(
+    into: &mut Account,
+    player: &Player<N>,
+    answer: &Option<Answer>,
+    names: &[Aid],
+)
+    requires playing { IsPlaying N.state N.bench player.now }
+    requires room { length into.old.held.items ≡ length names.now }
+    ensures fault { into.new.fault ≡ fault_in answer.now }
+    ensures held { map held_value into.new.held.items ≡ map (statics_in N.state player.now) names.now }
+{
+    into.fault = fault_of(answer);
+    take_held(into.held.as_mut_slice(), player, names);
+}
+
+// One play on a blank device: the lines before a line, what stands behind them, and a whole power line.
+fn play_trial<N: Bench, L: Ledger>(
+    device: N,
+    place: &Place<'_>,
+    behind: Behind,
+    into: &mut Account,
+    steps: &mut Steps<L>,
+) -> (N, bool)
+    requires fuses { IsUnfused (N.bench device) }
+    requires steady { (N.bench device).steady ≡ true }
+    requires words { (N.state device).words ≡ blank }
+    requires at { IsPlace place.now }
+    requires room { Fits into.old place.now }
+    requires cuts { CanCut behind }
+    ensures told { account_value into.new ≡ told_in place.now behind }
+    ensures hit { result.1 ≡ hit_in place.now behind }
+    ensures few { IsFewBehind place.now behind }
+    ensures room { Fits into.new place.now }
+    ensures size { length (N.state result.0).words ≡ length (N.state device).words }
+    ensures lent { N.same device result.0 }
+{
+    let mut player = play_front(device, place.deck, place.at, steps);
+    let (_number, line) = place.deck.line(place.at);
+    let hit = play_behind(&mut player, &line, behind, steps);
+    let answer = play_line(&mut player, &Line::Power, steps);
+    take_down(into, &player, &answer, place.names);
+    (player.into_dev(), hit)
+}
+
+// One play on a device in memory of 8,192 words, which is made blank for it.
+fn play_blank<L: Ledger>(
+    device: &mut SimNvm,
+    place: &Place<'_>,
+    behind: Behind,
+    into: &mut Account,
+    steps: &mut Steps<L>,
+) -> bool
+    requires size { length device.old.words ≡ 8192 }
+    requires at { IsPlace place.now }
+    requires room { Fits into.old place.now }
+    requires cuts { CanCut behind }
+    ensures told { account_value into.new ≡ told_in place.now behind }
+    ensures hit { result ≡ hit_in place.now behind }
+    ensures few { IsFewBehind place.now behind }
+    ensures room { Fits into.new place.now }
+    ensures size { length device.new.words ≡ 8192 }
+{
+    device.erase();
+    let (_device, hit) = play_trial(&mut *device, place, behind, into, steps);
+    hit
+}
+
+impl Laboratory {
+    /// A laboratory with room for its device.
+    pub fn new(alloc: Global) -> Result<Laboratory, NoMemory> {
+        Ok(Laboratory {
+            device: SimNvm::new(alloc, WORDS)?,
+        })
+    }
+}
+
+impl Trials for Laboratory {
+    fn tell<L: Ledger>(
+        &mut self,
+        place: &Place<'_>,
+        behind: Behind,
+        into: &mut Account,
+        steps: &mut Steps<L>,
+    ) -> bool {
+        play_blank(&mut self.device, place, behind, into, steps)
+    }
+}

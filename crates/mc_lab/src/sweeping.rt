@@ -1,0 +1,298 @@
+// Sweeps of a deck.
+ghost use Rattle.std.specs.Prelude.{◌≡◌, ◌+◌, ◌≤◌, ◌<◌, length, take, true, false, IfOk, IfSome, MatchOption, OnOk};
+ghost use Rattle.mc_model.specs.Play.{armed_in, is_card_line};
+ghost use Rattle.mc_deck.specs.Lines.{line_of};
+ghost use Rattle.mc_text.specs.Texts.{sunk_in, Puts};
+ghost use Rattle.mc_lab.specs.Judged.{done_of};
+ghost use Rattle.mc_lab.specs.Sweeps.{is_unarmed, names_from, played, sweep_text, swept_texts};
+ghost use Rattle.mc_lab.specs.SweepBodies.{line_at, writes_in, HasRoom, IsOpen, IsPlace};
+ghost use Rattle.mc_lab.specs.SweepEnds.{free_behind, is_open_at, left_from, swept_in, Adds, AtMost, IsRoom, IsSmall, Tells};
+
+use crate::sweep_line::Bench;
+use crate::sweep_names::names_of;
+use crate::sweep_play::Laboratory;
+use crate::sweep_text::{Sums, put_sums, put_swept};
+use crate::sweep_trial::{Place, Trials};
+use crate::sweep_word::Word;
+use mc_base::{Aid, NoMemory, Sink, Steps, WriteFault};
+use mc_deck::{Deck, Line};
+use std::alloc::Global;
+use std::sync::ledger::Ledger;
+
+/// Why a sweep ended early: there was no room for it, and nothing was written; or its text was not wholly written.
+#[derive(Clone, Copy, Debug, PartialEq, Eq)]
+pub enum SweepFault {
+    NoMemory,
+    WriteFault,
+}
+
+/// All that a sweep needs room for: the names of the deck, the device and what is told of it, and the words of the writes of one line.
+#[derive(Drop)]
+struct Room {
+    names: Vec<Aid>,
+    bench: Bench<Laboratory>,
+    words: Vec<Word>,
+}
+
+// Whether a line is one to the card.
+fn is_card_line(line: &Line<'_>) -> bool
+    ensures { result ≡ is_card_line (line_of line.now) }
+{
+    match line {
+        Line::Power => true,
+        Line::Load { .. } => true,
+        Line::Select(_) => true,
+        Line::Delete(_) => true,
+        Line::Apdu(_) => true,
+        _ => false,
+    }
+}
+
+// Whether no stop is armed behind a line, by whether none was before it.
+fn free_behind(line: &Line<'_>, free: bool) -> bool
+    ensures { result ≡ free_behind (line_of line.now) free }
+{
+    match line {
+        Line::Cut { .. } => false,
+        Line::Fail(_) => false,
+        Line::Power => true,
+        Line::Load { .. } => true,
+        Line::Select(_) => true,
+        Line::Delete(_) => true,
+        Line::Apdu(_) => true,
+        _ => free,
+    }
+}
+
+// Whether no stop is armed behind the first lines of a deck.
+fn is_free(deck: &Deck, at: usize) -> bool
+    requires { at ≤ length deck.now }
+    ensures { result ≡ is_unarmed (armed_in (played (take at deck.now))) }
+{
+    let mut free = true;
+    for i in 0..at {
+        let (_number, line) = deck.line(i);
+        free = free_behind(&line, free);
+    }
+    free
+}
+
+// The number of a line that may be swept: a line to the card for which no stop is armed.
+fn open_number(deck: &Deck, at: usize) -> Option<u32>
+    requires { at < length deck.now }
+    ensures { MatchOption result (is_open_at deck.now at ≡ false)
+        (λ n. (is_open_at deck.now at ≡ true) × (n ≡ (line_at deck.now at).0)) }
+{
+    let (number, line) = deck.line(at);
+    if !is_card_line(&line) {
+        return None;
+    }
+    if !is_free(deck, at) {
+        return None;
+    }
+    Some(number)
+}
+
+// The device writes of a line, 0 where it may not be swept, or `None` where they are more than a `cut` can name.
+fn writes_at<D: Trials + Drop, L: Ledger>(
+    bench: &mut Bench<D>,
+    place: &Place<'_>,
+    steps: &mut Steps<L>,
+) -> Option<u32>
+    requires at { IsPlace place.now }
+    requires room { HasRoom bench.old.ends bench.old.pair (length place.now.names.now) }
+    ensures writes { IfSome result (λ n. is_open_at place.now.deck.now place.now.at ≡ true → writes_in place.now ≤ n) }
+    ensures room { HasRoom bench.new.ends bench.new.pair (length place.now.names.now) }
+{
+    match open_number(place.deck, place.at) {
+        None => Some(0),
+        Some(_) => bench.writes(place, steps),
+    }
+}
+
+// The most device writes that a line makes of those that may be swept, or `None` where a line makes more than a `cut` can name.
+fn most_writes<D: Trials + Drop, L: Ledger>(
+    bench: &mut Bench<D>,
+    deck: &Deck,
+    names: &[Aid],
+    steps: &mut Steps<L>,
+) -> Option<u32>
+    requires room { HasRoom bench.old.ends bench.old.pair (length names.now) }
+    ensures most { IfSome result (λ n. AtMost deck.now (length deck.now) n) }
+    ensures room { HasRoom bench.new.ends bench.new.pair (length names.now) }
+{
+    let mut most = 0;
+    for at in 0..deck.len() {
+        let place = Place { deck, at, names };
+        let writes = writes_at(bench, &place, steps)?;
+        most = writes.max(most);
+    }
+    Some(most)
+}
+
+// Sweeps a line, and writes its text where it makes a device write.
+fn sweep_place<D: Trials + Drop, T: Sink, L: Ledger>(
+    bench: &mut Bench<D>,
+    place: &Place<'_>,
+    number: u32,
+    words: &mut [Word],
+    out: &mut T,
+    sums: &mut Sums,
+    steps: &mut Steps<L>,
+) -> Result<(), WriteFault>
+    requires at { IsPlace place.now }
+    requires open { IsOpen place.now }
+    requires number { number ≡ (line_at place.now.deck.now place.now.at).0 }
+    requires words { writes_in place.now ≤ length words.old }
+    requires most { length words.old ≤ 4294967295 }
+    requires sums { IsSmall sums.old place.now.at }
+    requires room { HasRoom bench.old.ends bench.old.pair (length place.now.names.now) }
+    ensures told { Puts (sunk_in T.taken T.faults out.old) (swept_texts (swept_in place.now)) result
+        (sunk_in T.taken T.faults out.new) }
+    ensures adds { OnOk result (Adds sums.old (swept_in place.now) sums.new) }
+    ensures small { OnOk result (IsSmall sums.new (place.now.at + 1)) }
+    ensures size { length words.new ≡ length words.old }
+    ensures room { HasRoom bench.new.ends bench.new.pair (length place.now.names.now) }
+{
+    let swept = bench.sweep_line(place, words, steps);
+    if swept.writes == 0 {
+        return Ok(());
+    }
+    put_swept(out, number, &words[..swept.writes])?;
+    sums.lines += 1;
+    sums.writes += swept.writes as u128;
+    sums.plays += swept.plays as u128;
+    Ok(())
+}
+
+// Sweeps the line at a place, if it may be swept.
+fn sweep_at<D: Trials + Drop, T: Sink, L: Ledger>(
+    bench: &mut Bench<D>,
+    place: &Place<'_>,
+    words: &mut [Word],
+    out: &mut T,
+    sums: &mut Sums,
+    steps: &mut Steps<L>,
+) -> Result<(), WriteFault>
+    requires at { IsPlace place.now }
+    requires words { AtMost place.now.deck.now (length place.now.deck.now) (length words.old) }
+    requires most { length words.old ≤ 4294967295 }
+    requires sums { IsSmall sums.old place.now.at }
+    requires room { HasRoom bench.old.ends bench.old.pair (length place.now.names.now) }
+    ensures told { Puts (sunk_in T.taken T.faults out.old) (swept_texts (swept_in place.now)) result
+        (sunk_in T.taken T.faults out.new) }
+    ensures adds { OnOk result (Adds sums.old (swept_in place.now) sums.new) }
+    ensures small { OnOk result (IsSmall sums.new (place.now.at + 1)) }
+    ensures size { length words.new ≡ length words.old }
+    ensures room { HasRoom bench.new.ends bench.new.pair (length place.now.names.now) }
+{
+    match open_number(place.deck, place.at) {
+        None => Ok(()),
+        Some(number) => sweep_place(bench, place, number, words, out, sums, steps),
+    }
+}
+
+// No sums.
+fn no_sums() -> Sums
+    ensures small { IsSmall result 0 }
+    ensures lines { result.lines ≡ 0 }
+    ensures writes { result.writes ≡ 0 }
+    ensures plays { result.plays ≡ 0 }
+{
+    Sums {
+        lines: 0,
+        writes: 0,
+        plays: 0,
+    }
+}
+
+// Sweeps the lines of a deck, and writes the text of each when it is done.
+fn sweep_lines<D: Trials + Drop, T: Sink, L: Ledger>(
+    bench: &mut Bench<D>,
+    deck: &Deck,
+    names: &[Aid],
+    words: &mut [Word],
+    out: &mut T,
+    sums: &mut Sums,
+    steps: &mut Steps<L>,
+) -> Result<(), WriteFault>
+    requires words { AtMost deck.now (length deck.now) (length words.old) }
+    requires most { length words.old ≤ 4294967295 }
+    requires sums { IsSmall sums.old 0 }
+    requires room { HasRoom bench.old.ends bench.old.pair (length names.now) }
+    ensures told { Puts (sunk_in T.taken T.faults out.old) (swept_texts (left_from names.now deck.now 0)) result
+        (sunk_in T.taken T.faults out.new) }
+    ensures adds { OnOk result (Adds sums.old (left_from names.now deck.now 0) sums.new) }
+{
+    for at in 0..deck.len() {
+        let place = Place { deck, at, names };
+        sweep_at(bench, &place, words, out, sums, steps)?;
+    }
+    Ok(())
+}
+
+// Takes the room for a sweep of a deck.
+fn room_for<L: Ledger>(alloc: Global, deck: &Deck, steps: &mut Steps<L>) -> Result<Room, NoMemory>
+    ensures { IfOk result (λ room. IsRoom deck.now room.names.items room.bench.ends room.bench.pair
+        (length room.words.items)) }
+{
+    let names = names_of(alloc, deck)?;
+    let mut bench = Bench::new(alloc, Laboratory::new(alloc)?, names.len())?;
+    let Some(most) = most_writes(&mut bench, deck, names.as_slice(), steps) else {
+        return Err(NoMemory);
+    };
+    let words = vec![in alloc; Word::Same; most as usize]?;
+    Ok(Room {
+        names,
+        bench,
+        words,
+    })
+}
+
+// Sweeps a deck where there is room for it, and writes its text.
+fn sweep_in<T: Sink, L: Ledger>(
+    room: &mut Room,
+    deck: &Deck,
+    out: &mut T,
+    steps: &mut Steps<L>,
+) -> Result<(), WriteFault>
+    requires { IsRoom deck.now room.old.names.items room.old.bench.ends room.old.bench.pair
+        (length room.old.words.items) }
+    ensures { Puts (sunk_in T.taken T.faults out.old) (sweep_text deck.now) result (sunk_in T.taken T.faults out.new) }
+{
+    let mut sums = no_sums();
+    sweep_lines(
+        &mut room.bench,
+        deck,
+        room.names.as_slice(),
+        room.words.as_mut_slice(),
+        out,
+        &mut sums,
+        steps,
+    )?;
+    put_sums(out, &sums)
+}
+
+/// Cuts power in each device write of each line of a deck for which the deck arms no stop, and in each write of the recovery behind it,
+/// with eight bytes 00 and with eight bytes FF, and writes what the card was then: a line of text for each swept line, when it is done,
+/// and a last one with their sums.
+///
+/// Each of its plays runs on a blank device of 8,192 words. All room is taken before the first byte is written; a line of more than
+/// 4,294,967,294 device writes finds none. Where the sink fails, a front of the text was written.
+pub fn sweep<T: Sink, L: Ledger>(
+    alloc: Global,
+    deck: &Deck,
+    out: &mut T,
+    steps: &mut Steps<L>,
+) -> Result<(), SweepFault>
+    ensures { Tells (sunk_in T.taken T.faults out.old) (sweep_text deck.now) result (sunk_in T.taken T.faults out.new) }
+{
+    let mut room = match room_for(alloc, deck, steps) {
+        Ok(room) => room,
+        Err(_) => return Err(SweepFault::NoMemory),
+    };
+    match sweep_in(&mut room, deck, out, steps) {
+        Ok(()) => Ok(()),
+        Err(_) => Err(SweepFault::WriteFault),
+    }
+}

@@ -1,0 +1,3 @@
+mod StatusLemmas
+mod Completeness
+mod ToldLemmas

@@ -1,0 +1,56 @@
+-- What the input of a job stands for: the text that is due, and whether all is well, or the one line that refuses it.
+use Rattle.std.specs.Prelude.{ℕ, Bool, true, ◌==◌, List, ◌++◌, codes, decimal, Result, Ok, Err}
+use Rattle.mc_model.specs.DeckGrammar.{DeckLine, deck_read}
+use Rattle.mc_model.specs.Words.{deck_word}
+use Rattle.mc_model.specs.declared.deck.DeckCause.{DeckCause}
+use Rattle.mc_lab.specs.Expectations.{Trial, TrialFault, DeckFault, NoAnswer, trial_read, blank_words, steady_steps, expect_text, count_failed}
+use Rattle.mc_lab.specs.Sweeps.{sweep_text}
+use Rattle.mellab.specs.declared.job.Job.{Job}
+use Rattle.mellab.specs.declared.job.Job.TheVariants as job
+
+-- an input of more bytes is refused
+abbrev pub input_limit : ℕ
+input_limit = 1048576
+
+-- a text, and whether all that it tells of is well, or the line of a refusal
+pub data Verdict : Type 0 where
+  Tells : (text : List ℕ) (well : Bool) → Verdict
+  Refusal : (line : List ℕ) → Verdict
+
+-- ---- lines of refusals
+
+-- a line of the input, and why it is refused
+abbrev pub at_line : ℕ → List ℕ → List ℕ
+at_line n cause = codes "line " ++ decimal n ++ codes " " ++ cause ++ codes "\n"
+
+-- the input is too long
+abbrev pub too_long : List ℕ
+too_long = codes "line 0 TooLong\n"
+
+-- a refused line of a deck
+abbrev pub deck_line : ℕ × DeckCause → List ℕ
+deck_line (n, c) = at_line n (deck_word c)
+
+-- a refused line of a deck, or an expectation without a result
+abbrev pub fault_line : TrialFault → List ℕ
+fault_line (DeckFault n c) = deck_line (n, c)
+fault_line (NoAnswer n) = at_line n (codes "NoAnswer")
+
+-- ---- jobs
+
+-- a deck's expectations on a blank device: all is well where none failed
+abbrev pub expected : Result Trial TrialFault → Verdict
+expected (Ok t) =
+    let ts = steady_steps blank_words t.lines in
+    Tells (expect_text ts t.expected) (count_failed ts t.expected == 0)
+expected (Err e) = Refusal (fault_line e)
+
+-- a sweep of a deck: nothing of it can fail
+abbrev pub swept : Result (List (ℕ × DeckLine)) (ℕ × DeckCause) → Verdict
+swept (Ok ls) = Tells (sweep_text ls) true
+swept (Err e) = Refusal (deck_line e)
+
+-- what an input within the limit stands for
+abbrev pub verdict_of : Job → List ℕ → Verdict
+verdict_of job.Expect input = expected (trial_read input)
+verdict_of job.Sweep input = swept (deck_read input)

@@ -1,0 +1,34 @@
+// How a job ends.
+ghost use Rattle.std.specs.Prelude.{◌≡◌};
+ghost use Rattle.mellab.specs.Statuses.{number_of};
+
+/// How a job ended. Its number is the status of the program.
+#[derive(Clone, Copy, Debug, PartialEq, Eq)]
+pub enum Status {
+    /// All was told, and all is well.
+    Done,
+    /// An expectation failed, or the input is refused.
+    Failed,
+    /// The words name no job.
+    NoForm,
+    /// A fault of the source.
+    ReadFault,
+    /// A fault of the sink.
+    WriteFault,
+    /// Want of memory.
+    NoMemory,
+}
+
+/// The number of a status.
+pub fn number(status: Status) -> u8
+    ensures { result ≡ number_of status }
+{
+    match status {
+        Status::Done => 0,
+        Status::Failed => 1,
+        Status::NoForm => 2,
+        Status::ReadFault => 3,
+        Status::WriteFault => 4,
+        Status::NoMemory => 5,
+    }
+}
