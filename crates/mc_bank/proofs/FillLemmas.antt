@@ -16,7 +16,7 @@ use Rattle.mc_bank.specs.declared.bank.Facts.{Facts}
 use Rattle.mc_bank.specs.declared.entries.Entry.{Entry}
 use Rattle.mc_bank.specs.Bank.{app_of, sizes_of, part_len, FitsLimits, IsGood}
 use Rattle.mc_bank.specs.Memory.{facts_in, first_free, IsWhole, IsMemory, apps_from, memory_room, entry_at, part_of, with_piece, MemoryDid}
-use Rattle.mc_bank.specs.Entries.{facts_kept, whole_at, apps_free}
+use Rattle.mc_bank.specs.EntryLaws.{facts_kept, whole_at, apps_free}
 use Rattle.mc_bank.specs.MemoryLaws.{set_self, entry_set}
 use Rattle.mc_bank.specs.Left.{FillLeft}
 use Rattle.mc_bank.proofs.LeftLemmas.{length-spliced, front_piece, splice-splice, same_named, memory_kept, free_place}

@@ -16,7 +16,7 @@ use Rattle.mc_bank.specs.declared.bank.Facts.{Facts}
 use Rattle.mc_bank.specs.declared.entries.Entry.{Entry}
 use Rattle.mc_bank.specs.Bank.{name_or, app_of, sizes_of, FitsLimits, CanCommit, IsGood}
 use Rattle.mc_bank.specs.Memory.{facts_in, named_at, memory_named, first_free, is_named, AreFacts, IsWhole, IsMemory, AreApart, app_in, apps_from, memory_room, entry_at, with_app, with_list, freed, new_facts, fixed_len, MemoryDid}
-use Rattle.mc_bank.specs.Entries.{facts_set, facts_kept, length-facts, free_has_no_name, free_is_there, no_name, apart_freed, apart_set, lookup_is, whole_set, whole_at, length-apps}
+use Rattle.mc_bank.specs.EntryLaws.{facts_set, facts_kept, length-facts, free_has_no_name, free_is_there, no_name, apart_freed, apart_set, lookup_is, whole_set, whole_at, length-apps}
 use Rattle.mc_bank.specs.MemoryLaws.{split, app_is, memory_obeys, memory_keeps, memory_spares, memory_leaves}
 use Rattle.mc_bank.specs.Shown.{app_at}
 use Rattle.mc_bank.specs.Slots.{slot_place, name_of_slot}
@@ -67,7 +67,7 @@ splice-splice x at b c le =
 
 -- ---- names
 
-some_name : (o : Option (List ℕ)) → IsSome o → o ≡ Some (name_or o)
+pub some_name : (o : Option (List ℕ)) → IsSome o → o ≡ Some (name_or o)
 some_name None h = absurd (cc h)
 some_name (Some n) h = refl
 

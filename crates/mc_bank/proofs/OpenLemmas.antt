@@ -9,7 +9,7 @@ use Rattle.mc_model.specs.Items.{Site}
 use Rattle.mc_bank.specs.declared.entries.Entry.{Entry}
 use Rattle.mc_bank.specs.Bank.{FitsLimits, opened, IsGood, HasParts, part_len}
 use Rattle.mc_bank.specs.Memory.{facts_in, first_free, used, apps_from, memory_room, memory_standing, part_of, entry_at, IsMemory}
-use Rattle.mc_bank.specs.Entries.{length-apps}
+use Rattle.mc_bank.specs.EntryLaws.{length-apps}
 use Rattle.mc_bank.proofs.FillLemmas.{fill_fits}
 
 pub is_full : (m d : List Entry) (s : Sizes) (n : ℕ) → IsMemory m → d ≡ m → n ≡ used (facts_in d) → 32 ≤ n → Err Apps ≡ opened s (nat_le 32 (length (apps_from 0 m))) (memory_room m s)

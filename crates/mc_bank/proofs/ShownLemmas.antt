@@ -6,9 +6,9 @@ use Rattle.mc_model.specs.Card.{App}
 use Rattle.mc_bank.specs.declared.bank.Facts.{Facts}
 use Rattle.mc_bank.specs.declared.entries.Entry.{Entry}
 use Rattle.mc_bank.specs.Bank.{app_of, sizes_of}
-use Rattle.mc_bank.specs.Names.{same_name}
+use Rattle.mc_bank.specs.NameLaws.{same_name}
 use Rattle.mc_bank.specs.Memory.{facts_in, name_in, named_at, memory_named, has, app_in, apps_from, entry_at, AreFacts, IsMemory}
-use Rattle.mc_bank.specs.Entries.{named_here, named_is, lookup_is, sizes_are, whole_at}
+use Rattle.mc_bank.specs.EntryLaws.{named_here, named_is, lookup_is, sizes_are, whole_at}
 use Rattle.mc_bank.specs.MemoryLaws.{split, app_is}
 use Rattle.mc_bank.specs.Slots.{slot_number, slot_place, AreDigits}
 use Rattle.mc_bank.specs.SlotLaws.{place_back, sizes_back, slot_named, name_there as slot_name_there}

@@ -1,9 +1,9 @@
 pub mod Bank
-pub mod Names
+pub mod NameLaws
 pub mod Slots
 pub mod SlotLaws
 pub mod Memory
-pub mod Entries
+pub mod EntryLaws
 pub mod MemoryLaws
 pub mod Shown
 pub mod Left

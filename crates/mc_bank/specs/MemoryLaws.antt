@@ -15,11 +15,11 @@ use Rattle.mc_model.specs.Items.{Site, BankItem, Piece, Blank, Note, Commit, Ent
 use Rattle.mc_bank.specs.declared.bank.Facts.{Facts}
 use Rattle.mc_bank.specs.declared.entries.Entry.{Entry}
 use Rattle.mc_bank.specs.Bank.{app_of, no_app, sizes_of, part_len, with_words, committed, entered, item_done, Spares, StayGood, BytesStay, Changes}
-use Rattle.mc_bank.specs.Names.{lookup-inserted, insert-twice, remove-inserted, length-same}
+use Rattle.mc_bank.specs.NameLaws.{lookup-inserted, insert-twice, remove-inserted, length-same}
 use Rattle.mc_bank.specs.Memory.{facts_in, named_at, memory_named, first_free, is_named, AreApart, app_in, apps_from, memory_state, memory_room, entry_at, part_of, with_piece, memory_standing, new_facts, with_app, with_list, freed, fixed_len, CommitDone, EnterDone, RemoveDone, ItemDone, MemoryDid}
 use Rattle.mc_bank.specs.Slots.{slot_place}
 use Rattle.mc_bank.specs.SlotLaws.{HasSizes, EntersNot, has_sizes, slot_named, item_sized}
-use Rattle.mc_bank.specs.Entries.{facts_set, facts_kept, named_here, named_other, named_is, free_has_no_name, free_named, name_gone, not_named_freed, lookup_none, apps_free, apps_set}
+use Rattle.mc_bank.specs.EntryLaws.{facts_set, facts_kept, named_here, named_other, named_is, free_has_no_name, free_named, name_gone, not_named_freed, lookup_none, apps_free, apps_set}
 
 -- ---- lists of bytes
 

@@ -1,7 +1,7 @@
 -- A number gives back the place and the sizes of its slot, and a slot keeps its name while its application keeps its sizes.
-use Rattle.std.specs.Prelude.{◌≡◌, ◌≢◌, ℕ, suc, ◌+◌, ◌*◌, ◌/◌, ◌%◌, ◌<◌, ◌≤◌, Bool, true, false, cond, List, [], ◌∷◌, ◌++◌, length, take, drop, bytes_eq, unwrap_or, IsSome, Option, Some, None}
+use Rattle.std.specs.Prelude.{◌≡◌, ◌≢◌, ℕ, suc, ◌+◌, ◌*◌, ◌/◌, ◌%◌, ◌<◌, ◌≤◌, Bool, true, false, cond, List, [], ◌∷◌, ◌++◌, length, bytes_eq, unwrap_or, IsSome, Option, Some, None}
 use Rattle.std.proofs.Common.{refl, ap, sym, subst, ◌∙◌, arith}
-use Rattle.std.proofs.lemmas.List.{length-take, length-append, length-drop, length-take-le}
+use Rattle.std.proofs.lemmas.List.{length-take-le}
 use Rattle.std.proofs.lemmas.Bool.{false_from_ne_true}
 use Rattle.mc_model.specs.declared.card.Part.{Part}
 use Rattle.mc_model.specs.declared.card.Sizes.{Sizes}
@@ -9,8 +9,9 @@ use Rattle.mc_model.specs.Bytes.{lookup, insert, remove, splice}
 use Rattle.mc_model.specs.Pieces.{laid_pieces, laid_words, word_pieces}
 use Rattle.mc_model.specs.Card.{App}
 use Rattle.mc_model.specs.Items.{Site, BankItem, Piece, Blank, Note, Commit, Enter, Remove}
+use Rattle.mc_model.proofs.ListLemmas.{splice-longer as splice-long}
 use Rattle.mc_bank.specs.Bank.{app_of, no_app, sizes_of, with_words, entered, item_done, Spares}
-use Rattle.mc_bank.specs.Names.{same_name, name_is_itself, lookup-inserted, lookup-beside}
+use Rattle.mc_bank.specs.NameLaws.{same_name, name_is_itself, lookup-inserted, lookup-beside}
 use Rattle.mc_bank.specs.Slots.{slot_number, digit, slot_place, slot_sizes, listed, same_sizes, name_of_slot, AreDigits}
 
 -- ---- digits
@@ -109,9 +110,6 @@ slot_stays apps apps' k None same = refl
 slot_stays apps apps' k (Some n) same = ap (λ (z : Sizes). cond (same_sizes (slot_sizes k) z) (Some n) None) (same n)
 
 -- ---- the sizes of an application after an item
-
-pub splice-long : (l : List ℕ) (at : ℕ) (b : List ℕ) → length l ≤ length (splice l at b)
-splice-long l at b = omega (arith, length-append (take at l ++ b) (drop (at + length b) l), length-append (take at l) b, length-take at l, length-drop (at + length b) l)
 
 pub pieces-long : (l : List ℕ) (ws : List (ℕ × List ℕ)) → length l ≤ length (laid_pieces l (word_pieces ws))
 pieces-long l [] = omega arith

@@ -5,7 +5,7 @@ use Rattle.std.proofs.lemmas.Bool.{and_parts, eq-eqb, ne_eqb, ltb-true, or_right
 use Rattle.std.proofs.lemmas.Slice.Eq.{bytes_eq-Decides}
 use Rattle.mc_model.specs.Bytes.{insert, lookup, name_before, has_name}
 use Rattle.mc_model.specs.Image.{Closed, look}
-use Rattle.mc_model.specs.Device.{IsImage}
+use Rattle.mc_model.specs.Device.{IsSized}
 use Rattle.mc_model.specs.Card.{App, Card, Block, means, blocks, name_in, name_at, app_at, apps_of, record_at}
 use Rattle.mc_model.specs.Layout.{spans, is_record, bad_record, IsWellLaid}
 use Rattle.mc_blocks.specs.Blocks.{used_spans, admitted}
@@ -35,7 +35,7 @@ few-all m (b ∷ bs) names used low h =
 pub few-blocks : (m : List (List ℕ)) → Faultless m → length (used_spans (blocks m)) ≤ 32
 few-blocks m f = let few : 0 + length (used_spans (blocks m)) ≤ 32 = few-all m (blocks m) [] 0 (omega arith) f.records in omega (arith, few)
 
-pub few-applications : (m : List (List ℕ)) → IsImage m → look m ≡ Closed → IsWellLaid m → length (means m).apps ≤ 32
+pub few-applications : (m : List (List ℕ)) → IsSized m → look m ≡ Closed → IsWellLaid m → length (means m).apps ≤ 32
 few-applications m image closed h =
     let f : Faultless m = faultless m (sym (fault-closed m closed) ∙ h) in
     let l : Laid m = well-laid m image closed h in
@@ -125,7 +125,7 @@ pub record FoundIn (m : List (List ℕ)) (n : List ℕ) (a : App) : Type 0 where
   pub one : OneAt n a.place (means m).apps
   pub name : name_at m a.place ≡ n
 
-pub found-application : (m : List (List ℕ)) (n : List ℕ) (a : App) → IsImage m → look m ≡ Closed → IsWellLaid m → lookup (means m).apps n ≡ Some a → FoundIn m n a
+pub found-application : (m : List (List ℕ)) (n : List ℕ) (a : App) → IsSized m → look m ≡ Closed → IsWellLaid m → lookup (means m).apps n ≡ Some a → FoundIn m n a
 found-application m n a image closed h l =
     let f : Faultless m = faultless m (sym (fault-closed m closed) ∙ h) in
     let laid : Laid m = well-laid m image closed h in

@@ -6,7 +6,7 @@ use Rattle.std.proofs.lemmas.Bool.{and_parts, eqb-true, not-true}
 use Rattle.std.proofs.lemmas.List.{drop_more}
 use Rattle.mc_model.specs.Bytes.{up, be2, has_name, or_else, insert}
 use Rattle.mc_model.specs.Image.{Look, Closed, look, replayed}
-use Rattle.mc_model.specs.Device.{IsImage}
+use Rattle.mc_model.specs.Device.{IsSized}
 use Rattle.mc_model.specs.Card.{App, Block, word, blocks, cells, section, record_at, name_in, name_at, app_at, apps_of, card_of, words_after, means, needed, needed_of, heap_start}
 use Rattle.mc_model.specs.Layout.{spans, spans_of, gaps, gaps_from, put_at, no_root, is_record, bad_block, bad_record, bad_chain, by_cause, words_fault, fault_of, fault, IsWellLaid}
 use Rattle.mc_model.specs.declared.card.Cause.{Cause}
@@ -53,7 +53,7 @@ means-closed m h = ap (λ (l : Look). card_of (words_after (replayed m l) m)) h
 cells-more : (m : List (List ℕ)) (p k : ℕ) → p < length m → cells m p (suc k) ≡ word m p ++ cells m (p + 1) k
 cells-more m p k h = ap (λ (l : List (List ℕ)). concat (take (suc k) l)) (drop_more m p [] h)
 
-length-cells : (m : List (List ℕ)) (k p : ℕ) → IsImage m → p + k ≤ length m → length (cells m p k) ≡ 8 * k
+length-cells : (m : List (List ℕ)) (k p : ℕ) → IsSized m → p + k ≤ length m → length (cells m p k) ≡ 8 * k
 length-cells m zero p image h = refl
 length-cells m (suc k) p image h =
     let eight : length (word m p) ≡ 8 = image.words p (omega arith) in
@@ -61,7 +61,7 @@ length-cells m (suc k) p image h =
     let all : length (cells m p (suc k)) ≡ length (word m p) + length (cells m (p + 1) k) = ap length (cells-more m p k (omega arith)) ∙ length-append (word m p) (cells m (p + 1) k) in
     omega (arith, eight, rest, all)
 
-length-section : (m : List (List ℕ)) (p n : ℕ) → IsImage m → p + up n 8 ≤ length m → length (section m p n) ≡ n
+length-section : (m : List (List ℕ)) (p n : ℕ) → IsSized m → p + up n 8 ≤ length m → length (section m p n) ≡ n
 length-section m p n image h =
     let whole : length (cells m p (up n 8)) ≡ 8 * up n 8 = length-cells m (up n 8) p image h in
     let enough : n ≤ 8 * up n 8 = omega arith in
@@ -69,7 +69,7 @@ length-section m p n image h =
     omega (arith, whole, enough, part)
 
 -- a block whose record is good takes the words that its application needs
-needed-is : (m : List (List ℕ)) (p words : ℕ) → IsImage m → is_record (record_at m p) words ≡ true → p + words ≤ length m → needed (app_at m p) ≡ words
+needed-is : (m : List (List ℕ)) (p words : ℕ) → IsSized m → is_record (record_at m p) words ≡ true → p + words ≤ length m → needed (app_at m p) ≡ words
 needed-is m p words image good h =
     let r = record_at m p in
     let code = be2 r 20 in
@@ -151,7 +151,7 @@ pub used-above : (p : ℕ) (a : Bool) (bs : List Block) (end : ℕ) → Tiled p 
 used-above p a [] end t = tt
 used-above p a (b ∷ bs) end t = above-step p b bs b.used t.0 (above-weaker (p + b.words) p (used_spans bs) (omega arith) (used-above (p + b.words) (not b.used) bs end t.3))
 
-spans-step : (m : List (List ℕ)) (names : List (List ℕ)) (b : Block) (bs : List Block) (t : Bool) → IsImage m → b.place + b.words ≤ length m → Above (b.place + 1) (used_spans bs)
+spans-step : (m : List (List ℕ)) (names : List (List ℕ)) (b : Block) (bs : List Block) (t : Bool) → IsSized m → b.place + b.words ≤ length m → Above (b.place + 1) (used_spans bs)
     → MatchBool t ((is_record (record_at m b.place) b.words ≡ true) × (has_name (name_at m b.place) names ≡ false) × AreNamed m (name_at m b.place ∷ names) bs) (AreNamed m names bs)
     → ((ns : List (List ℕ)) → AreNamed m ns bs → spans_of (apps_of m bs) ≡ used_spans bs) → ((ns : List (List ℕ)) (k : List ℕ) → has_name k ns ≡ true → AreNamed m ns bs → Free k b.place (apps_of m bs))
     → spans_of (cond t (with-block m b bs) (apps_of m bs)) ≡ cond t ((b.place, b.words) ∷ used_spans bs) (used_spans bs)
@@ -163,7 +163,7 @@ spans-step m names b bs true image h above n rest free =
     ∙ ap (λ (w : ℕ). put_at b.place w (used_spans bs)) (needed-is m b.place b.words image n.0 h)
     ∙ put-front b.place b.words (used_spans bs) above
 
-spans-all : (m : List (List ℕ)) (bs : List Block) (p : ℕ) (a : Bool) (names : List (List ℕ)) → IsImage m → Tiled p a bs (length m) → AreRead m bs → AreNamed m names bs → spans_of (apps_of m bs) ≡ used_spans bs
+spans-all : (m : List (List ℕ)) (bs : List Block) (p : ℕ) (a : Bool) (names : List (List ℕ)) → IsSized m → Tiled p a bs (length m) → AreRead m bs → AreNamed m names bs → spans_of (apps_of m bs) ≡ used_spans bs
 spans-all m [] p a names image t r n = ap spans_of (no-apps m)
 spans-all m (b ∷ bs) p a names image t r n =
     let place : b.place ≡ p = t.0 in
@@ -185,7 +185,7 @@ pub record Laid (m : List (List ℕ)) : Type 0 where
   pub gaps : gaps (card_of m) ≡ hole_spans (blocks m)
   pub apps : length (apps_of m (blocks m)) ≡ length (used_spans (blocks m))
 
-pub laid : (m : List (List ℕ)) → IsImage m → words_fault m ≡ None → Laid m
+pub laid : (m : List (List ℕ)) → IsSized m → words_fault m ≡ None → Laid m
 laid m image h =
     let f : Faultless m = faultless m h in
     let low : 256 ≤ length m = image.low in
@@ -203,5 +203,5 @@ laid m image h =
     }
 
 -- the same of an image with a closed journal
-pub well-laid : (m : List (List ℕ)) → IsImage m → look m ≡ Closed → IsWellLaid m → Laid m
+pub well-laid : (m : List (List ℕ)) → IsSized m → look m ≡ Closed → IsWellLaid m → Laid m
 well-laid m image closed h = laid m image (sym (fault-closed m closed) ∙ h)

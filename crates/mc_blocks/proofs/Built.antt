@@ -5,7 +5,7 @@ use Rattle.std.specs.List.{concat}
 use Rattle.std.proofs.lemmas.Bool.{le-ltb, lt-ltb, le-leb, eq-eqb, and_from, and_parts, eqb-true}
 use Rattle.std.proofs.lemmas.List.{drop_more, get_or_past}
 use Rattle.mc_model.specs.Bytes.{be2, or_else, has_name, insert, up}
-use Rattle.mc_model.specs.Device.{IsImage}
+use Rattle.mc_model.specs.Device.{IsSized}
 use Rattle.mc_model.specs.Card.{App, Block, word, header, blocks, heap_start, cells, section, record_at, name_in, name_at, app_at, app_of, apps_of, card_of, needed_of}
 use Rattle.mc_model.specs.Layout.{no_root, is_record, bad_header, bad_block, bad_record, bad_link, bad_chain, first_hole, by_cause, words_fault}
 use Rattle.mc_model.specs.declared.card.Cause.TheVariants.{NoRoot, BadBlock, BadRecord, BadChain}
@@ -214,7 +214,7 @@ pub record SameBlocks (m n : List (List ℕ)) : Type 0 where
   pub apps : apps_of n (blocks n) ≡ apps_of m (blocks m)
   pub blocks : blocks n ≡ blocks m
 
-pub same-blocks : (m n : List (List ℕ)) → IsImage m → words_fault m ≡ None → length n ≡ length m → is_root_word (word n 0) (length n) ≡ true → be2 (word n 0) 6 ≡ be2 (word m 0) 6 → Agree m n (blocks m) → SameBlocks m n
+pub same-blocks : (m n : List (List ℕ)) → IsSized m → words_fault m ≡ None → length n ≡ length m → is_root_word (word n 0) (length n) ≡ true → be2 (word n 0) 6 ≡ be2 (word m 0) 6 → Agree m n (blocks m) → SameBlocks m n
 same-blocks m n image h size root first agree =
     let f : Faultless m = faultless m h in
     let l : Laid m = laid m image h in
@@ -234,14 +234,14 @@ same-blocks m n image h size root first agree =
     record { good = stands.good; blocks = stands.blocks; apps = ap (λ (l : List Block). apps_of n l) stands.blocks ∙ s.apps }
 
 -- the same words 0: the same card
-pub same-card : (m n : List (List ℕ)) → IsImage m → words_fault m ≡ None → length n ≡ length m → word n 0 ≡ word m 0 → Agree m n (blocks m) → SameCard m n
+pub same-card : (m n : List (List ℕ)) → IsSized m → words_fault m ≡ None → length n ≡ length m → word n 0 ≡ word m 0 → Agree m n (blocks m) → SameCard m n
 same-card m n image h size same agree =
     let root : is_root_word (word m 0) (length m) ≡ true = root-good m (is_root_word (word m 0) (length m)) (faultless m h).root in
     let b : SameBlocks m n = same-blocks m n image h size (ap (λ (x : List ℕ). is_root_word x (length n)) same ∙ ap (λ (x : ℕ). is_root_word (word m 0) x) size ∙ root) (ap (λ (x : List ℕ). be2 x 6) same) agree in
     record { good = b.good; blocks = b.blocks; card = card-parts n m size (ap (λ (x : List ℕ). slice_index x 3) same) b.apps }
 
 -- another version in the root: the same card in that layout
-pub other-layout : (m n : List (List ℕ)) → IsImage m → words_fault m ≡ None → length n ≡ length m → is_root_word (word n 0) (length n) ≡ true → be2 (word n 0) 6 ≡ be2 (word m 0) 6 → Agree m n (blocks m)
+pub other-layout : (m n : List (List ℕ)) → IsSized m → words_fault m ≡ None → length n ≡ length m → is_root_word (word n 0) (length n) ≡ true → be2 (word n 0) 6 ≡ be2 (word m 0) 6 → Agree m n (blocks m)
     → (words_fault n ≡ None) × (card_of n ≡ record (card_of m) { layout = slice_index (word n 0) 3 })
 other-layout m n image h size root first agree =
     let b : SameBlocks m n = same-blocks m n image h size root first agree in (

@@ -2,11 +2,12 @@
 use Rattle.std.proofs.Common.{◌≡◌, ◌≢◌, ◌⊎◌, ℕ, ◌+◌, ◌-◌, ◌<◌, ◌≤◌, Bool, true, false, ◌||◌, List, [], ◌∷◌, Option, Some, None, refl, sym, ◌∙◌, ap, subst, inl, inr, arith, cond, not}
 use Rattle.std.specs.Prelude.{nat_lt, ◌==◌, bytes_eq, MatchBool}
 use Rattle.std.specs.List.{AllByRecursion, list_any}
-use Rattle.std.proofs.lemmas.Bool.{eq-eqb, and_from, or_left, or_right, or_parts, or_cases, eqb-true, false_from_ne_true}
+use Rattle.std.proofs.lemmas.Bool.{eq-eqb, and_from, or_left, or_right, or_parts, or_cases, eqb-true}
 use Rattle.std.proofs.lemmas.Slice.Eq.{bytes_eq-Decides}
 use Rattle.mc_model.specs.Bytes.{insert, lookup, has_name}
 use Rattle.mc_model.specs.Card.{App, Block, record_at, name_in, name_at, app_at, apps_of}
 use Rattle.mc_model.specs.Layout.{first_hole, hole_header, used_header, same_pair, is_record}
+use Rattle.mc_model.proofs.ListLemmas.{or-swap, other-name as turned}
 use Rattle.mc_blocks.specs.Blocks.{used_spans, hole_spans}
 use Rattle.mc_blocks.specs.Plans.{changes, has_room, has_span}
 use Rattle.mc_blocks.specs.Chains.{Above}
@@ -106,17 +107,9 @@ relink-apps n (b ∷ bs) =
 OneMore : List ℕ → List (List ℕ) → List (List ℕ) → Type 0
 OneMore k names more = (x : List ℕ) → has_name x more ≡ (bytes_eq k x || has_name x names)
 
-or-swap : (a b c : Bool) → (a || (b || c)) ≡ (b || (a || c))
-or-swap true true c = refl
-or-swap true false c = refl
-or-swap false b c = refl
-
 one-more : (k x : List ℕ) (names more : List (List ℕ)) → OneMore k names more → OneMore k (x ∷ names) (x ∷ more)
 unfolding OneMore
 one-more k x names more h = λ y. ap (λ (b : Bool). bytes_eq x y || b) (h y) ∙ or-swap (bytes_eq x y) (bytes_eq k y) (has_name y names)
-
-pub turned : (a b : List ℕ) → bytes_eq a b ≡ false → bytes_eq b a ≡ false
-turned a b h = false_from_ne_true (bytes_eq b a) (λ e. absurd (cc (sym ((bytes_eq-Decides a b).1 (sym ((bytes_eq-Decides b a).0 e))) ∙ h)))
 
 -- no used block has this name
 abbrev pub NotNamed : List (List ℕ) → List ℕ → List Block → Type 0

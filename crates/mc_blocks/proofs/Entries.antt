@@ -6,6 +6,7 @@ use Rattle.std.proofs.lemmas.List.{map-append}
 use Rattle.mc_model.specs.Bytes.{be2, has_name, up}
 use Rattle.mc_model.specs.Card.{Block, word, header, blocks, record_at, name_in, needed_of}
 use Rattle.mc_model.specs.Layout.{is_record, bad_record}
+use Rattle.mc_model.proofs.ListLemmas.{or-swap as swapped}
 use Rattle.mc_blocks.specs.Blocks.{fitting, blocks_at, admitted, Admits}
 use Rattle.mc_blocks.proofs.Steps.{blocks_step, blocks_stop, blocks_all}
 
@@ -27,11 +28,6 @@ six r w h =
 
 pub short_is_none : (r : List ℕ) (w : ℕ) → w < 6 → is_record r w ≡ false
 short_is_none r w h = false_from_ne_true (is_record r w) (λ e. absurd (omega (arith, six r w e)))
-
-swapped : (a b c : Bool) → (a || (b || c)) ≡ (b || (a || c))
-swapped true true c = refl
-swapped true false c = refl
-swapped false b c = refl
 
 -- a name among others
 pub name-append : (k x : List ℕ) (ns : List (List ℕ)) → has_name k (ns ++ x ∷ []) ≡ (bytes_eq x k || has_name k ns)

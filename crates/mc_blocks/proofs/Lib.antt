@@ -21,3 +21,4 @@ pub mod Cards
 pub mod Outcome
 pub mod Names
 pub mod Setting
+pub mod Layouts

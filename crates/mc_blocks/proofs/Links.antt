@@ -4,7 +4,7 @@ use Rattle.std.specs.Prelude.{nat_lt, nat_le, ◌==◌}
 use Rattle.std.proofs.lemmas.Bool.{lt-ltb, le-ltb, ltb-true, eq-eqb, ne_eqb, eqb-true, and_parts, leb-true, or_cases, not-true, eqb-false}
 use Rattle.mc_model.specs.Bytes.{be2}
 use Rattle.mc_model.specs.Image.{Closed, look}
-use Rattle.mc_model.specs.Device.{IsImage}
+use Rattle.mc_model.specs.Device.{IsSized}
 use Rattle.mc_model.specs.Card.{means, word, blocks}
 use Rattle.mc_model.specs.Layout.{first_place, gaps, IsWellLaid}
 use Rattle.mc_blocks.specs.Chains.{Above, IsChain}
@@ -21,7 +21,7 @@ pub chain-behind : (m : List (List ℕ)) (p : ℕ) (gs : List (ℕ × ℕ)) → 
 chain-behind m p [] c = tt
 chain-behind m p (g ∷ gs) c = chain-cut m p g gs (nat_lt g.0 p) c (chain-behind m p gs c.6)
 
-pub gaps-chain : (m : List (List ℕ)) → IsImage m → look m ≡ Closed → IsWellLaid m → IsChain m (gaps (means m))
+pub gaps-chain : (m : List (List ℕ)) → IsSized m → look m ≡ Closed → IsWellLaid m → IsChain m (gaps (means m))
 gaps-chain m image closed h = let c : Chain m = chain-of m image closed h in subst (λ (l : List (ℕ × ℕ)). IsChain m l) (sym c.gaps) c.chain
 
 -- ---- towards a place
@@ -34,7 +34,7 @@ pub record Trail (m : List (List ℕ)) (p : ℕ) (whole : List (ℕ × ℕ)) (pl
   pub before : gap_before p (0, 0) whole ≡ gap_before p (place, words) rest
   pub behind : gaps_behind p whole ≡ gaps_behind p rest
 
-pub trail-begins : (m : List (List ℕ)) (p next : ℕ) (x : List ℕ) → IsImage m → look m ≡ Closed → IsWellLaid m → x ≡ word m 0 → next ≡ be2 x 6 → Trail m p (gaps (means m)) 0 0 next
+pub trail-begins : (m : List (List ℕ)) (p next : ℕ) (x : List ℕ) → IsSized m → look m ≡ Closed → IsWellLaid m → x ≡ word m 0 → next ≡ be2 x 6 → Trail m p (gaps (means m)) 0 0 next
 trail-begins m p next x image closed h is here =
     let c : Chain m = chain-of m image closed h in
     record {
@@ -124,7 +124,7 @@ meet m p n next (g ∷ gs) c low here same =
       names = c.4 ∙ sym (ap (λ (t : Bool). cond t (first_place gs) g.0) is);
     })
 
-pub gap-meets : (m : List (List ℕ)) (p n next : ℕ) → IsImage m → look m ≡ Closed → IsWellLaid m → 1 ≤ p → next ≡ first_place (gaps_behind p (gaps (means m))) → next ≡ p + n → Meets m p n next (gaps_behind p (gaps (means m)))
+pub gap-meets : (m : List (List ℕ)) (p n next : ℕ) → IsSized m → look m ≡ Closed → IsWellLaid m → 1 ≤ p → next ≡ first_place (gaps_behind p (gaps (means m))) → next ≡ p + n → Meets m p n next (gaps_behind p (gaps (means m)))
 gap-meets m p n next image closed h low here same = meet m p n next (gaps_behind p (gaps (means m))) (chain-behind m p (gaps (means m)) (gaps-chain m image closed h)) low here same
 
 joined-test : (m : List (List ℕ)) (p n : ℕ) (g : ℕ × ℕ) (t : Bool) → (g.0 == p + n) ≡ t → g.0 + g.1 ≤ length m → p + n ≤ length m → p + cond t (n + g.1) n ≤ length m

@@ -7,6 +7,7 @@ use Rattle.std.proofs.lemmas.Slice.Eq.{bytes_eq-Decides}
 use Rattle.mc_model.specs.Bytes.{insert, remove, lookup, name_before, has_name}
 use Rattle.mc_model.specs.Card.{App, needed}
 use Rattle.mc_model.specs.Layout.{put_at, spans_of}
+use Rattle.mc_model.proofs.ListLemmas.{or-swap}
 use Rattle.mc_blocks.specs.Chains.{Above}
 use Rattle.mc_blocks.specs.Plans.{has_span, without}
 
@@ -123,11 +124,6 @@ pub has-more : (k x : List ℕ) (names : List (List ℕ)) → has_name k names �
 has-more k x names h = elim (cases_Bool (bytes_eq x k)) [ inl t ↦ ap (λ (s : Bool). s || has_name k names) t | inr f ↦ ap (λ (s : Bool). s || has_name k names) f ∙ h ]
 
 -- ---- spans of maps
-
-or-swap : (a b c : Bool) → (a || (b || c)) ≡ (b || (a || c))
-or-swap true true c = refl
-or-swap true false c = refl
-or-swap false b c = refl
 
 has-test : (p q n : ℕ) (e : ℕ × ℕ) (es more : List (ℕ × ℕ)) (t : Bool) → has_span p more ≡ (q == p || has_span p es) → has_span p (cond t ((q, n) ∷ e ∷ es) (e ∷ more)) ≡ (q == p || has_span p (e ∷ es))
 has-test p q n e es more true h = refl

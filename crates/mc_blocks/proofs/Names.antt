@@ -1,20 +1,17 @@
 -- The order of names, and insertions that may change places.
-use Rattle.std.proofs.Common.{◌≡◌, ℕ, true, false, List, [], ◌∷◌, None, refl, subst, arith}
+use Rattle.std.proofs.Common.{◌≡◌, ℕ, true, false, List, [], ◌∷◌, None, refl, arith}
 use Rattle.std.specs.Prelude.{bytes_eq}
 use Rattle.std.proofs.lemmas.Slice.Eq.{bytes_eq-Decides}
-use Rattle.std.proofs.lemmas.Bool.{false_from_ne_true}
 use Rattle.std.proofs.lemmas.Bool.Decides.{nat_tests}
 use Rattle.mc_model.specs.Bytes.{lookup, insert, remove, name_before}
 use Rattle.mc_model.specs.Card.{App}
+use Rattle.mc_model.proofs.ListLemmas.{other-name as turned}
 
 same_name : (a b : List ℕ) → bytes_eq a b ≡ true → a ≡ b
 same_name a b h = (bytes_eq-Decides a b).0 h
 
 itself : (a : List ℕ) → bytes_eq a a ≡ true
 itself a = (bytes_eq-Decides a a).1 refl
-
-turned : (a b : List ℕ) → bytes_eq a b ≡ false → bytes_eq b a ≡ false
-turned a b h = false_from_ne_true (bytes_eq b a) (λ e. cc (h, subst (λ (c : List ℕ). bytes_eq c b ≡ true) (same_name b a e) (itself b)))
 
 not_after : (a b : List ℕ) → name_before a b ≡ true → name_before b a ≡ false
 not_after [] [] h = absurd (cc h)

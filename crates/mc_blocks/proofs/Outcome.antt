@@ -5,7 +5,7 @@ use Rattle.std.specs.List.{AllByRecursion, list_any}
 use Rattle.std.proofs.lemmas.Bool.{eqb-true}
 use Rattle.mc_model.specs.Bytes.{be2, insert, lookup, remove, has_name}
 use Rattle.mc_model.specs.Image.{Closed, look}
-use Rattle.mc_model.specs.Device.{IsImage}
+use Rattle.mc_model.specs.Device.{IsSized}
 use Rattle.mc_model.specs.Card.{App, Card, Block, word, blocks, means, record_at, name_at, app_at, apps_of}
 use Rattle.mc_model.specs.Layout.{first_hole, gaps, spans, put_at, root, same_pair, is_record, IsWellLaid}
 use Rattle.mc_model.specs.Image.{Two}
@@ -33,7 +33,7 @@ record After (m n : List (List ℕ)) (new : List Block) : Type 0 where
   relaid : Relaid m n new
   same : (s : ℕ × ℕ) → In s (used_spans (blocks m)) → In s (used_spans new) → (i : ℕ) → s.0 ≤ i → i < s.0 + s.1 → word n i ≡ word m i
 
-after-plan : (m n : List (List ℕ)) (f : List (ℕ × ℕ) → List (ℕ × ℕ)) (new : List Block) → IsImage m → look m ≡ Closed → IsWellLaid m → Planned m n (f (spans (means m))) → Tiled 131 false new (length m) → f (used_spans (blocks m)) ≡ used_spans new → After m n new
+after-plan : (m n : List (List ℕ)) (f : List (ℕ × ℕ) → List (ℕ × ℕ)) (new : List Block) → IsSized m → look m ≡ Closed → IsWellLaid m → Planned m n (f (spans (means m))) → Tiled 131 false new (length m) → f (used_spans (blocks m)) ≡ used_spans new → After m n new
 after-plan m n f new image closed h planned tiled spans-new =
     let l : Laid m = well-laid m image closed h in
     let v = slice_index (word m 0) 3 in
@@ -129,7 +129,7 @@ leaves m n new apps closed size r nm few is =
     }
 
 -- words taken for an application whose record stands there
-pub creates : (m n : List (List ℕ)) (p need : ℕ) → IsImage m → look m ≡ Closed → IsWellLaid m → 1 ≤ need → has_room p need (gaps (means m)) ≡ true → Planned m n (put_at p need (spans (means m)))
+pub creates : (m n : List (List ℕ)) (p need : ℕ) → IsSized m → look m ≡ Closed → IsWellLaid m → 1 ≤ need → has_room p need (gaps (means m)) ≡ true → Planned m n (put_at p need (spans (means m)))
     → is_record (record_at n p) need ≡ true → lookup (means m).apps (name_at n p) ≡ None → length (means m).apps < 32 → Leaves m n (insert (means m).apps (name_at n p) (app_at n p))
 creates m n p need image closed h some room planned good fresh few =
     let l : Laid m = well-laid m image closed h in
@@ -150,7 +150,7 @@ creates m n p need image closed h some room planned good fresh few =
     leaves m n new (insert (means m).apps (name_at n p) (app_at n p)) closed planned.size after.relaid c.named more (c.apps ∙ ap (λ (es : List (List ℕ × App)). insert es (name_at n p) (app_at n p)) (sym means-apps))
 
 -- a block freed: the card loses its application
-pub deletes : (m n : List (List ℕ)) (k : List ℕ) (a : App) → IsImage m → look m ≡ Closed → IsWellLaid m → lookup (means m).apps k ≡ Some a → Planned m n (without a.place (spans (means m))) → Leaves m n (remove (means m).apps k)
+pub deletes : (m n : List (List ℕ)) (k : List ℕ) (a : App) → IsSized m → look m ≡ Closed → IsWellLaid m → lookup (means m).apps k ≡ Some a → Planned m n (without a.place (spans (means m))) → Leaves m n (remove (means m).apps k)
 deletes m n k a image closed h found planned =
     let l : Laid m = well-laid m image closed h in
     let f : Faultless m = faultless m (sym (fault-closed m closed) ∙ h) in

@@ -4,7 +4,7 @@ use Rattle.std.specs.Prelude.{nat_lt, nat_le, ◌==◌, slice_index}
 use Rattle.std.proofs.lemmas.Bool.{lt-ltb, le-leb, ltb-true, eq-eqb, ne_eqb, eqb-true, or_cases, and_from, or_left, or_right}
 use Rattle.mc_model.specs.Bytes.{be2}
 use Rattle.mc_model.specs.Image.{Closed, look, within, ascend}
-use Rattle.mc_model.specs.Device.{IsImage}
+use Rattle.mc_model.specs.Device.{IsSized}
 use Rattle.mc_model.specs.Stopped.{IsAtomic}
 use Rattle.mc_model.specs.Card.{Card, Block, means, card_of, word, header, blocks}
 use Rattle.mc_model.specs.Layout.{gaps, spans, put_at, hole_header, used_header, IsWellLaid}
@@ -21,7 +21,7 @@ use Rattle.mc_blocks.proofs.Freeing as freeing
 use Rattle.mc_blocks.proofs.Links.{chain-behind, gaps-chain, joined-within, HoleAt, hole-at, BeforeAt, before-at, before-cases}
 
 -- a plan for spans that are made of the card's
-pub plan-is : (m : List (List ℕ)) (f : List (ℕ × ℕ) → List (ℕ × ℕ)) → IsImage m → look m ≡ Closed → IsWellLaid m
+pub plan-is : (m : List (List ℕ)) (f : List (ℕ × ℕ) → List (ℕ × ℕ)) → IsSized m → look m ≡ Closed → IsWellLaid m
     → plan (means m) (f (spans (means m))) ≡ changes (layout_of (slice_index (word m 0) 3) (length m) (used_spans (blocks m))) (layout_of (slice_index (word m 0) 3) (length m) (f (used_spans (blocks m))))
 plan-is m f image closed h =
     let l : Laid m = well-laid m image closed h in
@@ -30,13 +30,13 @@ plan-is m f image closed h =
     ∙ ap (λ (x : List (ℕ × List ℕ)). changes x (layout_of v (length m) (f (spans (card_of m))))) (layout-spans (card_of m))
     ∙ ap (λ (ss : List (ℕ × ℕ)). changes (layout_of v (length m) ss) (layout_of v (length m) (f ss))) l.spans
 
-pub gaps-are : (m : List (List ℕ)) → IsImage m → look m ≡ Closed → IsWellLaid m → gaps (means m) ≡ hole_spans (blocks m)
+pub gaps-are : (m : List (List ℕ)) → IsSized m → look m ≡ Closed → IsWellLaid m → gaps (means m) ≡ hole_spans (blocks m)
 gaps-are m image closed h = ap (λ (k : Card). gaps k) (means-closed m closed) ∙ (well-laid m image closed h).gaps
 
-pub spans-are : (m : List (List ℕ)) → IsImage m → look m ≡ Closed → IsWellLaid m → spans (means m) ≡ used_spans (blocks m)
+pub spans-are : (m : List (List ℕ)) → IsSized m → look m ≡ Closed → IsWellLaid m → spans (means m) ≡ used_spans (blocks m)
 spans-are m image closed h = ap (λ (k : Card). spans k) (means-closed m closed) ∙ (well-laid m image closed h).spans
 
-gaps-above : (m : List (List ℕ)) → IsImage m → look m ≡ Closed → IsWellLaid m → Above 131 (gaps (means m))
+gaps-above : (m : List (List ℕ)) → IsSized m → look m ≡ Closed → IsWellLaid m → Above 131 (gaps (means m))
 gaps-above m image closed h = subst (λ (l : List (ℕ × ℕ)). Above 131 l) (sym (gaps-are m image closed h)) (holes-above 131 false (blocks m) (length m) (well-laid m image closed h).tiled)
 
 -- ---- places for an atomic write
@@ -117,7 +117,7 @@ pub record TakeIs (m : List (List ℕ)) (p need : ℕ) : Type 0 where
 room-low : (p need : ℕ) (gs : List (ℕ × ℕ)) → Above 131 gs → has_room p need gs ≡ true → 131 ≤ p
 room-low p need gs a h = taking.room-from 131 p need gs a h
 
-pub take-is : (m : List (List ℕ)) (p need : ℕ) → IsImage m → look m ≡ Closed → IsWellLaid m → 1 ≤ need → has_room p need (gaps (means m)) ≡ true → TakeIs m p need
+pub take-is : (m : List (List ℕ)) (p need : ℕ) → IsSized m → look m ≡ Closed → IsWellLaid m → 1 ≤ need → has_room p need (gaps (means m)) ≡ true → TakeIs m p need
 take-is m p need image closed h some room =
     let l : Laid m = well-laid m image closed h in
     let gs = gaps (means m) in
@@ -199,7 +199,7 @@ pub record FreeIs (m : List (List ℕ)) (p : ℕ) : Type 0 where
   pub plan : list ≡ plan (means m) (without p (spans (means m)))
   pub few : Few (length m) list
 
-pub free-is : (m : List (List ℕ)) (p : ℕ) → IsImage m → look m ≡ Closed → IsWellLaid m → has_span p (spans (means m)) ≡ true → FreeIs m p
+pub free-is : (m : List (List ℕ)) (p : ℕ) → IsSized m → look m ≡ Closed → IsWellLaid m → has_span p (spans (means m)) ≡ true → FreeIs m p
 free-is m p image closed h span =
     let l : Laid m = well-laid m image closed h in
     let gs = gaps (means m) in
@@ -228,7 +228,7 @@ free-is m p image closed h span =
     }
 
 -- the gap before a place ends in time
-pub before-ends : (m : List (List ℕ)) (p : ℕ) → IsImage m → look m ≡ Closed → IsWellLaid m → (gap_before p (0, 0) (gaps (means m))).0 + (gap_before p (0, 0) (gaps (means m))).1 ≤ length m
+pub before-ends : (m : List (List ℕ)) (p : ℕ) → IsSized m → look m ≡ Closed → IsWellLaid m → (gap_before p (0, 0) (gaps (means m))).0 + (gap_before p (0, 0) (gaps (means m))).1 ≤ length m
 before-ends m p image closed h =
     let g = gap_before p (0, 0) (gaps (means m)) in
     elim (before-cases m p g (before-at m p (gaps (means m)) (gaps-above m image closed h) (gaps-chain m image closed h))) [ inl root ↦ omega (arith, root.0, root.1) | inr hole ↦ hole.1 ]

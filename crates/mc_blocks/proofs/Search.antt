@@ -4,7 +4,7 @@ use Rattle.std.specs.Prelude.{nat_le, ◌==◌}
 use Rattle.std.proofs.lemmas.Bool.{leb-true, leb-false, le-leb, lt-leb, ne_eqb, eqb-true}
 use Rattle.mc_model.specs.Bytes.{be2, or_else}
 use Rattle.mc_model.specs.Image.{Closed, look}
-use Rattle.mc_model.specs.Device.{IsImage}
+use Rattle.mc_model.specs.Device.{IsSized}
 use Rattle.mc_model.specs.Card.{Card, Block, word, header, blocks, means}
 use Rattle.mc_model.specs.Layout.{first_hole, first_place, first_fitting, gaps, bad_link, IsWellLaid}
 use Rattle.mc_blocks.specs.Chains.{Above, IsChain, looked_at}
@@ -55,7 +55,7 @@ pub record Chain (m : List (List ℕ)) : Type 0 where
   pub chain : IsChain m (hole_spans (blocks m))
   pub first : be2 (word m 0) 6 ≡ first_place (hole_spans (blocks m))
 
-pub chain-of : (m : List (List ℕ)) → IsImage m → look m ≡ Closed → IsWellLaid m → Chain m
+pub chain-of : (m : List (List ℕ)) → IsSized m → look m ≡ Closed → IsWellLaid m → Chain m
 chain-of m image closed h =
     let l : Laid m = well-laid m image closed h in
     let root = root-none (be2 (word m 0) 6) (first_hole (blocks m)) (bad_link (blocks m)) (be2 (word m 0) 6 == first_hole (blocks m)) refl l.chain in
@@ -144,7 +144,7 @@ search-ends m need whole place start steps s h =
     let ticks = s.ticks in
     (s.same ∙ none-left m need s.rest s.chain end, omega (arith, none, ticks))
 
-pub search-begins : (m : List (List ℕ)) (need place start steps : ℕ) (x : List ℕ) → IsImage m → look m ≡ Closed → IsWellLaid m → x ≡ word m 0 → place ≡ be2 x 6 → steps ≡ start + 1 → Search m need (gaps (means m)) place start steps
+pub search-begins : (m : List (List ℕ)) (need place start steps : ℕ) (x : List ℕ) → IsSized m → look m ≡ Closed → IsWellLaid m → x ≡ word m 0 → place ≡ be2 x 6 → steps ≡ start + 1 → Search m need (gaps (means m)) place start steps
 search-begins m need place start steps x image closed h is here one =
     let c : Chain m = chain-of m image closed h in
     let count : looked_at need (gaps (means m)) ≡ looked_at need (hole_spans (blocks m)) = ap (λ (l : List (ℕ × ℕ)). looked_at need l) c.gaps in

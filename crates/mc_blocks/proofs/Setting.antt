@@ -4,9 +4,10 @@ use Rattle.std.specs.Prelude.{◌==◌, bytes_eq, slice_index, MatchBool}
 use Rattle.std.proofs.lemmas.Bool.{cases_eq, ne_eqb}
 use Rattle.mc_model.specs.Bytes.{be2, insert, has_name}
 use Rattle.mc_model.specs.Image.{Closed, look}
-use Rattle.mc_model.specs.Device.{IsImage}
+use Rattle.mc_model.specs.Device.{IsSized}
 use Rattle.mc_model.specs.Card.{App, Card, Block, word, header, blocks, means, record_at, name_in, name_at, app_at, apps_of}
 use Rattle.mc_model.specs.Layout.{first_hole, spans, bad_link, is_record, IsWellLaid}
+use Rattle.mc_model.proofs.ListLemmas.{other-name as turned}
 use Rattle.mc_blocks.specs.Blocks.{used_spans, is_root_word}
 use Rattle.mc_blocks.specs.Chains.{Above}
 use Rattle.mc_blocks.specs.Outcomes.{Leaves, AgreeBut}
@@ -19,7 +20,7 @@ use Rattle.mc_blocks.proofs.Applications.{few-blocks}
 use Rattle.mc_blocks.proofs.Plans.{spans-are}
 use Rattle.mc_blocks.proofs.Freeing.{span-from}
 use Rattle.mc_blocks.proofs.Built.{Stands, built, SameBlock, same-block, chain-parts, root-good}
-use Rattle.mc_blocks.proofs.Cards.{SameUsed, Same, same-named, Created, name-behind, first-name, turned}
+use Rattle.mc_blocks.proofs.Cards.{SameUsed, Same, same-named, Created, name-behind, first-name}
 use Rattle.mc_blocks.proofs.Outcome.{good-of, tail-of}
 
 agree-read : (m n : List (List ℕ)) (p : ℕ) (bs : List Block) → length n ≡ length m → AreRead m bs → AgreeBut m n p bs → AreRead n bs
@@ -96,7 +97,7 @@ set-all m n p q a names (b ∷ bs) end t nm s span e =
     ]
 
 -- words of one used block set behind its record: the card has its application as it stands then
-pub sets : (m n : List (List ℕ)) (p : ℕ) → IsImage m → look m ≡ Closed → IsWellLaid m → has_span p (spans (means m)) ≡ true → length n ≡ length m → word n 0 ≡ word m 0 → AgreeBut m n p (blocks m) → record_at n p ≡ record_at m p
+pub sets : (m n : List (List ℕ)) (p : ℕ) → IsSized m → look m ≡ Closed → IsWellLaid m → has_span p (spans (means m)) ≡ true → length n ≡ length m → word n 0 ≡ word m 0 → AgreeBut m n p (blocks m) → record_at n p ≡ record_at m p
     → Leaves m n (insert (means m).apps (name_at m p) (app_at n p))
 sets m n p image closed h span size same agree entry =
     let l : Laid m = well-laid m image closed h in

@@ -8,6 +8,7 @@ use Rattle.mc_model.specs.Bytes.{be2}
 use Rattle.mc_model.specs.Card.{Block, word, header}
 use Rattle.mc_model.specs.Layout.{first_hole, hole_header, used_header, root, same_pair, bad_link}
 use Rattle.mc_model.proofs.ImageLemmas.{Holds, all-append}
+use Rattle.mc_model.proofs.ListLemmas.{two-bytes}
 use Rattle.mc_blocks.specs.Blocks.{used_spans, is_root_word}
 use Rattle.mc_blocks.specs.Outcomes.{Kept}
 use Rattle.mc_blocks.specs.Plans.{changes, link_word}
@@ -41,9 +42,6 @@ relink-links (b ∷ bs) =
     ap (λ (t : Bool). cond t (bad_link (relink bs)) (Some b.place)) (eq-eqb (cond b.used 0 (first_hole bs)) (cond b.used 0 (first_hole (relink bs))) due) ∙ relink-links bs
 
 -- ---- words that read as they should
-
-two-bytes : (n : ℕ) → n < 65536 → 256 * (n / 256 % 256) + n % 256 ≡ n
-two-bytes n h = omega arith
 
 header-used : (p n : ℕ) → 1 ≤ n → n < 65536 → header p (used_header n) ≡ Some (record { place = p; used = true; words = n; link = 0 })
 header-used p n low high =

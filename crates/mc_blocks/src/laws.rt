@@ -1,10 +1,11 @@
 ghost use Rattle.std.specs.Prelude.{◌≡◌, ℕ, ◌-◌, ◌<◌, ◌≤◌, List, [], ◌∷◌, length, slice_index, true, false, Some, None};
+ghost use Rattle.std.specs.List.{AllByRecursion};
 ghost use Rattle.mc_model.specs.Bytes.{be2, lookup, insert, remove};
-ghost use Rattle.mc_model.specs.Image.{Closed, Two, look, shut};
-ghost use Rattle.mc_model.specs.Device.{IsImage};
+ghost use Rattle.mc_model.specs.Image.{Closed, Two, look, after, shut};
+ghost use Rattle.mc_model.specs.Device.{IsImage, IsSized};
 ghost use Rattle.mc_model.specs.Stopped.{Stands as WrittenBy};
-ghost use Rattle.mc_model.specs.Card.{App, Card, needed, blocks, card_of, heap_start, means, word, record_at, name_at, app_at};
-ghost use Rattle.mc_model.specs.Layout.{spans, spans_of, put_at, gaps, hole_header, root, first_place, first_fitting, step_of, is_record, words_fault, IsWellLaid};
+ghost use Rattle.mc_model.specs.Card.{App, Card, needed, blocks, card_of, heap_start, means, words_after, word, record_at, name_at, app_at};
+ghost use Rattle.mc_model.specs.Layout.{spans, spans_of, put_at, gaps, hole_header, root, first_place, first_fitting, layout, step_of, is_record, words_fault, IsWellLaid};
 ghost use Rattle.mc_blocks.specs.Blocks.{used_spans, hole_spans, is_root_word, Agree};
 ghost use Rattle.mc_blocks.specs.Chains.{IsChain};
 ghost use Rattle.mc_blocks.specs.Outcomes.{AgreeBut, Planned, Leaves};
@@ -13,31 +14,38 @@ ghost use Rattle.mc_blocks.specs.Plans.{changes, layout_of, plan, has_room, has_
 /// On a well laid image with no open journal the holes of the walk by lengths are the gaps of the card, and its used
 /// blocks are the spans of the card's applications.
 pub fn walks_card()
-    ensures gaps { (m : List (List ℕ)) → IsImage m → look m ≡ Closed → IsWellLaid m
+    ensures gaps { (m : List (List ℕ)) → IsSized m → look m ≡ Closed → IsWellLaid m
         → gaps (means m) ≡ hole_spans (blocks m) }
-    ensures spans { (m : List (List ℕ)) → IsImage m → look m ≡ Closed → IsWellLaid m
+    ensures spans { (m : List (List ℕ)) → IsSized m → look m ≡ Closed → IsWellLaid m
         → spans (means m) ≡ used_spans (blocks m) }
-    ensures count { (m : List (List ℕ)) → IsImage m → look m ≡ Closed → IsWellLaid m
+    ensures count { (m : List (List ℕ)) → IsSized m → look m ≡ Closed → IsWellLaid m
         → length (means m).apps ≡ length (used_spans (blocks m)) }
 {}
 
 /// Its root names the first gap, and the header of each gap the next: the chain of holes is the ascending list of gaps.
 pub fn chains_gaps()
-    ensures root { (m : List (List ℕ)) → IsImage m → look m ≡ Closed → IsWellLaid m
+    ensures root { (m : List (List ℕ)) → IsSized m → look m ≡ Closed → IsWellLaid m
         → be2 (word m 0) 6 ≡ first_place (gaps (means m)) }
-    ensures holes { (m : List (List ℕ)) → IsImage m → look m ≡ Closed → IsWellLaid m → IsChain m (gaps (means m)) }
+    ensures holes { (m : List (List ℕ)) → IsSized m → look m ≡ Closed → IsWellLaid m → IsChain m (gaps (means m)) }
 {}
 
 /// It has at most 32 applications.
 pub fn counts_applications()
-    ensures { (m : List (List ℕ)) → IsImage m → look m ≡ Closed → IsWellLaid m → length (means m).apps ≤ 32 }
+    ensures { (m : List (List ℕ)) → IsSized m → look m ≡ Closed → IsWellLaid m → length (means m).apps ≤ 32 }
+{}
+
+/// What stands after the recovery of an image without a fault is the layout of the card that it means: its root, and the
+/// header of each block and each gap.
+pub fn holds_layout()
+    ensures { (m : List (List ℕ)) → IsImage m → IsWellLaid m
+        → AllByRecursion (λ p. word (words_after (after m) m) p.0 ≡ p.1) (layout (means m)) }
 {}
 
 /// Words with the same root, and in each block the same header and where it is used the same words, hold the same card.
 pub fn keeps_card()
-    ensures laid { (m n : List (List ℕ)) → IsImage m → words_fault m ≡ None → length n ≡ length m
+    ensures laid { (m n : List (List ℕ)) → IsSized m → words_fault m ≡ None → length n ≡ length m
         → word n 0 ≡ word m 0 → Agree m n (blocks m) → words_fault n ≡ None }
-    ensures card { (m n : List (List ℕ)) → IsImage m → words_fault m ≡ None → length n ≡ length m
+    ensures card { (m n : List (List ℕ)) → IsSized m → words_fault m ≡ None → length n ≡ length m
         → word n 0 ≡ word m 0 → Agree m n (blocks m) → card_of n ≡ card_of m }
 {}
 
@@ -55,9 +63,9 @@ pub fn inserts_span()
 
 /// An application of a well laid image that is found by its name has a span at its place, which goes with it.
 pub fn removes_span()
-    ensures there { (m : List (List ℕ)) (name : List ℕ) (app : App) → IsImage m → look m ≡ Closed → IsWellLaid m
+    ensures there { (m : List (List ℕ)) (name : List ℕ) (app : App) → IsSized m → look m ≡ Closed → IsWellLaid m
         → lookup (means m).apps name ≡ Some app → has_span app.place (spans (means m)) ≡ true }
-    ensures gone { (m : List (List ℕ)) (name : List ℕ) (app : App) → IsImage m → look m ≡ Closed → IsWellLaid m
+    ensures gone { (m : List (List ℕ)) (name : List ℕ) (app : App) → IsSized m → look m ≡ Closed → IsWellLaid m
         → lookup (means m).apps name ≡ Some app
         → spans_of (remove (means m).apps name) ≡ without app.place (spans (means m)) }
 {}
@@ -65,7 +73,7 @@ pub fn removes_span()
 /// After the plan for words at a place where there is room, and where a good record of so many words stands under a new
 /// name, the words hold the card with that application.
 pub fn creates_application()
-    ensures { (m n : List (List ℕ)) (p need : ℕ) → IsImage m → look m ≡ Closed → IsWellLaid m → 1 ≤ need
+    ensures { (m n : List (List ℕ)) (p need : ℕ) → IsSized m → look m ≡ Closed → IsWellLaid m → 1 ≤ need
         → has_room p need (gaps (means m)) ≡ true → Planned m n (put_at p need (spans (means m)))
         → is_record (record_at n p) need ≡ true → lookup (means m).apps (name_at n p) ≡ None
         → length (means m).apps < 32
@@ -74,7 +82,7 @@ pub fn creates_application()
 
 /// After the plan that frees the block of an application the words hold the card without it.
 pub fn deletes_application()
-    ensures { (m n : List (List ℕ)) (name : List ℕ) (app : App) → IsImage m → look m ≡ Closed → IsWellLaid m
+    ensures { (m n : List (List ℕ)) (name : List ℕ) (app : App) → IsSized m → look m ≡ Closed → IsWellLaid m
         → lookup (means m).apps name ≡ Some app → Planned m n (without app.place (spans (means m)))
         → Leaves m n (remove (means m).apps name) }
 {}
@@ -82,7 +90,7 @@ pub fn deletes_application()
 /// Where words of one used block were set behind its record, the words hold the card with the application that stands
 /// there then.
 pub fn sets_application()
-    ensures { (m n : List (List ℕ)) (p : ℕ) → IsImage m → look m ≡ Closed → IsWellLaid m
+    ensures { (m n : List (List ℕ)) (p : ℕ) → IsSized m → look m ≡ Closed → IsWellLaid m
         → has_span p (spans (means m)) ≡ true → length n ≡ length m → word n 0 ≡ word m 0 → AgreeBut m n p (blocks m)
         → record_at n p ≡ record_at m p
         → Leaves m n (insert (means m).apps (name_at m p) (app_at n p)) }
@@ -90,10 +98,10 @@ pub fn sets_application()
 
 /// Another version in a root that names the same hole makes the same card in that layout.
 pub fn changes_layout()
-    ensures laid { (m n : List (List ℕ)) → IsImage m → words_fault m ≡ None → length n ≡ length m
+    ensures laid { (m n : List (List ℕ)) → IsSized m → words_fault m ≡ None → length n ≡ length m
         → is_root_word (word n 0) (length n) ≡ true → be2 (word n 0) 6 ≡ be2 (word m 0) 6 → Agree m n (blocks m)
         → words_fault n ≡ None }
-    ensures card { (m n : List (List ℕ)) → IsImage m → words_fault m ≡ None → length n ≡ length m
+    ensures card { (m n : List (List ℕ)) → IsSized m → words_fault m ≡ None → length n ≡ length m
         → is_root_word (word n 0) (length n) ≡ true → be2 (word n 0) 6 ≡ be2 (word m 0) 6 → Agree m n (blocks m)
         → card_of n ≡ record (card_of m) { layout = slice_index (word n 0) 3 } }
 {}

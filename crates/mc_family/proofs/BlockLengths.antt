@@ -3,27 +3,18 @@ use Rattle.std.proofs.Common.{◌≡◌, ℕ, zero, suc, ◌+◌, ◌-◌, ◌*�
 use Rattle.std.specs.Prelude.{◌==◌, reverse, slice_index}
 use Rattle.std.specs.Int.{w32, to_be_bytes}
 use Rattle.sha1.specs.Sha1.{sha1, hash_after, padded_message, digest_bytes}
-use Rattle.std.proofs.lemmas.List.{length-append, length-take, length-drop, length-map, length-replicate}
-use Rattle.mc_model.specs.Bytes.{bytes, zeros, splice}
+use Rattle.std.proofs.lemmas.List.{length-append, length-take, length-map, length-replicate}
+use Rattle.mc_model.specs.Bytes.{bytes, zeros}
 use Rattle.mc_model.specs.Blocks.{each_byte}
 use Rattle.mc_model.specs.Modes.{added, blocks_of, each, chained, ecb}
 use Rattle.mc_model.specs.Des.{bits_of, bytes_of, with_keys, ciphered, des_encipher, des_decipher, tdes_encipher, tdes_decipher, des_signature, tdes_signature}
-use Rattle.mc_model.specs.Aes.{shift_rows, shift_rows_back, sub, sub_back, mix_columns, mix_columns_back, mixed, round, last_round, round_back, last_round_back, rounds, rounds_back, round_keys, aes_encipher, aes_decipher, aes_signature}
+use Rattle.mc_model.specs.Aes.{shift_rows, sub, mix_columns, mixed, round, last_round, round_back, last_round_back, rounds, rounds_back, round_keys, aes_encipher, aes_decipher, aes_signature}
 use Rattle.mc_model.specs.Aes as aes
 use Rattle.mc_model.specs.Des as des
 use Rattle.mc_model.specs.Frame.{Frame, Place, Static, Dynamic, Public, dynamic_base, where_is, static_bytes, bytes_in, bytes_at, stacked}
 use Rattle.mc_model.specs.Primitives.{Cipher, Des, TripleDes, Aes, block_len, enciphered, deciphered, signature}
 
 -- ---- lists
-
--- bytes written within a list keep its length, and never make it shorter
-pub length-splice : (l : List ℕ) (at : ℕ) (b : List ℕ) → at + length b ≤ length l → length (splice l at b) ≡ length l
-length-splice l at b fits =
-    omega (arith, length-append (take at l ++ b) (drop (at + length b) l), length-append (take at l) b, length-take at l, length-drop (at + length b) l)
-
-pub splice-longer : (l : List ℕ) (at : ℕ) (b : List ℕ) → length l ≤ length (splice l at b)
-splice-longer l at b =
-    omega (arith, length-append (take at l ++ b) (drop (at + length b) l), length-append (take at l) b, length-take at l, length-drop (at + length b) l)
 
 pub length-bytes : (n v : ℕ) → length (bytes n v) ≡ n
 length-bytes zero v = refl
@@ -48,13 +39,13 @@ zeros-short n = omega (arith, length-replicate {A = ℕ} n 0)
 pub stacked-short : (f : Frame) (k n : ℕ) → length (stacked f k n) ≤ n
 stacked-short f k n = omega (arith, length-take n (drop (f.dt - k - dynamic_base) f.dyn))
 
-in-short : (f : Frame) (public : List ℕ) (n : ℕ) (place : Option Place) → length (bytes_in f public n place) ≤ n
+pub in-short : (f : Frame) (public : List ℕ) (n : ℕ) (place : Option Place) → length (bytes_in f public n place) ≤ n
 in-short f public n None = omega arith
 in-short f public n (Some (Static i)) = omega (arith, length-take n (drop i (static_bytes f)))
 in-short f public n (Some (Dynamic i)) = omega (arith, length-take n (drop i f.dyn))
 in-short f public n (Some (Public i)) = omega (arith, length-take n (drop i public))
 
-none-or : (b : Bool) (l : List ℕ) (n : ℕ) → length l ≤ n → length (cond b [] l) ≤ n
+pub none-or : (b : Bool) (l : List ℕ) (n : ℕ) → length l ≤ n → length (cond b [] l) ≤ n
 none-or true l n few = omega arith
 none-or false l n few = few
 

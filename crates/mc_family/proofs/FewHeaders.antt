@@ -8,6 +8,7 @@ use Rattle.std.proofs.lemmas.Slice.Eq.{bytes_eq-Decides}
 use Rattle.mc_model.specs.Bytes.{insert, remove, name_before}
 use Rattle.mc_model.specs.Card.{App, Card, needed, heap_start}
 use Rattle.mc_model.specs.Layout.{put_at, spans_of, spans, gap, gaps_from, gaps, first_place, used_header, root, chained, with_used, layout, same_pair, step_of}
+use Rattle.mc_model.proofs.ListLemmas.{or-swap}
 use Rattle.mc_family.specs.FewHeaders.{FewHeadersLaw}
 
 abbrev Pair : Type 0
@@ -49,12 +50,6 @@ count-most t (e ∷ es) =
     let r : count t es ≤ length es = count-most t es in
     let o : one_if (t e) ≤ 1 = one-most (t e) in
     omega arith
-
-or-swap : (a b c : Bool) → (a || (b || c)) ≡ (b || (a || c))
-or-swap true true c = refl
-or-swap true false c = refl
-or-swap false true c = refl
-or-swap false false c = refl
 
 any-put : (q : Pair → Bool) (p : ℕ) (x : List ℕ) (es : List Pair) → list_any q (put_at p x es) ≡ (q (p, x) || list_any q es)
 any-put q p x [] = refl
@@ -195,7 +190,7 @@ insert-count t (e ∷ es) n a = by (bytes_eq e.0 n) (name_before n e.0) (insert-
     by false true r o = omega (arith, r, o)
     by false false r o = omega (arith, r, o)
 
-insert-length : (m : List (List ℕ × App)) (n : List ℕ) (a : App) → length (insert m n a) ≤ length m + 1
+pub insert-length : (m : List (List ℕ × App)) (n : List ℕ) (a : App) → length (insert m n a) ≤ length m + 1
 insert-length [] n a = omega arith
 insert-length (e ∷ es) n a = by (bytes_eq e.0 n) (name_before n e.0) (insert-length es n a)
   where
@@ -212,7 +207,7 @@ remove-count t (e ∷ es) n = by (bytes_eq e.0 n) (remove-count t es n)
     by true r = omega (arith, r)
     by false r = omega (arith, r)
 
-remove-length : (m : List (List ℕ × App)) (n : List ℕ) → length (remove m n) ≤ length m
+pub remove-length : (m : List (List ℕ × App)) (n : List ℕ) → length (remove m n) ≤ length m
 remove-length [] n = omega arith
 remove-length (e ∷ es) n = by (bytes_eq e.0 n) (remove-length es n)
   where

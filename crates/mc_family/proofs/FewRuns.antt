@@ -19,7 +19,7 @@ use Rattle.mc_model.proofs.ImageLemmas.{all-append}
 use Rattle.mc_family.specs.FewWords.{HoldsFew, words_in, most_words}
 use Rattle.mc_family.specs.FewRuns.{AreCoded, FewRunsLaw}
 use Rattle.mc_family.proofs.MapLemmas.{same_name, lookup-inserted, lookup-beside}
-use Rattle.mc_family.proofs.RowWords.{none_holds, RowFacts, row-few, held-after, delegates-short, most-64}
+use Rattle.mc_family.proofs.RowWords.{none_holds, RowFacts, row-few, held-after, told-any, delegates-short, most-64}
 use Rattle.mc_family.proofs.AppSizes.{SameSizes, Limited, limited-from, are-limited, limited-same}
 use Rattle.mc_family.proofs.RunSizes.{ChainFits, changed-by, NextFits, acted-fits, start-fits}
 
@@ -124,19 +124,20 @@ done-few ch i at fits h p =
     let f = stepped ch.frame at in
     let x = around ch in
     let d = effect i f ch.public x in
-    let k = row-few f ch.public x p.held.inside i in
+    let k = row-few f ch.public x i in
+    let held : HoldsFew f = record { fixed = h.frame.held.fixed; inside = h.frame.held.inside; few = h.frame.held.few } in
     let m : List (List ℕ × App) = map_changed ch.map ch.frame.name d.effect.changes in
-    let same : SameSizes ch.map m = changed-by ch.map ch.frame.name (length ch.frame.fixed) d.effect.changes fits.frame.fixed k.changes in
+    let same : SameSizes ch.map m = changed-by ch.map ch.frame.name (length ch.frame.fixed) d.effect.changes fits.frame.fixed (k.changes held.inside) in
     let s : FewChain (settled ch d.effect) =
     record {
-      frame = record { held = held-after i f ch.public x p; name = subst (λ (n : List ℕ). length n ≤ 16) (sym k.name) h.frame.name };
+      frame = record { held = held-after i f ch.public x p held; name = subst (λ (n : List ℕ). length n ≤ 16) (sym k.name) h.frame.name };
       below = h.below;
       limited = limited-same ch.map m same h.limited;
       coded = coded-moved ch.map m (code-kept ch.map ch.frame.name d.effect.changes) h.coded;
     }
     in
     let most : most_words i ≤ 64 = most-64 i in
-    let words : words_in d.effect.changes ≤ most_words i = k.words p in
+    let words : words_in d.effect.changes ≤ most_words i = k.words p (λ e. held.few) in
     record {
       writes = written-few ch.frame.name d.effect.changes (omega arith);
       next = follows-few (settled ch d.effect) d.next (λ n e. delegates-short i f ch.public x p.none n e) s;
@@ -150,8 +151,7 @@ judged-few ch i at None e fits h shaped =
     done-few ch i at fits h
     (record {
       shaped = shaped;
-      told = told-by ch.below h.below;
-      held = record { fixed = h.frame.held.fixed; inside = h.frame.held.inside; few = h.frame.held.few };
+      told = told-any i (around ch).delegator (told-by ch.below h.below);
       none = none_holds (causes i f ch.public (around ch)) e;
     })
 

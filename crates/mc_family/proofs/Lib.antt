@@ -1,4 +1,5 @@
 pub mod MapLemmas
+pub mod AscendingMaps
 pub mod Agreement
 pub mod RowNames
 pub mod RunLemma
@@ -26,6 +27,12 @@ pub mod PlaySizes
 pub mod EachRun
 pub mod FewRuns
 pub mod FewHeaders
+pub mod CardFacts
+pub mod FewItems
+pub mod FewLines
+pub mod AssembledBytes
+pub mod UnitBytes
+pub mod DeckBytes
 pub mod FormattedImage
 pub mod ReadyLines
 pub mod PlayLaw

@@ -8,10 +8,18 @@ use Rattle.mc_model.specs.Laws.{HoldsOf, IsolationLaw}
 use Rattle.mc_family.proofs.FamilyFold.{isolated}
 use Rattle.mc_family.proofs.WholeLines.{whole_lines}
 use Rattle.mc_family.proofs.FreshFold.{no_stale_byte}
+use Rattle.mc_family.proofs.FewLines.{few_words}
 use Rattle.mc_family.proofs.ReadyLines.{ready_again}
 
 pub isolation_law : IsolationLaw
-isolation_law ls m ws may n = record { family = λ K closed. isolated K n ls m ws may closed; each_line = whole_lines n (start m) ls ws; fresh = no_stale_byte n m ls ws; ready = ready_again n m ls ws }
+isolation_law ls m ws may n =
+    record {
+      family = λ K closed. isolated K n ls m ws may closed;
+      each_line = whole_lines n (start m) ls ws;
+      fresh = no_stale_byte n m ls ws;
+      few = λ image are. few_words n m ls ws image are;
+      ready = λ image are. ready_again n m ls ws image (few_words n m ls ws image are);
+    }
 
 -- a whole play is its front of all its lines
 pub play_law : (ls : List (ℕ × DeckLine)) (m : List (List ℕ)) (ws : List (Option WornAt)) → Possible (start m) ls ws → HoldsOf m (plays (start m) ls ws)

@@ -70,7 +70,7 @@ plain-done : (m : List (List ℕ × App)) (whole : Item) (s : Site) (p : Part) (
 plain-done m whole s p [] = refl
 plain-done m whole s p (c ∷ cs) = plain-done m whole s p cs
 
-abbrev notes : Site → List ℕ → List BankItem
+abbrev pub notes : Site → List ℕ → List BankItem
 notes s n = Note s n 0 ∷ Note s n 1 ∷ Note s n 2 ∷ Note s n 3 ∷ Enter s n ∷ []
 
 blanks-fit : (m : List (List ℕ × App)) (w : ℕ) (c : Change) (s : Site) (n : List ℕ) (cs : List (ℕ × List ℕ)) → ChangeFits m c → ItemsFit m (map (item_of (Atomic w c)) (map (λ c. Blank s c.0 (length c.1)) cs ++ notes s n))
@@ -351,7 +351,7 @@ no-cause : (c : Cause) (o : Option ℕ) → by_cause c o ≡ None → o ≡ None
 no-cause c None e = refl
 no-cause c (Some p) e = absurd (cc e)
 
-good-records : (w : List (List ℕ)) → words_fault w ≡ None → bad_record w (blocks w) [] 0 ≡ None
+pub good-records : (w : List (List ℕ)) → words_fault w ≡ None → bad_record w (blocks w) [] 0 ≡ None
 good-records w h =
     let root = or-none (by_cause NoRoot (no_root w)) _ h in
     let block = or-none (by_cause BadBlock (bad_block (length w) w 131 false)) _ root.1 in
@@ -400,7 +400,7 @@ limited-blocks m (b ∷ bs) names used h =
     by true false is e next other = absurd (cc e)
     by false g is e next other = other e
 
-sound-after : (m : List (List ℕ)) (l : Look) → look m ≡ l → fault_of l m ≡ None → words_fault (words_after (after m) m) ≡ None
+pub sound-after : (m : List (List ℕ)) (l : Look) → look m ≡ l → fault_of l m ≡ None → words_fault (words_after (after m) m) ≡ None
 sound-after m (Refused p) e h = absurd (cc h)
 sound-after m Closed e h = ap (λ (k : Look). words_fault (words_after (replayed m k) m)) e ∙ h
 sound-after m (Pending j ps) e h = h
@@ -412,22 +412,22 @@ means-limited m h =
 
 -- ---- lines
 
-abbrev LiveFits : List (List ℕ × App) → Live → Type 0
+abbrev pub LiveFits : List (List ℕ × App) → Live → Type 0
 LiveFits m (Running seat) = SeatFits m seat
 LiveFits m Unpowered = ⊤
 LiveFits m Muted = ⊤
 
-abbrev BaseFits : Base → Live → Type 0
+abbrev pub BaseFits : Base → Live → Type 0
 BaseFits (OnCard c) v = Limited c.apps × LiveFits c.apps v
 BaseFits (AtFault cause p) v = ⊤
 
-abbrev StateFits : State → Type 0
+abbrev pub StateFits : State → Type 0
 StateFits (Cold m b a) = ⊤
 StateFits (Hot s) = BaseFits s.base s.live
 
-record LineFits (u : Step) : Type 0 where
-  well : LineWell u.before (bytes_of u.line)
-  next : StateFits u.after
+pub record LineFits (u : Step) : Type 0 where
+  pub well : LineWell u.before (bytes_of u.line)
+  pub next : StateFits u.after
 
 after-stop : (m : List (List ℕ × App)) (k : Stop) → LiveFits m (live_after k)
 after-stop m stop.Off = tt
@@ -519,7 +519,7 @@ cold-fits n (line.Select x) m b a w = record { well = tt; next = tt }
 cold-fits n (line.Delete x) m b a w = record { well = tt; next = tt }
 cold-fits n (line.Apdu x) m b a w = record { well = tt; next = tt }
 
-step-fits : (z : State) (l : ℕ × DeckLine) (w : Option WornAt) → StateFits z → LineFits (step z l w)
+pub step-fits : (z : State) (l : ℕ × DeckLine) (w : Option WornAt) → StateFits z → LineFits (step z l w)
 unfolding step
 step-fits (Cold m b a) l w h = cold-fits l.0 l.1 m b a w
 step-fits (Hot s) l w h = hot-fits l.0 l.1 s w h

@@ -7,9 +7,9 @@ use Rattle.mc_model.specs.Pieces.{laid_pieces, touched}
 use Rattle.mc_model.specs.Frame.{Frame, Effect, Place, Static, Dynamic, Public, where_is, dynamic_base, public_base, public_end, static_written, written_in, written, is_outside, passes_limit, too_many, pushed, topped, flagged, protect, static_bytes, committed}
 use Rattle.mc_model.specs.Primitives.{framed, effect_flagged, looked_up, delegator_told}
 use Rattle.mc_model.proofs.ImageLemmas.{all-append}
-use Rattle.mc_family.specs.FewWords.{Inside, HoldsFew, words_in}
+use Rattle.mc_model.proofs.ListLemmas.{length-splice, splice-longer}
+use Rattle.mc_family.specs.FewWords.{Inside, words_in}
 use Rattle.mc_family.proofs.TouchedWords.{one-piece, shorter-piece, empty-piece}
-use Rattle.mc_family.proofs.BlockLengths.{length-splice, splice-longer}
 
 -- ---- pieces that lie inside
 
@@ -25,19 +25,20 @@ length-laid (p ∷ ps) l a =
     let same : length (splice l p.0 p.1) ≡ length l = length-splice l p.0 p.1 a.0 in
     length-laid ps (splice l p.0 p.1) (subst (λ (n : ℕ). Inside n ps) (sym same) a.1) ∙ same
 
--- What an effect leaves of a frame with these parts; how many words it touches, and how many stay pending, where P is known.
-pub record KeptSizes (known : List ℕ) (bytes size room : ℕ) (P : Type 0) (most : ℕ) (e : Effect) : Type 0 where
+-- What an effect leaves of a frame with these parts: the sizes, where its pieces lie inside, how many words it touches, where P is known
+-- and a change of 64 words finds no more pending, and how many stay pending.
+pub record KeptSizes (known : List ℕ) (bytes size room : ℕ) (pieces : List (ℕ × List ℕ)) (P : Type 0) (most : ℕ) (e : Effect) : Type 0 where
   pub name : e.frame.name ≡ known
   pub session : e.frame.session ≡ bytes
-  pub fixed : length e.frame.fixed ≡ size
   pub dyn : room ≤ length e.frame.dyn
-  pub inside : Inside size e.frame.pieces
-  pub changes : InsideChange size e.changes
-  pub words : P → words_in e.changes ≤ most
-  pub few : P → length (touched e.frame.pieces) ≤ 64
+  pub fixed : Inside size pieces → length e.frame.fixed ≡ size
+  pub inside : Inside size pieces → Inside size e.frame.pieces
+  pub changes : Inside size pieces → InsideChange size e.changes
+  pub words : P → (most ≡ 64 → length (touched pieces) ≤ 64) → words_in e.changes ≤ most
+  pub few : P → size ≤ 4096 → length (touched pieces) ≤ 64 → length (touched e.frame.pieces) ≤ 64
 
 abbrev pub KeepsSizes : Frame → Type 0 → ℕ → Effect → Type 0
-KeepsSizes f P most e = KeptSizes f.name f.session (length f.fixed) (length f.dyn) P most e
+KeepsSizes f P most e = KeptSizes f.name f.session (length f.fixed) (length f.dyn) f.pieces P most e
 
 -- what is known of a write of some bytes, where an access of n bytes was tested
 pub record WriteFacts (f : Frame) (a n : ℕ) (b : List ℕ) : Type 0 where
@@ -104,8 +105,8 @@ limited-by : (f : Frame) (a n : ℕ) → f.protected ≡ true → too_many f a n
 unfolding too_many
 limited-by f a n on h = subst (λ (b : Bool). passes_limit b f (where_is f a n) n ≡ false) on h
 
-pending : (f : Frame) (a n i : ℕ) (b : List ℕ) → f.protected ≡ true → where_is f a (length b) ≡ Some (Static i) → HoldsFew f → WriteFacts f a n b → length (touched (f.pieces ++ (i, b) ∷ [])) ≤ 64
-pending f a n i b on e held w = by (n == 0) refl
+pending : (f : Frame) (a n i : ℕ) (b : List ℕ) → f.protected ≡ true → where_is f a (length b) ≡ Some (Static i) → length f.fixed ≤ 4096 → length (touched f.pieces) ≤ 64 → WriteFacts f a n b → length (touched (f.pieces ++ (i, b) ∷ [])) ≤ 64
+pending f a n i b on e small few w = by (n == 0) refl
   where
     there : (a ≡ i) × (a + length b ≤ length f.fixed)
     there = static-place f a (length b) i e
@@ -114,28 +115,27 @@ pending f a n i b on e held w = by (n == 0) refl
     by true is =
         let none : n ≡ 0 = eqb-true n 0 is in
         let empty : length b ≡ 0 = let short : length b ≤ n = w.short in omega arith in
-        let few : length (touched f.pieces) ≤ 64 = held.few in
         let same : length (touched (f.pieces ++ (i, b) ∷ [])) ≤ length (touched f.pieces) = empty-piece f.pieces i b empty in
         omega arith
     by false is =
         let some : is_none (where_is f a n) ≡ false = ap (λ (t : Bool). not t && is_none (where_is f a n)) (sym is) ∙ w.there in
-        pending-by f a n i b (where_is f a n) refl held.fixed there.0 there.1 w.short some (limited-by f a n on w.room)
+        pending-by f a n i b (where_is f a n) refl small there.0 there.1 w.short some (limited-by f a n on w.room)
 
 -- ---- effects by kind
 
-module _ (f : Frame) (P : Type 0) (inside : Inside (length f.fixed) f.pieces) (held : P → HoldsFew f) where
+module _ (f : Frame) (P : Type 0) where
   -- a frame with the same static bytes and pieces
   pub still : (g : Frame) (public : List ℕ) (most : ℕ) → g.name ≡ f.name → g.session ≡ f.session → g.fixed ≡ f.fixed → g.pieces ≡ f.pieces → length f.dyn ≤ length g.dyn → KeepsSizes f P most (framed g public)
   still g public most name session fixed pieces dyn =
       record {
         name = name;
         session = session;
-        fixed = ap (λ (l : List ℕ). length l) fixed;
         dyn = dyn;
-        inside = subst (λ (ps : List (ℕ × List ℕ)). Inside (length f.fixed) ps) (sym pieces) inside;
-        changes = tt;
-        words = λ p. omega arith;
-        few = λ p. subst (λ (ps : List (ℕ × List ℕ)). length (touched ps) ≤ 64) (sym pieces) (held p).few;
+        fixed = λ h. ap (λ (l : List ℕ). length l) fixed;
+        inside = λ h. subst (λ (ps : List (ℕ × List ℕ)). Inside (length f.fixed) ps) (sym pieces) h;
+        changes = λ h. tt;
+        words = λ p few. omega arith;
+        few = λ p small few. subst (λ (ps : List (ℕ × List ℕ)). length (touched ps) ≤ 64) (sym pieces) few;
       }
 
   -- bytes pushed, where DT is anywhere, and the top bytes replaced
@@ -154,12 +154,12 @@ module _ (f : Frame) (P : Type 0) (inside : Inside (length f.fixed) f.pieces) (h
       record {
         name = refl;
         session = refl;
-        fixed = length-splice f.fixed i bytes fits;
         dyn = omega arith;
-        inside = inside;
-        changes = (fits, tt);
-        words = λ p. one-piece i bytes (let short : length bytes ≤ n = (w p).short in let small : n ≤ 256 = (w p).small in omega arith);
-        few = λ p. (held p).few;
+        fixed = λ h. length-splice f.fixed i bytes fits;
+        inside = λ h. h;
+        changes = λ h. (fits, tt);
+        words = λ p few. one-piece i bytes (let short : length bytes ≤ n = (w p).short in let small : n ≤ 256 = (w p).small in omega arith);
+        few = λ p small few. few;
       }
   static-write true dt a n i public bytes on e w =
       let g = record f { dt = dt } in
@@ -168,12 +168,12 @@ module _ (f : Frame) (P : Type 0) (inside : Inside (length f.fixed) f.pieces) (h
       record {
         name = refl;
         session = refl;
-        fixed = refl;
         dyn = omega arith;
-        inside = all-append (λ p. p.0 + length p.1 ≤ length f.fixed) f.pieces ((i, bytes) ∷ []) inside (fits, tt);
-        changes = tt;
-        words = λ p. omega arith;
-        few = λ p. pending g a n i bytes on e (record { fixed = (held p).fixed; inside = (held p).inside; few = (held p).few }) (w p);
+        fixed = λ h. refl;
+        inside = λ h. all-append (λ p. p.0 + length p.1 ≤ length f.fixed) f.pieces ((i, bytes) ∷ []) h (fits, tt);
+        changes = λ h. tt;
+        words = λ p few. omega arith;
+        few = λ p small few. pending g a n i bytes on e small few (w p);
       }
 
   write-by : (dt a n : ℕ) (public bytes : List ℕ) (o : Option Place) → where_is (record f { dt = dt }) a (length bytes) ≡ o → (P → WriteFacts (record f { dt = dt }) a n bytes)
@@ -216,14 +216,14 @@ module _ (f : Frame) (P : Type 0) (inside : Inside (length f.fixed) f.pieces) (h
       (record {
         name = refl;
         session = refl;
-        fixed = length-laid f.pieces f.fixed inside;
         dyn = omega arith;
-        inside = tt;
-        changes = committed-inside f.pieces inside;
-        words = λ p. committed-few f.pieces (held p).few;
-        few = λ p. none-touched;
+        fixed = λ h. length-laid f.pieces f.fixed h;
+        inside = λ h. tt;
+        changes = λ h. committed-inside f.pieces h;
+        words = λ p few. committed-few f.pieces (few refl);
+        few = λ p small few. none-touched;
       })
-      (record { name = refl; session = refl; fixed = refl; dyn = omega arith; inside = tt; changes = tt; words = λ p. omega arith; few = λ p. none-touched })
+      (record { name = refl; session = refl; dyn = omega arith; fixed = λ h. refl; inside = λ h. tt; changes = λ h. tt; words = λ p few. omega arith; few = λ p small few. none-touched })
 
   pub looks-few : (most dt : ℕ) (public : List ℕ) (o : Option ℕ) → KeepsSizes f P most (looked_up (record f { dt = dt }) public o)
   looks-few most dt public (Some i) = still _ public most refl refl refl refl (splice-longer f.dyn _ (i ∷ []))

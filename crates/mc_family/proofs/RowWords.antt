@@ -1,6 +1,6 @@
 -- The words that each row's change touches, from the causes that do not hold and the ranges of its operands.
-use Rattle.std.proofs.Common.{◌≡◌, ℕ, ◌+◌, ◌-◌, ◌*◌, ◌<◌, ◌≤◌, ℤ, Bool, true, false, cond, List, [], ◌∷◌, ◌++◌, take, drop, length, Option, Some, None, refl, sym, subst, arith}
-use Rattle.std.specs.Prelude.{◌==◌, ◌&&◌, ◌||◌, ⊤, nat_le, slice_index, IfSome}
+use Rattle.std.proofs.Common.{◌≡◌, ℕ, ◌+◌, ◌-◌, ◌*◌, ◌<◌, ◌≤◌, ℤ, Bool, true, false, cond, List, [], ◌∷◌, ◌++◌, take, drop, length, Option, Some, None, refl, sym, subst, inl, inr, arith}
+use Rattle.std.specs.Prelude.{◌==◌, ◌&&◌, ◌||◌, ◌⊎◌, ⊤, nat_le, slice_index, IfSome}
 use Rattle.std.specs.List.{AllByRecursion}
 use Rattle.std.proofs.lemmas.Bool.{and_parts, or_parts, not-false, leb-true}
 use Rattle.sha1.specs.Sha1.{sha1}
@@ -10,12 +10,14 @@ use Rattle.mc_model.specs.declared.machine.Abend.{Abend}
 use Rattle.mc_model.specs.Bytes.{bytes2, zeros}
 use Rattle.mc_model.specs.Code.{Shaped}
 use Rattle.mc_model.specs.Modes.{ecb}
+use Rattle.mc_model.specs.Pieces.{touched}
 use Rattle.mc_model.specs.Frame.{Frame, Effect, bytes_at, address_at, is_outside, no_access, written, popped, pushed, top, flagged, come_back, dynamic_base}
 use Rattle.mc_model.specs.Primitives.{Around, Exits, Delegates, framed, effect_flagged, Cipher, Des, TripleDes, Aes, block_len, key_len, Primitive, CheckCase, LoadCcr, StoreCcr, Lookup, MemoryCompare, MemoryCopy, DelegateTo, DelegatorAid, Digest, CompareFixed, CopyFixed, SetProtection, Encipher, Decipher, Sign, BitByte, ShiftLeft, ShiftRight, BitWord, primitive, in_range, named, count_at, told_causes, cipher_causes, later_causes, prim_causes, prim_effect, prim_done, manipulated, enciphered, deciphered}
 use Rattle.mc_model.specs.Blocks.{shift_left_block, shift_right_block, add_blocks, sub_blocks, inc_block, dec_block, and_blocks, or_blocks, xor_blocks, not_block}
 use Rattle.mc_model.specs.Row.{on_stack, indexed, holds, gone, called, target, operand, known, writes, immediate_writes, pair_writes, place_of, value_of, first_of, causes, effect, first_cause, judged, row}
-use Rattle.mc_family.specs.FewWords.{Inside, HoldsFew, most_of, most_words, EndsFew, FewWordsLaw, FewWritesLaw}
-use Rattle.mc_family.proofs.BlockLengths.{splice-longer, worked-short, each-short, map-short, zeros-short, stacked-short, at-short, enciphered-message, deciphered-message, signature-short, length-sha1}
+use Rattle.mc_model.proofs.ListLemmas.{splice-longer}
+use Rattle.mc_family.specs.FewWords.{Inside, HoldsFew, IsTold, most_of, most_words, EndsFew, EndsWithin, FewWordsLaw, FewWritesLaw}
+use Rattle.mc_family.proofs.BlockLengths.{worked-short, each-short, map-short, zeros-short, stacked-short, at-short, enciphered-message, deciphered-message, signature-short, length-sha1}
 use Rattle.mc_family.proofs.RowSizes.{KeepsSizes, WriteFacts, still, pushes-few, tops-few, writes-few, flagged-few, protects-few, looks-few, tells-few}
 
 -- ---- no cause holds
@@ -24,7 +26,7 @@ abbrev pub NoneHolds : List (Abend × Bool) → Type 0
 NoneHolds [] = ⊤
 NoneHolds (c ∷ cs) = (c.1 ≡ false) × NoneHolds cs
 
-not_first : (b : Bool) (a : Abend) (rest : Option Abend) → cond b (Some a) rest ≡ None → (b ≡ false) × (rest ≡ None)
+pub not_first : (b : Bool) (a : Abend) (rest : Option Abend) → cond b (Some a) rest ≡ None → (b ≡ false) × (rest ≡ None)
 not_first true a rest e = absurd (cc e)
 not_first false a rest e = (refl, e)
 
@@ -37,8 +39,7 @@ none_holds (c ∷ cs) e =
 -- what is known of a row that is done
 pub record RowFacts (i : Ins) (f : Frame) (public : List ℕ) (x : Around) : Type 0 where
   pub shaped : Shaped i
-  pub told : IfSome x.delegator (λ n. length n ≤ 16)
-  pub held : HoldsFew f
+  pub told : IsTold i x.delegator
   pub none : NoneHolds (causes i f public x)
 
 -- ---- tested writes
@@ -71,7 +72,6 @@ weaker f P Q most e g k =
 record PrimFacts (p : Primitive) (args : List ℕ) (f : Frame) (public : List ℕ) (x : Around) : Type 0 where
   bytes : AllByRecursion (λ b. b < 256) args
   told : IfSome x.delegator (λ n. length n ≤ 16)
-  held : HoldsFew f
   none : NoneHolds (later_causes p args f public x)
 
 block-most : (c : Cipher) → block_len c ≤ 256
@@ -161,34 +161,34 @@ told-delegator : (args : List ℕ) (f : Frame) (public : List ℕ) (x : Around) 
 unfolding later_causes
 told-delegator args f public x p = told-facts (popped f 2) (named f 2) x.delegator p.told p.none.1
 
-module _ (args : List ℕ) (f : Frame) (public : List ℕ) (x : Around) (inside : Inside (length f.fixed) f.pieces) where
+module _ (args : List ℕ) (f : Frame) (public : List ℕ) (x : Around) where
   prim-few : (p : Primitive) → KeepsSizes f (PrimFacts p args f public x) (most_of (Some p)) (prim_effect p args f public x).effect
   unfolding prim_effect
-  prim-few CheckCase = still f (PrimFacts CheckCase args f public x) inside (λ p. p.held) _ public 33 refl refl refl refl (omega arith)
-  prim-few LoadCcr = pushes-few f (PrimFacts LoadCcr args f public x) inside (λ p. p.held) 33 f.dt ((cond f.c 2 0 + cond f.z 1 0) ∷ []) public
-  prim-few StoreCcr = still f (PrimFacts StoreCcr args f public x) inside (λ p. p.held) _ public 33 refl refl refl refl (omega arith)
-  prim-few Lookup = looks-few f (PrimFacts Lookup args f public x) inside (λ p. p.held) 33 (f.dt - 3) public _
-  prim-few MemoryCompare = still f (PrimFacts MemoryCompare args f public x) inside (λ p. p.held) _ public 33 refl refl refl refl (omega arith)
-  prim-few MemoryCopy = writes-few f (PrimFacts MemoryCopy args f public x) inside (λ p. p.held) (f.dt - 6) (named f 4) (named f 6) public _ (λ p. copy-facts args f public x p)
-  prim-few DelegateTo = still f (PrimFacts DelegateTo args f public x) inside (λ p. p.held) _ public 33 refl refl refl refl (omega arith)
-  prim-few DelegatorAid = tells-few f (PrimFacts DelegatorAid args f public x) inside (λ p. p.held) (f.dt - 2) (named f 2) public x.delegator (λ p. told-delegator args f public x p)
-  prim-few Digest = writes-few f (PrimFacts Digest args f public x) inside (λ p. p.held) (f.dt - 6) (named f 2) 20 public _ (λ p. digest-facts args f public x p)
-  prim-few CompareFixed = still f (PrimFacts CompareFixed args f public x) inside (λ p. p.held) _ public 33 refl refl refl refl (omega arith)
-  prim-few CopyFixed = writes-few f (PrimFacts CopyFixed args f public x) inside (λ p. p.held) (f.dt - 4) (named f 4) (slice_index args 0) public _ (λ p. fixed-facts args f public x p)
-  prim-few SetProtection = protects-few f (PrimFacts SetProtection args f public x) inside (λ p. p.held) public (slice_index args 0)
-  prim-few (Encipher c) = writes-few f (PrimFacts (Encipher c) args f public x) inside (λ p. p.held) (f.dt - 6) (named f 4) (slice_index args 0) public _ (λ p. encipher-facts c args f public _ x p)
-  prim-few (Decipher c) = writes-few f (PrimFacts (Decipher c) args f public x) inside (λ p. p.held) (f.dt - 6) (named f 4) (slice_index args 0) public _ (λ p. decipher-facts c args f public _ x p)
+  prim-few CheckCase = still f (PrimFacts CheckCase args f public x) _ public 33 refl refl refl refl (omega arith)
+  prim-few LoadCcr = pushes-few f (PrimFacts LoadCcr args f public x) 33 f.dt ((cond f.c 2 0 + cond f.z 1 0) ∷ []) public
+  prim-few StoreCcr = still f (PrimFacts StoreCcr args f public x) _ public 33 refl refl refl refl (omega arith)
+  prim-few Lookup = looks-few f (PrimFacts Lookup args f public x) 33 (f.dt - 3) public _
+  prim-few MemoryCompare = still f (PrimFacts MemoryCompare args f public x) _ public 33 refl refl refl refl (omega arith)
+  prim-few MemoryCopy = writes-few f (PrimFacts MemoryCopy args f public x) (f.dt - 6) (named f 4) (named f 6) public _ (λ p. copy-facts args f public x p)
+  prim-few DelegateTo = still f (PrimFacts DelegateTo args f public x) _ public 33 refl refl refl refl (omega arith)
+  prim-few DelegatorAid = tells-few f (PrimFacts DelegatorAid args f public x) (f.dt - 2) (named f 2) public x.delegator (λ p. told-delegator args f public x p)
+  prim-few Digest = writes-few f (PrimFacts Digest args f public x) (f.dt - 6) (named f 2) 20 public _ (λ p. digest-facts args f public x p)
+  prim-few CompareFixed = still f (PrimFacts CompareFixed args f public x) _ public 33 refl refl refl refl (omega arith)
+  prim-few CopyFixed = writes-few f (PrimFacts CopyFixed args f public x) (f.dt - 4) (named f 4) (slice_index args 0) public _ (λ p. fixed-facts args f public x p)
+  prim-few SetProtection = protects-few f (PrimFacts SetProtection args f public x) public (slice_index args 0)
+  prim-few (Encipher c) = writes-few f (PrimFacts (Encipher c) args f public x) (f.dt - 6) (named f 4) (slice_index args 0) public _ (λ p. encipher-facts c args f public _ x p)
+  prim-few (Decipher c) = writes-few f (PrimFacts (Decipher c) args f public x) (f.dt - 6) (named f 4) (slice_index args 0) public _ (λ p. decipher-facts c args f public _ x p)
   prim-few (Sign c) =
-      writes-few f (PrimFacts (Sign c) args f public x) inside (λ p. p.held) (f.dt - 8) (named f 4) (block_len c) public _
+      writes-few f (PrimFacts (Sign c) args f public x) (f.dt - 8) (named f 4) (block_len c) public _
       (λ p. sign-facts c args f public _ x p (signature-short c _ _ _ (at-short (popped f 8) public (named f 8) (block_len c))))
-  prim-few BitByte = tops-few f (PrimFacts BitByte args f public x) inside (λ p. p.held) 33 (manipulated (slice_index args 0) (top f 1) (take 1 (drop 1 args))) public f.c _
-  prim-few ShiftLeft = tops-few f (PrimFacts ShiftLeft args f public x) inside (λ p. p.held) 33 (shift_left_block (top f (slice_index args 0)) (slice_index args 1)).value public _ _
-  prim-few ShiftRight = tops-few f (PrimFacts ShiftRight args f public x) inside (λ p. p.held) 33 (shift_right_block (top f (slice_index args 0)) (slice_index args 1)).value public _ _
-  prim-few BitWord = tops-few f (PrimFacts BitWord args f public x) inside (λ p. p.held) 33 (manipulated (slice_index args 0) (top f 2) (take 2 (drop 1 args))) public f.c _
+  prim-few BitByte = tops-few f (PrimFacts BitByte args f public x) 33 (manipulated (slice_index args 0) (top f 1) (take 1 (drop 1 args))) public f.c _
+  prim-few ShiftLeft = tops-few f (PrimFacts ShiftLeft args f public x) 33 (shift_left_block (top f (slice_index args 0)) (slice_index args 1)).value public _ _
+  prim-few ShiftRight = tops-few f (PrimFacts ShiftRight args f public x) 33 (shift_right_block (top f (slice_index args 0)) (slice_index args 1)).value public _ _
+  prim-few BitWord = tops-few f (PrimFacts BitWord args f public x) 33 (manipulated (slice_index args 0) (top f 2) (take 2 (drop 1 args))) public f.c _
 
-  prim_done-few : (o : Option Primitive) → (P : Type 0) → (held : P → HoldsFew f) → ((p : Primitive) → o ≡ Some p → P → PrimFacts p args f public x) → KeepsSizes f P (most_of o) (prim_done o args f public x).effect
-  prim_done-few None P held facts = still f P inside held f public 33 refl refl refl refl (omega arith)
-  prim_done-few (Some p) P held facts = weaker f (PrimFacts p args f public x) P (most_of (Some p)) _ (facts p refl) (prim-few p)
+  prim_done-few : (o : Option Primitive) → (P : Type 0) → ((p : Primitive) → o ≡ Some p → P → PrimFacts p args f public x) → KeepsSizes f P (most_of o) (prim_done o args f public x).effect
+  prim_done-few None P facts = still f P f public 33 refl refl refl refl (omega arith)
+  prim_done-few (Some p) P facts = weaker f (PrimFacts p args f public x) P (most_of (Some p)) _ (facts p refl) (prim-few p)
 
 -- no primitive exits
 prim-exits : (o : Option Primitive) (args : List ℕ) (f : Frame) (public : List ℕ) (x : Around) → (prim_done o args f public x).next ≡ Exits → (prim_done o args f public x).effect.changes ≡ None
@@ -209,28 +209,28 @@ prim-facts : (set number : ℕ) (args : List ℕ) (f : Frame) (public : List ℕ
 unfolding causes
 prim-facts set number args f public x p is h =
     let none : NoneHolds (prim_causes (Some p) args f public x) = subst (λ (o : Option Primitive). NoneHolds (prim_causes o args f public x)) is h.none in
-    record { bytes = h.shaped.bytes; told = h.told; held = h.held; none = none.1.1 }
+    record { bytes = h.shaped.bytes; told = h.told; none = none.1.1 }
 
-module _ (f : Frame) (public : List ℕ) (x : Around) (inside : Inside (length f.fixed) f.pieces) where
+module _ (f : Frame) (public : List ℕ) (x : Around) where
   -- rows that write nothing
   row-still : (i : Ins) (g : Frame) (segment : List ℕ) → g.name ≡ f.name → g.session ≡ f.session → g.fixed ≡ f.fixed → g.pieces ≡ f.pieces → length f.dyn ≤ length g.dyn → KeepsSizes f (RowFacts i f public x) 33 (framed g segment)
-  row-still i g segment = still f (RowFacts i f public x) inside (λ p. p.held) g segment 33
+  row-still i g segment = still f (RowFacts i f public x) g segment 33
 
   row-same : (i : Ins) (segment : List ℕ) → KeepsSizes f (RowFacts i f public x) 33 (framed f segment)
   row-same i segment = row-still i f segment refl refl refl refl (omega arith)
 
   row-pushes : (i : Ins) (dt : ℕ) (b : List ℕ) → KeepsSizes f (RowFacts i f public x) 33 (framed (pushed (record f { dt = dt }) b) public)
-  row-pushes i dt b = pushes-few f (RowFacts i f public x) inside (λ p. p.held) 33 dt b public
+  row-pushes i dt b = pushes-few f (RowFacts i f public x) 33 dt b public
 
   row-flags : (i : Ins) (c z : Bool) → KeepsSizes f (RowFacts i f public x) 33 (framed (flagged f c z) public)
   row-flags i c z = row-still i (flagged f c z) public refl refl refl refl (omega arith)
 
   row-writes : (i : Ins) (dt a n : ℕ) (b : List ℕ) → (RowFacts i f public x → WriteFacts (record f { dt = dt }) a n b) → KeepsSizes f (RowFacts i f public x) 33 (written (record f { dt = dt }) public a b)
-  row-writes i dt a n b w = writes-few f (RowFacts i f public x) inside (λ p. p.held) dt a n public b w
+  row-writes i dt a n b w = writes-few f (RowFacts i f public x) dt a n public b w
 
   -- a result written to a place, which sets flags
   row-becomes : (i : Ins) (a n : ℕ) (b : List ℕ) (c z : Bool) → (RowFacts i f public x → WriteFacts f a n b) → KeepsSizes f (RowFacts i f public x) 33 (effect_flagged (written f public a b) c z)
-  row-becomes i a n b c z w = flagged-few f (RowFacts i f public x) inside (λ p. p.held) 33 (written f public a b) c z (row-writes i f.dt a n b w)
+  row-becomes i a n b c z w = flagged-few f (RowFacts i f public x) 33 (written f public a b) c z (row-writes i f.dt a n b w)
 
   row-gone : (i : Ins) (b on : Bool) (to : ℕ) → KeepsSizes f (RowFacts i f public x) 33 (framed (gone b (cond on (popped f 2) f) to) public)
   row-gone i true true to = row-still i _ public refl refl refl refl (omega arith)
@@ -267,7 +267,7 @@ module _ (f : Frame) (public : List ℕ) (x : Around) (inside : Inside (length f
   row-few ins.Popb = row-still ins.Popb (popped f 1) public refl refl refl refl (omega arith)
   row-few ins.Popw = row-still ins.Popw (popped f 2) public refl refl refl refl (omega arith)
   row-few (ins.Prim set number args) =
-      prim_done-few args f public x inside (primitive set number) (RowFacts (ins.Prim set number args) f public x) (λ p. p.held) (λ q is p. prim-facts set number args f public x q is p)
+      prim_done-few args f public x (primitive set number) (RowFacts (ins.Prim set number args) f public x) (λ q is p. prim-facts set number args f public x q is p)
   row-few ins.Ret = row-returns ins.Ret 0 0
   row-few (ins.Reti i) = row-returns (ins.Reti i) i 0
   row-few (ins.Reto o) = row-returns (ins.Reto o) 0 o
@@ -347,21 +347,37 @@ exit-none i f public x e = absurd (cc e)
 -- ---- the law
 
 -- the frame that a row leaves is within the limits
-pub held-after : (i : Ins) (f : Frame) (public : List ℕ) (x : Around) → RowFacts i f public x → HoldsFew (effect i f public x).effect.frame
-held-after i f public x p =
-    let k = row-few f public x p.held.inside i in
+pub held-after : (i : Ins) (f : Frame) (public : List ℕ) (x : Around) → RowFacts i f public x → HoldsFew f → HoldsFew (effect i f public x).effect.frame
+held-after i f public x p held =
+    let k = row-few f public x i in
+    let same : length (effect i f public x).effect.frame.fixed ≡ length f.fixed = k.fixed held.inside in
     record {
-      fixed = subst (λ (n : ℕ). n ≤ 4096) (sym k.fixed) p.held.fixed;
-      inside = subst (λ (n : ℕ). Inside n (effect i f public x).effect.frame.pieces) (sym k.fixed) k.inside;
-      few = k.few p;
+      fixed = subst (λ (n : ℕ). n ≤ 4096) (sym same) held.fixed;
+      inside = subst (λ (n : ℕ). Inside n (effect i f public x).effect.frame.pieces) (sym same) (k.inside held.inside);
+      few = k.few p held.fixed held.few;
     }
+
+-- a name that every row may tell
+pub told-any : (i : Ins) (o : Option (List ℕ)) → IfSome o (λ n. length n ≤ 16) → IsTold i o
+told-any (ins.Prim set number args) o h = h
+told-any i o h = tt
+
+-- the words that a row changes, whatever its frame is like: a row that may change more than 33 changes what is pending
+judged-words : (i : Ins) (f : Frame) (public : List ℕ) (x : Around) → Shaped i → IsTold i x.delegator → (most_words i ≡ 64 → length (touched f.pieces) ≤ 64) → (o : Option Abend) → first_cause (causes i f public x) ≡ o
+    → EndsWithin (most_words i) (judged o (effect i f public x))
+judged-words i f public x shaped told few (Some a) e = tt
+judged-words i f public x shaped told few None e = (row-few f public x i).words (record { shaped = shaped; told = told; none = none_holds (causes i f public x) e }) few
+
+pub row-words : (i : Ins) (f : Frame) (public : List ℕ) (x : Around) → Shaped i → IsTold i x.delegator → (most_words i ≡ 64 → length (touched f.pieces) ≤ 64) → EndsWithin (most_words i) (row i f public x)
+unfolding row
+row-words i f public x shaped told few = judged-words i f public x shaped told few (first_cause (causes i f public x)) refl
 
 judged-few : (i : Ins) (f : Frame) (public : List ℕ) (x : Around) → Shaped i → IfSome x.delegator (λ n. length n ≤ 16) → HoldsFew f → (o : Option Abend) → first_cause (causes i f public x) ≡ o
     → EndsFew (most_words i) (judged o (effect i f public x))
 judged-few i f public x shaped told held (Some a) e = tt
 judged-few i f public x shaped told held None e =
-    let p : RowFacts i f public x = record { shaped = shaped; told = told; held = held; none = none_holds (causes i f public x) e } in
-    record { words = (row-few f public x held.inside i).words p; frame = held-after i f public x p; exit = exit-none i f public x }
+    let p : RowFacts i f public x = record { shaped = shaped; told = told-any i x.delegator told; none = none_holds (causes i f public x) e } in
+    record { words = (row-few f public x i).words p (λ e. held.few); frame = held-after i f public x p held; exit = exit-none i f public x }
 
 -- a name that a row delegates to has at most 16 bytes
 delegates-prim : (p : Primitive) (args : List ℕ) (f : Frame) (public : List ℕ) (x : Around) → NoneHolds (later_causes p args f public x) → (n : List ℕ) → (prim_effect p args f public x).next ≡ Delegates n → length n ≤ 16
@@ -392,6 +408,15 @@ most-of-64 o = omega arith
 pub most-64 : (i : Ins) → most_words i ≤ 64
 most-64 (ins.Prim set number args) = most-of-64 (primitive set number)
 most-64 i = omega arith
+
+-- a row changes 64 words at the most, or 33
+most-of-is : (o : Option Primitive) → (most_of o ≡ 64) ⊎ (most_of o ≡ 33)
+most-of-is (Some SetProtection) = inl refl
+most-of-is o = inr refl
+
+pub most-is : (i : Ins) → (most_words i ≡ 64) ⊎ (most_words i ≡ 33)
+most-is (ins.Prim set number args) = most-of-is (primitive set number)
+most-is i = inr refl
 
 pub few_words_law : FewWordsLaw
 unfolding row

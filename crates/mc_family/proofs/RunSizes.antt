@@ -125,13 +125,14 @@ done-fits ch i d P most h k =
     let e = d.effect in
     let n = ch.frame.name in
     let m : List (List ℕ × App) = map_changed ch.map n e.changes in
-    let same : SameSizes ch.map m = changed-by ch.map n (length ch.frame.fixed) e.changes h.frame.fixed k.changes in
-    let many : AsMany (size_in ch.map n) (length e.frame.fixed) = subst (AsMany (size_in ch.map n)) (sym k.fixed) h.frame.fixed in
+    let inside = h.frame.inside in
+    let same : SameSizes ch.map m = changed-by ch.map n (length ch.frame.fixed) e.changes h.frame.fixed (k.changes inside) in
+    let many : AsMany (size_in ch.map n) (length e.frame.fixed) = subst (AsMany (size_in ch.map n)) (sym (k.fixed inside)) h.frame.fixed in
     let named : AsMany (size_in ch.map e.frame.name) (length e.frame.fixed) = subst (λ (x : List ℕ). AsMany (size_in ch.map x) (length e.frame.fixed)) (sym k.name) many in
     let session : e.frame.session ≡ ch.frame.session = k.session in
     let before : ch.frame.session ≤ length ch.frame.dyn = h.frame.session in
     let room : length ch.frame.dyn ≤ length e.frame.dyn = k.dyn in
-    let frame : FrameFits ch.map e.frame = record { fixed = named; inside = subst (λ (x : ℕ). Inside x e.frame.pieces) (sym k.fixed) k.inside; session = omega arith } in
+    let frame : FrameFits ch.map e.frame = record { fixed = named; inside = subst (λ (x : ℕ). Inside x e.frame.pieces) (sym (k.fixed inside)) (k.inside inside); session = omega arith } in
     let g : GoesOn ch (settled ch e) =
     record {
       same = same;
@@ -139,13 +140,13 @@ done-fits ch i d P most h k =
       session = first-session e.frame ch.frame ch.below session;
     }
     in
-    record { writes = written-by ch.map n (length ch.frame.fixed) e.changes h.frame.fixed k.changes; next = follows-fits ch (settled ch e) d.next g }
+    record { writes = written-by ch.map n (length ch.frame.fixed) e.changes h.frame.fixed (k.changes inside); next = follows-fits ch (settled ch e) d.next g }
 
 judged-fits : (ch : Chain) (i : Ins) (at : ℕ) (o : Option Abend) → ChainFits ch → ActFits ch (row_turn ch i (judged o (effect i (stepped ch.frame at) ch.public (around ch))))
 judged-fits ch i at (Some a) h = record { writes = tt; next = tt }
 judged-fits ch i at None h =
     let f = stepped ch.frame at in
-    done-fits ch i (effect i f ch.public (around ch)) (RowFacts i f ch.public (around ch)) (most_words i) h (row-few f ch.public (around ch) h.frame.inside i)
+    done-fits ch i (effect i f ch.public (around ch)) (RowFacts i f ch.public (around ch)) (most_words i) h (row-few f ch.public (around ch) i)
 
 row-fits : (ch : Chain) (i : Ins) (at : ℕ) → ChainFits ch → ActFits ch (row_turn ch i (row i (stepped ch.frame at) ch.public (around ch)))
 unfolding row

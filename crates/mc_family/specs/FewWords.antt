@@ -43,6 +43,16 @@ pub record DoesFew (most : ℕ) (d : Done) : Type 0 where
   pub frame : HoldsFew d.effect.frame
   pub exit : d.next ≡ Exits → d.effect.changes ≡ None
 
+-- a row that is done changes no more words
+abbrev pub EndsWithin : ℕ → RowEnd → Type 0
+EndsWithin most (Abends a) = ⊤
+EndsWithin most (Does d) = words_in d.effect.changes ≤ most
+
+-- the name that an instruction may tell: a primitive tells that of the delegator, and it has at most 16 bytes
+abbrev pub IsTold : Ins → Option (List ℕ) → Type 0
+IsTold (ins.Prim set number args) delegator = IfSome delegator (λ n. length n ≤ 16)
+IsTold _ delegator = ⊤
+
 -- a row that is done does
 abbrev pub EndsFew : ℕ → RowEnd → Type 0
 EndsFew most (Abends a) = ⊤

@@ -9,6 +9,7 @@ ghost use Rattle.mc_family.specs.Begins.{BeginsLaw};
 ghost use Rattle.mc_family.specs.FewHeaders.{FewHeadersLaw};
 ghost use Rattle.mc_family.specs.FewRuns.{FewRunsLaw};
 ghost use Rattle.mc_family.specs.FewWords.{FewWordsLaw, FewWritesLaw};
+ghost use Rattle.mc_family.specs.ReadDecks.{ReadLinesLaw, ReadDecksLaw};
 ghost use Rattle.mc_family.specs.Split.{with_whole};
 
 /// Pairs that are laid after others are laid as one list.
@@ -61,4 +62,11 @@ pub fn few_words_cost_few_writes()
 /// that is passed to the selected application is run with as many session bytes as that application has.
 pub fn runs_begin_well()
     ensures { BeginsLaw }
+{}
+
+/// What each line of a deck that was read carries is bytes; so in each of its plays from the words of a device each item touches
+/// at most 64 words, and a card that was found or formatted is found by every later power line that no stop hits.
+pub fn read_decks_fit()
+    ensures lines { ReadLinesLaw }
+    ensures plays { ReadDecksLaw }
 {}

@@ -12,7 +12,7 @@ ghost use Rattle.mc_family.specs.Worked.{seen_in_play, seen_alone};
 
 pub use definitions::{
     changes_write_few_headers, counts_within_budget, few_words_cost_few_writes, pairs_compose,
-    rows_write_few_words, runs_begin_well, runs_write_few_words, stops_split,
+    read_decks_fit, rows_write_few_words, runs_begin_well, runs_write_few_words, stops_split,
     traces_hold_transcripts,
 };
 

@@ -2,10 +2,7 @@
 use Rattle.std.proofs.Common.{◌≡◌, ℕ, suc, ◌+◌, ◌-◌, ◌*◌, ◌<◌, ◌≤◌, List, [], ◌∷◌, ◌++◌, length, drop, get_or, Option, Some, None, Result, Ok, Err, refl, sym, ◌∙◌, ap, arith, drop-cons, add-one, append_assoc}
 use Rattle.std.proofs.lemmas.List.{drop_all, append-nil}
 use Rattle.mc_model.specs.Image.{One, word_at, number, within, before, one_before, targets_1, pairs}
-
-before-before : (a b : List ℕ) (r : Result (List ℕ) ℕ) → before a (before b r) ≡ before (a ++ b) r
-before-before a b (Ok ts) = ap (λ (l : List ℕ). Ok l) (sym (append_assoc a b ts))
-before-before a b (Err p) = refl
+use Rattle.mc_model.proofs.JournalLemmas.{before-before}
 
 more : (m : List (List ℕ)) (i n k : ℕ) → n ≡ suc k → targets_1 m i n ≡ one_before (number (within (length m)) (word_at m (3 + 2 * i))) (3 + 2 * i) (targets_1 m (i + 1) k)
 unfolding targets_1

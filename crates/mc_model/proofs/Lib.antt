@@ -3,9 +3,12 @@ pub mod ModesLemmas
 pub mod ImageLemmas
 pub mod DeviceLemmas
 pub mod LookLemmas
+pub mod ImageBytes
 pub mod WrittenLemmas
 pub mod GeometryLemmas
 pub mod StoppedLemmas
 pub mod RecoveryLemmas
 pub mod CallLemmas
 pub mod LoopLemmas
+pub mod ListLemmas
+pub mod JournalLemmas

@@ -3,7 +3,8 @@ use Rattle.std.proofs.Common.{◌≡◌, ℕ, zero, suc, ◌+◌, ◌-◌, ◌*�
 use Rattle.std.proofs.lemmas.Bool.{leb-true}
 use Rattle.std.specs.Prelude.{nat_le, bytes_eq}
 use Rattle.std.specs.List.{AllByRecursion}
-use Rattle.mc_model.specs.Bytes.{up, zeros, be2}
+use Rattle.mc_model.specs.Bytes.{AreBytes, up, zeros, be2}
+use Rattle.mc_model.specs.Device.{IsImage}
 use Rattle.mc_model.specs.Image.{Journal, One, Two, opening, gate, word_at, is_open, is_count, within, when, number, count, one_before, targets_1, four, all_zero, ascend, after_all, all_before, targets_2, targets, value, pairs, Pending, aimed, headed, opened, look_j}
 use Rattle.mc_model.specs.Stopped.{Inside}
 use Rattle.mc_model.proofs.ImageLemmas.{all-append}
@@ -144,12 +145,30 @@ unfolding pairs
 pairs-within j m size i [] a = tt
 pairs-within j m size i (t ∷ ts) a = (a.0, pairs-within j m size (i + 1) ts a.1)
 
--- a journal that is pending: it is open, and its pairs are at most 64, each within
+-- a word of eight bytes
+abbrev pub IsFull : List ℕ → Type 0
+IsFull w = (length w ≡ 8) × AreBytes w
+
+-- a word below 256 of an image is one
+full-word : (m : List (List ℕ)) (i : ℕ) → IsImage m → i < 256 → IsFull (word_at m i)
+full-word m i image h = let low : 256 ≤ length m = image.low in (image.words i (omega arith), image.bytes i)
+
+value-full : (j : Journal) (m : List (List ℕ)) (i : ℕ) → IsImage m → i < 64 → IsFull (value j m i)
+value-full One m i image h = full-word m (4 + 2 * i) image (omega arith)
+value-full Two m i image h = full-word m (19 + i) image (omega arith)
+
+pairs-full : (j : Journal) (m : List (List ℕ)) (i : ℕ) (ts : List ℕ) → i + length ts ≤ 64 → IsImage m → AllByRecursion (λ p. IsFull p.1) (pairs j m i ts)
+unfolding pairs
+pairs-full j m i [] h image = tt
+pairs-full j m i (t ∷ ts) h image = (value-full j m i image (omega arith), pairs-full j m (i + 1) ts (omega arith) image)
+
+-- a journal that is pending: it is open, and its pairs are at most 64, each within, and in an image of whole words
 pub record GoodPending (j k : Journal) (m : List (List ℕ)) (ps : List (ℕ × List ℕ)) : Type 0 where
   pub same : k ≡ j
   pub opens : is_open j m ≡ true
   pub all : AllByRecursion (λ p. within (length m) p.0 ≡ true) ps
   pub few : length ps ≤ 64
+  pub full : IsImage m → AllByRecursion (λ p. IsFull p.1) ps
 
 pending-aimed : (j k : Journal) (m : List (List ℕ)) (c : ℕ) (ps : List (ℕ × List ℕ)) (r : Result (List ℕ) ℕ) → is_open j m ≡ true → c ≤ 64 → targets j m c ≡ r → aimed j m r ≡ Pending k ps → GoodPending j k m ps
 pending-aimed j k m c ps (Err p) ho hc hr h = absurd (cc h)
@@ -158,7 +177,13 @@ pending-aimed j k m c ps (Ok ts) ho hc hr h =
     let is : pairs j m 0 ts ≡ ps = cc in
     let good : GoodTargets (length m) 64 ts = good-targets j m c ts hc hr in
     subst (λ (l : List (ℕ × List ℕ)). GoodPending j k m l) is
-    (record { same = sym same; opens = ho; all = pairs-within j m (length m) 0 ts good.all; few = subst (λ (n : ℕ). n ≤ 64) (sym (pairs-length j m 0 ts)) good.few })
+    (record {
+      same = sym same;
+      opens = ho;
+      all = pairs-within j m (length m) 0 ts good.all;
+      few = subst (λ (n : ℕ). n ≤ 64) (sym (pairs-length j m 0 ts)) good.few;
+      full = λ image. pairs-full j m 0 ts (let few : length ts ≤ 64 = good.few in omega arith) image;
+    })
 
 pending-headed : (j k : Journal) (m : List (List ℕ)) (ps : List (ℕ × List ℕ)) (o : Option ℕ) → is_open j m ≡ true → count m ≡ o → headed j m o ≡ Pending k ps → GoodPending j k m ps
 pending-headed j k m ps None ho hc h = absurd (cc h)

@@ -73,14 +73,14 @@ pub targets-outside : (j : Journal) (size : ℕ) (list : List (ℕ × List ℕ))
 targets-outside j size list i a inside =
     all-map (λ p. within size p.0 ≡ true) (λ p. p.0 ≢ i) (λ p w e. target-outside j size p.0 w (subst (λ (t : ℕ). Inside j t) (sym e) inside)) list a
 
-within-below : (size t : ℕ) → 256 ≤ size → within size t ≡ true → t < size
+pub within-below : (size t : ℕ) → 256 ≤ size → within size t ≡ true → t < size
 within-below size t h w =
     elim (either (t == 0) (nat_le 131 t && nat_lt t size) w) [
       | inl is ↦ let e : t ≡ 0 = eqb-true t 0 is in omega arith
       | inr heap ↦ ltb-true t size (both (nat_le 131 t) (nat_lt t size) heap).1
     ]
 
-ascends-list : (size least : ℕ) (list : List (ℕ × List ℕ)) → ascend size least (map (λ p. p.0) list) ≡ true → Ascends least list
+pub ascends-list : (size least : ℕ) (list : List (ℕ × List ℕ)) → ascend size least (map (λ p. p.0) list) ≡ true → Ascends least list
 ascends-list size least [] h = tt
 ascends-list size least (p ∷ ps) h =
     let a = both (nat_le least p.0) (within size p.0 && ascend size (p.0 + 1) (map (λ q. q.0) ps)) h in

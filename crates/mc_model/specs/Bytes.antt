@@ -1,6 +1,11 @@
 -- Bytes, numbers of several bytes, lists changed at a place, and finite maps that are keyed by names.
 -- A byte is a number below 256, and every number of several bytes is big endian.
-use Rattle.std.specs.Prelude.{ℕ, zero, suc, ◌+◌, ◌-◌, ◌*◌, ◌/◌, ◌%◌, ◌^◌, Bool, true, false, cond, ◌&&◌, ◌||◌, nat_lt, ◌==◌, List, [], ◌∷◌, ◌++◌, length, take, drop, replicate, slice_index, bytes_eq, Option, Some, None}
+use Rattle.std.specs.Prelude.{ℕ, zero, suc, ◌+◌, ◌-◌, ◌*◌, ◌/◌, ◌%◌, ◌^◌, ◌<◌, Bool, true, false, cond, ◌&&◌, ◌||◌, nat_lt, ◌==◌, List, [], ◌∷◌, ◌++◌, length, take, drop, replicate, slice_index, bytes_eq, Option, Some, None}
+use Rattle.std.specs.List.{AllByRecursion}
+
+-- each of these numbers is a byte
+abbrev pub AreBytes : List ℕ → Type 0
+AreBytes = AllByRecursion (λ b. b < 256)
 
 -- n divided by d, rounded up
 abbrev pub up : ℕ → ℕ → ℕ

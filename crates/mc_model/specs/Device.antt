@@ -3,6 +3,7 @@ use Rattle.std.specs.Prelude.{◌≡◌, ◌≢◌, ◌⊎◌, ℕ, zero, suc, �
 use Rattle.mc_model.specs.declared.device.Stop.{Stop}
 use Rattle.mc_model.specs.declared.device.Stop.TheVariants.{Off, Worn}
 use Rattle.mc_model.specs.Orders.{Answer, InOrder}
+use Rattle.mc_model.specs.Bytes.{AreBytes}
 use Rattle.mc_model.specs.Counts.{last_count, Rose}
 
 -- one write that was tried: its place, the word that stood there afterwards, and the stop where there was one
@@ -19,11 +20,22 @@ pub record DeviceState : Type 0 where
   pub faults : ℕ
   pub tape : Option (List Entry)
 
--- the words of a device: 256 to 16,384 of them, eight bytes each
+-- words as many and as long as those of a device: 256 to 16,384 of them, eight bytes each
+pub record IsSized (m : List (List ℕ)) : Type 0 where
+  pub low : 256 ≤ length m
+  pub high : length m ≤ 16384
+  pub words : (i : ℕ) → i < length m → length (slice_index_or m i []) ≡ 8
+
+-- the words of a device: as many and as long, and each byte of them is below 256
 pub record IsImage (m : List (List ℕ)) : Type 0 where
   pub low : 256 ≤ length m
   pub high : length m ≤ 16384
   pub words : (i : ℕ) → i < length m → length (slice_index_or m i []) ≡ 8
+  pub bytes : (i : ℕ) → AreBytes (slice_index_or m i [])
+
+-- an image is as many words, and as long
+pub sized : {m : List (List ℕ)} → IsImage m → IsSized m
+sized image = record { low = image.low; high = image.high; words = image.words }
 
 -- a tape with one entry more, or one that is told no longer
 abbrev pub Grows : Option (List Entry) → Entry → Option (List Entry) → Type 0

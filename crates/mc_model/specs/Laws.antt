@@ -16,7 +16,7 @@ use Rattle.mc_model.specs.Items as items
 use Rattle.mc_model.specs.Family.{Closed}
 use Rattle.mc_model.specs.Given.{apps_on, apps_in, is_power}
 use Rattle.mc_model.specs.View.{IsIsolated}
-use Rattle.mc_model.specs.ReadyAgain.{AllFitJournal, ReadyAgain}
+use Rattle.mc_model.specs.ReadyAgain.{AllFitJournal, AreLines, ReadyAgain}
 use Rattle.mc_model.specs.Device.{IsImage}
 use Rattle.mc_model.specs.DeckGrammar.{DeckLine}
 use Rattle.mc_model.specs.DeckGrammar as line
@@ -194,11 +194,13 @@ pub record HoldsOf (m : List (List ℕ)) (steps : List Step) : Type 0 where
   pub family : (K : List (List ℕ)) → Closed K steps → IsIsolated K (start m) steps
   pub each_line : KeepsLines steps
   pub fresh : NoStaleByte None steps
-  pub ready : IsImage m → AllFitJournal steps → ReadyAgain false steps
+  pub few : IsImage m → AreLines steps → AllFitJournal steps
+  pub ready : IsImage m → AreLines steps → ReadyAgain false steps
 
 -- For every deck, every image and every list of worn stops that is possible, and for every front of the play: what a closed family is told
 -- and holds is what it is told and holds on a card of its own; each line leaves the card with its whole items; no new application has a stale byte;
--- and where the words of each item fit a journal, a card that was found or formatted is found by every later power line that no stop hits.
+-- and where the deck's lines are bytes, each item fits a journal, and a card that was found or formatted is found by every later power
+-- line that no stop hits.
 abbrev pub IsolationLaw : Type 0
 IsolationLaw =
     (ls : List (ℕ × DeckLine)) (m : List (List ℕ)) (ws : List (Option WornAt)) → Possible (start m) ls ws

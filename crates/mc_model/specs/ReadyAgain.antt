@@ -1,6 +1,7 @@
 -- No chain of cuts makes a card unusable: once a card is sure to be there, every power line that no stop hits finds it.
-use Rattle.std.specs.Prelude.{ℕ, ◌≤◌, Bool, true, false, ◌&&◌, ◌||◌, not, List, [], ◌∷◌, Option, Some, None, ⊤}
+use Rattle.std.specs.Prelude.{◌≡◌, ℕ, ◌≤◌, Bool, true, false, ◌&&◌, ◌||◌, not, List, [], ◌∷◌, length, Option, Some, None, ⊤}
 use Rattle.std.specs.List.{AllByRecursion}
+use Rattle.mc_model.specs.Bytes.{AreBytes}
 use Rattle.mc_model.specs.Items.{Item, Plain, Atomic, StopAt}
 use Rattle.mc_model.specs.Play.{State, Cold, Hot, LineResult, Formatted, Ready, Step}
 use Rattle.mc_model.specs.DeckGrammar.{DeckLine}
@@ -65,3 +66,19 @@ FitsJournal (Atomic w c) = w ≤ 64
 abbrev pub AllFitJournal : List Step → Type 0
 AllFitJournal [] = ⊤
 AllFitJournal (t ∷ ts) = AllByRecursion FitsJournal t.items × AllFitJournal ts
+
+-- ---- lines of bytes
+
+-- what a line carries is bytes, and a poke carries a word of eight
+abbrev pub IsLine : DeckLine → Type 0
+IsLine (line.Load u fixed session) = AreBytes u.code × AreBytes u.init × AreBytes u.dir × AreBytes u.fci
+IsLine (line.Select n) = AreBytes n
+IsLine (line.Delete n) = AreBytes n
+IsLine (line.Apdu b) = AreBytes b
+IsLine (line.Poke at x) = AreBytes x × (length x ≡ 8)
+IsLine _ = ⊤
+
+-- each line of a play is
+abbrev pub AreLines : List Step → Type 0
+AreLines [] = ⊤
+AreLines (t ∷ ts) = IsLine t.line × AreLines ts

@@ -1,4 +1,5 @@
 ghost use Rattle.std.specs.Prelude.{◌≡◌, ◌<◌, ◌≤◌, ℕ, [], length, slice_index_or, IfOk};
+ghost use Rattle.mc_model.specs.Bytes.{AreBytes};
 ghost use Rattle.mc_nvm.specs.Sim.{blank_sim, Sound, answer_to, next_due, after_write};
 
 use crate::device::{Bench, Nvm};
@@ -142,7 +143,7 @@ impl Nvm for SimNvm {
     ghost onward = { λ d e f r s. tt };
 
     fn len(&self) -> u32 {
-        eight_bytes_each(self.words.as_slice());
+        bytes_by_eight(self.words.as_slice());
         self.words.len() as u32
     }
 
@@ -188,7 +189,15 @@ impl Bench for SimNvm {
     }
 }
 
-// A word of a slice has eight bytes by its type; a caller learns it here of each.
-fn eight_bytes_each(words: &[Word])
-    ensures { (i : ℕ) → i < length words.now → length (slice_index_or words.now i []) ≡ 8 }
+// A word of a slice has eight bytes by its type, and a byte is below 256; a caller learns it here of each.
+fn bytes_by_eight(words: &[Word])
+    ensures long { (i : ℕ) → i < length words.now → length (slice_index_or words.now i []) ≡ 8 }
+    ensures bytes { (i : ℕ) → AreBytes (slice_index_or words.now i []) }
+{
+    each_byte(words.as_flattened());
+}
+
+// The same of a slice of bytes.
+fn each_byte(bytes: &[u8])
+    ensures { AreBytes bytes.now }
 {}

@@ -5,6 +5,7 @@ use Rattle.std.proofs.lemmas.Bool.{cases_lt}
 use Rattle.std.proofs.Math.Nat.{min-eq_left, min-eq_right}
 use Rattle.mc_model.specs.Bytes.{up}
 use Rattle.mc_model.specs.Image.{Two, word_at, four, all_zero, ascend, after_all, before, all_before, targets_2, pairs}
+use Rattle.mc_model.proofs.JournalLemmas.{before-before}
 
 take-four : (c : ℕ) (all : List ℕ) → length all ≡ 4 → take (min c 4) all ≡ take c all
 take-four c all h = elim (cases_lt c 4) [
@@ -33,10 +34,6 @@ parts m i n k c least all now past e ha h4 hn hp =
     more m i n k c least e
     ∙ ap (λ (l : List ℕ). all_before (all_zero (drop c (four (word_at m (3 + i)))) && ascend (length m) least l) l (3 + i) (targets_2 m (i + 1) k (c - 4) (after_all least l))) n_is
     ∙ ap (λ (l : List ℕ). all_before (all_zero l && ascend (length m) least now) now (3 + i) (targets_2 m (i + 1) k (c - 4) (after_all least now))) p_is
-
-before-before : (a b : List ℕ) (r : Result (List ℕ) ℕ) → before a (before b r) ≡ before (a ++ b) r
-before-before a b (Ok ts) = ap (λ (l : List ℕ). Ok l) (sym (append_assoc a b ts))
-before-before a b (Err p) = refl
 
 pub targets-on : (m : List (List ℕ)) (count i least next : ℕ) (whole : Result (List ℕ) ℕ) (items now past all found : List ℕ) → i < up count 4
     → whole ≡ before items (targets_2 m i (up count 4 - i) (count - 4 * i) least) → all ≡ four (word_at m (3 + i)) → length all ≡ 4 → now ≡ take (min (count - 4 * i) 4) all → past ≡ drop (min (count - 4 * i) 4) all

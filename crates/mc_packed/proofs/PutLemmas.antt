@@ -1,9 +1,7 @@
 -- One step through lists of pairs, target words and values.
-use Rattle.std.proofs.Common.{◌≡◌, ℕ, suc, ◌+◌, ◌-◌, ◌*◌, ◌<◌, ◌≤◌, List, [], ◌∷◌, length, take, drop, get_or, sym, ◌∙◌, ap, arith, drop-cons, drop-drop, add-one, ◌/◌, ◌%◌}
-use Rattle.mc_model.specs.Stopped.{target_words, values_2, four_targets, numbered}
-
-pub pair-step : (list : List (ℕ × List ℕ)) (i : ℕ) → i < length list → drop i list ≡ ((get_or list i (0, [])).0, (get_or list i (0, [])).1) ∷ drop (i + 1) list
-pair-step list i lt = rw (add-one) (drop-cons list i (0, []) lt)
+use Rattle.std.proofs.Common.{◌≡◌, ℕ, suc, ◌+◌, ◌-◌, ◌*◌, ◌<◌, ◌≤◌, List, [], ◌∷◌, length, take, drop, get_or, sym, ◌∙◌, ap, arith, drop-drop, ◌/◌, ◌%◌}
+use Rattle.mc_model.specs.Stopped.{target_words, values_2, four_targets}
+use Rattle.mc_model.proofs.JournalLemmas.{pair-step}
 
 pub value-step : (list : List (ℕ × List ℕ)) (i : ℕ) → i < length list → values_2 i (drop i list) ≡ (19 + i, (get_or list i (0, [])).1) ∷ values_2 (i + 1) (drop (i + 1) list)
 value-step list i lt = ap (λ (l : List (ℕ × List ℕ)). values_2 i l) (pair-step list i lt)
@@ -20,9 +18,3 @@ pub target-step-at : (i n : ℕ) (ts word : List ℕ) → i < n → word ≡ fou
     → target_words i (n - i) (drop (4 * i) ts) ≡ (3 + i, word) ∷ target_words (i + 1) (n - (i + 1)) (drop (4 * (i + 1)) ts)
 target-step-at i n ts word lt e =
     target-step i n ts lt ∙ ap (λ (w : List ℕ). (3 + i, w) ∷ target_words (i + 1) (n - (i + 1)) (drop (4 * (i + 1)) ts)) (sym e)
-
-pub head-word : (c : ℕ) → c ≤ 64 → numbered c ≡ 0 ∷ 0 ∷ 0 ∷ 0 ∷ 0 ∷ 0 ∷ 0 ∷ c ∷ []
-head-word c h =
-    let high : c / 256 % 256 ≡ 0 = omega arith in
-    let low : c % 256 ≡ c = omega arith in
-    ap (λ (x : ℕ). 0 ∷ 0 ∷ 0 ∷ 0 ∷ 0 ∷ 0 ∷ x ∷ (c % 256) ∷ []) high ∙ ap (λ (x : ℕ). 0 ∷ 0 ∷ 0 ∷ 0 ∷ 0 ∷ 0 ∷ 0 ∷ x ∷ []) low

@@ -3,7 +3,7 @@ use Rattle.std.proofs.Common.{◌≡◌, ◌≢◌, ℕ, Bool, true, false, not,
 use Rattle.std.specs.Prelude.{◌⊎◌, IsSome, unwrap_or}
 use Rattle.mc_model.specs.Orders.{Answer}
 use Rattle.mc_model.specs.Bytes.{lookup, insert}
-use Rattle.mc_model.specs.Device.{DeviceState, IsImage, Wrote}
+use Rattle.mc_model.specs.Device.{DeviceState, IsSized, Wrote}
 use Rattle.mc_model.specs.Card.{App, means}
 use Rattle.mc_model.specs.Items.{BankItem, Commit, Remove}
 use Rattle.mc_bank.specs.Bank.{no_app, app_of, sizes_of, with_words, committed, item_done}
@@ -13,11 +13,11 @@ use Rattle.mc_blocks.proofs.Maps.{OneAt}
 use Rattle.mc_blocks.proofs.Applications.{found-application}
 use Rattle.mc_store.specs.declared.store.Store.{Store}
 use Rattle.mc_store.specs.Store.{apps_in, is_going, place_named, store_named, store_standing, name_of_place}
-use Rattle.mc_store.specs.Going.{Going, going_is}
-use Rattle.mc_store.specs.Places.{place-changed}
-use Rattle.mc_store.specs.Turns.{Standing, standing-of, some-is}
+use Rattle.mc_store.specs.GoingLaws.{Going, going_is}
+use Rattle.mc_store.specs.PlaceLaws.{place-changed}
+use Rattle.mc_store.specs.TurnLaws.{Standing, standing-of, some-is}
 use Rattle.mc_store.specs.Laws.{store_obeys, store_keeps}
-use Rattle.mc_store.specs.Did.{store_did}
+use Rattle.mc_store.specs.StoreItems.{store_did}
 
 -- a store that is not stopped runs
 pub running : (d : DeviceState) (c : ℕ) → not (is_going d c) ≡ false → is_going d c ≡ true
@@ -35,7 +35,7 @@ module _ {N : Type 0} (state : N → DeviceState) (wrote : N → ℕ → List �
   map_either s e i (Ok tt) did = inr (store_obeys state wrote obeys s.device e.device s.count e.count i (Ok tt) did).apps
   map_either s e i (Err t) did = (store_obeys state wrote obeys s.device e.device s.count e.count i (Err t) did).apps
 
-  places_stay : (s : Store N) (n : List ℕ) (ws : List (ℕ × List ℕ)) (k : ℕ) → IsImage (state s.device).words → is_going (state s.device) s.count ≡ true → IsSome (lookup (means (state s.device).words).apps n)
+  places_stay : (s : Store N) (n : List ℕ) (ws : List (ℕ × List ℕ)) (k : ℕ) → IsSized (state s.device).words → is_going (state s.device) s.count ≡ true → IsSome (lookup (means (state s.device).words).apps n)
       → name_of_place (committed (apps_in (state s.device).words) n ws) k ≡ name_of_place (apps_in (state s.device).words) k
   places_stay s n ws k image going there =
       let m = (state s.device).words in

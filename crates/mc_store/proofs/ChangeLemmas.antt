@@ -4,7 +4,7 @@ use Rattle.std.specs.Prelude.{IsSome, is_some, unwrap_or}
 use Rattle.std.specs.List.{AllByRecursion}
 use Rattle.mc_model.specs.Orders.{Answer}
 use Rattle.mc_model.specs.Bytes.{up, be2, lookup, remove}
-use Rattle.mc_model.specs.Device.{DeviceState, IsImage, Makes}
+use Rattle.mc_model.specs.Device.{DeviceState, IsSized, Makes}
 use Rattle.mc_model.specs.Image.{Two, is_open, look, Closed}
 use Rattle.mc_model.specs.Stopped.{writes, IsAtomic}
 use Rattle.mc_model.specs.Card.{App, means, card_of, record_at, app_at, section}
@@ -14,15 +14,15 @@ use Rattle.mc_bank.specs.Bank.{CanCommit, no_app, app_of, name_or}
 use Rattle.mc_blocks.specs.Plans.{plan, without, has_span}
 use Rattle.mc_store.specs.Store.{apps_in, is_going, place_named, store_named, part_from, static_writes, card_without, count_after, StoreDid}
 use Rattle.mc_store.specs.Slots.{IsBlock}
-use Rattle.mc_store.specs.Going.{Going, going_is}
-use Rattle.mc_store.specs.Alike.{gates}
-use Rattle.mc_store.specs.Sections.{length-section}
-use Rattle.mc_store.specs.Deletion.{Deletes, deletes-plan, deletes-count}
-use Rattle.mc_store.specs.Splices.{placed_words}
-use Rattle.mc_store.specs.Statics.{static_from, StaticIn, static-in}
-use Rattle.mc_store.specs.Commits.{Committed, commits}
-use Rattle.mc_store.specs.Turns.{Standing, standing-of, some-is}
-use Rattle.mc_store.specs.Did.{SlotIs, slot_is}
+use Rattle.mc_store.specs.GoingLaws.{Going, going_is}
+use Rattle.mc_store.specs.AlikeLaws.{gates}
+use Rattle.mc_store.specs.SectionLaws.{length-section}
+use Rattle.mc_store.specs.DeletionLaws.{Deletes, deletes-plan, deletes-count}
+use Rattle.mc_store.specs.SpliceLaws.{placed_words}
+use Rattle.mc_store.specs.StaticLaws.{static_from, StaticIn, static-in}
+use Rattle.mc_store.specs.CommitLaws.{Committed, commits}
+use Rattle.mc_store.specs.TurnLaws.{Standing, standing-of, some-is}
+use Rattle.mc_store.specs.StoreItems.{SlotIs, slot_is}
 use Rattle.mc_bank.specs.Slots.{slot_place, slot_sizes}
 use Rattle.mc_bank.specs.SlotLaws.{name_there, some_there}
 use Rattle.mc_model.specs.declared.card.Part.TheVariants.{Data}
@@ -46,7 +46,7 @@ pub record DeleteIs (d : DeviceState) (c p : ℕ) : Type 0 where
   pub there : IsSome (lookup (means d.words).apps (name_or (place_named d p)))
   pub writes : plan (means d.words) (without p (spans (means d.words))) ≡ item_plan d.words (name_or (place_named d p))
 
-pub delete-is : (d : DeviceState) (c p : ℕ) → IsImage d.words → is_going d c ≡ true → IsSome (place_named d p) → DeleteIs d c p
+pub delete-is : (d : DeviceState) (c p : ℕ) → IsSized d.words → is_going d c ≡ true → IsSome (place_named d p) → DeleteIs d c p
 delete-is d c p image going there =
     let m = d.words in
     let g : Going d c = going_is d c going in
@@ -70,7 +70,7 @@ delete-is d c p image going there =
     }
 
 module _ {D : Type 0} (state : D → DeviceState) (wrote : D → ℕ → List ℕ → Answer → D → Type 0) where
-  pub delete-did : (d e : D) (c p : ℕ) (items : List (ℕ × List ℕ)) (a : Answer) → IsImage (state d).words → is_going (state d) c ≡ true → IsSome (place_named (state d) p) → items ≡ plan (means (state d).words) (without p (spans (means (state d).words)))
+  pub delete-did : (d e : D) (c p : ℕ) (items : List (ℕ × List ℕ)) (a : Answer) → IsSized (state d).words → is_going (state d) c ≡ true → IsSome (place_named (state d) p) → items ≡ plan (means (state d).words) (without p (spans (means (state d).words)))
       → Makes wrote d (writes Two items) a e → StoreDid state wrote d c (Remove (name_or (place_named (state d) p))) a e (count_after (Remove (name_or (place_named (state d) p))) a c)
   delete-did d e c p items a image going there is made =
       let k : DeleteIs (state d) c p = delete-is (state d) c p image going there in
@@ -85,7 +85,7 @@ module _ {D : Type 0} (state : D → DeviceState) (wrote : D → ℕ → List �
 -- ---- a commit
 
 -- the first word of static bytes, by the record
-pub static-first : (m : List (List ℕ)) (p : ℕ) (a : App) → IsImage m → IsBlock m p → app_at m p ≡ a → static_from a ≡ p + 5 + up (be2 (record_at m p) 20) 8
+pub static-first : (m : List (List ℕ)) (p : ℕ) (a : App) → IsSized m → IsBlock m p → app_at m p ≡ a → static_from a ≡ p + 5 + up (be2 (record_at m p) 20) 8
 static-first m p a image block is =
     let r = record_at m p in
     let k : RecordIs r block.words = record_is r block.words block.good in
@@ -108,7 +108,7 @@ small : (size q n : ℕ) (ws : List (ℕ × List ℕ)) → size ≤ 16384 → q 
 small size q n [] high ends a = tt
 small size q n (w ∷ ws) high ends a = let lt : 8 * w.0 < n = a.0 in (omega arith, small size q n ws high ends a.1)
 
-pub commit-is : (d : DeviceState) (c p : ℕ) (ws : List (ℕ × List ℕ)) → IsImage d.words → is_going d c ≡ true → IsSome (place_named d p) → CanCommit (app_of (apps_in d.words) (place_named d p)).fixed ws → CommitIs d p ws
+pub commit-is : (d : DeviceState) (c p : ℕ) (ws : List (ℕ × List ℕ)) → IsSized d.words → is_going d c ≡ true → IsSome (place_named d p) → CanCommit (app_of (apps_in d.words) (place_named d p)).fixed ws → CommitIs d p ws
 commit-is d c p ws image going there can =
     let m = d.words in
     let g : Going d c = going_is d c going in
@@ -141,7 +141,7 @@ commit-is d c p ws image going there can =
     }
 
 module _ {D : Type 0} (state : D → DeviceState) (wrote : D → ℕ → List ℕ → Answer → D → Type 0) where
-  pub commit-did : (d e : D) (c p : ℕ) (ws items : List (ℕ × List ℕ)) (a : Answer) → IsImage (state d).words → is_going (state d) c ≡ true → IsSome (place_named (state d) p) → CanCommit (app_of (apps_in (state d).words) (place_named (state d) p)).fixed ws
+  pub commit-did : (d e : D) (c p : ℕ) (ws items : List (ℕ × List ℕ)) (a : Answer) → IsSized (state d).words → is_going (state d) c ≡ true → IsSome (place_named (state d) p) → CanCommit (app_of (apps_in (state d).words) (place_named (state d) p)).fixed ws
       → items ≡ placed_words (p + 5 + up (be2 (record_at (state d).words p) 20) 8) ws → Makes wrote d (writes Two items) a e → StoreDid state wrote d c (Commit (name_or (place_named (state d) p)) ws) a e c
   commit-did d e c p ws items a image going there can is made =
       let k : CommitIs (state d) p ws = commit-is (state d) c p ws image going there can in
@@ -164,7 +164,7 @@ first-small : (q : ℕ) (ws : List (ℕ × List ℕ)) → 1 ≤ length ws → Al
 first-small q [] some a = absurd (omega arith)
 first-small q (w ∷ ws) some a = let low = a.0 in omega (arith, low)
 
-pub delete-at : (d : DeviceState) (c j p : ℕ) → p ≡ slot_place j → IsImage d.words → is_going d c ≡ true → IsSome (store_named d j) → DeleteIs d c p
+pub delete-at : (d : DeviceState) (c j p : ℕ) → p ≡ slot_place j → IsSized d.words → is_going d c ≡ true → IsSome (store_named d j) → DeleteIs d c p
 delete-at d c j p at image going there =
     delete-is d c p image going (subst (λ (q : ℕ). IsSome (place_named d q)) (sym at) (some_there (apps_in d.words) j (place_named d (slot_place j)) there))
 
@@ -176,7 +176,7 @@ pub record CommitAt (d : DeviceState) (first : ℕ) (ws : List (ℕ × List ℕ)
   pub atomic : IsAtomic (length d.words) (placed_words first ws)
   pub within : AllByRecursion (λ w. first + w.0 ≤ 65535) ws
 
-module _ (d : DeviceState) (c j first : ℕ) (image : IsImage d.words) (going : is_going d c ≡ true) (there : IsSome (store_named d j)) (at : first ≡ part_from Data (slot_sizes j) (slot_place j)) where
+module _ (d : DeviceState) (c j first : ℕ) (image : IsSized d.words) (going : is_going d c ≡ true) (there : IsSome (store_named d j)) (at : first ≡ part_from Data (slot_sizes j) (slot_place j)) where
   named-at : store_named d j ≡ place_named d (slot_place j)
   named-at = name_there (apps_in d.words) j (place_named d (slot_place j)) there
 
@@ -202,7 +202,7 @@ module _ (d : DeviceState) (c j first : ℕ) (image : IsImage d.words) (going : 
       }
 
 module _ {D : Type 0} (state : D → DeviceState) (wrote : D → ℕ → List ℕ → Answer → D → Type 0) where
-  pub commit-done : (d e : D) (c j first : ℕ) (ws items : List (ℕ × List ℕ)) (a : Answer) → IsImage (state d).words → is_going (state d) c ≡ true → IsSome (store_named (state d) j)
+  pub commit-done : (d e : D) (c j first : ℕ) (ws items : List (ℕ × List ℕ)) (a : Answer) → IsSized (state d).words → is_going (state d) c ≡ true → IsSome (store_named (state d) j)
       → CanCommit (app_of (apps_in (state d).words) (store_named (state d) j)).fixed ws → first ≡ part_from Data (slot_sizes j) (slot_place j) → items ≡ placed_words first ws
       → Makes wrote d (writes Two items) a e → StoreDid state wrote d c (Commit (name_or (store_named (state d) j)) ws) a e c
   commit-done d e c j first ws items a image going there can at is made =
@@ -210,7 +210,7 @@ module _ {D : Type 0} (state : D → DeviceState) (wrote : D → ℕ → List �
       (commit-did state wrote d e c (slot_place j) ws items a image going (some-at (state d) c j first image going there at) (can-at (state d) c j first image going there at ws can)
       (is ∙ ap (λ (q : ℕ). placed_words q ws) (first-at (state d) c j first image going there at)) made)
 
-  pub delete-done : (d e : D) (c j p : ℕ) (items : List (ℕ × List ℕ)) (a : Answer) → p ≡ slot_place j → IsImage (state d).words → is_going (state d) c ≡ true → IsSome (store_named (state d) j)
+  pub delete-done : (d e : D) (c j p : ℕ) (items : List (ℕ × List ℕ)) (a : Answer) → p ≡ slot_place j → IsSized (state d).words → is_going (state d) c ≡ true → IsSome (store_named (state d) j)
       → items ≡ plan (means (state d).words) (without p (spans (means (state d).words))) → Makes wrote d (writes Two items) a e
       → StoreDid state wrote d c (Remove (name_or (store_named (state d) j))) a e (count_after (Remove (name_or (store_named (state d) j))) a c)
   delete-done d e c j p items a at image going there is made =

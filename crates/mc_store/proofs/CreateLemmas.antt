@@ -7,7 +7,7 @@ use Rattle.mc_model.specs.declared.card.Sizes.{Sizes}
 use Rattle.mc_model.specs.declared.card.Part.TheVariants.{Data}
 use Rattle.mc_model.specs.Orders.{Answer}
 use Rattle.mc_model.specs.Bytes.{zeros, bytes2, splice}
-use Rattle.mc_model.specs.Device.{DeviceState, IsImage, Wrote, Makes}
+use Rattle.mc_model.specs.Device.{DeviceState, IsSized, Wrote, Makes}
 use Rattle.mc_model.specs.Image.{Two, is_open, look, Closed}
 use Rattle.mc_model.specs.Stopped.{writes}
 use Rattle.mc_model.specs.Card.{means, word}
@@ -16,11 +16,11 @@ use Rattle.mc_model.specs.Items.{Site, Blank, Note, Enter}
 use Rattle.mc_base.specs.Name.{IsName}
 use Rattle.mc_blocks.specs.Plans.{plan, has_room}
 use Rattle.mc_store.specs.Store.{is_going, needed_by, part_from, record_bytes, record_word, card_with, count_after, IsGoodIn, IsInWord, IsReady, StoreDid}
-use Rattle.mc_store.specs.Going.{Going, going_is}
-use Rattle.mc_store.specs.Alike.{gates}
-use Rattle.mc_store.specs.Creation.{AtSite, at-site, Creates, creates-plan}
-use Rattle.mc_store.specs.Turns.{Standing, standing-of, blanked}
-use Rattle.mc_store.specs.Did.{blank_items}
+use Rattle.mc_store.specs.GoingLaws.{Going, going_is}
+use Rattle.mc_store.specs.AlikeLaws.{gates}
+use Rattle.mc_store.specs.CreationLaws.{AtSite, at-site, Creates, creates-plan}
+use Rattle.mc_store.specs.TurnLaws.{Standing, standing-of, blanked}
+use Rattle.mc_store.specs.StoreItems.{blank_items}
 use Rattle.mc_store.proofs.FillLemmas.{good-on, blank-on, note-on, parts-step}
 
 -- ---- the words of a record
@@ -82,7 +82,7 @@ pub record EnterIs (d : DeviceState) (c : ℕ) (s : Site) (n : List ℕ) : Type 
   pub few : c < 32
   pub plan : plan (means d.words) (put_at s.place (needed_by s.sizes) (spans (means d.words))) ≡ step_of (means d.words) (card_with d.words s n)
 
-pub enter-is : (d : DeviceState) (c : ℕ) (s : Site) (n : List ℕ) → IsImage d.words → is_going d c ≡ true → IsReady d.words s n → EnterIs d c s n
+pub enter-is : (d : DeviceState) (c : ℕ) (s : Site) (n : List ℕ) → IsSized d.words → is_going d c ≡ true → IsReady d.words s n → EnterIs d c s n
 enter-is d c s n image going ready =
     let m = d.words in
     let g : Going d c = going_is d c going in
@@ -94,7 +94,7 @@ enter-is d c s n image going ready =
     record { on = g.on; closed = g.closed; well = t.well; gate = (gates m g.closed).two; room = site.room; few = omega (arith, few, old); plan = sym p.plan }
 
 module _ {D : Type 0} (state : D → DeviceState) (wrote : D → ℕ → List ℕ → Answer → D → Type 0) where
-  pub enter-did : (d e : D) (c p need : ℕ) (s : Site) (n : List ℕ) (items : List (ℕ × List ℕ)) (a : Answer) → IsImage (state d).words → is_going (state d) c ≡ true → IsReady (state d).words s n → p ≡ s.place → need ≡ needed_by s.sizes
+  pub enter-did : (d e : D) (c p need : ℕ) (s : Site) (n : List ℕ) (items : List (ℕ × List ℕ)) (a : Answer) → IsSized (state d).words → is_going (state d) c ≡ true → IsReady (state d).words s n → p ≡ s.place → need ≡ needed_by s.sizes
       → items ≡ plan (means (state d).words) (put_at p need (spans (means (state d).words))) → Makes wrote d (writes Two items) a e → StoreDid state wrote d c (Enter s n) a e (count_after (Enter s n) a c)
   enter-did d e c p need s n items a image going ready place sizes is made =
       let k : EnterIs (state d) c s n = enter-is (state d) c s n image going ready in
@@ -109,14 +109,14 @@ module _ {D : Type 0} (state : D → DeviceState) (wrote : D → ℕ → List �
 
 -- ---- zeros and the words of the record
 
-pub blank-word : (d : DeviceState) (c : ℕ) (s : Site) (at n : ℕ) → IsImage d.words → is_going d c ≡ true → IsGoodIn d.words s → IsInWord s.sizes.fixed at n → part_from Data s.sizes s.place + at / 8 < length d.words
+pub blank-word : (d : DeviceState) (c : ℕ) (s : Site) (at n : ℕ) → IsSized d.words → is_going d c ≡ true → IsGoodIn d.words s → IsInWord s.sizes.fixed at n → part_from Data s.sizes s.place + at / 8 < length d.words
 blank-word d c s at n image going good i =
     let g : Going d c = going_is d c going in
     let site : AtSite d.words s = at-site d.words s image g.closed (standing-of d c g).well good in
     let lies = blanked s.sizes s.place at n i in
     omega (arith, site.ends, lies.1)
 
-pub note-word : (d : DeviceState) (c : ℕ) (s : Site) (i : ℕ) → IsImage d.words → is_going d c ≡ true → IsGoodIn d.words s → i < 4 → s.place + 1 + i < length d.words
+pub note-word : (d : DeviceState) (c : ℕ) (s : Site) (i : ℕ) → IsSized d.words → is_going d c ≡ true → IsGoodIn d.words s → i < 4 → s.place + 1 + i < length d.words
 note-word d c s i image going good few =
     let g : Going d c = going_is d c going in
     let site : AtSite d.words s = at-site d.words s image g.closed (standing-of d c g).well good in
@@ -133,7 +133,7 @@ module _ {D : Type 0} (state : D → DeviceState) (wrote : D → ℕ → List �
   one-write d e at w (Ok u) h = inl (e, h, refl)
   one-write d e at w (Err s) h = inr (s, h, refl)
 
-  pub blank-did : (d e : D) (c : ℕ) (s : Site) (at n from : ℕ) (b : List ℕ) (a : Answer) → IsImage (state d).words → is_going (state d) c ≡ true → IsGoodIn (state d).words s → IsInWord s.sizes.fixed at n → from ≡ part_from Data s.sizes s.place → b ≡ zeros n
+  pub blank-did : (d e : D) (c : ℕ) (s : Site) (at n from : ℕ) (b : List ℕ) (a : Answer) → IsSized (state d).words → is_going (state d) c ≡ true → IsGoodIn (state d).words s → IsInWord s.sizes.fixed at n → from ≡ part_from Data s.sizes s.place → b ≡ zeros n
       → wrote d (from + at / 8) (splice (word (state d).words (from + at / 8)) (at % 8) b) a e → StoreDid state wrote d c (Blank s at n) a e c
   blank-did d e c s at n from b a image going good i is clear made =
       record {
@@ -144,7 +144,7 @@ module _ {D : Type 0} (state : D → DeviceState) (wrote : D → ℕ → List �
         count = refl;
       }
 
-  pub note-did : (d e : D) (c : ℕ) (s : Site) (n : List ℕ) (i place : ℕ) (w : List ℕ) (a : Answer) → IsImage (state d).words → is_going (state d) c ≡ true → IsGoodIn (state d).words s → IsName n → i < 4 → place ≡ s.place → w ≡ record_word s.sizes n i
+  pub note-did : (d e : D) (c : ℕ) (s : Site) (n : List ℕ) (i place : ℕ) (w : List ℕ) (a : Answer) → IsSized (state d).words → is_going (state d) c ≡ true → IsGoodIn (state d).words s → IsName n → i < 4 → place ≡ s.place → w ≡ record_word s.sizes n i
       → wrote d (place + 1 + i) w a e → StoreDid state wrote d c (Note s n i) a e c
   note-did d e c s n i place w a image going good name few at is made =
       record {

@@ -6,16 +6,16 @@ use Rattle.mc_model.specs.declared.card.Part.{Part}
 use Rattle.mc_model.specs.declared.device.Stop.{Stop}
 use Rattle.mc_model.specs.Orders.{Answer, InOrder}
 use Rattle.mc_model.specs.Bytes.{splice}
-use Rattle.mc_model.specs.Device.{DeviceState, IsImage, Wrote, Makes}
+use Rattle.mc_model.specs.Device.{DeviceState, IsSized, Wrote, Makes}
 use Rattle.mc_model.specs.Card.{App, Card, card_of, means, word}
 use Rattle.mc_model.specs.Layout.{gaps, first_fitting}
 use Rattle.mc_model.specs.Items.{Site, BankItem, Piece, Blank, Note}
 use Rattle.mc_model.specs.Manager.{in_words, word_parts}
 use Rattle.mc_bank.specs.Bank.{part_len}
 use Rattle.mc_store.specs.Store.{apps_in, is_going, needed_by, part_from, IsGoodIn, IsInWord, StoreDid}
-use Rattle.mc_store.specs.Going.{Going, going_is, is_going_of, closed_means}
-use Rattle.mc_store.specs.Creation.{AtSite, at-site}
-use Rattle.mc_store.specs.Turns.{Turned, Standing, standing-of, turns, parted}
+use Rattle.mc_store.specs.GoingLaws.{Going, going_is, is_going_of, closed_means}
+use Rattle.mc_store.specs.CreationLaws.{AtSite, at-site}
+use Rattle.mc_store.specs.TurnLaws.{Turned, Standing, standing-of, turns, parted}
 
 -- ---- the parts of a piece
 
@@ -85,7 +85,7 @@ module _ {S : Type 0} (one : S → BankItem → Answer → S → Type 0) where
 
 -- ---- one write
 
-pub site-word : (d : DeviceState) (c : ℕ) (s : Site) (p : Part) (at n : ℕ) → IsImage d.words → is_going d c ≡ true → IsGoodIn d.words s → IsInWord (part_len p s.sizes) at n → part_from p s.sizes s.place + at / 8 < length d.words
+pub site-word : (d : DeviceState) (c : ℕ) (s : Site) (p : Part) (at n : ℕ) → IsSized d.words → is_going d c ≡ true → IsGoodIn d.words s → IsInWord (part_len p s.sizes) at n → part_from p s.sizes s.place + at / 8 < length d.words
 site-word d c s p at n image going good i =
     let g : Going d c = going_is d c going in
     let site : AtSite d.words s = at-site d.words s image g.closed (standing-of d c g).well good in
@@ -128,7 +128,7 @@ module _ {D : Type 0} (state : D → DeviceState) (wrote : D → ℕ → List �
   one-write d e at w (Ok u) h = inl (e, h, refl)
   one-write d e at w (Err s) h = inr (s, h, refl)
 
-  pub piece-did : (d e : D) (c : ℕ) (s : Site) (p : Part) (at from : ℕ) (b : List ℕ) (a : Answer) → IsImage (state d).words → is_going (state d) c ≡ true → IsGoodIn (state d).words s → IsInWord (part_len p s.sizes) at (length b) → from ≡ part_from p s.sizes s.place
+  pub piece-did : (d e : D) (c : ℕ) (s : Site) (p : Part) (at from : ℕ) (b : List ℕ) (a : Answer) → IsSized (state d).words → is_going (state d) c ≡ true → IsGoodIn (state d).words s → IsInWord (part_len p s.sizes) at (length b) → from ≡ part_from p s.sizes s.place
       → wrote d (from + at / 8) (splice (word (state d).words (from + at / 8)) (at % 8) b) a e → StoreDid state wrote d c (Piece s p at b) a e c
   piece-did d e c s p at from b a image going good i is made =
       record {

@@ -1,14 +1,15 @@
 -- The bytes of words of eight bytes, joined.
-use Rattle.std.proofs.Common.{◌≡◌, subst, ℕ, zero, suc, ◌+◌, ◌-◌, ◌*◌, ◌<◌, ◌≤◌, List, [], ◌++◌, length, take, drop, refl, sym, ◌∙◌, ap, arith, length-drop, length-append}
+use Rattle.std.proofs.Common.{◌≡◌, subst, ℕ, zero, suc, ◌+◌, ◌-◌, ◌*◌, ◌<◌, ◌≤◌, List, [], ◌++◌, length, take, drop, refl, sym, ◌∙◌, ap, arith, length-drop, length-append, append_assoc, append-nil, inl, inr, ◌∷◌, nat_eq, false}
+use Rattle.std.proofs.lemmas.Bool.{cases_lt}
 use Rattle.std.specs.List.{concat}
 use Rattle.std.proofs.lemmas.List.{drop_more, drop-drop, drop-take, drop_at, take-take, take-append-drop, take-append-le, drop-append-le, take_all, length-take-le}
 use borrow.Rule.Slice.PartMut.{put_mid}
 use Rattle.std.proofs.lemmas.Slice.{put_mid-paste, take-put_mid}
 use Rattle.mc_model.specs.Bytes.{up}
-use Rattle.mc_model.specs.Device.{IsImage}
+use Rattle.mc_model.specs.Device.{IsSized}
 use Rattle.mc_model.specs.Card.{word, cells, section}
 use Rattle.std.proofs.lemmas.List.Folds.{concat-append}
-use Rattle.mc_store.specs.Sections.{length-cells}
+use Rattle.mc_store.specs.SectionLaws.{length-cells}
 use Rattle.mc_store.specs.Slots.{flat}
 
 take_sum : (a b : ℕ) (l : List ℕ) → take (a + b) l ≡ take a l ++ take b (drop a l)
@@ -17,7 +18,12 @@ take_sum a b l =
     ∙ ap (λ (x : List ℕ). x ++ drop a (take (a + b) l)) (take-take a (a + b) l (omega arith))
     ∙ ap (λ (x : List ℕ). take a l ++ x) (drop-take a b l)
 
-module _ (m : List (List ℕ)) (image : IsImage m) where
+-- a list that is not empty
+pub some_bytes : (l : List ℕ) → nat_eq (length l) 0 ≡ false → 0 < length l
+some_bytes [] none = absurd (cc none)
+some_bytes (x ∷ l) none = omega arith
+
+module _ (m : List (List ℕ)) (image : IsSized m) where
   -- a word before the words behind it
   behind : (q : ℕ) → q < length m → concat (drop q m) ≡ word m q ++ concat (drop (q + 1) m)
   behind q h = ap concat (drop_more m q [] h)
@@ -76,6 +82,33 @@ module _ (m : List (List ℕ)) (image : IsImage m) where
       ap length all ∙ length-append (take a into ++ ys) (drop (a + count) into) ∙ omega (arith, length-append (take a into) ys, front, rest, size, low) in
       subst (λ (n : ℕ). WordPut base a count into (put_mid a n into ys)) (sym k)
       (record { size = long; bytes = word_put base a q skip count into ys (omega (arith, low)) at few lt piece size before })
+
+  -- the bytes that two words begin with, of which the second is the device's where they reach it
+  pub in_pair : (q skip count : ℕ) (second : List ℕ) → q < length m → skip < 8 → count < 8 → 8 * q + skip + count ≤ 8 * length m → (8 < skip + count → second ≡ word m (q + 1))
+      → take count (drop skip (word m q ++ (second ++ []))) ≡ take count (drop (8 * q + skip) (flat m))
+  in_pair q skip count second lt low few room is =
+      elim (cases_lt 8 (skip + count)) [
+        | inr near ↦
+            let eight : length (word m q) ≡ 8 = image.words q lt in
+            let left : length (drop skip (word m q)) ≡ length (word m q) - skip = length-drop skip (word m q) in
+            ap (λ (l : List ℕ). take count l) (drop-append-le skip (word m q) (second ++ []) (omega (arith, eight, low)))
+            ∙ take-append-le count (drop skip (word m q)) (second ++ []) (omega (arith, eight, left, near))
+            ∙ in_word q skip count lt near
+        | inl far ↦
+            let next : q + 1 < length m = omega (arith, room, far) in
+            let x = word m q in
+            let y = word m (q + 1) in
+            let rest = concat (drop (q + 1 + 1) m) in
+            let eight : length x ≡ 8 = image.words q lt in
+            let more : length y ≡ 8 = image.words (q + 1) next in
+            let both : length (x ++ y) ≡ length x + length y = length-append x y in
+            let left : length (drop skip (x ++ y)) ≡ length (x ++ y) - skip = length-drop skip (x ++ y) in
+            let words : concat (drop q m) ≡ (x ++ y) ++ rest = behind q lt ∙ ap (λ (l : List ℕ). x ++ l) (behind (q + 1) next) ∙ sym (append_assoc x y rest) in
+            let all : take count (drop (8 * q + skip) (flat m)) ≡ take count (drop skip (x ++ y)) =
+            ap (λ (l : List ℕ). take count l) (sym (drop-drop skip (8 * q) (flat m)) ∙ ap (λ (l : List ℕ). drop skip l) (from_word q (omega (arith, lt)) ∙ words) ∙ drop-append-le skip (x ++ y) rest (omega (arith, both, eight, more, low)))
+            ∙ take-append-le count (drop skip (x ++ y)) rest (omega (arith, both, eight, more, left, low, few)) in
+            ap (λ (l : List ℕ). take count (drop skip (x ++ l))) (append-nil second ∙ is far) ∙ sym all
+      ]
 
   -- a section as a part of all bytes
   section_flat : (q n : ℕ) → q + up n 8 ≤ length m → section m q n ≡ take n (drop (8 * q) (flat m))

@@ -21,12 +21,12 @@ use Rattle.mc_bank.specs.Bank.{BankState, IsGood, StayGood, entered, item_done, 
 use Rattle.mc_store.specs.declared.store.Store.{Store}
 use Rattle.mc_bank.specs.Slots.{slot_place, name_of_slot}
 use Rattle.mc_store.specs.Store.{apps_in, is_going, store_state, store_named, store_room, store_standing, name_of_place, part_in, needed_by, IsGoodIn, IsInWord, item_writes}
-use Rattle.mc_store.specs.Going.{Going, going_is, closed_means, closed_settled, closed_apps, laid_apps}
-use Rattle.mc_store.specs.Gaps.{just-one}
-use Rattle.mc_store.specs.Creation.{at-site}
-use Rattle.mc_store.specs.Turns.{some-is, Turns, Standing, standing-of, turns}
+use Rattle.mc_store.specs.GoingLaws.{Going, going_is, closed_means, closed_settled, closed_apps, laid_apps}
+use Rattle.mc_store.specs.GapLaws.{just-one}
+use Rattle.mc_store.specs.CreationLaws.{at-site}
+use Rattle.mc_store.specs.TurnLaws.{some-is, Turns, Standing, standing-of, turns}
 use Rattle.mc_store.specs.Laws.{store_obeys, store_keeps}
-use Rattle.mc_store.specs.Did.{store_did}
+use Rattle.mc_store.specs.StoreItems.{store_did}
 use Rattle.mc_store.proofs.SiteLemmas.{piece_part, piece_other, blank_part, note_part, laid_parts, none_laid, part_length}
 
 -- ---- changes one after another
@@ -71,7 +71,7 @@ IsQuiet t (Commit n ws) = ⊥
 IsQuiet t (Enter s n) = ⊥
 IsQuiet t (Remove n) = ⊥
 
-quiet_plain : (t : Site) (i : BankItem) → IsQuiet t i → IsPlain i
+pub quiet_plain : (t : Site) (i : BankItem) → IsQuiet t i → IsPlain i
 quiet_plain t (Piece s p at b) h = absurd h
 quiet_plain t (Blank s at n) h = tt
 quiet_plain t (Note s n i) h = tt
@@ -79,7 +79,7 @@ quiet_plain t (Commit n ws) h = absurd h
 quiet_plain t (Enter s n) h = absurd h
 quiet_plain t (Remove n) h = absurd h
 
-same_entered : (s : Site) (f g : Part → List ℕ) → ((p : Part) → f p ≡ g p) → entered s f ≡ entered s g
+pub same_entered : (s : Site) (f g : Part → List ℕ) → ((p : Part) → f p ≡ g p) → entered s f ≡ entered s g
 same_entered s f g h =
     let x = entered s f in
     ap (λ (l : List ℕ). record x { code = l }) (h Code)

@@ -6,11 +6,11 @@ use Rattle.std.proofs.lemmas.List.Edits.{paste_none}
 use Rattle.std.proofs.lemmas.Bool.{cases_lt}
 use Rattle.std.proofs.Math.Seq.{take-append-add, drop-append-add}
 use Rattle.mc_model.specs.Bytes.{up, splice}
-use Rattle.mc_model.specs.Device.{IsImage}
+use Rattle.mc_model.specs.Device.{IsSized}
 use Rattle.mc_model.specs.Card.{word, cells, section}
 use Rattle.mc_bank.proofs.LeftLemmas.{front_piece, splice-splice}
 use Rattle.mc_store.specs.Store.{IsInWord}
-use Rattle.mc_store.specs.Sections.{cells-more, cells-append, length-cells, same-cells}
+use Rattle.mc_store.specs.SectionLaws.{cells-more, cells-append, length-cells, same-cells}
 
 -- ---- bytes set in one word
 
@@ -25,7 +25,7 @@ inside a w c b r fits =
     ∙ append_assoc a (t ++ b) (d ++ c)
     ∙ ap (λ (l : List ℕ). a ++ l) (sym (append_assoc (t ++ b) d c))
 
-cells-piece : (m : List (List ℕ)) (q k j r : ℕ) (b : List ℕ) → IsImage m → q + k + suc j ≤ length m → r + length b ≤ 8 → cells (slice_set m (q + k) (splice (word m (q + k)) r b)) q (k + suc j) ≡ splice (cells m q (k + suc j)) (8 * k + r) b
+cells-piece : (m : List (List ℕ)) (q k j r : ℕ) (b : List ℕ) → IsSized m → q + k + suc j ≤ length m → r + length b ≤ 8 → cells (slice_set m (q + k) (splice (word m (q + k)) r b)) q (k + suc j) ≡ splice (cells m q (k + suc j)) (8 * k + r) b
 cells-piece m q k j r b image h fits =
     let x = splice (word m (q + k)) r b in
     let n = slice_set m (q + k) x in
@@ -45,7 +45,7 @@ cells-piece m q k j r b image h fits =
     new ∙ sym (ap (λ (l : List ℕ). splice l (8 * k + r) b) old ∙ ap (λ (t : ℕ). splice (a ++ (w ++ c)) (t + r) b) (sym long) ∙ inside a w c b r (omega (arith, wide, fits)))
 
 -- bytes set in one word of a section
-pub section-write : (m : List (List ℕ)) (q len at : ℕ) (b : List ℕ) → IsImage m → q + up len 8 ≤ length m → IsInWord len at (length b) → section (slice_set m (q + at / 8) (splice (word m (q + at / 8)) (at % 8) b)) q len ≡ splice (section m q len) at b
+pub section-write : (m : List (List ℕ)) (q len at : ℕ) (b : List ℕ) → IsSized m → q + up len 8 ≤ length m → IsInWord len at (length b) → section (slice_set m (q + at / 8) (splice (word m (q + at / 8)) (at % 8) b)) q len ≡ splice (section m q len) at b
 section-write m q len at b image h i =
     let some = i.some in
     let ends = i.section in

@@ -4,7 +4,7 @@ use Rattle.std.specs.Prelude.{◌⊎◌, ◌==◌}
 use Rattle.std.proofs.lemmas.Bool.{eqb-true, eq-eqb, ne_eqb}
 use Rattle.mc_model.specs.declared.card.Cause.{Cause}
 use Rattle.mc_model.specs.Orders.{Answer}
-use Rattle.mc_model.specs.Device.{DeviceState, IsImage, Wrote, Makes}
+use Rattle.mc_model.specs.Device.{DeviceState, IsSized, Wrote, Makes}
 use Rattle.mc_model.specs.Image.{Journal, One, which, Look, Refused, Closed, Pending, look, laid, Words, After, after, replayed, owed, debt}
 use Rattle.mc_model.specs.Stopped.{writes, replay, owed_writes, torn, stood, stands, owes, remains}
 use Rattle.mc_model.specs.Card.{Card, card_of, means, words_after}
@@ -15,7 +15,7 @@ use Rattle.mc_model.proofs.StoppedLemmas.{torn-within, torn-past}
 use Rattle.mc_model.proofs.DeviceLemmas.{DoneAll, StoppedAt, makes-done, makes-stopped}
 use Rattle.mc_store.specs.Store.{settled}
 use Rattle.mc_store.specs.Power.{found, new_root, migrating, power_writes, power_count, IsBase, IsHalted, Powered, Runs, Halts, Fails, PowersUp, power_answer, PowerFollows}
-use Rattle.mc_store.specs.Going.{is_going_of, closed_settled, closed_means}
+use Rattle.mc_store.specs.GoingLaws.{is_going_of, closed_settled, closed_means}
 use Rattle.mc_store.proofs.HeapLemmas.{same_fault, same_card}
 use Rattle.mc_store.proofs.JournalLemmas.{IsPending, is_pending, NoneOpen, none_open, open_alone, base_in, raw, found_after, recovered_closed, recovery_halted}
 use Rattle.mc_store.proofs.MigrationLemmas.{version_is, upgrade, IsUpgraded, is_upgraded, migration_halted, migration_closed, migration_heap, migration_root}
@@ -259,7 +259,7 @@ module _ (m : List (List ℕ)) (low : 256 ≤ length m) (high : length m ≤ 163
 module _ {D : Type 0} (state : D → DeviceState) (wrote : D → ℕ → List ℕ → Answer → D → Type 0)
     (obeys : (d : D) (at : ℕ) (w : List ℕ) (a : Answer) (e : D) → (state d).on ≡ true → wrote d at w a e → Wrote (state d) at w a (state e)) where
   -- a power-up that makes its writes ends as its definition says
-  pub power_ends : (d e : D) (p : Powered) → IsImage (state d).words → (state d).on ≡ true → Makes wrote d (power_writes (state d).words) (power_answer p) e → PowerFollows (state d).words p → PowersUp (state d) p (state e)
+  pub power_ends : (d e : D) (p : Powered) → IsSized (state d).words → (state d).on ≡ true → Makes wrote d (power_writes (state d).words) (power_answer p) e → PowerFollows (state d).words p → PowersUp (state d) p (state e)
   power_ends d e (Runs number count) image on made follows =
       let card = follows.0 in
       let writes = follows.1 in

@@ -7,7 +7,7 @@ use Rattle.mc_model.specs.declared.card.Part.TheVariants.{Code, Data, Dir, Fci}
 use Rattle.mc_model.specs.declared.card.Sizes.{Sizes}
 use Rattle.mc_model.specs.declared.card.OpenRefusal.{OpenRefusal}
 use Rattle.mc_model.specs.Bytes.{be2, up, lookup}
-use Rattle.mc_model.specs.Device.{DeviceState, IsImage}
+use Rattle.mc_model.specs.Device.{DeviceState, IsSized}
 use Rattle.mc_model.specs.Card.{App, Card, record_at, name_at, app_at, section, needed_of, blocks, means}
 use Rattle.mc_model.specs.Layout.{words_fault, gaps, IsWellLaid}
 use Rattle.mc_model.specs.Image.{look, Closed}
@@ -18,9 +18,9 @@ use Rattle.mc_bank.specs.SlotLaws.{name_there, some_there, slot_sized, slot_name
 use Rattle.mc_blocks.specs.Chains.{looked_at}
 use Rattle.mc_store.specs.Store.{apps_in, search_steps, is_going, place_named, store_named, store_room, store_standing, name_of_place, part_from, part_in, needed_by}
 use Rattle.mc_store.specs.Slots.{first_named, record_sizes, IsBlock, part_of_app, flat}
-use Rattle.mc_store.specs.Going.{Going, closed_means, closed_fault, closed_settled}
-use Rattle.mc_store.specs.Sections.{length-section}
-use Rattle.mc_store.specs.Creation.{AtSite, at-site}
+use Rattle.mc_store.specs.GoingLaws.{Going, closed_means, closed_fault, closed_settled}
+use Rattle.mc_store.specs.SectionLaws.{length-section}
+use Rattle.mc_store.specs.CreationLaws.{AtSite, at-site}
 use Rattle.mc_store.proofs.RecordLemmas.{RecordIs, record_is}
 use Rattle.mc_store.proofs.FlatLemmas.{section_bytes}
 use Rattle.mc_store.proofs.SlotLemmas.{runs, map_is, name_there as found_there, name_slot, are_apps, sizes_are, fits_limits, Slot, slot}
@@ -59,7 +59,7 @@ pub record OfSlot (d : DeviceState) (j : ℕ) : Type 0 where
   pub app : app_of (apps_in d.words) (store_named d j) ≡ app_at d.words (slot_place j)
   pub sizes : slot_sizes j ≡ record_sizes (record_at d.words (slot_place j))
 
-pub of_slot : (d : DeviceState) (c j : ℕ) → IsImage d.words → not (is_going d c) ≡ false → IsSome (store_named d j) → OfSlot d j
+pub of_slot : (d : DeviceState) (c j : ℕ) → IsSized d.words → not (is_going d c) ≡ false → IsSome (store_named d j) → OfSlot d j
 of_slot d c j image h some =
     let k = slot_place j in
     let same : store_named d j ≡ place_named d k = name_there (apps_in d.words) j (place_named d k) some in
@@ -72,7 +72,7 @@ of_slot d c j image h some =
       sizes = slot_sized (apps_in d.words) j (place_named d k) some ∙ ap sizes_of app ∙ sizes_are d.words image (runs d c h).laid k s.block;
     }
 
-pub reads : (d : DeviceState) (c k : ℕ) (p : Part) (at count from : ℕ) → IsImage d.words → not (is_going d c) ≡ false → IsSome (store_named d k)
+pub reads : (d : DeviceState) (c k : ℕ) (p : Part) (at count from : ℕ) → IsSized d.words → not (is_going d c) ≡ false → IsSome (store_named d k)
     → at + count ≤ length (part_of_app p (app_of (apps_in d.words) (store_named d k))) → from ≡ part_from p (slot_sizes k) (slot_place k) → Reads d k p at count from
 reads d c k p at count from image h some range place =
     let m = d.words in
@@ -96,13 +96,13 @@ reads d c k p at count from image h some range place =
 pub good_words : (d : DeviceState) (c : ℕ) → not (is_going d c) ≡ false → words_fault d.words ≡ None
 good_words d c h = (runs d c h).laid
 
-pub is_there : (d : DeviceState) (c : ℕ) (n : List ℕ) (o : Option ℕ) → IsImage d.words → not (is_going d c) ≡ false → o ≡ first_named d.words (blocks d.words) n → is_some o ≡ is_some (lookup (apps_in d.words) n)
+pub is_there : (d : DeviceState) (c : ℕ) (n : List ℕ) (o : Option ℕ) → IsSized d.words → not (is_going d c) ≡ false → o ≡ first_named d.words (blocks d.words) n → is_some o ≡ is_some (lookup (apps_in d.words) n)
 is_there d c n o image h is = found_there d.words image (good_words d c h) n o is ∙ ap (λ (es : List (List ℕ × App)). is_some (lookup es n)) (sym (map_is d c h))
 
-is_place : (d : DeviceState) (c : ℕ) (n : List ℕ) (p : ℕ) → IsImage d.words → not (is_going d c) ≡ false → Some p ≡ first_named d.words (blocks d.words) n → place_named d p ≡ Some n
+is_place : (d : DeviceState) (c : ℕ) (n : List ℕ) (p : ℕ) → IsSized d.words → not (is_going d c) ≡ false → Some p ≡ first_named d.words (blocks d.words) n → place_named d p ≡ Some n
 is_place d c n p image h is = ap (λ (es : List (List ℕ × App)). name_of_place es p) (map_is d c h) ∙ name_slot d.words image (good_words d c h) n p is
 
-is_slot : (d : DeviceState) (c : ℕ) (n : List ℕ) (k : ℕ) → IsImage d.words → not (is_going d c) ≡ false → Some (slot_place k) ≡ first_named d.words (blocks d.words) n
+is_slot : (d : DeviceState) (c : ℕ) (n : List ℕ) (k : ℕ) → IsSized d.words → not (is_going d c) ≡ false → Some (slot_place k) ≡ first_named d.words (blocks d.words) n
     → slot_sizes k ≡ record_sizes (record_at d.words (slot_place k)) → store_named d k ≡ Some n
 is_slot d c n k image h is sizes =
     let p = slot_place k in
@@ -116,7 +116,7 @@ pub record FindsSlot (d : DeviceState) (n : List ℕ) (r : Option ℕ) : Type 0 
   pub there : is_some r ≡ is_some (lookup (apps_in d.words) n)
   pub slot : IfSome r (λ k. store_named d k ≡ Some n)
 
-pub finds_slot : (d : DeviceState) (c : ℕ) (n : List ℕ) (r : Option ℕ) → IsImage d.words → not (is_going d c) ≡ false → option_map slot_place r ≡ first_named d.words (blocks d.words) n
+pub finds_slot : (d : DeviceState) (c : ℕ) (n : List ℕ) (r : Option ℕ) → IsSized d.words → not (is_going d c) ≡ false → option_map slot_place r ≡ first_named d.words (blocks d.words) n
     → IfSome r (λ k. slot_sizes k ≡ record_sizes (record_at d.words (slot_place k))) → FindsSlot d n r
 finds_slot d c n None image h is sizes = record { there = is_there d c n None image h is; slot = tt }
 finds_slot d c n (Some k) image h is sizes =
@@ -129,7 +129,7 @@ pub record Told (d : DeviceState) (k : ℕ) (n : List ℕ) (z : Sizes) : Type 0 
   pub sizes : z ≡ sizes_of (app_of (apps_in d.words) (store_named d k))
   pub limits : FitsLimits z
 
-pub told : (d : DeviceState) (c k : ℕ) (n : List ℕ) (z : Sizes) → IsImage d.words → not (is_going d c) ≡ false → IsSome (store_named d k) → n ≡ name_at d.words (slot_place k) → z ≡ slot_sizes k → Told d k n z
+pub told : (d : DeviceState) (c k : ℕ) (n : List ℕ) (z : Sizes) → IsSized d.words → not (is_going d c) ≡ false → IsSome (store_named d k) → n ≡ name_at d.words (slot_place k) → z ≡ slot_sizes k → Told d k n z
 told d c k n z image h some named sized =
     let m = d.words in
     let s : OfSlot d k = of_slot d c k image h some in
@@ -144,7 +144,7 @@ told d c k n z image h some named sized =
 pub counted : (d : DeviceState) (c : ℕ) → not (is_going d c) ≡ false → c ≡ length (apps_in d.words)
 counted d c h = (runs d c h).count ∙ ap length (sym (map_is d c h))
 
-pub all_apps : (d : DeviceState) (c : ℕ) → IsImage d.words → not (is_going d c) ≡ false → AreApps (apps_in d.words)
+pub all_apps : (d : DeviceState) (c : ℕ) → IsSized d.words → not (is_going d c) ≡ false → AreApps (apps_in d.words)
 all_apps d c image h = subst (λ (es : List (List ℕ × App)). AreApps es) (sym (map_is d c h)) (are_apps d.words image (good_words d c h) (runs d c h).closed)
 
 -- ---- room
@@ -192,7 +192,7 @@ pub good_site : (apps : List (List ℕ × App)) (room : Sizes → Option ℕ) (s
 good_site apps room s r limits is = subst (λ (x : Result Site OpenRefusal). IfOk x (λ site. IsGood apps room site)) (sym is) (site_by apps room s (nat_le 32 (length apps)) (room s) limits refl refl)
 
 -- the sections of a good site have their lengths
-site_parts : (d : DeviceState) (c : ℕ) (s : Site) → IsImage d.words → not (is_going d c) ≡ false → IsGood (apps_in d.words) (store_room d) s → HasParts s (store_standing d s)
+site_parts : (d : DeviceState) (c : ℕ) (s : Site) → IsSized d.words → not (is_going d c) ≡ false → IsGood (apps_in d.words) (store_room d) s → HasParts s (store_standing d s)
 unfolding part_in
 site_parts d c s image h good p =
     let m = d.words in
@@ -208,6 +208,6 @@ site_parts d c s image h good p =
     by_part Dir l e = omega (arith, e)
     by_part Fci l e = omega (arith, e)
 
-pub open_parts : (d : DeviceState) (c : ℕ) (r : Result Site OpenRefusal) → IsImage d.words → not (is_going d c) ≡ false → IfOk r (λ site. IsGood (apps_in d.words) (store_room d) site) → IfOk r (λ site. HasParts site (store_standing d site))
+pub open_parts : (d : DeviceState) (c : ℕ) (r : Result Site OpenRefusal) → IsSized d.words → not (is_going d c) ≡ false → IfOk r (λ site. IsGood (apps_in d.words) (store_room d) site) → IfOk r (λ site. HasParts site (store_standing d site))
 open_parts d c (Ok s) image h good = site_parts d c s image h good
 open_parts d c (Err e) image h good = tt

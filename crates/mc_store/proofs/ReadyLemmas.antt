@@ -5,18 +5,18 @@ use Rattle.std.proofs.lemmas.List.Edits.{paste_none}
 use Rattle.mc_model.specs.declared.card.Part.TheVariants.{Data}
 use Rattle.mc_model.specs.Orders.{Answer, InOrder}
 use Rattle.mc_model.specs.Bytes.{zeros, bytes2, lookup, splice}
-use Rattle.mc_model.specs.Device.{DeviceState, IsImage, Wrote, WriteDone}
+use Rattle.mc_model.specs.Device.{DeviceState, IsSized, Wrote, WriteDone}
 use Rattle.mc_model.specs.Card.{Card, means, word, cells, section, record_at}
 use Rattle.mc_model.specs.Items.{Site, BankItem, Blank, Note}
 use Rattle.mc_model.specs.Manager.{in_words}
 use Rattle.mc_base.specs.Name.{IsName}
 use Rattle.mc_store.specs.Store.{is_going, needed_by, part_from, record_bytes, record_word, IsGoodIn, IsInWord, IsReady, StoreDid}
-use Rattle.mc_store.specs.Going.{Going, going_is}
-use Rattle.mc_store.specs.Gaps.{just-one}
-use Rattle.mc_store.specs.Sections.{length-section, cells-more, same-section}
-use Rattle.mc_store.specs.Creation.{AtSite, at-site}
-use Rattle.mc_store.specs.Turns.{standing-of}
-use Rattle.mc_store.specs.Did.{blank_items}
+use Rattle.mc_store.specs.GoingLaws.{Going, going_is}
+use Rattle.mc_store.specs.GapLaws.{just-one}
+use Rattle.mc_store.specs.SectionLaws.{length-section, cells-more, same-section}
+use Rattle.mc_store.specs.CreationLaws.{AtSite, at-site}
+use Rattle.mc_store.specs.TurnLaws.{standing-of}
+use Rattle.mc_store.specs.StoreItems.{blank_items}
 use Rattle.mc_store.proofs.FillLemmas.{PlainOn, blank-on}
 use Rattle.mc_store.proofs.PieceLemmas.{section-write, splice-parts}
 
@@ -184,7 +184,7 @@ module _ {D S : Type 0} (dev : S → D) (cnt : S → ℕ) (state : D → DeviceS
         | inr stop ↦ absurd (cc stop.2)
       ]
 
-  pub ready : (x y z : S) (s : Site) (k : List ℕ) → IsImage (state (dev x)).words → is_going (state (dev x)) (cnt x) ≡ true → IsGoodIn (state (dev x)).words s → IsName k → lookup (means (state (dev x)).words).apps k ≡ None
+  pub ready : (x y z : S) (s : Site) (k : List ℕ) → IsSized (state (dev x)).words → is_going (state (dev x)) (cnt x) ≡ true → IsGoodIn (state (dev x)).words s → IsName k → lookup (means (state (dev x)).words).apps k ≡ None
       → InOrder Did x (blank_items s s.sizes.init (zeros (s.sizes.fixed - s.sizes.init))) (Ok tt) y → InOrder Did y (Note s k 0 ∷ Note s k 1 ∷ Note s k 2 ∷ Note s k 3 ∷ []) (Ok tt) z
       → PlainOn (state (dev x)) (state (dev y)) (cnt x) → PlainOn (state (dev y)) (state (dev z)) (cnt y) → IsGoodIn (state (dev z)).words s → length (state (dev y)).words ≡ length (state (dev x)).words → IsReady (state (dev z)).words s k
   ready x y z s k image going good name fresh blanks notes on-y on-z good-z same =

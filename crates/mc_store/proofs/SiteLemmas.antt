@@ -10,15 +10,15 @@ use Rattle.mc_model.specs.declared.card.Sizes.{Sizes}
 use Rattle.mc_model.specs.Bytes.{up, down, splice}
 use Rattle.mc_model.specs.Pieces.{laid_pieces}
 use Rattle.mc_model.specs.Manager.{in_words, word_parts}
-use Rattle.mc_model.specs.Device.{IsImage}
+use Rattle.mc_model.specs.Device.{IsSized}
 use Rattle.mc_model.specs.Card.{word, section}
 use Rattle.mc_model.specs.Items.{Site}
 use Rattle.mc_bank.specs.Bank.{FitsLimits, part_len}
 use Rattle.mc_bank.proofs.LeftLemmas.{length-spliced}
 use Rattle.mc_store.specs.Store.{needed_by, part_from, part_in, piece_write, IsInWord}
 use Rattle.mc_store.proofs.PieceLemmas.{section-write, splice-parts}
-use Rattle.mc_store.specs.Sections.{section-front, same-section, length-section}
-use Rattle.mc_store.specs.Splices.{image-set}
+use Rattle.mc_store.specs.SectionLaws.{section-front, same-section, length-section}
+use Rattle.mc_store.specs.SpliceLaws.{image-set}
 
 -- ---- bytes
 
@@ -33,7 +33,7 @@ front_stays i at l b low high =
 
 -- ---- words
 
-module _ (m : List (List ℕ)) (image : IsImage m) where
+module _ (m : List (List ℕ)) (image : IsSized m) where
   -- bytes of one word of a section
   section_piece : (q n at : ℕ) (b : List ℕ) → q + up n 8 ≤ length m → IsInWord n at (length b)
       → section (slice_set m (q + down at 8) (splice (word m (q + down at 8)) (at % 8) b)) q n ≡ splice (section m q n) at b
@@ -93,7 +93,7 @@ parts_apart Fci Data z q at n l i ne = inr (let init = l.init in omega arith)
 parts_apart Fci Dir z q at n l i ne = inr (omega arith)
 parts_apart Fci Fci z q at n l i ne = absurd (ne refl)
 
-module _ (m : List (List ℕ)) (image : IsImage m) (s : Site) (limits : FitsLimits s.sizes) (ends : s.place + needed_by s.sizes ≤ length m) where
+module _ (m : List (List ℕ)) (image : IsSized m) (s : Site) (limits : FitsLimits s.sizes) (ends : s.place + needed_by s.sizes ≤ length m) where
   within : (p : Part) → part_from p s.sizes s.place + up (part_len p s.sizes) 8 ≤ length m
   within p = let low = part_inside p s.sizes s.place limits in omega (arith, low, ends)
 

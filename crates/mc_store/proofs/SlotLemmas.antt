@@ -6,22 +6,22 @@ use Rattle.std.proofs.lemmas.Bool.{eqb-true, eq-eqb}
 use Rattle.mc_model.specs.declared.card.Sizes.{Sizes}
 use Rattle.mc_model.specs.Bytes.{be2, up, lookup, insert, name_before}
 use Rattle.mc_model.specs.Image.{look, Closed}
-use Rattle.mc_model.specs.Device.{DeviceState, IsImage}
+use Rattle.mc_model.specs.Device.{DeviceState, IsSized}
 use Rattle.mc_model.specs.Card.{App, Card, Block, blocks, record_at, name_at, app_at, apps_of, card_of, needed_of}
 use Rattle.mc_model.specs.Layout.{words_fault}
 use Rattle.mc_model.proofs.ImageLemmas.{all-map}
 use Rattle.mc_base.specs.Name.{IsName}
 use Rattle.mc_bank.specs.Bank.{app_of, no_app, sizes_of, FitsLimits, IsEntry, AscendByName, AreApps}
-use Rattle.mc_bank.specs.Names.{same_name, name_is_itself, not_after, lookup-inserted, lookup-beside, each-inserted, ascend-inserted}
+use Rattle.mc_bank.specs.NameLaws.{same_name, name_is_itself, not_after, lookup-inserted, lookup-beside, each-inserted, ascend-inserted}
 use Rattle.mc_blocks.proofs.Steps.{blocks_all}
 use Rattle.mc_blocks.proofs.Tiles.{AreRead}
 use Rattle.mc_blocks.proofs.Bridge.{some-apps, no-apps, with-block, fault-closed}
 use Rattle.mc_blocks.proofs.Applications.{few-applications}
 use Rattle.mc_store.specs.Store.{apps_in, is_going, name_of_place, place_named}
 use Rattle.mc_store.specs.Slots.{first_named, record_sizes, IsBlock}
-use Rattle.mc_store.specs.Going.{Going, going_is, closed_apps, closed_means}
-use Rattle.mc_store.specs.Sections.{length-cells, length-section}
-use Rattle.mc_store.specs.Turns.{some-is}
+use Rattle.mc_store.specs.GoingLaws.{Going, going_is, closed_apps, closed_means}
+use Rattle.mc_store.specs.SectionLaws.{length-cells, length-section}
+use Rattle.mc_store.specs.TurnLaws.{some-is}
 use Rattle.mc_store.proofs.RecordLemmas.{RecordIs, record_is, name_size, long_enough}
 use Rattle.mc_store.proofs.WalkLemmas.{HasRecord, Walk, walk_begins}
 
@@ -135,7 +135,7 @@ module _ (m : List (List ℕ)) where
 
 -- ---- words without a fault
 
-module _ (m : List (List ℕ)) (image : IsImage m) (good : words_fault m ≡ None) where
+module _ (m : List (List ℕ)) (image : IsSized m) (good : words_fault m ≡ None) where
   all_entries : AllByRecursion (IsOf m) (apps_of m (blocks m)) × AscendByName (apps_of m (blocks m))
   all_entries =
       let w : Walk m 131 (blocks m) = subst (λ (bs : List Block). Walk m 131 bs) (sym (blocks_all m)) (walk_begins m image good) in
@@ -214,7 +214,7 @@ pub record Slot (d : DeviceState) (k : ℕ) : Type 0 where
   pub app : app_of (apps_in d.words) (place_named d k) ≡ app_at d.words k
   pub block : IsBlock d.words k
 
-pub slot : (d : DeviceState) (c k : ℕ) → IsImage d.words → not (is_going d c) ≡ false → IsSome (place_named d k) → Slot d k
+pub slot : (d : DeviceState) (c k : ℕ) → IsSized d.words → not (is_going d c) ≡ false → IsSome (place_named d k) → Slot d k
 slot d c k image h some =
     let m = d.words in
     let g : Going d c = runs d c h in

@@ -3,7 +3,7 @@ use Rattle.std.proofs.Common.{◌≡◌, ℕ, ◌+◌, ◌<◌, ◌≤◌, Bool,
 use Rattle.std.specs.Prelude.{◌⊎◌, bytes_eq, slice_set, unwrap_or}
 use Rattle.std.proofs.lemmas.List.{length-map}
 use Rattle.mc_model.specs.Bytes.{up, lookup, insert}
-use Rattle.mc_model.specs.Device.{IsImage}
+use Rattle.mc_model.specs.Device.{IsSized}
 use Rattle.mc_model.specs.Image.{One, Two, opening, look, Closed, laid, debt}
 use Rattle.mc_model.specs.Stopped.{writes, cost, stands, owes, torn, stood, IsAtomic, Inside, Leaves}
 use Rattle.mc_model.specs.Card.{App, Card, card_of, means}
@@ -16,17 +16,17 @@ use Rattle.mc_model.proofs.StoppedLemmas.{torn-other, tear}
 use Rattle.mc_bank.specs.Bank.{no_app, app_of, CanCommit, with_words}
 use Rattle.mc_blocks.specs.Plans.{has_room}
 use Rattle.mc_store.specs.Store.{needed_by, static_writes, card_with, card_without, item_writes, IsGoodIn, Allows}
-use Rattle.mc_store.specs.Going.{closed_means, closed_fault}
+use Rattle.mc_store.specs.GoingLaws.{closed_means, closed_fault}
 use Rattle.mc_store.specs.Power.{IsBase}
 use Rattle.mc_store.specs.Stops.{card_after, IsStoppedAt}
-use Rattle.mc_store.specs.Alike.{alike-self}
-use Rattle.mc_store.specs.Atomic.{writes-apart}
-use Rattle.mc_store.specs.Planning.{first-room}
-use Rattle.mc_store.specs.Gaps.{Keeps, keeps-gap, besides-set}
-use Rattle.mc_store.specs.Commits.{Committed, commits}
-use Rattle.mc_store.specs.Creation.{Creates, creates-plan, creates-card}
-use Rattle.mc_store.specs.Deletion.{Deletes, deletes-plan, deletes-card}
-use Rattle.mc_store.specs.Turns.{some-is, parted, blanked}
+use Rattle.mc_store.specs.AlikeLaws.{alike-self}
+use Rattle.mc_store.specs.AtomicLaws.{writes-apart}
+use Rattle.mc_store.specs.PlanningLaws.{first-room}
+use Rattle.mc_store.specs.GapLaws.{Keeps, keeps-gap, besides-set}
+use Rattle.mc_store.specs.CommitLaws.{Committed, commits}
+use Rattle.mc_store.specs.CreationLaws.{Creates, creates-plan, creates-card}
+use Rattle.mc_store.specs.DeletionLaws.{Deletes, deletes-plan, deletes-card}
+use Rattle.mc_store.specs.TurnLaws.{some-is, parted, blanked}
 use Rattle.mc_store.proofs.JournalLemmas.{NoneOpen, none_open, raw, found_after, same_raw, stays}
 use Rattle.mc_store.proofs.PowerLemmas.{raw_card, closed_words}
 
@@ -36,7 +36,7 @@ outside_two i (inl z) (inr e) = absurd (omega (arith, z, e))
 outside_two i (inr g) (inl h) = let high = h.1 in absurd (omega (arith, g, high))
 outside_two i (inr g) (inr e) = absurd (omega (arith, g, e))
 
-module _ (m : List (List ℕ)) (image : IsImage m) (closed : look m ≡ Closed) (good : words_fault m ≡ None) where
+module _ (m : List (List ℕ)) (image : IsSized m) (closed : look m ≡ Closed) (good : words_fault m ≡ None) where
   well : IsWellLaid m
   well = closed_fault m closed ∙ good
 

@@ -4,7 +4,7 @@ use Rattle.std.specs.Prelude.{◌==◌, slice_index, bytes_eq, MatchBool}
 use Rattle.std.specs.List.{AllByRecursion}
 use Rattle.std.proofs.lemmas.Bool.{le-leb}
 use Rattle.mc_model.specs.Bytes.{be2, has_name}
-use Rattle.mc_model.specs.Device.{IsImage}
+use Rattle.mc_model.specs.Device.{IsSized}
 use Rattle.mc_model.specs.Card.{Block, word, header, blocks, record_at, name_at, used_tag}
 use Rattle.mc_model.specs.Layout.{is_record, words_fault}
 use Rattle.mc_blocks.specs.Blocks.{fitting, blocks_at}
@@ -36,7 +36,7 @@ pub record Walk (m : List (List ℕ)) (p : ℕ) (bs : List Block) : Type 0 where
   pub read : AreRead m bs
   pub records : AllByRecursion (HasRecord m) bs
 
-pub walk_begins : (m : List (List ℕ)) → IsImage m → words_fault m ≡ None → Walk m 131 (blocks_at m 131)
+pub walk_begins : (m : List (List ℕ)) → IsSized m → words_fault m ≡ None → Walk m 131 (blocks_at m 131)
 walk_begins m image h =
     let l : Laid m = laid m image h in
     subst (λ (bs : List Block). Walk m 131 bs) (blocks_all m)

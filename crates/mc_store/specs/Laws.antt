@@ -21,15 +21,15 @@ use Rattle.mc_blocks.specs.Plans.{has_room}
 use Rattle.mc_blocks.proofs.Maps.{OneAt}
 use Rattle.mc_blocks.proofs.Applications.{found-application}
 use Rattle.mc_store.specs.Store.{settled, apps_in, store_state, place_named, store_named, store_room, store_standing, needed_by, part_from, part_in, static_writes, name_of_place, IsGoodIn, StoreDid}
-use Rattle.mc_store.specs.Going.{Going, going_is, is_going_of, closed_settled, closed_means, closed_apps, laid_apps}
-use Rattle.mc_store.specs.Alike.{Alike, means-after}
-use Rattle.mc_store.specs.Atomic.{AtomicEnds, atomic-ends}
-use Rattle.mc_store.specs.Sections.{same-section}
-use Rattle.mc_store.specs.Creation.{AtSite, at-site, Creates, creates-plan}
-use Rattle.mc_store.specs.Commits.{Committed, commits}
-use Rattle.mc_store.specs.Places.{place-changed, place-new, place-removed}
-use Rattle.mc_store.specs.Did.{named-there}
-use Rattle.mc_store.specs.Turns.{Turns, Standing, standing-of, some-is, turns}
+use Rattle.mc_store.specs.GoingLaws.{Going, going_is, is_going_of, closed_settled, closed_means, closed_apps, laid_apps}
+use Rattle.mc_store.specs.AlikeLaws.{Alike, means-after}
+use Rattle.mc_store.specs.AtomicLaws.{AtomicEnds, atomic-ends}
+use Rattle.mc_store.specs.SectionLaws.{same-section}
+use Rattle.mc_store.specs.CreationLaws.{AtSite, at-site, Creates, creates-plan}
+use Rattle.mc_store.specs.CommitLaws.{Committed, commits}
+use Rattle.mc_store.specs.PlaceLaws.{place-changed, place-new, place-removed}
+use Rattle.mc_store.specs.StoreItems.{named-there}
+use Rattle.mc_store.specs.TurnLaws.{Turns, Standing, standing-of, some-is, turns}
 
 -- ---- the applications
 

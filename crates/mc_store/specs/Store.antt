@@ -6,7 +6,7 @@ use Rattle.mc_model.specs.declared.card.Sizes.{Sizes}
 use Rattle.mc_model.specs.Orders.{Answer}
 use Rattle.mc_model.specs.Bytes.{up, down, zeros, bytes2, splice, lookup, insert, remove}
 use Rattle.mc_model.specs.Image.{Two, Look, Refused, Closed, Pending, look, after}
-use Rattle.mc_model.specs.Device.{DeviceState, IsImage, Makes}
+use Rattle.mc_model.specs.Device.{DeviceState, IsSized, Makes}
 use Rattle.mc_model.specs.Stopped.{writes}
 use Rattle.mc_model.specs.Card.{App, Card, needed_of, word, section, record_at, means, words_after}
 use Rattle.mc_model.specs.Layout.{gaps, first_fitting, words_fault, fault, step_of}
@@ -162,7 +162,7 @@ count_after _ a c = c
 -- One item: on a device with so many applications, by the relation of one write. What stands after a stop follows from the writes.
 pub record StoreDid {D : Type 0} (state : D → DeviceState) (wrote : D → ℕ → List ℕ → Answer → D → Type 0) (d : D) (c : ℕ) (i : BankItem) (a : Answer) (e : D) (c' : ℕ) : Type 0 where
   pub going : is_going (state d) c ≡ true
-  pub image : IsImage (state d).words
+  pub image : IsSized (state d).words
   pub allowed : Allows (state d).words i
   pub makes : Makes wrote d (item_writes (state d).words i) a e
   pub count : c' ≡ count_after i a c

@@ -88,7 +88,15 @@ fn begins(aid: &Aid, first: &Word) -> bool
     ensures same { result ≡ bytes_eq (take 5 first.now) (take 5 aid.now) }
     ensures name { 5 ≤ length aid.now }
 {
-    first[..5] == aid.bytes()[..5]
+    // Five bytes are compared sooner than two slices, and names that differ mostly do so in the last of them.
+    match (first, aid.bytes()) {
+        ([a, b, c, d, e, ..], [f, g, h, i, j, ..]) => e == j
+            && a == f
+            && b == g
+            && c == h
+            && d == i,
+        _ => false,
+    }
 }
 
 /// The name in the record of the used block at a place.

@@ -8,7 +8,7 @@ ghost use Rattle.mc_model.specs.Manager.{create_items};
 ghost use Rattle.mc_base.specs.Name.{IsName};
 ghost use Rattle.mc_bank.specs.Bank.{FitsLimits};
 ghost use Rattle.mc_store.specs.Store.{is_going, record_word, IsGoodIn, IsInWord, IsReady};
-ghost use Rattle.mc_store.specs.Did.{store_did, blank_items};
+ghost use Rattle.mc_store.specs.StoreItems.{store_did, blank_items};
 
 use crate::filling::{room_in_word, write_part};
 use crate::place::{needed_words, part_place};

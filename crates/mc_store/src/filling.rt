@@ -7,7 +7,7 @@ ghost use Rattle.mc_model.specs.Items.{Piece};
 ghost use Rattle.mc_model.specs.Manager.{word_parts};
 ghost use Rattle.mc_bank.specs.Bank.{part_len};
 ghost use Rattle.mc_store.specs.Store.{is_going, IsGoodIn, IsInWord};
-ghost use Rattle.mc_store.specs.Did.{store_did};
+ghost use Rattle.mc_store.specs.StoreItems.{store_did};
 
 use crate::place::part_place;
 use crate::store::Store;

@@ -1,7 +1,7 @@
 ghost use Rattle.std.specs.Prelude.{◌≡◌, ◌≤◌, ℕ, List, length, Some, None};
 ghost use Rattle.mc_model.specs.declared.card.Cause.{Cause};
 ghost use Rattle.mc_model.specs.Image.{One, Closed, look, laid};
-ghost use Rattle.mc_model.specs.Device.{IsImage};
+ghost use Rattle.mc_model.specs.Device.{IsSized};
 ghost use Rattle.mc_model.specs.Stopped.{torn};
 ghost use Rattle.mc_model.specs.Layout.{fault, words_fault};
 ghost use Rattle.mc_model.specs.Items.{BankItem};
@@ -13,8 +13,8 @@ ghost use Rattle.mc_store.specs.Stops.{IsStoppedAt};
 /// The writes of a power-up on every image: at each of them, whatever word a stop leaves, the image is what it was
 /// while writes are owed, and in the migration a card of layout 1 or 2 with the same applications.
 pub fn power_stops()
-    ensures count { (m : List (List ℕ)) → IsImage m → length (power_writes m) ≡ power_count m }
-    ensures halted { (m : List (List ℕ)) (k : ℕ) (x : List ℕ) → IsImage m → 1 ≤ k → k ≤ power_count m
+    ensures count { (m : List (List ℕ)) → IsSized m → length (power_writes m) ≡ power_count m }
+    ensures halted { (m : List (List ℕ)) (k : ℕ) (x : List ℕ) → IsSized m → 1 ≤ k → k ≤ power_count m
         → IsHalted m k x (torn m (power_writes m) k x) }
 {}
 
@@ -22,7 +22,7 @@ pub fn power_stops()
 /// leaves, the image is the card before the item, or the one after it where its atomic write stands, and it owes what
 /// that write owes.
 pub fn item_stops()
-    ensures { (m : List (List ℕ)) (i : BankItem) (k : ℕ) (x : List ℕ) → IsImage m → look m ≡ Closed
+    ensures { (m : List (List ℕ)) (i : BankItem) (k : ℕ) (x : List ℕ) → IsSized m → look m ≡ Closed
         → words_fault m ≡ None → Allows m i → 1 ≤ k → k ≤ length (item_writes m i)
         → IsStoppedAt m i k x (torn m (item_writes m i) k x) }
 {}
@@ -30,10 +30,10 @@ pub fn item_stops()
 /// All writes of a power-up made, a card has layout 2 and the same applications, and an image that is no card has its
 /// owed writes and no other.
 pub fn power_ends()
-    ensures card { (m : List (List ℕ)) → IsImage m → fault m ≡ None
+    ensures card { (m : List (List ℕ)) → IsSized m → fault m ≡ None
         → IsBase (migrated (found m)) 0 One (laid m (power_writes m)) }
-    ensures fault { (m : List (List ℕ)) (f : Cause × ℕ) → IsImage m → fault m ≡ Some f
+    ensures fault { (m : List (List ℕ)) (f : Cause × ℕ) → IsSized m → fault m ≡ Some f
         → laid m (power_writes m) ≡ settled m }
-    ensures base { (m : List (List ℕ)) (f : Cause × ℕ) → IsImage m → fault m ≡ Some f
+    ensures base { (m : List (List ℕ)) (f : Cause × ℕ) → IsSized m → fault m ≡ Some f
         → IsBase (found m) 0 One (settled m) }
 {}

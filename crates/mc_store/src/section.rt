@@ -1,8 +1,37 @@
 // Bytes of the sections of a block, read word by word.
-ghost use Rattle.std.specs.Prelude.{◌≡◌, ◌+◌, ◌*◌, ◌≤◌, length, take, drop};
+ghost use Rattle.std.specs.Prelude.{◌≡◌, ◌+◌, ◌*◌, ◌<◌, ◌≤◌, length, take, drop, true};
+ghost use Rattle.mc_model.specs.Card.{word};
 ghost use Rattle.mc_store.specs.Slots.{flat};
 
+use mc_base::Word;
 use mc_nvm::Nvm;
+
+// Copies at most seven bytes of the words of a device, from so many bytes behind the start of the word at a place on. They lie in two
+// words at the most.
+#[inline(always)]
+fn read_few<N: Nvm>(device: &N, place: u32, skip: usize, into: &mut [u8])
+    requires skip { skip < 8 }
+    requires few { length into.old < 8 }
+    requires range { 8 * place + skip + length into.old ≤ 8 * length (N.state device.now).words }
+    ensures { into.new ≡ take (length into.old) (drop (8 * place + skip) (flat (N.state device.now).words)) }
+{
+    if into.is_empty() {
+        return;
+    }
+    let _size = device.len();
+    let end = skip + into.len();
+    let words = [device.read(place), word_where(device, place + 1, end > 8)];
+    into.copy_from_slice(&words.as_flattened()[skip..end]);
+}
+
+// The word at a place, where it is asked for.
+#[inline(always)]
+fn word_where<N: Nvm>(device: &N, place: u32, asked: bool) -> Word
+    requires { asked ≡ true → place < length (N.state device.now).words }
+    ensures { asked ≡ true → result ≡ word (N.state device.now).words place }
+{
+    if asked { device.read(place) } else { [0; 8] }
+}
 
 /// Copies bytes of the words of a device, from so many bytes behind the start of the word at a place on.
 pub fn read_bytes<N: Nvm>(device: &N, from: u32, at: u16, into: &mut [u8])
@@ -20,5 +49,19 @@ pub fn read_bytes<N: Nvm>(device: &N, from: u32, at: u16, into: &mut [u8])
         done += count;
         place += 1;
         skip = 0;
+    }
+}
+
+/// The same without a loop where there are few.
+#[inline(always)]
+pub fn read_window<N: Nvm>(device: &N, from: u32, at: u16, into: &mut [u8])
+    requires { 8 * from + at + length into.old ≤ 8 * length (N.state device.now).words }
+    ensures { into.new ≡ take (length into.old) (drop (8 * from + at) (flat (N.state device.now).words)) }
+{
+    let _size = device.len();
+    if into.len() < 8 {
+        read_few(device, from + (at / 8) as u32, (at % 8) as usize, into);
+    } else {
+        read_bytes(device, from, at, into);
     }
 }

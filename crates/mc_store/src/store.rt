@@ -6,7 +6,7 @@ ghost use Rattle.mc_store.specs.contracts.store.Store.{the_row};
 
 use crate::block::{find_block, name_of_block};
 use crate::power::{Ready, Up, prepare};
-use crate::reads::read_section;
+use crate::reads::{read_code, read_section};
 use crate::room::find_room;
 use crate::{changes, creation, filling};
 use mc_bank::{Bank, Facts, OpenRefusal, Part, Site, Sizes, Slot};
@@ -140,8 +140,9 @@ impl<N: Nvm> Bank for Store<N> {
         }
     }
 
+    #[inline(always)]
     fn code(&self, slot: Slot, at: u16, into: &mut [u8]) {
-        read_section(self, slot, Part::Code, at, into);
+        read_code(self, slot, at, into);
     }
 
     fn fixed(&self, slot: Slot, at: u16, into: &mut [u8]) {

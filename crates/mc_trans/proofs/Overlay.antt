@@ -8,15 +8,12 @@ use Rattle.std.proofs.lemmas.List.{get_or_append_left, get_or-append_right, get_
 use Rattle.std.proofs.Math.Seq.{drop-append-add}
 use Rattle.mc_model.specs.Bytes.{splice, or_else}
 use Rattle.mc_model.specs.Pieces.{covered, laid_pieces, LieIn}
+use Rattle.mc_model.proofs.ListLemmas.{length-splice}
 
 -- ---- one piece
 
 pub length-splice_low : (l : List ℕ) (at : ℕ) (b : List ℕ) → at ≤ length l → length l ≤ length (splice l at b)
 length-splice_low l at b fits =
-    omega (arith, length-append (take at l ++ b) (drop (at + length b) l), length-append (take at l) b, length-take at l, length-drop (at + length b) l)
-
-pub length-splice : (l : List ℕ) (at : ℕ) (b : List ℕ) → at + length b ≤ length l → length (splice l at b) ≡ length l
-length-splice l at b fits =
     omega (arith, length-append (take at l ++ b) (drop (at + length b) l), length-append (take at l) b, length-take at l, length-drop (at + length b) l)
 
 front_len : (l : List ℕ) (at : ℕ) (b : List ℕ) → at ≤ length l → length (take at l ++ b) ≡ at + length b
@@ -103,10 +100,6 @@ length-laid_low n l (p ∷ ps) begin fits =
     let low = length-splice_low l p.0 p.1 (omega (arith, begin.0)) in
     let rest = length-laid_low n (splice l p.0 p.1) ps begin.1 (omega arith) in
     omega arith
-
-pub laid-append : (l : List ℕ) (ps qs : List (ℕ × List ℕ)) → laid_pieces l (ps ++ qs) ≡ laid_pieces (laid_pieces l ps) qs
-laid-append l [] qs = refl
-laid-append l (p ∷ ps) qs = laid-append (splice l p.0 p.1) ps qs
 
 drop_both : (xs ys : List ℕ) (n k : ℕ) → length xs ≡ n → drop (n + k) (xs ++ ys) ≡ drop k ys
 drop_both xs ys n k len = subst (λ (m : ℕ). drop (m + k) (xs ++ ys) ≡ drop k ys) len (drop-append-add xs ys k)

@@ -4,8 +4,9 @@ use Rattle.std.specs.Prelude.{nat_eq, IfSome}
 use Rattle.std.proofs.lemmas.Bool.{cases_lt}
 use Rattle.std.proofs.lemmas.Bool.Decides.{nat_tests, eqb_tells}
 use Rattle.mc_model.specs.Bytes.{splice}
-use Rattle.mc_model.specs.Pieces.{laid_pieces, touched, numbers, pending_at, put_word, with_number, with_words, with_touched, HoldPieces, LieIn}
-use Rattle.mc_trans.proofs.Overlay.{length-laid, length-splice, laid-append, splice_before, splice_in, splice_behind, splice-append}
+use Rattle.mc_model.specs.Pieces.{laid_pieces, touched, numbers, pending_at, put_word, with_number, with_words, HoldPieces, LieIn}
+use Rattle.mc_model.proofs.ListLemmas.{length-splice, laid-append, touched-append}
+use Rattle.mc_trans.proofs.Overlay.{length-laid, splice_before, splice_in, splice_behind, splice-append}
 use Rattle.mc_trans.proofs.Words.{put_pending}
 
 -- ---- numbers
@@ -35,14 +36,6 @@ one_word n at [] ns some low high = absurd (omega arith)
 one_word n at (x ∷ b) ns some low high =
     let here : at / 8 ≡ n = omega arith in
     ap (λ (m : ℕ). with_words (at + 1) b (with_number m ns)) here ∙ same_word n (at + 1) b ns (omega arith) (omega arith)
-
-with_touched-append : (ns : List ℕ) (ps qs : List (ℕ × List ℕ)) → with_touched ns (ps ++ qs) ≡ with_touched (with_touched ns ps) qs
-with_touched-append ns [] qs = refl
-with_touched-append ns (p ∷ ps) qs = with_touched-append (with_words p.0 p.1 ns) ps qs
-
-pub touched-append : (ps qs : List (ℕ × List ℕ)) → touched (ps ++ qs) ≡ with_touched (touched ps) qs
-unfolding touched
-touched-append ps qs = with_touched-append [] ps qs
 
 -- ---- the bytes of the words
 

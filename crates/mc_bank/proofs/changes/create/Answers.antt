@@ -3,7 +3,7 @@ use Rattle.mc_model.specs.declared.card.Sizes.{Sizes}
 use Rattle.mc_model.specs.Items.{Site}
 use Rattle.mc_bank.specs.declared.entries.Entry.{Entry}
 use Rattle.mc_bank.specs.Memory.{entry_at, with_app}
-use Rattle.mc_bank.specs.Entries.{whole_at}
+use Rattle.mc_bank.specs.EntryLaws.{whole_at}
 use Rattle.mc_bank.specs.Left.{CreateLeft}
 use Rattle.mc_bank.proofs.ShownLemmas.{entry_is}
 use Rattle.mc_bank.proofs.LeftLemmas.{create_left, free_place}

@@ -2,11 +2,12 @@ use Rattle.std.proofs.Common.{sym, ◌∙◌}
 use Rattle.mc_model.specs.Card.{means}
 use Rattle.mc_model.specs.Layout.{gaps}
 use Rattle.mc_blocks.proofs.Links.{trail-begins, trail-on}
+use Rattle.mc_model.specs.Device.{sized}
 use Rattle.mc_blocks.proofs.link.link_before.Goals as goal
 
 pub loop-link-init : goal.loop-link-init
 loop-link-init g c =
-    trail-begins (g.N.Nvm.state c.args.device.now).words c.args.place c.number_of.result c.read-root.result c.len-size.ensures.image c.requires.closed c.requires.laid c.read-root.ensures c.number_of.ensures
+    trail-begins (g.N.Nvm.state c.args.device.now).words c.args.place c.number_of.result c.read-root.result (sized c.len-size.ensures.image) c.requires.closed c.requires.laid c.read-root.ensures c.number_of.ensures
 
 pub loop-link-preserved : goal.loop-link-preserved
 loop-link-preserved g c =

@@ -3,12 +3,13 @@ use Rattle.mc_model.specs.Card.{means}
 use Rattle.mc_model.specs.Layout.{gaps}
 use Rattle.mc_nvm.specs.Probe.{probed}
 use Rattle.mc_blocks.proofs.Search.{search-begins, search-on, search-found, search-ends}
+use Rattle.mc_model.specs.Device.{sized}
 use Rattle.mc_blocks.proofs.room.first_fit.Goals as goal
 
 pub loop-place-init : goal.loop-place-init
 loop-place-init g c =
     search-begins (g.N.Nvm.state (probed c.args.device.now)).words c.args.need c.number_of-place.result c.args.steps.now c.read-root.new.steps c.read-root.result
-    c.len-size.ensures.image c.requires.closed c.requires.laid c.read-root.ensures.word c.number_of-place.ensures c.read-root.ensures.ticks
+    (sized c.len-size.ensures.image) c.requires.closed c.requires.laid c.read-root.ensures.word c.number_of-place.ensures c.read-root.ensures.ticks
 
 pub loop-place-preserved : goal.loop-place-preserved
 loop-place-preserved g c =

@@ -1,8 +1,8 @@
 use Rattle.mc_model.specs.Image.{opening, gate, One}
 use Rattle.mc_model.specs.Stopped.{numbered}
 use Rattle.std.proofs.Common.{[], ◌∷◌, ℕ, List, Ok, subst, sym}
-use Rattle.mc_journal.proofs.PutLemmas.{head-word}
 use Rattle.mc_model.proofs.LoopLemmas.{then, one, one-done}
+use Rattle.mc_model.proofs.JournalLemmas.{head-word}
 use Rattle.mc_journal.proofs.put.open_gate.Goals as goal
 
 pub returns-clause-makes : goal.returns-clause-makes

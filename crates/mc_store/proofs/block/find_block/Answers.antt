@@ -5,6 +5,7 @@ use Rattle.mc_blocks.proofs.Steps.{blocks_all}
 use Rattle.mc_store.specs.Slots.{first_named}
 use Rattle.mc_store.proofs.RecordLemmas.{block_fits}
 use Rattle.mc_store.proofs.WalkLemmas.{Stands, walk_begins, header_stands, walk_ends}
+use Rattle.mc_model.specs.Device.{sized}
 use Rattle.mc_store.proofs.block.find_block.Goals as goal
 
 pub loop-place-init : goal.loop-place-init
@@ -13,7 +14,7 @@ loop-place-init g c =
     let low : 256 ≤ length m = c.len-size.ensures.image.low in
     record {
       high = omega arith;
-      walk = walk_begins m c.len-size.ensures.image c.requires.laid;
+      walk = walk_begins m (sized c.len-size.ensures.image) c.requires.laid;
       left = ap (λ (bs : List Block). first_named m bs c.args.aid.now) (blocks_all m);
     }
 

@@ -1,7 +1,7 @@
 use Rattle.std.proofs.Common.{◌≡◌, ◌-◌, ◌≤◌, true}
 use Rattle.mc_model.specs.Bytes.{zeros}
 use Rattle.mc_store.specs.Store.{is_going, IsGoodIn}
-use Rattle.mc_store.specs.Did.{store_did, blank_items}
+use Rattle.mc_store.specs.StoreItems.{store_did, blank_items}
 use Rattle.mc_store.proofs.FillLemmas.{Leads}
 use Rattle.mc_store.proofs.creation.clear.Given as goal
 

@@ -3,8 +3,9 @@ use Rattle.std.proofs.lemmas.Result.{err_from_is_err_and}
 use Rattle.mc_model.specs.Bytes.{zeros}
 use Rattle.mc_model.proofs.OrdersLemmas.{InOrder-append, InOrder-stopped}
 use Rattle.mc_model.specs.Items.{Note, Enter}
-use Rattle.mc_store.specs.Did.{store_did, one_item, blank_items}
+use Rattle.mc_store.specs.StoreItems.{store_did, one_item, blank_items}
 use Rattle.mc_store.proofs.EnterLemmas.{create-ready, name-of}
+use Rattle.mc_model.specs.Device.{sized}
 use Rattle.mc_store.proofs.creation.create.Goals as goal
 
 pub returns-in_err-clear : goal.returns-in_err-clear
@@ -24,7 +25,7 @@ returns-in_err-note g c =
 
 pub enter-requires-clause-ready : goal.enter-requires-clause-ready
 enter-requires-clause-ready g c =
-    create-ready g.N.Nvm.state g.N.Nvm.wrote g.met.N.Nvm.obeys c.args.store.now c.clear.new.store c.note.new.store c.args.site.now c.args.aid.now c.len-size.ensures.image c.requires.going c.requires.good (name-of c.args.aid.now c.bytes-name.result.now c.bytes-name.ensures.value c.bytes-name.ensures.low c.bytes-name.ensures.high) c.requires.fresh
+    create-ready g.N.Nvm.state g.N.Nvm.wrote g.met.N.Nvm.obeys c.args.store.now c.clear.new.store c.note.new.store c.args.site.now c.args.aid.now (sized c.len-size.ensures.image) c.requires.going c.requires.good (name-of c.args.aid.now c.bytes-name.result.now c.bytes-name.ensures.value c.bytes-name.ensures.low c.bytes-name.ensures.high) c.requires.fresh
     c.in_ok-clear.ensures.items c.in_ok-note.ensures.items c.in_ok-note.ensures.good
 
 pub returns : goal.returns

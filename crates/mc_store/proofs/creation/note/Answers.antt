@@ -1,6 +1,6 @@
 use Rattle.std.proofs.Common.{inl, inr, refl}
 use Rattle.std.proofs.lemmas.Result.{err_from_is_err_and}
-use Rattle.mc_store.specs.Did.{store_did, one_item}
+use Rattle.mc_store.specs.StoreItems.{store_did, one_item}
 use Rattle.mc_store.proofs.creation.note.Goals as goal
 
 pub returns-in_err-put_note-2-clause-items : goal.returns-in_err-put_note-2-clause-items

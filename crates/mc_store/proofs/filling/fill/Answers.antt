@@ -1,6 +1,6 @@
 use Rattle.std.proofs.Common.{◌+◌, drop, arith}
 use Rattle.std.proofs.lemmas.Result.{err_from_is_err_and}
-use Rattle.mc_store.specs.Did.{store_did}
+use Rattle.mc_store.specs.StoreItems.{store_did}
 use Rattle.mc_store.proofs.FillLemmas.{piece_items, piece-next, leads-on, leads-stop}
 use Rattle.mc_store.proofs.filling.fill.Goals as goal
 

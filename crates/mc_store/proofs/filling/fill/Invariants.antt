@@ -1,6 +1,6 @@
 use Rattle.std.proofs.Common.{◌≡◌, ◌+◌, ◌-◌, ◌≤◌, true, length, drop}
 use Rattle.mc_store.specs.Store.{is_going, IsGoodIn}
-use Rattle.mc_store.specs.Did.{store_did}
+use Rattle.mc_store.specs.StoreItems.{store_did}
 use Rattle.mc_store.proofs.FillLemmas.{Leads, piece_items}
 use Rattle.mc_store.proofs.filling.fill.Given as goal
 

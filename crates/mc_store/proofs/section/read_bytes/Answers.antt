@@ -1,5 +1,6 @@
 use Rattle.std.proofs.Common.{ℕ, List, take, drop, ap, ◌-◌, ◌*◌, ◌+◌, ◌∙◌, arith}
 use Rattle.mc_store.proofs.FlatLemmas.{word_step}
+use Rattle.mc_model.specs.Device.{sized}
 use Rattle.mc_store.proofs.section.read_bytes.Goals as goal
 
 pub loop-done-preserved : goal.loop-done-preserved
@@ -13,7 +14,7 @@ loop-done-preserved g c =
     let count = c.min-count.ensures in
     let after = c.copy_from_slice.ensures.after ∙ ap (λ (w : List ℕ). take ((c.loop-done.skip + c.min-count.result) - c.loop-done.skip) (drop c.loop-done.skip w)) c.read-word.ensures in
     let put =
-    word_step m c.len-size.ensures.image (8 * c.args.from + c.args.at) c.loop-done.done c.loop-done.place c.loop-done.skip c.min-count.result c.loop-done.into c.copy_from_slice.new.self
+    word_step m (sized c.len-size.ensures.image) (8 * c.args.from + c.args.at) c.loop-done.done c.loop-done.place c.loop-done.skip c.min-count.result c.loop-done.into c.copy_from_slice.new.self
     (omega (arith, count, less)) at (omega (arith, count, skip)) (omega (arith, at, less, room, within)) after c.loop-done.invariant.bytes in
     let same = put.size in
     record {

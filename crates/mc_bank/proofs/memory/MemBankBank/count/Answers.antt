@@ -1,7 +1,7 @@
 use Rattle.std.proofs.Common.{ap, sym, subst, ◌∙◌, List}
 use Rattle.mc_bank.specs.declared.entries.Entry.{Entry}
 use Rattle.mc_bank.specs.Memory.{facts_in, used, IsMemory}
-use Rattle.mc_bank.specs.Entries.{length-apps, are_apps}
+use Rattle.mc_bank.specs.EntryLaws.{length-apps, are_apps}
 use Rattle.mc_bank.proofs.memory.MemBankBank.count.Goals as goal
 
 pub returns-clause-count : goal.returns-clause-count

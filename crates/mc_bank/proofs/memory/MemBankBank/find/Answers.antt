@@ -1,7 +1,7 @@
 use Rattle.std.proofs.Common.{ap, sym, ◌∙◌, List}
 use Rattle.mc_bank.specs.declared.entries.Entry.{Entry}
 use Rattle.mc_bank.specs.Memory.{facts_in, is_named}
-use Rattle.mc_bank.specs.Entries.{lookup_is}
+use Rattle.mc_bank.specs.EntryLaws.{lookup_is}
 use Rattle.mc_bank.proofs.memory.MemBankBank.find.Goals as goal
 
 pub returns-in-Some-clause-there : goal.returns-in-Some-clause-there

@@ -1,7 +1,7 @@
 use Rattle.mc_bank.specs.Bank.{name_or}
 use Rattle.mc_model.specs.Items.{Commit}
 use Rattle.mc_store.specs.Store.{store_named}
-use Rattle.mc_store.specs.Did.{store_did, one_item}
+use Rattle.mc_store.specs.StoreItems.{store_did, one_item}
 use Rattle.mc_store.specs.Laws.{store_obeys, store_spares, store_leaves}
 use Rattle.mc_store.proofs.BankLemmas.{commit_slots}
 use Rattle.mc_store.proofs.store.StoreBank.commit.Goals as goal

@@ -1,4 +1,5 @@
 use Rattle.mc_store.proofs.ReadLemmas.{good_words, finds_slot}
+use Rattle.mc_model.specs.Device.{sized}
 use Rattle.mc_store.proofs.store.StoreBank.find.Goals as goal
 
 pub find_block-requires : goal.find_block-requires
@@ -6,5 +7,5 @@ find_block-requires g c = record { laid = good_words (g.N.Nvm.state c.args.self.
 
 pub returns : goal.returns
 returns g c =
-    let f = finds_slot (g.N.Nvm.state c.args.self.now.device) c.args.self.now.count c.args.aid.now c.find_block.result c.find_block.ensures.image c.requires.going c.find_block.ensures.place c.find_block.ensures.sizes in
+    let f = finds_slot (g.N.Nvm.state c.args.self.now.device) c.args.self.now.count c.args.aid.now c.find_block.result (sized c.find_block.ensures.image) c.requires.going c.find_block.ensures.place c.find_block.ensures.sizes in
     record { there = f.there; slot = f.slot }

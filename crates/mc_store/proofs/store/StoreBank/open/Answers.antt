@@ -1,5 +1,6 @@
 use Rattle.mc_store.specs.Store.{store_room, apps_in, needed_by}
 use Rattle.mc_store.proofs.ReadLemmas.{answers, good_site, open_parts, open_steps}
+use Rattle.mc_model.specs.Device.{sized}
 use Rattle.mc_store.proofs.store.StoreBank.open.Goals as goal
 
 pub returns-clause-answer : goal.returns-clause-answer
@@ -14,7 +15,7 @@ returns-clause-good g c =
 pub returns-clause-parts : goal.returns-clause-parts
 returns-clause-parts g c =
     let d = g.N.Nvm.state c.args.self.now.device in
-    open_parts d c.args.self.now.count c.find_room.result c.find_room.ensures.image c.requires.going
+    open_parts d c.args.self.now.count c.find_room.result (sized c.find_room.ensures.image) c.requires.going
     (good_site (apps_in d.words) (store_room d) c.args.sizes.now c.find_room.result c.requires.limits (answers d c.args.self.now.count c.args.sizes.now c.find_room.result c.requires.going c.find_room.ensures.answer))
 
 pub returns-clause-rises : goal.returns-clause-rises

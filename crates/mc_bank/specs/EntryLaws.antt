@@ -10,7 +10,7 @@ use Rattle.mc_model.specs.Card.{App}
 use Rattle.mc_bank.specs.declared.bank.Facts.{Facts}
 use Rattle.mc_bank.specs.declared.entries.Entry.{Entry}
 use Rattle.mc_bank.specs.Bank.{AscendByName, IsEntry, AreApps, FitsLimits, sizes_of}
-use Rattle.mc_bank.specs.Names.{same_name, name_is_itself, other_way, lookup-inserted, lookup-beside, insert-swap, each-inserted, ascend-inserted, length-inserted}
+use Rattle.mc_bank.specs.NameLaws.{same_name, name_is_itself, other_way, lookup-inserted, lookup-beside, insert-swap, each-inserted, ascend-inserted, length-inserted}
 use Rattle.mc_bank.specs.Memory.{facts_in, name_in, named_at, first_free, used, has, is_named, IsApart, AreApart, app_in, with_entry, apps_from, entry_at, AreFacts, IsWhole, IsMemory}
 
 -- ---- facts

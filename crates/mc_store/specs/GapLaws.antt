@@ -4,7 +4,7 @@ use Rattle.std.specs.Prelude.{bytes_eq, slice_set}
 use Rattle.std.proofs.lemmas.List.{get_or-set_other, length-set}
 use Rattle.mc_model.specs.declared.device.Stop.TheVariants.{Off, Worn}
 use Rattle.mc_model.specs.Orders.{Answer}
-use Rattle.mc_model.specs.Device.{DeviceState, IsImage, Wrote, WriteDone, WriteCut, WriteWorn, Makes, Ended}
+use Rattle.mc_model.specs.Device.{DeviceState, IsSized, Wrote, WriteDone, WriteCut, WriteWorn, Makes, Ended}
 use Rattle.mc_model.specs.Image.{One, Two, opening, look, Closed}
 use Rattle.mc_model.specs.Card.{Block, word, blocks, card_of}
 use Rattle.mc_model.specs.Layout.{gaps, words_fault}
@@ -15,7 +15,7 @@ use Rattle.mc_blocks.proofs.Bridge.{Laid, laid}
 use Rattle.mc_blocks.proofs.Taking.{RoomAt, room-at, room-from}
 use Rattle.mc_blocks.proofs.Search.{holes-above}
 use Rattle.mc_blocks.proofs.Built.{SameCard, same-card}
-use Rattle.mc_store.specs.Alike.{Gates, gates, shut-look}
+use Rattle.mc_store.specs.AlikeLaws.{Gates, gates, shut-look}
 
 -- the same words but for one
 pub record Besides (at : ℕ) (n m : List (List ℕ)) : Type 0 where
@@ -74,7 +74,7 @@ room-low : (m : List (List ℕ)) (p need : ℕ) → Laid m → has_room p need (
 room-low m p need l room = room-from 131 p need (hole_spans (blocks m)) (holes-above 131 false (blocks m) (length m) l.tiled) room
 
 -- whatever stands in a word of a hole behind its header
-pub keeps-gap : (m n : List (List ℕ)) (p need at : ℕ) → IsImage m → look m ≡ Closed → words_fault m ≡ None → has_room p need (gaps (card_of m)) ≡ true → p < at → at < p + need → Besides at n m → Keeps m n
+pub keeps-gap : (m n : List (List ℕ)) (p need at : ℕ) → IsSized m → look m ≡ Closed → words_fault m ≡ None → has_room p need (gaps (card_of m)) ≡ true → p < at → at < p + need → Besides at n m → Keeps m n
 keeps-gap m n p need at image closed good room low high s =
     let l : Laid m = laid m image good in
     let there : has_room p need (hole_spans (blocks m)) ≡ true = subst (λ (x : List (ℕ × ℕ)). has_room p need x ≡ true) l.gaps room in

@@ -5,7 +5,7 @@ use Rattle.std.specs.List.{AllByRecursion}
 use Rattle.std.proofs.lemmas.Bool.{leb-true, and_parts, ne_eqb}
 use Rattle.mc_model.specs.declared.card.Sizes.{Sizes}
 use Rattle.mc_model.specs.Bytes.{up, zeros, be2, lookup, insert}
-use Rattle.mc_model.specs.Device.{IsImage}
+use Rattle.mc_model.specs.Device.{IsSized}
 use Rattle.mc_model.specs.Image.{look, Closed, within, ascend, laid}
 use Rattle.mc_model.specs.Stopped.{IsAtomic}
 use Rattle.mc_model.specs.Card.{App, Block, word, needed, needed_of, section, record_at, name_at, app_of, app_at, blocks, means}
@@ -26,10 +26,10 @@ use Rattle.mc_blocks.proofs.Plans.{gaps-are, spans-are, TakeIs, take-is}
 use Rattle.mc_blocks.specs.Outcomes.{Leaves}
 use Rattle.mc_blocks.proofs.Outcome.{creates}
 use Rattle.mc_store.specs.Store.{part_in, needed_by, record_bytes, card_with, IsGoodIn, IsReady}
-use Rattle.mc_store.specs.Alike.{Alike}
-use Rattle.mc_store.specs.RecordBytes.{Fields, fields, is-record}
-use Rattle.mc_store.specs.Sections.{length-section, section-split, same-cells, same-section}
-use Rattle.mc_store.specs.Planning.{planned, step-plan, first-room}
+use Rattle.mc_store.specs.AlikeLaws.{Alike}
+use Rattle.mc_store.specs.RecordLaws.{Fields, fields, is-record}
+use Rattle.mc_store.specs.SectionLaws.{length-section, section-split, same-cells, same-section}
+use Rattle.mc_store.specs.PlanningLaws.{planned, step-plan, first-room}
 
 -- ---- the place of a hole
 
@@ -68,7 +68,7 @@ pub record AtSite (m : List (List ℕ)) (s : Site) : Type 0 where
   pub span : has_span s.place (spans (means m)) ≡ false
   pub low : 131 ≤ s.place
 
-pub at-site : (m : List (List ℕ)) (s : Site) → IsImage m → look m ≡ Closed → IsWellLaid m → IsGoodIn m s → AtSite m s
+pub at-site : (m : List (List ℕ)) (s : Site) → IsSized m → look m ≡ Closed → IsWellLaid m → IsGoodIn m s → AtSite m s
 at-site m s image closed h good =
     let p = s.place in
     let need = needed_by s.sizes in
@@ -85,7 +85,7 @@ at-site m s image closed h good =
     }
 
 -- its sections have their lengths
-pub entered-needs : (m : List (List ℕ)) (s : Site) → IsImage m → FitsLimits s.sizes → s.place + needed_by s.sizes ≤ length m → needed (entered s (part_in m s)) ≡ needed_by s.sizes
+pub entered-needs : (m : List (List ℕ)) (s : Site) → IsSized m → FitsLimits s.sizes → s.place + needed_by s.sizes ≤ length m → needed (entered s (part_in m s)) ≡ needed_by s.sizes
 unfolding part_in
 entered-needs m s image limits ends =
     let z = s.sizes in
@@ -135,7 +135,7 @@ by-fields : (w : List (List ℕ)) (p : ℕ) (z : Sizes) (n r : List ℕ) → Fie
 unfolding App-of
 by-fields w p z n r f = rw (f.code, f.fixed, f.session, f.deny, f.dir, f.fci) refl
 
-pub stands-app : (m w : List (List ℕ)) (s : Site) (n : List ℕ) → IsImage m → IsReady m s n → s.place + needed_by s.sizes ≤ length m → length w ≡ length m
+pub stands-app : (m w : List (List ℕ)) (s : Site) (n : List ℕ) → IsSized m → IsReady m s n → s.place + needed_by s.sizes ≤ length m → length w ≡ length m
     → ((i : ℕ) → s.place < i → i < s.place + needed_by s.sizes → word w i ≡ word m i) → (record_at w s.place ≡ record_bytes s.sizes n) × (app_at w s.place ≡ entered s (part_in m s))
 unfolding part_in App-of
 stands-app m w s n image ready ends size same =
@@ -167,7 +167,7 @@ pub record Creates (m : List (List ℕ)) (s : Site) (n : List ℕ) : Type 0 wher
   pub free : Free n s.place (means m).apps
   pub few : length (step_of (means m) (card_with m s n)) ≤ 3
 
-pub creates-plan : (m : List (List ℕ)) (s : Site) (n : List ℕ) → IsImage m → look m ≡ Closed → IsWellLaid m → IsGoodIn m s → lookup (means m).apps n ≡ None → Creates m s n
+pub creates-plan : (m : List (List ℕ)) (s : Site) (n : List ℕ) → IsSized m → look m ≡ Closed → IsWellLaid m → IsGoodIn m s → lookup (means m).apps n ≡ None → Creates m s n
 creates-plan m s n image closed h good fresh =
     let p = s.place in
     let need = needed_by s.sizes in
@@ -184,7 +184,7 @@ creates-plan m s n image closed h good fresh =
     }
 
 -- done, it leaves the card with the application
-pub creates-card : (m w : List (List ℕ)) (s : Site) (n : List ℕ) → IsImage m → look m ≡ Closed → IsWellLaid m → IsReady m s n → Alike w (laid m (step_of (means m) (card_with m s n))) → Leaves m w (insert (means m).apps n (entered s (part_in m s)))
+pub creates-card : (m w : List (List ℕ)) (s : Site) (n : List ℕ) → IsSized m → look m ≡ Closed → IsWellLaid m → IsReady m s n → Alike w (laid m (step_of (means m) (card_with m s n))) → Leaves m w (insert (means m).apps n (entered s (part_in m s)))
 creates-card m w s n image closed h ready alike =
     let p = s.place in
     let need = needed_by s.sizes in

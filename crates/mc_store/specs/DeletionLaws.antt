@@ -1,12 +1,12 @@
 -- What the atomic write of a deletion makes of a card: the application is gone.
 use Rattle.std.proofs.Common.{◌≡◌, ℕ, suc, ◌≤◌, true, false, List, [], ◌∷◌, length, Some, refl, sym, ◌∙◌, ap, subst}
 use Rattle.mc_model.specs.Bytes.{lookup, insert, remove}
-use Rattle.mc_model.specs.Device.{IsImage}
+use Rattle.mc_model.specs.Device.{IsSized}
 use Rattle.mc_model.specs.Image.{look, Closed, laid}
 use Rattle.mc_model.specs.Stopped.{IsAtomic}
 use Rattle.mc_model.specs.Card.{App, Card, Block, name_at, app_at, apps_of, blocks, means}
 use Rattle.mc_model.specs.Layout.{spans, step_of, IsWellLaid}
-use Rattle.mc_bank.specs.Names.{remove-inserted, length-inserted}
+use Rattle.mc_bank.specs.NameLaws.{remove-inserted, length-inserted}
 use Rattle.mc_blocks.specs.Plans.{plan, without, has_span}
 use Rattle.mc_blocks.proofs.Maps.{spans-remove}
 use Rattle.mc_blocks.proofs.Applications.{found-application}
@@ -18,8 +18,8 @@ use Rattle.mc_blocks.proofs.Freeing.{free_in}
 use Rattle.mc_blocks.proofs.Cards.{SameUsed, Deleted, deleted}
 use Rattle.mc_blocks.proofs.Outcome.{deletes}
 use Rattle.mc_store.specs.Store.{card_without}
-use Rattle.mc_store.specs.Alike.{Alike}
-use Rattle.mc_store.specs.Planning.{planned, step-plan}
+use Rattle.mc_store.specs.AlikeLaws.{Alike}
+use Rattle.mc_store.specs.PlanningLaws.{planned, step-plan}
 
 -- the atomic write of a deletion is a plan
 pub record Deletes (m : List (List ℕ)) (n : List ℕ) (a : App) : Type 0 where
@@ -28,7 +28,7 @@ pub record Deletes (m : List (List ℕ)) (n : List ℕ) (a : App) : Type 0 where
   pub span : has_span a.place (spans (means m)) ≡ true
   pub few : length (step_of (means m) (card_without m n)) ≤ 3
 
-pub deletes-plan : (m : List (List ℕ)) (n : List ℕ) (a : App) → IsImage m → look m ≡ Closed → IsWellLaid m → lookup (means m).apps n ≡ Some a → Deletes m n a
+pub deletes-plan : (m : List (List ℕ)) (n : List ℕ) (a : App) → IsSized m → look m ≡ Closed → IsWellLaid m → lookup (means m).apps n ≡ Some a → Deletes m n a
 deletes-plan m n a image closed h there =
     let found = found-application m n a image closed h there in
     let f : FreeIs m a.place = free-is m a.place image closed h found.span in
@@ -42,7 +42,7 @@ deletes-plan m n a image closed h there =
     }
 
 -- done, it leaves the card without the application
-pub deletes-card : (m w : List (List ℕ)) (n : List ℕ) (a : App) → IsImage m → look m ≡ Closed → IsWellLaid m → lookup (means m).apps n ≡ Some a → Alike w (laid m (step_of (means m) (card_without m n))) → Leaves m w (remove (means m).apps n)
+pub deletes-card : (m w : List (List ℕ)) (n : List ℕ) (a : App) → IsSized m → look m ≡ Closed → IsWellLaid m → lookup (means m).apps n ≡ Some a → Alike w (laid m (step_of (means m) (card_without m n))) → Leaves m w (remove (means m).apps n)
 deletes-card m w n a image closed h there alike =
     let d : Deletes m n a = deletes-plan m n a image closed h there in
     let list = plan (means m) (without a.place (spans (means m))) in
@@ -55,7 +55,7 @@ same-used m p [] = tt
 same-used m p (b ∷ bs) = (λ u ne. record { entry = refl; app = refl }, same-used m p bs)
 
 -- the card has one application less
-pub deletes-count : (m : List (List ℕ)) (n : List ℕ) (a : App) → IsImage m → look m ≡ Closed → IsWellLaid m → lookup (means m).apps n ≡ Some a → length (means m).apps ≡ suc (length (remove (means m).apps n))
+pub deletes-count : (m : List (List ℕ)) (n : List ℕ) (a : App) → IsSized m → look m ≡ Closed → IsWellLaid m → lookup (means m).apps n ≡ Some a → length (means m).apps ≡ suc (length (remove (means m).apps n))
 deletes-count m n a image closed h there =
     let bs = blocks m in
     let p = a.place in

@@ -11,6 +11,7 @@ use Rattle.mc_model.specs.Card.{needed_of, name_in}
 use Rattle.mc_model.specs.Layout.{is_record}
 use Rattle.mc_base.specs.Name.{IsName}
 use Rattle.mc_bank.specs.Bank.{FitsLimits}
+use Rattle.mc_model.proofs.ListLemmas.{two-bytes}
 use Rattle.mc_store.specs.Store.{record_bytes, needed_by}
 
 -- the bytes behind the name and its zeros
@@ -25,9 +26,6 @@ length-front n is = let e = length-append n (zeros (16 - length n)) in let f = l
 
 parted : (s : Sizes) (n : List ℕ) → record_bytes s n ≡ front n ++ behind s n
 parted s n = refl
-
-two-bytes : (n : ℕ) → n < 65536 → 256 * (n / 256 % 256) + n % 256 ≡ n
-two-bytes n h = omega arith
 
 index-behind : (s : Sizes) (n : List ℕ) (i : ℕ) → IsName n → 16 ≤ i → slice_index (record_bytes s n) i ≡ slice_index (behind s n) (i - 16)
 index-behind s n i is low = ap (λ (r : List ℕ). slice_index r i) (parted s n) ∙ get_or-append_right (front n) (behind s n) 16 i 0 (length-front n is) low

@@ -3,7 +3,7 @@ use Rattle.std.proofs.Common.{◌≡◌, ◌≢◌, ◌⊎◌, ℕ, ◌≤◌, B
 use Rattle.std.specs.Prelude.{bytes_eq}
 use Rattle.std.specs.List.{AllByRecursion}
 use Rattle.mc_model.specs.Orders.{Answer}
-use Rattle.mc_model.specs.Device.{DeviceState, IsImage, Wrote, Makes, Ended}
+use Rattle.mc_model.specs.Device.{DeviceState, IsSized, Wrote, Makes, Ended}
 use Rattle.mc_model.specs.Image.{One, Two, opening, shut, gate, is_open, laid, Look, Closed, look, after, replayed, Words}
 use Rattle.mc_model.specs.Stopped.{numbered, entries, replay, writes, IsAtomic, stands, stood, SameOutside, WriteStands, WriteTorn}
 use Rattle.mc_model.specs.Card.{word}
@@ -13,7 +13,7 @@ use Rattle.mc_model.proofs.GeometryLemmas.{InEntries, Geometry, geometry, target
 use Rattle.mc_model.proofs.StoppedLemmas.{torn-other, shut-closed, targets-outside}
 use Rattle.mc_model.proofs.RecoveryLemmas.{look-two}
 use Rattle.mc_model.proofs.CallLemmas.{write-ends}
-use Rattle.mc_store.specs.Alike.{Alike, alike-outside, Gates, gates, shut-look, Settles}
+use Rattle.mc_store.specs.AlikeLaws.{Alike, alike-outside, Gates, gates, shut-look, Settles}
 
 -- ---- the gate of journal 1
 
@@ -43,7 +43,7 @@ by-stand m n list false w is same = inl (record { left = w; is = is; alike = ali
 
 module _ {D : Type 0} (state : D → DeviceState) (wrote : D → ℕ → List ℕ → Answer → D → Type 0)
     (obeys : (d : D) (at : ℕ) (w : List ℕ) (a : Answer) (e : D) → (state d).on ≡ true → wrote d at w a e → Wrote (state d) at w a (state e)) where
-  pub atomic-ends : (list : List (ℕ × List ℕ)) (d e : D) (a : Answer) → IsImage (state d).words → (state d).on ≡ true → look (state d).words ≡ Closed
+  pub atomic-ends : (list : List (ℕ × List ℕ)) (d e : D) (a : Answer) → IsSized (state d).words → (state d).on ≡ true → look (state d).words ≡ Closed
       → IsAtomic (length (state d).words) list → Makes wrote d (writes Two list) a e → AtomicEnds (state d) list a (state e)
   atomic-ends list d e (Ok tt) image on closed atomic made =
       let m = (state d).words in

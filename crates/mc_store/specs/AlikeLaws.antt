@@ -1,6 +1,6 @@
 -- Words that are the same in word 0 and in the heap hold the same card, whatever stands in their journals.
 use Rattle.std.proofs.Common.{◌≡◌, ℕ, ◌+◌, ◌≤◌, Bool, true, false, List, [], ◌∷◌, length, Option, Some, None, Result, Ok, Err, refl, sym, ◌∙◌, ap, arith}
-use Rattle.mc_model.specs.Device.{IsImage}
+use Rattle.mc_model.specs.Device.{IsSized}
 use Rattle.mc_model.specs.Image.{Journal, One, Two, is_open, count, targets, Look, Refused, Closed, Pending, which_of, look, look_at, look_j, headed, aimed, opened, After, Words, after, replayed}
 use Rattle.mc_model.specs.Stopped.{Inside, SameOutside}
 use Rattle.mc_model.specs.Card.{Block, word, blocks, card_of, means, words_after}
@@ -40,7 +40,7 @@ agree m n p a (b ∷ bs) end low t s =
     let place : b.place ≡ p = t.0 in
     (s.heap b.place (omega (arith, place)), (λ used i from below. s.heap i (omega (arith, place))), agree m n (p + b.words) _ bs end (omega arith) t.3 s)
 
-pub alike-card : (m n : List (List ℕ)) → IsImage m → words_fault m ≡ None → Alike n m → SameCard m n
+pub alike-card : (m n : List (List ℕ)) → IsSized m → words_fault m ≡ None → Alike n m → SameCard m n
 alike-card m n image good s =
     let l : Laid m = laid m image good in
     same-card m n image good s.size s.root (agree m n 131 false (blocks m) (length m) (omega arith) l.tiled s)

@@ -4,17 +4,17 @@ use Rattle.std.specs.Prelude.{◌==◌, bytes_eq, IsSome}
 use Rattle.std.proofs.lemmas.Bool.{eqb-true}
 use Rattle.mc_model.specs.Orders.{Answer, InOrder}
 use Rattle.mc_model.specs.Bytes.{lookup}
-use Rattle.mc_model.specs.Device.{DeviceState, IsImage}
+use Rattle.mc_model.specs.Device.{DeviceState, IsSized}
 use Rattle.mc_model.specs.Card.{App, means}
 use Rattle.mc_model.specs.Items.{Site, BankItem, Blank}
 use Rattle.mc_model.specs.Manager.{word_parts}
-use Rattle.mc_bank.specs.Names.{name_is_itself}
+use Rattle.mc_bank.specs.NameLaws.{name_is_itself}
 use Rattle.mc_blocks.proofs.Maps.{OneAt}
 use Rattle.mc_blocks.proofs.Applications.{found-application}
 use Rattle.mc_store.specs.declared.store.Store.{Store}
 use Rattle.mc_store.specs.Store.{name_of_place, apps_in, StoreDid}
-use Rattle.mc_store.specs.Going.{Going}
-use Rattle.mc_store.specs.Turns.{Standing, standing-of, some-is}
+use Rattle.mc_store.specs.GoingLaws.{Going}
+use Rattle.mc_store.specs.TurnLaws.{Standing, standing-of, some-is}
 
 -- one item of a store
 abbrev pub store_did : {N : Type 0} → (N → DeviceState) → (N → ℕ → List ℕ → Answer → N → Type 0) → Store N → BankItem → Answer → Store N → Type 0
@@ -57,7 +57,7 @@ pub record SlotIs (m : List (List ℕ)) (k : ℕ) (n : List ℕ) : Type 0 where
   pub place : app.place ≡ k
   pub one : OneAt n k (means m).apps
 
-pub slot_is : (d : DeviceState) (c k : ℕ) (n : List ℕ) → IsImage d.words → Going d c → name_of_place (apps_in d.words) k ≡ Some n → SlotIs d.words k n
+pub slot_is : (d : DeviceState) (c k : ℕ) (n : List ℕ) → IsSized d.words → Going d c → name_of_place (apps_in d.words) k ≡ Some n → SlotIs d.words k n
 slot_is d c k n image g is =
     let m = d.words in
     let s : Standing m = standing-of d c g in

@@ -3,13 +3,13 @@ use Rattle.std.proofs.Common.{◌≡◌, ℕ, zero, suc, ◌+◌, ◌-◌, ◌*�
 use Rattle.std.specs.List.{concat}
 use Rattle.std.proofs.lemmas.List.{drop_more, take-append-drop, take-append-le}
 use Rattle.mc_model.specs.Bytes.{up}
-use Rattle.mc_model.specs.Device.{IsImage}
+use Rattle.mc_model.specs.Device.{IsSized}
 use Rattle.mc_model.specs.Card.{word, cells, section}
 
 pub cells-more : (m : List (List ℕ)) (p k : ℕ) → p < length m → cells m p (suc k) ≡ word m p ++ cells m (p + 1) k
 cells-more m p k h = ap (λ (l : List (List ℕ)). concat (take (suc k) l)) (drop_more m p [] h)
 
-pub length-cells : (m : List (List ℕ)) (k p : ℕ) → IsImage m → p + k ≤ length m → length (cells m p k) ≡ 8 * k
+pub length-cells : (m : List (List ℕ)) (k p : ℕ) → IsSized m → p + k ≤ length m → length (cells m p k) ≡ 8 * k
 length-cells m zero p image h = refl
 length-cells m (suc k) p image h =
     let eight : length (word m p) ≡ 8 = image.words p (omega arith) in
@@ -18,7 +18,7 @@ length-cells m (suc k) p image h =
     omega (arith, eight, rest, all)
 
 -- a section has its length
-pub length-section : (m : List (List ℕ)) (p n : ℕ) → IsImage m → p + up n 8 ≤ length m → length (section m p n) ≡ n
+pub length-section : (m : List (List ℕ)) (p n : ℕ) → IsSized m → p + up n 8 ≤ length m → length (section m p n) ≡ n
 length-section m p n image h =
     let whole : length (cells m p (up n 8)) ≡ 8 * up n 8 = length-cells m (up n 8) p image h in
     let enough : n ≤ 8 * up n 8 = omega arith in
@@ -43,7 +43,7 @@ take-twice (suc i) (suc j) [] h = refl
 take-twice {A} (suc i) (suc j) (x ∷ xs) h = ap (λ (t : List A). x ∷ t) (take-twice i j xs (omega arith))
 
 -- the front of a section
-pub section-front : (m : List (List ℕ)) (p i n : ℕ) → IsImage m → i ≤ n → p + up n 8 ≤ length m → take i (section m p n) ≡ section m p i
+pub section-front : (m : List (List ℕ)) (p i n : ℕ) → IsSized m → i ≤ n → p + up n 8 ≤ length m → take i (section m p n) ≡ section m p i
 section-front m p i n image few h =
     let less : up i 8 ≤ up n 8 = omega arith in
     let k = up n 8 - up i 8 in
@@ -54,7 +54,7 @@ section-front m p i n image few h =
     ∙ ap (λ (l : List ℕ). take i l) (ap (λ (x : ℕ). cells m p x) parts ∙ cells-append m (up i 8) k p (omega arith))
     ∙ take-append-le i (cells m p (up i 8)) (cells m (p + up i 8) k) (omega (arith, whole, enough))
 
-pub section-split : (m : List (List ℕ)) (p i n : ℕ) → IsImage m → i ≤ n → p + up n 8 ≤ length m → section m p n ≡ section m p i ++ drop i (section m p n)
+pub section-split : (m : List (List ℕ)) (p i n : ℕ) → IsSized m → i ≤ n → p + up n 8 ≤ length m → section m p n ≡ section m p i ++ drop i (section m p n)
 section-split m p i n image few h = sym (take-append-drop i (section m p n)) ∙ ap (λ (l : List ℕ). l ++ drop i (section m p n)) (section-front m p i n image few h)
 
 -- ---- the same words

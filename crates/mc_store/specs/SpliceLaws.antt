@@ -6,14 +6,14 @@ use Rattle.std.proofs.lemmas.List.{take_at, drop_at, length-take-le, length-drop
 use Rattle.std.proofs.lemmas.Bool.Decides.{eqb_tells}
 use Rattle.mc_model.specs.Bytes.{up, splice}
 use Rattle.mc_model.specs.Pieces.{laid_pieces, word_pieces, laid_words}
-use Rattle.mc_model.specs.Device.{IsImage}
+use Rattle.mc_model.specs.Device.{IsSized}
 use Rattle.mc_model.specs.Image.{laid}
 use Rattle.mc_model.specs.Card.{word, cells, section}
-use Rattle.mc_store.specs.Sections.{take-twice, cells-more, cells-append, length-cells, same-cells}
+use Rattle.mc_store.specs.SectionLaws.{take-twice, cells-more, cells-append, length-cells, same-cells}
 
 -- ---- words of eight bytes
 
-pub image-set : (m : List (List ℕ)) (k : ℕ) (x : List ℕ) → IsImage m → k < length m → length x ≡ 8 → IsImage (slice_set m k x)
+pub image-set : (m : List (List ℕ)) (k : ℕ) (x : List ℕ) → IsSized m → k < length m → length x ≡ 8 → IsSized (slice_set m k x)
 image-set m k x image lt eight =
     let size : length (slice_set m k x) ≡ length m = length-set m k x in
     record {
@@ -27,7 +27,7 @@ image-set m k x image lt eight =
     }
 
 -- one word set among k words
-pub cells-set : (m : List (List ℕ)) (q k r : ℕ) (x : List ℕ) → IsImage m → q + k + suc r ≤ length m → length x ≡ 8 → cells (slice_set m (q + k) x) q (k + suc r) ≡ splice (cells m q (k + suc r)) (8 * k) x
+pub cells-set : (m : List (List ℕ)) (q k r : ℕ) (x : List ℕ) → IsSized m → q + k + suc r ≤ length m → length x ≡ 8 → cells (slice_set m (q + k) x) q (k + suc r) ≡ splice (cells m q (k + suc r)) (8 * k) x
 cells-set m q k r x image h eight =
     let n = slice_set m (q + k) x in
     let size : length n ≡ length m = length-set m (q + k) x in
@@ -103,8 +103,8 @@ same-pieces n (w ∷ ws) k l hk hl a e =
 abbrev pub placed_words : ℕ → List (ℕ × List ℕ) → List (ℕ × List ℕ)
 placed_words q ws = map (λ w. (q + w.0, w.1)) ws
 
-pub cells-laid : (m : List (List ℕ)) (q n : ℕ) (ws : List (ℕ × List ℕ)) → IsImage m → q + n ≤ length m → AllByRecursion (λ w. w.0 < n) ws → AllByRecursion (λ w. length w.1 ≡ 8) ws
-    → IsImage (laid m (placed_words q ws)) × (cells (laid m (placed_words q ws)) q n ≡ laid_pieces (cells m q n) (word_pieces ws))
+pub cells-laid : (m : List (List ℕ)) (q n : ℕ) (ws : List (ℕ × List ℕ)) → IsSized m → q + n ≤ length m → AllByRecursion (λ w. w.0 < n) ws → AllByRecursion (λ w. length w.1 ≡ 8) ws
+    → IsSized (laid m (placed_words q ws)) × (cells (laid m (placed_words q ws)) q n ≡ laid_pieces (cells m q n) (word_pieces ws))
 cells-laid m q n [] image h a w8 = (image, refl)
 cells-laid m q n (w ∷ ws) image h a w8 =
     let k = w.0 in
@@ -123,11 +123,11 @@ number-in n (w ∷ ws) a = let lt : 8 * w.0 < n = a.0 in (omega arith, number-in
 
 -- the bytes of a section of n bytes with words laid over it
 pub record SectionLaid (m : List (List ℕ)) (q n : ℕ) (ws : List (ℕ × List ℕ)) : Type 0 where
-  pub image : IsImage (laid m (placed_words q ws))
+  pub image : IsSized (laid m (placed_words q ws))
   pub bytes : section (laid m (placed_words q ws)) q n ≡ laid_words (section m q n) ws
   pub numbers : AllByRecursion (λ w. w.0 < up n 8) ws
 
-pub section-laid : (m : List (List ℕ)) (q n : ℕ) (ws : List (ℕ × List ℕ)) → IsImage m → q + up n 8 ≤ length m → length (section m q n) ≡ n → AllByRecursion (λ w. 8 * w.0 < n) ws → AllByRecursion (λ w. length w.1 ≡ 8) ws → SectionLaid m q n ws
+pub section-laid : (m : List (List ℕ)) (q n : ℕ) (ws : List (ℕ × List ℕ)) → IsSized m → q + up n 8 ≤ length m → length (section m q n) ≡ n → AllByRecursion (λ w. 8 * w.0 < n) ws → AllByRecursion (λ w. length w.1 ≡ 8) ws → SectionLaid m q n ws
 section-laid m q n ws image h is a w8 =
     let few : AllByRecursion (λ w. w.0 < up n 8) ws = number-in n ws a in
     let c = cells-laid m q (up n 8) ws image h few w8 in

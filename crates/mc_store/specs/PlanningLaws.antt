@@ -1,18 +1,19 @@
 -- The header words of a plan, laid into words: they stand where they are due, and all else of the heap stays.
-use Rattle.std.proofs.Common.{◌≡◌, ◌⊎◌, ℕ, ◌+◌, ◌<◌, ◌≤◌, Bool, true, false, ◌&&◌, List, [], ◌∷◌, length, map, Some, cond, refl, sym, ◌∙◌, ap, subst, inl, inr, arith}
+use Rattle.std.proofs.Common.{◌≡◌, ◌⊎◌, ℕ, ◌+◌, ◌<◌, ◌≤◌, Bool, true, false, ◌&&◌, List, [], ◌∷◌, length, Some, cond, refl, sym, ◌∙◌, ap, subst, inl, inr, arith}
 use Rattle.std.specs.Prelude.{◌==◌, nat_le, nat_lt}
 use Rattle.std.specs.List.{AllByRecursion}
 use Rattle.std.proofs.lemmas.Bool.{leb-true, eqb-true, ltb-true, eq-eqb, or_cases, and_parts, and_from, or_left, or_right}
-use Rattle.mc_model.specs.Image.{within, ascend, laid}
+use Rattle.mc_model.specs.Image.{within, laid}
 use Rattle.mc_model.specs.Stopped.{IsAtomic}
 use Rattle.mc_model.specs.Card.{Card, word, means}
 use Rattle.mc_model.specs.Layout.{layout, spans, step_of, first_fitting}
-use Rattle.mc_model.proofs.ImageLemmas.{Holds, Ascends, all-map, laid-other, laid-holds, length-laid, holds-point}
+use Rattle.mc_model.proofs.ImageLemmas.{Holds, all-map, laid-other, laid-holds, length-laid, holds-point}
 use Rattle.mc_model.proofs.GeometryLemmas.{targets-within}
 use Rattle.mc_blocks.specs.Plans.{changes, layout_of, plan, has_room}
 use Rattle.mc_blocks.proofs.Heads.{layout-spans}
 use Rattle.mc_blocks.specs.Outcomes.{Planned}
-use Rattle.mc_store.specs.Alike.{Alike}
+use Rattle.mc_model.proofs.StoppedLemmas.{ascends-list, within-below as below}
+use Rattle.mc_store.specs.AlikeLaws.{Alike}
 
 -- ---- targets
 
@@ -22,15 +23,6 @@ target-is size t h =
       | inl is ↦ inl (eqb-true t 0 is)
       | inr heap ↦ let parts = and_parts (nat_le 131 t) (nat_lt t size) heap in inr (leb-true 131 t parts.0, ltb-true t size parts.1)
     ]
-
-pub ascends-list : (size least : ℕ) (list : List (ℕ × List ℕ)) → ascend size least (map (λ p. p.0) list) ≡ true → Ascends least list
-ascends-list size least [] h = tt
-ascends-list size least (p ∷ ps) h =
-    let a = and_parts (nat_le least p.0) (within size p.0 && ascend size (p.0 + 1) (map (λ q. q.0) ps)) h in
-    (leb-true least p.0 a.0, ascends-list size (p.0 + 1) ps (and_parts (within size p.0) (ascend size (p.0 + 1) (map (λ q. q.0) ps)) a.1).1)
-
-below : (size t : ℕ) → 256 ≤ size → within size t ≡ true → t < size
-below size t low h = elim (target-is size t h) [ inl is ↦ omega (arith, is) | inr heap ↦ heap.1 ]
 
 alike-target : (w n : List (List ℕ)) (size t : ℕ) → Alike w n → within size t ≡ true → word w t ≡ word n t
 alike-target w n size t a h =

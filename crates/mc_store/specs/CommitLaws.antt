@@ -5,7 +5,7 @@ use Rattle.std.specs.List.{AllByRecursion}
 use Rattle.std.proofs.lemmas.List.{length-map}
 use Rattle.std.proofs.lemmas.Bool.{le-leb, lt-ltb, and_from, or_right}
 use Rattle.mc_model.specs.Bytes.{up, lookup, insert}
-use Rattle.mc_model.specs.Device.{IsImage}
+use Rattle.mc_model.specs.Device.{IsSized}
 use Rattle.mc_model.specs.Image.{within, ascend, laid}
 use Rattle.mc_model.specs.Stopped.{IsAtomic}
 use Rattle.mc_model.specs.Pieces.{Ascend, numbers, laid_words}
@@ -17,8 +17,8 @@ use Rattle.mc_blocks.specs.Blocks.{hole_spans, used_spans}
 use Rattle.mc_blocks.specs.Plans.{has_room}
 use Rattle.mc_blocks.proofs.Bridge.{Laid, laid as laid-blocks}
 use Rattle.mc_store.specs.Store.{static_writes}
-use Rattle.mc_store.specs.Splices.{placed_words, SectionLaid, section-laid}
-use Rattle.mc_store.specs.Statics.{static_from, Restated, Restates, restates, StaticIn, static-in}
+use Rattle.mc_store.specs.SpliceLaws.{placed_words, SectionLaid, section-laid}
+use Rattle.mc_store.specs.StaticLaws.{static_from, Restated, Restates, restates, StaticIn, static-in}
 
 -- no word of the list is at a place before or behind its range
 apart-words : (q n i : ℕ) (ws : List (ℕ × List ℕ)) → AllByRecursion (λ w. w.0 < n) ws → (i < q) ⊎ (q + n ≤ i) → AllByRecursion (λ p. p.0 ≢ i) (placed_words q ws)
@@ -39,14 +39,14 @@ static-ascend size q n least k (w ∷ ws) heap ends low up all =
 -- the words with the commit, as a card
 pub record Committed (m : List (List ℕ)) (k : List ℕ) (a : App) (ws : List (ℕ × List ℕ)) : Type 0 where
   pub atomic : IsAtomic (length m) (static_writes a ws)
-  pub image : IsImage (laid m (static_writes a ws))
+  pub image : IsSized (laid m (static_writes a ws))
   pub good : words_fault (laid m (static_writes a ws)) ≡ None
   pub card : card_of (laid m (static_writes a ws)) ≡ record (card_of m) { apps = insert (card_of m).apps k (with_words ws a) }
   pub left : gaps (card_of (laid m (static_writes a ws))) ≡ gaps (card_of m)
   pub count : length (insert (card_of m).apps k (with_words ws a)) ≡ length (card_of m).apps
   pub holes : (p need i : ℕ) → has_room p need (gaps (card_of m)) ≡ true → p ≤ i → i < p + need → word (laid m (static_writes a ws)) i ≡ word m i
 
-pub commits : (m : List (List ℕ)) (k : List ℕ) (a : App) (ws : List (ℕ × List ℕ)) → IsImage m → words_fault m ≡ None → lookup (card_of m).apps k ≡ Some a → CanCommit a.fixed ws → Committed m k a ws
+pub commits : (m : List (List ℕ)) (k : List ℕ) (a : App) (ws : List (ℕ × List ℕ)) → IsSized m → words_fault m ≡ None → lookup (card_of m).apps k ≡ Some a → CanCommit a.fixed ws → Committed m k a ws
 commits m k a ws image good there can =
     let list = static_writes a ws in
     let t = laid m list in

@@ -3,10 +3,10 @@ use Rattle.std.proofs.Common.{◌≡◌, ◌⊎◌, ℕ, ◌+◌, ◌<◌, ◌�
 use Rattle.std.specs.Prelude.{◌==◌, nat_le, slice_index, bytes_eq, MatchBool}
 use Rattle.std.proofs.lemmas.Bool.{eqb-true, leb-true, and_parts, or_cases}
 use Rattle.mc_model.specs.Bytes.{up, be2, lookup, insert, has_name}
-use Rattle.mc_model.specs.Device.{IsImage}
+use Rattle.mc_model.specs.Device.{IsSized}
 use Rattle.mc_model.specs.Card.{App, Block, word, header, blocks, section, record_at, name_in, name_at, app_of, app_at, apps_of, card_of, needed_of}
 use Rattle.mc_model.specs.Layout.{is_record, words_fault, first_hole, bad_link}
-use Rattle.mc_bank.specs.Names.{same_name, name_is_itself, insert-swap, insert-twice, other_way}
+use Rattle.mc_bank.specs.NameLaws.{same_name, name_is_itself, insert-swap, insert-twice, other_way}
 use Rattle.mc_blocks.specs.Chains.{Above}
 use Rattle.mc_blocks.specs.Blocks.{hole_spans, is_root_word}
 use Rattle.mc_blocks.specs.Plans.{has_room}
@@ -17,7 +17,7 @@ use Rattle.mc_blocks.proofs.Bridge.{Laid, laid, AreNamed, named, Faultless, faul
 use Rattle.mc_blocks.proofs.Applications.{few-blocks, lookup-insert}
 use Rattle.mc_blocks.proofs.Built.{Stands, built, SameBlock, same-block, root-good, chain-parts}
 use Rattle.mc_store.specs.Slots.{IsBlock}
-use Rattle.mc_store.specs.Sections.{length-section, same-cells, same-section}
+use Rattle.mc_store.specs.SectionLaws.{length-section, same-cells, same-section}
 
 -- ---- blocks that stay
 
@@ -80,7 +80,7 @@ record Here (m n : List (List ℕ)) (p : ℕ) (fixed : List ℕ) : Type 0 where
   ends : static_from (app_at m p) + up (length (app_at m p).fixed) 8 ≤ p + needed_of (be2 (record_at m p) 20) (be2 (record_at m p) 22) (slice_index (record_at m p) 17) (slice_index (record_at m p) 18)
 
 -- the block itself
-here-is : (m n : List (List ℕ)) (p words : ℕ) (fixed : List ℕ) → IsImage m → 131 ≤ p → p + words ≤ length m → is_record (record_at m p) words ≡ true → Restated m n (app_at m p) fixed → Here m n p fixed
+here-is : (m n : List (List ℕ)) (p words : ℕ) (fixed : List ℕ) → IsSized m → 131 ≤ p → p + words ≤ length m → is_record (record_at m p) words ≡ true → Restated m n (app_at m p) fixed → Here m n p fixed
 unfolding App-of
 here-is m n p words fixed image low h good s =
     let r = record_at m p in
@@ -149,7 +149,7 @@ hole-apart p need q words at end hs low room rest =
       | inr later ↦ rest later
     ]
 
-again-kind : (m n : List (List ℕ)) (names : List (List ℕ)) (k : List ℕ) (a : App) (fixed : List ℕ) (b : Block) (bs : List Block) (u t : Bool) → IsImage m → 131 ≤ b.place → 1 ≤ b.words → b.place + b.words ≤ length m
+again-kind : (m n : List (List ℕ)) (names : List (List ℕ)) (k : List ℕ) (a : App) (fixed : List ℕ) (b : Block) (bs : List Block) (u t : Bool) → IsSized m → 131 ≤ b.place → 1 ≤ b.words → b.place + b.words ≤ length m
     → Above (b.place + b.words) (hole_spans bs) → Restated m n a fixed → bytes_eq (name_at m b.place) k ≡ t
     → MatchBool u ((is_record (record_at m b.place) b.words ≡ true) × (has_name (name_at m b.place) names ≡ false) × AreNamed m (name_at m b.place ∷ names) bs) (AreNamed m names bs)
     → ((ns : List (List ℕ)) → AreNamed m ns bs → lookup (apps_of m bs) k ≡ Some a → Again m n ns k a fixed (b.place + b.words) bs)
@@ -209,7 +209,7 @@ again-kind m n names k a fixed b bs true false image heap long h above s e nm re
       apart = g.apart;
     }
 
-again-all : (m n : List (List ℕ)) (names : List (List ℕ)) (k : List ℕ) (a : App) (fixed : List ℕ) (q : ℕ) (f : Bool) (bs : List Block) (end : ℕ) → IsImage m → 131 ≤ q → Tiled q f bs end → AreRead m bs → AreNamed m names bs
+again-all : (m n : List (List ℕ)) (names : List (List ℕ)) (k : List ℕ) (a : App) (fixed : List ℕ) (q : ℕ) (f : Bool) (bs : List Block) (end : ℕ) → IsSized m → 131 ≤ q → Tiled q f bs end → AreRead m bs → AreNamed m names bs
     → Restated m n a fixed → lookup (apps_of m bs) k ≡ Some a → Again m n names k a fixed q bs
 again-all m n names k a fixed q f [] end image heap t r nm s l = absurd (cc (sym (ap (λ (es : List (List ℕ × App)). lookup es k) (no-apps m)) ∙ l))
 again-all m n names k a fixed q f (b ∷ bs) end image heap t r nm s l =
@@ -241,7 +241,7 @@ pub record Restates (m n : List (List ℕ)) (k : List ℕ) (a : App) (fixed : Li
   pub blocks : blocks n ≡ blocks m
   pub card : card_of n ≡ record (card_of m) { apps = insert (card_of m).apps k (record a { fixed = fixed }) }
 
-pub restates : (m n : List (List ℕ)) (k : List ℕ) (a : App) (fixed : List ℕ) → IsImage m → words_fault m ≡ None → lookup (card_of m).apps k ≡ Some a → word n 0 ≡ word m 0 → Restated m n a fixed → Restates m n k a fixed
+pub restates : (m n : List (List ℕ)) (k : List ℕ) (a : App) (fixed : List ℕ) → IsSized m → words_fault m ≡ None → lookup (card_of m).apps k ≡ Some a → word n 0 ≡ word m 0 → Restated m n a fixed → Restates m n k a fixed
 restates m n k a fixed image h there root s =
     let f : Faultless m = faultless m h in
     let l : Laid m = laid m image h in
@@ -276,7 +276,7 @@ pub record StaticIn (m : List (List ℕ)) (k : List ℕ) (a : App) : Type 0 wher
   pub bytes : section m (static_from a) (length a.fixed) ≡ a.fixed
   pub apart : (p need : ℕ) → has_room p need (hole_spans (blocks m)) ≡ true → (p + need ≤ a.place) ⊎ (static_from a + up (length a.fixed) 8 ≤ p)
 
-pub static-in : (m : List (List ℕ)) (k : List ℕ) (a : App) → IsImage m → words_fault m ≡ None → lookup (card_of m).apps k ≡ Some a → StaticIn m k a
+pub static-in : (m : List (List ℕ)) (k : List ℕ) (a : App) → IsSized m → words_fault m ≡ None → lookup (card_of m).apps k ≡ Some a → StaticIn m k a
 static-in m k a image h there =
     let f : Faultless m = faultless m h in
     let l : Laid m = laid m image h in

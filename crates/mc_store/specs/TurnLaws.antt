@@ -8,25 +8,25 @@ use Rattle.mc_model.specs.declared.device.Stop.{Stop}
 use Rattle.mc_model.specs.Orders.{Answer}
 use Rattle.mc_model.specs.Bytes.{down, lookup, insert, remove}
 use Rattle.mc_model.specs.Image.{look, Closed, Two, laid}
-use Rattle.mc_model.specs.Device.{DeviceState, IsImage, Wrote, Makes, Ended}
+use Rattle.mc_model.specs.Device.{DeviceState, IsSized, Wrote, Makes, Ended}
 use Rattle.mc_model.specs.Stopped.{writes, IsAtomic}
 use Rattle.mc_model.specs.Card.{App, Card, card_of, means}
 use Rattle.mc_model.specs.Layout.{gaps, step_of, words_fault, fault, IsWellLaid}
 use Rattle.mc_model.specs.Items.{Site, BankItem, Piece, Blank, Note, Commit, Enter, Remove}
 use Rattle.mc_bank.specs.Bank.{FitsLimits, CanCommit, part_len, no_app, app_of, with_words, entered, committed, item_done}
-use Rattle.mc_bank.specs.Names.{length-inserted}
+use Rattle.mc_bank.specs.NameLaws.{length-inserted}
 use Rattle.mc_blocks.specs.Plans.{has_room}
 use Rattle.mc_blocks.proofs.Built.{SameCard}
 use Rattle.mc_blocks.specs.Outcomes.{Leaves}
 use Rattle.mc_store.specs.Store.{settled, apps_in, store_standing, needed_by, part_from, part_in, item_writes, static_writes, card_with, card_without, IsGoodIn, IsInWord, IsReady, Allows, count_after, StoreDid}
-use Rattle.mc_store.specs.Going.{Going, going_is, closed_settled, closed_means, closed_fault, closed_apps}
-use Rattle.mc_store.specs.Alike.{Alike, alike-card, Settles, Means, means-after}
-use Rattle.mc_store.specs.Atomic.{AtomicEnds, atomic-ends}
-use Rattle.mc_store.specs.Gaps.{Keeps, keeps-gap, OneWrite, one-write, just-one}
-use Rattle.mc_store.specs.Planning.{first-room}
-use Rattle.mc_store.specs.Creation.{Creates, creates-plan, creates-card}
-use Rattle.mc_store.specs.Deletion.{Deletes, deletes-plan, deletes-card, deletes-count}
-use Rattle.mc_store.specs.Commits.{Committed, commits}
+use Rattle.mc_store.specs.GoingLaws.{Going, going_is, closed_settled, closed_means, closed_fault, closed_apps}
+use Rattle.mc_store.specs.AlikeLaws.{Alike, alike-card, Settles, Means, means-after}
+use Rattle.mc_store.specs.AtomicLaws.{AtomicEnds, atomic-ends}
+use Rattle.mc_store.specs.GapLaws.{Keeps, keeps-gap, OneWrite, one-write, just-one}
+use Rattle.mc_store.specs.PlanningLaws.{first-room}
+use Rattle.mc_store.specs.CreationLaws.{Creates, creates-plan, creates-card}
+use Rattle.mc_store.specs.DeletionLaws.{Deletes, deletes-plan, deletes-card, deletes-count}
+use Rattle.mc_store.specs.CommitLaws.{Committed, commits}
 
 -- ---- words that turn
 
@@ -81,7 +81,7 @@ standing-of d c g = record { well = closed_fault d.words g.closed ∙ g.laid; ap
 
 module _ {D : Type 0} (state : D → DeviceState) (wrote : D → ℕ → List ℕ → Answer → D → Type 0)
     (obeys : (d : D) (at : ℕ) (w : List ℕ) (a : Answer) (e : D) → (state d).on ≡ true → wrote d at w a e → Wrote (state d) at w a (state e)) where
-  halted-by : (d e : DeviceState) (list : List (ℕ × List ℕ)) (apps : List (List ℕ × App)) (s : Stop) → IsImage d.words → words_fault d.words ≡ None
+  halted-by : (d e : DeviceState) (list : List (ℕ × List ℕ)) (apps : List (List ℕ × App)) (s : Stop) → IsSized d.words → words_fault d.words ≡ None
       → ((w : List (List ℕ)) → Alike w (laid d.words list) → New d.words w apps) → Settles d.words e.words ⊎ Settles (laid d.words list) e.words → Ended (Err s) d e → Halted d apps s e
   halted-by d e list apps s image good new (inl old) ended =
       let same : SameCard d.words old.left = alike-card d.words old.left image good old.alike in
@@ -93,7 +93,7 @@ module _ {D : Type 0} (state : D → DeviceState) (wrote : D → ℕ → List �
       record { good = m.fault ∙ same.good; card = inr (m.card ∙ same.card); ended = ended }
 
   -- an atomic write
-  pub atomic-turns : (list : List (ℕ × List ℕ)) (apps : List (List ℕ × App)) (d e : D) (c k : ℕ) (a : Answer) → IsImage (state d).words → Going (state d) c → IsAtomic (length (state d).words) list → Makes wrote d (writes Two list) a e
+  pub atomic-turns : (list : List (ℕ × List ℕ)) (apps : List (List ℕ × App)) (d e : D) (c k : ℕ) (a : Answer) → IsSized (state d).words → Going (state d) c → IsAtomic (length (state d).words) list → Makes wrote d (writes Two list) a e
       → ((w : List (List ℕ)) → Alike w (laid (state d).words list) → New (state d).words w apps) → (a ≡ Ok tt → k ≡ length apps) → Turns (state d) apps a (state e) k
   atomic-turns list apps d e c k (Ok tt) image going atomic made new count =
       let ends : AtomicEnds (state d) list (Ok tt) (state e) = atomic-ends state wrote obeys list d e (Ok tt) image going.on going.closed atomic made in
@@ -108,7 +108,7 @@ module _ {D : Type 0} (state : D → DeviceState) (wrote : D → ℕ → List �
   plain-by d e c k (Err s) going keeps ended count = record { good = closed_fault e.words keeps.closed ∙ keeps.good; card = inl (closed_means e.words keeps.closed ∙ keeps.card); ended = ended }
 
   -- a write into a hole
-  pub plain-turns : (s : Site) (at : ℕ) (w : List ℕ) (d e : D) (c k : ℕ) (a : Answer) → IsImage (state d).words → Going (state d) c → IsGoodIn (state d).words s → s.place < at → at < s.place + needed_by s.sizes → Makes wrote d ((at, w) ∷ []) a e → k ≡ c
+  pub plain-turns : (s : Site) (at : ℕ) (w : List ℕ) (d e : D) (c k : ℕ) (a : Answer) → IsSized (state d).words → Going (state d) c → IsGoodIn (state d).words s → s.place < at → at < s.place + needed_by s.sizes → Makes wrote d ((at, w) ∷ []) a e → k ≡ c
       → Turns (state d) (card_of (state d).words).apps a (state e) k
   plain-turns s at w d e c k a image going good low high made count =
       let m = (state d).words in
@@ -123,7 +123,7 @@ module _ {D : Type 0} (state : D → DeviceState) (wrote : D → ℕ → List �
   plain-item : (d e : D) (c k : ℕ) (a : Answer) → Going (state d) c → Turns (state d) (card_of (state d).words).apps a (state e) k → Turns (state d) (apps_in (state d).words) a (state e) k
   plain-item d e c k a g t = subst (λ (es : List (List ℕ × App)). Turns (state d) es a (state e) k) (sym (standing-of (state d) c g).map) t
 
-  pub commit-turns : (n : List ℕ) (ws : List (ℕ × List ℕ)) (d e : D) (c k : ℕ) (a : Answer) → IsImage (state d).words → Going (state d) c → Allows (state d).words (Commit n ws) → Makes wrote d (item_writes (state d).words (Commit n ws)) a e → k ≡ c
+  pub commit-turns : (n : List ℕ) (ws : List (ℕ × List ℕ)) (d e : D) (c k : ℕ) (a : Answer) → IsSized (state d).words → Going (state d) c → Allows (state d).words (Commit n ws) → Makes wrote d (item_writes (state d).words (Commit n ws)) a e → k ≡ c
       → Turns (state d) (committed (apps_in (state d).words) n ws) a (state e) k
   commit-turns n ws d e c k a image going allowed made count =
       let m = (state d).words in
@@ -142,7 +142,7 @@ module _ {D : Type 0} (state : D → DeviceState) (wrote : D → ℕ → List �
       (λ w alike. let k : SameCard (laid m (static_writes x ws)) w = alike-card (laid m (static_writes x ws)) w t.image t.good alike in record { good = k.good; card = k.card ∙ t.card })
       (λ ok. count ∙ going.count ∙ sym t.count))
 
-  enter-turns : (s : Site) (n : List ℕ) (d e : D) (c k : ℕ) (a : Answer) → IsImage (state d).words → Going (state d) c → IsReady (state d).words s n → Makes wrote d (item_writes (state d).words (Enter s n)) a e → (a ≡ Ok tt → k ≡ c + 1)
+  enter-turns : (s : Site) (n : List ℕ) (d e : D) (c k : ℕ) (a : Answer) → IsSized (state d).words → Going (state d) c → IsReady (state d).words s n → Makes wrote d (item_writes (state d).words (Enter s n)) a e → (a ≡ Ok tt → k ≡ c + 1)
       → Turns (state d) (insert (apps_in (state d).words) n (entered s (store_standing (state d) s))) a (state e) k
   enter-turns s n d e c k a image going ready made count =
       let m = (state d).words in
@@ -159,7 +159,7 @@ module _ {D : Type 0} (state : D → DeviceState) (wrote : D → ℕ → List �
       (λ w alike. by-leaves m w apps going.closed (creates-card m w s n image going.closed t.well ready alike))
       (λ ok. let one = count ok in omega (arith, one, more, old)))
 
-  remove-turns : (n : List ℕ) (d e : D) (c k : ℕ) (a : Answer) → IsImage (state d).words → Going (state d) c → IsSome (lookup (means (state d).words).apps n) → Makes wrote d (item_writes (state d).words (Remove n)) a e → (a ≡ Ok tt → k ≡ c - 1)
+  remove-turns : (n : List ℕ) (d e : D) (c k : ℕ) (a : Answer) → IsSized (state d).words → Going (state d) c → IsSome (lookup (means (state d).words).apps n) → Makes wrote d (item_writes (state d).words (Remove n)) a e → (a ≡ Ok tt → k ≡ c - 1)
       → Turns (state d) (remove (apps_in (state d).words) n) a (state e) k
   remove-turns n d e c k a image going there made count =
       let m = (state d).words in

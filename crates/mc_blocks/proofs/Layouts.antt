@@ -1,0 +1,190 @@
+-- Words without a fault hold the layout of the card that they mean: the root, and the header of each block and each gap.
+use Rattle.std.proofs.Common.{◌≡◌, ℕ, zero, suc, ◌+◌, ◌*◌, ◌/◌, ◌%◌, ◌<◌, ◌≤◌, Bool, true, false, cond, ◌&&◌, ◌||◌, List, [], ◌∷◌, ◌++◌, length, take, Option, Some, None, refl, sym, ◌∙◌, ap, subst, arith}
+use Rattle.std.specs.Prelude.{nat_le, nat_lt, ◌==◌, slice_index, bytes_eq}
+use Rattle.std.specs.List.{AllByRecursion}
+use Rattle.std.proofs.lemmas.Bool.{and_parts, eqb-true}
+use Rattle.std.proofs.lemmas.Slice.Eq.{bytes_eq-Decides}
+use Rattle.mc_model.specs.Bytes.{AreBytes, be2, bytes2, or_else}
+use Rattle.mc_model.specs.Device.{IsImage, sized}
+use Rattle.mc_model.specs.Image.{Look, Refused, Closed, Pending, look, replayed, after}
+use Rattle.mc_model.specs.Card.{Block, used_tag, hole_tag, word, is_header, header, blocks, card_of, words_after, means}
+use Rattle.mc_model.specs.Layout.{put_at, spans, gaps, first_place, first_hole, hole_header, used_header, root, chained, with_used, layout, no_root, bad_link, words_fault, fault_of, IsWellLaid}
+use Rattle.mc_model.proofs.LookLemmas.{IsFull}
+use Rattle.mc_model.proofs.ImageBytes.{image-settled}
+use Rattle.mc_blocks.specs.Blocks.{used_spans, hole_spans}
+use Rattle.mc_blocks.proofs.Steps.{header-is}
+use Rattle.mc_blocks.proofs.Tiles.{AreRead, first-is}
+use Rattle.mc_blocks.proofs.Bridge.{Laid, laid}
+
+-- ---- words of eight bytes
+
+-- a word is its eight bytes
+eight : (x : List ℕ) → length x ≡ 8 → x ≡ slice_index x 0 ∷ slice_index x 1 ∷ slice_index x 2 ∷ slice_index x 3 ∷ slice_index x 4 ∷ slice_index x 5 ∷ slice_index x 6 ∷ slice_index x 7 ∷ []
+eight [] h = absurd (cc h)
+eight (a ∷ []) h = absurd (cc h)
+eight (a ∷ b ∷ []) h = absurd (cc h)
+eight (a ∷ b ∷ c ∷ []) h = absurd (cc h)
+eight (a ∷ b ∷ c ∷ d ∷ []) h = absurd (cc h)
+eight (a ∷ b ∷ c ∷ d ∷ e ∷ []) h = absurd (cc h)
+eight (a ∷ b ∷ c ∷ d ∷ e ∷ f ∷ []) h = absurd (cc h)
+eight (a ∷ b ∷ c ∷ d ∷ e ∷ f ∷ g ∷ []) h = absurd (cc h)
+eight (a ∷ b ∷ c ∷ d ∷ e ∷ f ∷ g ∷ i ∷ []) h = refl
+eight (a ∷ b ∷ c ∷ d ∷ e ∷ f ∷ g ∷ i ∷ j ∷ r) h = absurd (omega (arith, h))
+
+byte-at : (x : List ℕ) (i : ℕ) → AreBytes x → slice_index x i < 256
+byte-at [] i h = omega arith
+byte-at (b ∷ x) zero h = h.0
+byte-at (b ∷ x) (suc i) h = byte-at x i h.1
+
+-- two bytes are those of their number
+two : (x : List ℕ) (i n : ℕ) → AreBytes x → be2 x i ≡ n → bytes2 n ≡ slice_index x i ∷ slice_index x (i + 1) ∷ []
+two x i n h e =
+    let a : ℕ = slice_index x i in
+    let b : ℕ = slice_index x (i + 1) in
+    let low : a < 256 = byte-at x i h in
+    let high : b < 256 = byte-at x (i + 1) h in
+    let is : 256 * a + b ≡ n = e in
+    let first : n / 256 % 256 ≡ a = omega arith in
+    let second : n % 256 ≡ b = omega arith in
+    ap (λ (k : ℕ). k ∷ (n % 256) ∷ []) first ∙ ap (λ (k : ℕ). a ∷ k ∷ []) second
+
+-- ---- headers
+
+-- the tag of a block
+abbrev tag_of : Bool → ℕ
+tag_of used = cond used used_tag hole_tag
+
+tag-is : (a : ℕ) (t : Bool) → (a == used_tag) ≡ t → (t || a == hole_tag) ≡ true → a ≡ tag_of t
+tag-is a true e h = eqb-true a used_tag e
+tag-is a false e h = eqb-true a hole_tag h
+
+abbrev the_block : ℕ → List ℕ → Block
+the_block p x = record { place = p; used = slice_index x 0 == used_tag; words = be2 x 2; link = be2 x 4 }
+
+-- a header is that of its block
+header-by : (p : ℕ) (x : List ℕ) (b : Block) (t : Bool) → IsFull x → is_header x ≡ t → cond t (Some (the_block p x)) None ≡ Some b → x ≡ tag_of b.used ∷ 0 ∷ (bytes2 b.words ++ bytes2 b.link ++ 0 ∷ 0 ∷ [])
+header-by p x b false full h e = absurd (cc e)
+header-by p x b true full h e =
+    let is : the_block p x ≡ b = cc in
+    let tag = slice_index x 0 == used_tag || slice_index x 0 == hole_tag in
+    let a = tag && slice_index x 1 == 0 in
+    let long = a && nat_le 1 (be2 x 2) in
+    let seventh = and_parts (long && slice_index x 6 == 0) (slice_index x 7 == 0) h in
+    let sixth = and_parts long (slice_index x 6 == 0) seventh.0 in
+    let first = and_parts a (nat_le 1 (be2 x 2)) sixth.0 in
+    let second = and_parts tag (slice_index x 1 == 0) first.0 in
+    let used : Bool = slice_index x 0 == used_tag in
+    let t0 : slice_index x 0 ≡ tag_of used = tag-is (slice_index x 0) used refl second.0 in
+    let t1 : slice_index x 1 ≡ 0 = eqb-true (slice_index x 1) 0 second.1 in
+    let t6 : slice_index x 6 ≡ 0 = eqb-true (slice_index x 6) 0 sixth.1 in
+    let t7 : slice_index x 7 ≡ 0 = eqb-true (slice_index x 7) 0 seventh.1 in
+    let words = sym (two x 2 (be2 x 2) full.1 refl) in
+    let link = sym (two x 4 (be2 x 4) full.1 refl) in
+    subst (λ (c : Block). x ≡ tag_of c.used ∷ 0 ∷ (bytes2 c.words ++ bytes2 c.link ++ 0 ∷ 0 ∷ [])) is (
+    eight x full.0
+    ∙ ap (λ (k : ℕ). k ∷ slice_index x 1 ∷ slice_index x 2 ∷ slice_index x 3 ∷ slice_index x 4 ∷ slice_index x 5 ∷ slice_index x 6 ∷ slice_index x 7 ∷ []) t0
+    ∙ ap (λ (k : ℕ). tag_of used ∷ k ∷ slice_index x 2 ∷ slice_index x 3 ∷ slice_index x 4 ∷ slice_index x 5 ∷ slice_index x 6 ∷ slice_index x 7 ∷ []) t1
+    ∙ ap (λ (k : ℕ). tag_of used ∷ 0 ∷ slice_index x 2 ∷ slice_index x 3 ∷ slice_index x 4 ∷ slice_index x 5 ∷ k ∷ slice_index x 7 ∷ []) t6
+    ∙ ap (λ (k : ℕ). tag_of used ∷ 0 ∷ slice_index x 2 ∷ slice_index x 3 ∷ slice_index x 4 ∷ slice_index x 5 ∷ 0 ∷ k ∷ []) t7
+    ∙ ap (λ (l : List ℕ). tag_of used ∷ 0 ∷ (l ++ slice_index x 4 ∷ slice_index x 5 ∷ 0 ∷ 0 ∷ [])) words
+    ∙ ap (λ (l : List ℕ). tag_of used ∷ 0 ∷ (bytes2 (be2 x 2) ++ (l ++ 0 ∷ 0 ∷ []))) link)
+
+header-form : (p : ℕ) (x : List ℕ) (b : Block) → IsFull x → header p x ≡ Some b → x ≡ tag_of b.used ∷ 0 ∷ (bytes2 b.words ++ bytes2 b.link ++ 0 ∷ 0 ∷ [])
+header-form p x b full h = header-by p x b (is_header x) full refl h
+
+-- ---- pairs in their places
+
+abbrev pub Stand : List (List ℕ) → List (ℕ × List ℕ) → Type 0
+Stand m ps = AllByRecursion (λ p. word m p.0 ≡ p.1) ps
+
+put-stands : (m : List (List ℕ)) (p : ℕ) (x : List ℕ) (es : List (ℕ × List ℕ)) → word m p ≡ x → Stand m es → Stand m (put_at p x es)
+put-stands m p x [] h a = (h, tt)
+put-stands m p x (e ∷ es) h a = by (nat_lt p e.0) (put-stands m p x es h a.1)
+  where
+    by : (t : Bool) → Stand m (put_at p x es) → Stand m (cond t ((p, x) ∷ e ∷ es) (e ∷ put_at p x es))
+    by true r = (h, a)
+    by false r = (a.0, r)
+
+abbrev Used : List (List ℕ) → List (ℕ × ℕ) → Type 0
+Used m ss = AllByRecursion (λ s. word m s.0 ≡ used_header s.1) ss
+
+with-stands : (m : List (List ℕ)) (ss : List (ℕ × ℕ)) (hs : List (ℕ × List ℕ)) → Used m ss → Stand m hs → Stand m (with_used ss hs)
+with-stands m [] hs u h = h
+with-stands m (s ∷ ss) hs u h = put-stands m s.0 (used_header s.1) (with_used ss hs) u.0 (with-stands m ss hs u.1 h)
+
+-- ---- blocks
+
+full-at : (m : List (List ℕ)) (b : Block) → header b.place (word m b.place) ≡ Some b → b.place + b.words ≤ length m → IsImage m → IsFull (word m b.place)
+full-at m b is ends image =
+    let low : 1 ≤ b.words = (header-is b.place (word m b.place) b is).low in
+    (image.words b.place (omega arith), image.bytes b.place)
+
+link-step : (b : Block) (l : ℕ) (rest : Option ℕ) (t : Bool) → (b.link == l) ≡ t → cond t rest (Some b.place) ≡ None → (b.link ≡ l) × (rest ≡ None)
+link-step b l rest true e h = (eqb-true b.link l e, h)
+link-step b l rest false e h = absurd (cc h)
+
+blocks-stand : (m : List (List ℕ)) (bs : List Block) → IsImage m → AreRead m bs → bad_link bs ≡ None → Used m (used_spans bs) × Stand m (chained (hole_spans bs))
+blocks-stand m [] image r h = (tt, tt)
+blocks-stand m (b ∷ bs) image r h =
+    let link = link-step b (cond b.used 0 (first_hole bs)) (bad_link bs) (b.link == cond b.used 0 (first_hole bs)) refl h in
+    by b.used refl (blocks-stand m bs image r.2 link.1) link.0
+  where
+    by : (u : Bool) → b.used ≡ u → Used m (used_spans bs) × Stand m (chained (hole_spans bs)) → b.link ≡ cond u 0 (first_hole bs)
+        → Used m (cond u ((b.place, b.words) ∷ used_spans bs) (used_spans bs)) × Stand m (chained (cond u (hole_spans bs) ((b.place, b.words) ∷ hole_spans bs)))
+    by true is rest link =
+        let form : word m b.place ≡ tag_of b.used ∷ 0 ∷ (bytes2 b.words ++ bytes2 b.link ++ 0 ∷ 0 ∷ []) = header-form b.place (word m b.place) b (full-at m b r.0 r.1 image) r.0 in
+        let here : word m b.place ≡ used_header b.words =
+        form ∙ ap (λ (t : Bool). tag_of t ∷ 0 ∷ (bytes2 b.words ++ bytes2 b.link ++ 0 ∷ 0 ∷ [])) is ∙ ap (λ (n : ℕ). used_tag ∷ 0 ∷ (bytes2 b.words ++ bytes2 n ++ 0 ∷ 0 ∷ [])) link in
+        ((here, rest.0), rest.1)
+    by false is rest link =
+        let form : word m b.place ≡ tag_of b.used ∷ 0 ∷ (bytes2 b.words ++ bytes2 b.link ++ 0 ∷ 0 ∷ []) = header-form b.place (word m b.place) b (full-at m b r.0 r.1 image) r.0 in
+        let here : word m b.place ≡ hole_header b.words (first_place (hole_spans bs)) =
+        form ∙ ap (λ (t : Bool). tag_of t ∷ 0 ∷ (bytes2 b.words ++ bytes2 b.link ++ 0 ∷ 0 ∷ [])) is ∙ ap (λ (n : ℕ). hole_tag ∷ 0 ∷ (bytes2 b.words ++ bytes2 n ++ 0 ∷ 0 ∷ [])) (link ∙ first-is bs) in
+        (rest.0, (here, rest.1))
+
+-- ---- the root
+
+root-form : (x : List ℕ) (v size first : ℕ) → IsFull x → take 6 x ≡ take 6 (root v size 0) → be2 x 6 ≡ first → x ≡ root v size first
+root-form x v size first full front last =
+    let e = eight x full.0 in
+    let end : List ℕ = slice_index x 6 ∷ slice_index x 7 ∷ [] in
+    e ∙ ap (λ (l : List ℕ). take 6 l ++ end) (sym e) ∙ ap (λ (l : List ℕ). l ++ end) front ∙ ap (λ (l : List ℕ). take 6 (root v size 0) ++ l) (sym (two x 6 first full.1 last))
+
+rooted : (t : Bool) → cond {A = Option ℕ} t None (Some 0) ≡ None → t ≡ true
+rooted true h = refl
+rooted false h = absurd (cc h)
+
+root-stands : (m : List (List ℕ)) (first : ℕ) → IsImage m → no_root m ≡ None → be2 (word m 0) 6 ≡ first → word m 0 ≡ root (slice_index (word m 0) 3) (length m) first
+root-stands m first image h last =
+    let x = word m 0 in
+    let v : ℕ = slice_index x 3 in
+    let low : 256 ≤ length m = image.low in
+    let both = and_parts (v == 1 || v == 2) (bytes_eq (take 6 x) (take 6 (root v (length m) 0))) (rooted _ h) in
+    root-form x v (length m) first (image.words 0 (omega arith), image.bytes 0) ((bytes_eq-Decides (take 6 x) (take 6 (root v (length m) 0))).0 both.1) last
+
+chain-parts : (a f : ℕ) (o : Option ℕ) (t : Bool) → (a == f) ≡ t → or_else (cond t None (Some 0)) o ≡ None → (a ≡ f) × (o ≡ None)
+chain-parts a f o true e h = (eqb-true a f e, h)
+chain-parts a f o false e h = absurd (cc h)
+
+-- ---- the layout
+
+layout-stands : (m : List (List ℕ)) → IsImage m → words_fault m ≡ None → Stand m (layout (card_of m))
+unfolding layout
+layout-stands m image good =
+    let l : Laid m = laid m (sized image) good in
+    let bs = blocks m in
+    let chain = chain-parts (be2 (word m 0) 6) (first_hole bs) (bad_link bs) (be2 (word m 0) 6 == first_hole bs) refl l.chain in
+    let all = blocks-stand m bs image l.read chain.1 in
+    let holes : Stand m (chained (gaps (card_of m))) = subst (λ (g : List (ℕ × ℕ)). Stand m (chained g)) (sym l.gaps) all.1 in
+    let used : Used m (spans (card_of m)) = subst (λ (s : List (ℕ × ℕ)). Used m s) (sym l.spans) all.0 in
+    let first : be2 (word m 0) 6 ≡ first_place (gaps (card_of m)) = chain.0 ∙ first-is bs ∙ ap first_place (sym l.gaps) in
+    (root-stands m (first_place (gaps (card_of m))) image l.root first, with-stands m (spans (card_of m)) (chained (gaps (card_of m))) used holes)
+
+sound-after : (m : List (List ℕ)) (l : Look) → look m ≡ l → fault_of l m ≡ None → words_fault (words_after (after m) m) ≡ None
+sound-after m (Refused p) e h = absurd (cc h)
+sound-after m Closed e h = ap (λ (k : Look). words_fault (words_after (replayed m k) m)) e ∙ h
+sound-after m (Pending j ps) e h = h
+
+-- an image without a fault, once its journal is replayed
+pub layout-law : (m : List (List ℕ)) → IsImage m → IsWellLaid m → Stand (words_after (after m) m) (layout (means m))
+layout-law m image h = layout-stands (words_after (after m) m) (image-settled m image) (sound-after m (look m) refl h)

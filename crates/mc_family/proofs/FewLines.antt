@@ -1,0 +1,271 @@
+-- In every play from an image whose lines are bytes, each item fits a journal.
+use Rattle.std.proofs.Common.{◌≡◌, ℕ, zero, suc, ◌+◌, ◌-◌, ◌<◌, Bool, true, false, cond, List, [], ◌∷◌, ◌++◌, take, drop, length, Option, Some, None, refl, subst, arith}
+use Rattle.std.specs.Prelude.{⊤, ◌==◌, nat_le, slice_set}
+use Rattle.std.specs.List.{AllByRecursion}
+use Rattle.mc_model.specs.declared.card.Cause.{Cause}
+use Rattle.mc_model.specs.declared.device.Stop.{Stop}
+use Rattle.mc_model.specs.declared.device.Stop.TheVariants as stop
+use Rattle.mc_model.specs.Bytes.{AreBytes, bytes2, zeros}
+use Rattle.mc_model.specs.Units.{UnitParts}
+use Rattle.mc_model.specs.Device.{IsImage}
+use Rattle.mc_model.specs.Image.{Journal, One, shut}
+use Rattle.mc_model.specs.Stopped.{stands}
+use Rattle.mc_model.specs.Card.{App, Card, heap_start}
+use Rattle.mc_model.specs.Layout.{root, hole_header, fault}
+use Rattle.mc_model.specs.Items.{moves, done, StopAt, at_stop}
+use Rattle.mc_model.specs.Manager.{Seat}
+use Rattle.mc_model.specs.DeckGrammar.{DeckLine}
+use Rattle.mc_model.specs.DeckGrammar as line
+use Rattle.mc_model.specs.Play.{Armed, Live, Running, Unpowered, Muted, Base, OnCard, AtFault, Warm, State, Cold, Hot, Step, Command, select_bytes, delete_bytes, piece_commands, section_commands, load_commands, line_command, hit_of, WornAt, live_after, migrated, power_live, power_after, stopped_power, power_moves, line_after, card_line, hot_step, cold_step, step, base_of, warmed, plays, first_worn, start, formatted}
+use Rattle.mc_model.specs.ReadyAgain.{FitsJournal, AllFitJournal, IsLine, AreLines}
+use Rattle.mc_model.proofs.ImageLemmas.{all-append}
+use Rattle.mc_model.proofs.LookLemmas.{IsFull}
+use Rattle.mc_model.proofs.ImageBytes.{image-set, shut-full}
+use Rattle.mc_family.proofs.CardFacts.{all-take, all-drop, AreOnCard, done-stands, whole-stand, means-on-card}
+use Rattle.mc_family.proofs.FewItems.{IsSent, SeatStands, CommandStands, command-stands, send-stands}
+use Rattle.mc_family.proofs.AppSizes.{Limited}
+use Rattle.mc_family.proofs.HotLines.{hot}
+use Rattle.mc_family.proofs.PlaySizes.{SeatFits, BaseFits, StateFits, step-fits}
+
+-- ---- the commands of a line
+
+pair-bytes : (n : ℕ) → AreBytes (bytes2 n)
+pair-bytes n = (omega arith, (omega arith, tt))
+
+with-pair : (b : List ℕ) (n : ℕ) → AreBytes b → AreBytes (b ++ bytes2 n)
+with-pair b n h = all-append (λ x. x < 256) b (bytes2 n) h (pair-bytes n)
+
+pieces-sent : (k ins at : ℕ) (b : List ℕ) → AreBytes b → AllByRecursion IsSent (piece_commands k ins at b)
+pieces-sent zero ins at b h = tt
+pieces-sent (suc k) ins at b h = by (length b == 0) (all-take (λ x. x < 256) 248 b h, pieces-sent k ins (at + 248) (drop 248 b) (all-drop (λ x. x < 256) 248 b h))
+  where
+    by : (t : Bool) → AllByRecursion IsSent ((0xBE ∷ ins ∷ (bytes2 at ++ length (take 248 b) ∷ take 248 b)) ∷ piece_commands k ins (at + 248) (drop 248 b))
+        → AllByRecursion IsSent (cond t [] ((0xBE ∷ ins ∷ (bytes2 at ++ length (take 248 b) ∷ take 248 b)) ∷ piece_commands k ins (at + 248) (drop 248 b)))
+    by true r = tt
+    by false r = r
+
+load-sent : (u : UnitParts) (fixed session : ℕ) → AreBytes u.code → AreBytes u.init → AreBytes u.dir → AreBytes u.fci → AllByRecursion IsSent (load_commands u fixed session)
+load-sent u fixed session code init dir fci =
+    let P = λ (b : List ℕ). IsSent b in
+    let c = section_commands 0x24 u.code in
+    let i = section_commands 0x26 u.init in
+    let d = section_commands 0x20 u.dir in
+    let f = section_commands 0x22 u.fci in
+    let last : List (List ℕ) = (0xBE ∷ 0x16 ∷ 0x00 ∷ 0x00 ∷ []) ∷ [] in
+    let a1 : List ℕ = bytes2 (length u.code) in
+    let a2 : List ℕ = a1 ++ bytes2 fixed in
+    let a3 : List ℕ = a2 ++ bytes2 (length u.init) in
+    let a4 : List ℕ = a3 ++ bytes2 session in
+    let a5 : List ℕ = a4 ++ bytes2 (length u.dir) in
+    let sizes : AreBytes (a5 ++ bytes2 (length u.fci)) =
+    with-pair a5 (length u.fci) (with-pair a4 (length u.dir) (with-pair a3 session (with-pair a2 (length u.init) (with-pair a1 fixed (pair-bytes (length u.code)))))) in (
+      sizes,
+      all-append P (c ++ i ++ d ++ f) last
+          (all-append P (c ++ i ++ d) f
+          (all-append P (c ++ i) d (all-append P c i (pieces-sent (length u.code) 0x24 0 u.code code) (pieces-sent (length u.init) 0x26 0 u.init init)) (pieces-sent (length u.dir) 0x20 0 u.dir dir))
+          (pieces-sent (length u.fci) 0x22 0 u.fci fci)) (tt, tt),
+    )
+
+line-stands : (c : Card) (seat : Seat) (budget : ℕ) (l : DeckLine) → IsLine l → Limited c.apps → SeatFits c.apps seat → AreOnCard c.apps → SeatStands c.apps seat → CommandStands c.apps (line_command c seat budget l)
+line-stands c seat budget (line.Select n) is limited fits on h = command-stands c seat (select_bytes n) budget is limited on h
+line-stands c seat budget (line.Delete n) is limited fits on h = command-stands c seat (delete_bytes n) budget is limited on h
+line-stands c seat budget (line.Apdu b) is limited fits on h = command-stands c seat b budget (all-drop (λ x. x < 256) 5 b is) limited on h
+line-stands c seat budget (line.Load u fixed session) is limited fits on h =
+    send-stands c seat budget (load_commands u fixed session) (load-sent u fixed session is.0 is.1 is.2 is.3) limited fits on h
+line-stands c seat budget line.Format is limited fits on h = record { few = tt; items = tt; seat = h }
+line-stands c seat budget line.Power is limited fits on h = record { few = tt; items = tt; seat = h }
+line-stands c seat budget line.Named is limited fits on h = record { few = tt; items = tt; seat = h }
+line-stands c seat budget (line.Dump n) is limited fits on h = record { few = tt; items = tt; seat = h }
+line-stands c seat budget (line.Budget n) is limited fits on h = record { few = tt; items = tt; seat = h }
+line-stands c seat budget (line.Cut k x) is limited fits on h = record { few = tt; items = tt; seat = h }
+line-stands c seat budget (line.Fail k) is limited fits on h = record { few = tt; items = tt; seat = h }
+line-stands c seat budget (line.Poke at x) is limited fits on h = record { few = tt; items = tt; seat = h }
+
+-- ---- words that are set
+
+root-full : (v size first : ℕ) → v < 256 → IsFull (root v size first)
+root-full v size first h = (refl, (omega arith, (omega arith, (omega arith, (h, (omega arith, (omega arith, (omega arith, (omega arith, tt)))))))))
+
+hole-full : (n link : ℕ) → IsFull (hole_header n link)
+hole-full n link = (refl, (omega arith, (omega arith, (omega arith, (omega arith, (omega arith, (omega arith, (omega arith, (omega arith, tt)))))))))
+
+formatted-image : (m : List (List ℕ)) → IsImage m → IsImage (formatted m)
+formatted-image m image =
+    let size : ℕ = length m in
+    let a = slice_set m 0 (root 2 size heap_start) in
+    let b = slice_set a 1 shut in
+    let c = slice_set b 2 (zeros 8) in
+    let d = slice_set c 130 shut in
+    let zero-full : IsFull (zeros 8) = (refl, (omega arith, (omega arith, (omega arith, (omega arith, (omega arith, (omega arith, (omega arith, (omega arith, tt))))))))) in
+    image-set d heap_start (hole_header (size - heap_start) 0)
+    (image-set c 130 shut (image-set b 2 (zeros 8) (image-set a 1 shut (image-set m 0 (root 2 size heap_start) image (root-full 2 size heap_start (omega arith))) shut-full) zero-full) shut-full)
+    (hole-full (size - heap_start) 0)
+
+-- ---- what is kept from line to line
+
+abbrev LiveStands : List (List ℕ × App) → Live → Type 0
+LiveStands m (Running seat) = SeatStands m seat
+LiveStands m Unpowered = ⊤
+LiveStands m Muted = ⊤
+
+abbrev BaseStands : Base → Live → Type 0
+BaseStands (OnCard c) v = AreOnCard c.apps × LiveStands c.apps v
+BaseStands (AtFault cause p) v = ⊤
+
+abbrev StateStands : State → Type 0
+StateStands (Cold m b a) = IsImage m
+StateStands (Hot s) = BaseStands s.base s.live
+
+record LineStands (u : Step) : Type 0 where
+  few : AllByRecursion FitsJournal u.items
+  next : StateStands u.after
+
+after-stop : (m : List (List ℕ × App)) (k : Stop) → LiveStands m (live_after k)
+after-stop m stop.Off = tt
+after-stop m stop.Worn = tt
+
+-- ---- power lines
+
+base-on-card : (b : Base) (v : Live) → BaseStands b v → BaseStands b Unpowered
+base-on-card (OnCard c) v h = (h.0, tt)
+base-on-card (AtFault cause p) v h = tt
+
+base-stopped : (b : Base) (k : Stop) → BaseStands b Unpowered → BaseStands b (live_after k)
+base-stopped (OnCard c) k h = (h.0, after-stop c.apps k)
+base-stopped (AtFault cause p) k h = tt
+
+base-powered : (b : Base) → BaseStands b Unpowered → BaseStands (migrated b) (power_live b)
+base-powered (OnCard c) h = (h.0, record { selected = tt; load = tt })
+base-powered (AtFault cause p) h = tt
+
+base-migrated : (b : Base) (v : Live) → BaseStands b v → BaseStands (migrated b) v
+base-migrated (OnCard c) v h = h
+base-migrated (AtFault cause p) v h = h
+
+base-cond : (t : Bool) (b : Base) (v : Live) → BaseStands b v → BaseStands (cond t (migrated b) b) v
+base-cond true b v h = base-migrated b v h
+base-cond false b v h = h
+
+stopped-stands : (s : Warm) (t : StopAt) (b : Bool) → BaseStands s.base Unpowered → StateStands (Hot (stopped_power s t b))
+stopped-stands s t true h = base-stopped s.base t.kind h
+stopped-stands s t false h = base-cond (stands One 1 (t.at - s.owed) t.left) s.base (live_after t.kind) (base-stopped s.base t.kind h)
+
+power-stands : (s : Warm) (t : Option StopAt) → BaseStands s.base Unpowered → StateStands (Hot (power_after s t))
+power-stands s None h = base-powered s.base h
+power-stands s (Some t) h = stopped-stands s t (nat_le t.at s.owed) h
+
+-- ---- lines of a running card
+
+after-stands : (s : Warm) (c : Card) (r : Command) (t : Option StopAt) → AreOnCard c.apps → CommandStands c.apps r → StateStands (Hot (line_after s c r t))
+after-stands s c r None on k = (done-stands r.items c.apps on k.items, k.seat)
+after-stands s c r (Some t) on k =
+    let whole = (at_stop r.items t.at t.left).whole in
+    (done-stands whole c.apps on (whole-stand r.items c.apps t.at t.left k.items), after-stop (done c.apps whole) t.kind)
+
+card-stands : (n : ℕ) (l : DeckLine) (b : Base) (o : ℕ) (j : Journal) (v : Live) (g : ℕ) (a : Armed) (w : Option WornAt) → IsLine l → BaseFits b v → BaseStands b v → LineStands (card_line n l (hot b o j v g a) v b w)
+card-stands n l (OnCard c) o j (Running seat) g a w is f h =
+    let r = line_command c seat g l in
+    let k : CommandStands c.apps r = line-stands c seat g l is f.0 f.1 h.0 h.1 in
+    record { few = k.few; next = after-stands (hot (OnCard c) o j (Running seat) g a) c r (hit_of a (moves r.items) w) h.0 k }
+card-stands n l (AtFault cause p) o j (Running seat) g a w is f h = record { few = tt; next = tt }
+card-stands n l b o j Unpowered g a w is f h = record { few = tt; next = h }
+card-stands n l b o j Muted g a w is f h = record { few = tt; next = h }
+
+hot-stands : (n : ℕ) (l : DeckLine) (s : Warm) (w : Option WornAt) → IsLine l → BaseFits s.base s.live → BaseStands s.base s.live → LineStands (hot_step n l s w)
+hot-stands n line.Format s w is f h = record { few = tt; next = h }
+hot-stands n (line.Poke at x) s w is f h = record { few = tt; next = h }
+hot-stands n line.Named s w is f h = record { few = tt; next = h }
+hot-stands n (line.Budget b) s w is f h = record { few = tt; next = h }
+hot-stands n (line.Cut k x) s w is f h = record { few = tt; next = h }
+hot-stands n (line.Fail k) s w is f h = record { few = tt; next = h }
+hot-stands n (line.Dump x) s w is f h = record { few = tt; next = h }
+hot-stands n line.Power s w is f h = record { few = tt; next = power-stands s (hit_of s.armed (power_moves s) w) (base-on-card s.base s.live h) }
+hot-stands n (line.Load u fixed session) s w is f h = card-stands n (line.Load u fixed session) s.base s.owed s.by s.live s.budget s.armed w is f h
+hot-stands n (line.Select x) s w is f h = card-stands n (line.Select x) s.base s.owed s.by s.live s.budget s.armed w is f h
+hot-stands n (line.Delete x) s w is f h = card-stands n (line.Delete x) s.base s.owed s.by s.live s.budget s.armed w is f h
+hot-stands n (line.Apdu x) s w is f h = card-stands n (line.Apdu x) s.base s.owed s.by s.live s.budget s.armed w is f h
+
+-- ---- lines up to the first power line
+
+found-stands : (m : List (List ℕ)) (f : Option (Cause × ℕ)) → IsImage m → fault m ≡ f → BaseStands (base_of f m) Unpowered
+found-stands m None image h = (means-on-card m image h, tt)
+found-stands m (Some f) image h = tt
+
+warmed-stands : (m : List (List ℕ)) (b : ℕ) (a : Armed) → IsImage m → BaseStands (warmed m b a).base Unpowered
+unfolding warmed
+warmed-stands m b a image = found-stands m (fault m) image refl
+
+cold-stands : (n : ℕ) (l : DeckLine) (m : List (List ℕ)) (b : ℕ) (a : Armed) (w : Option WornAt) → IsLine l → IsImage m → LineStands (cold_step n l m b a w)
+cold-stands n line.Format m b a w is h = record { few = tt; next = formatted-image m h }
+cold-stands n (line.Poke at x) m b a w is h = record { few = tt; next = image-set m at x h (is.1, is.0) }
+cold-stands n line.Named m b a w is h = record { few = tt; next = h }
+cold-stands n (line.Budget c) m b a w is h = record { few = tt; next = h }
+cold-stands n (line.Cut k x) m b a w is h = record { few = tt; next = h }
+cold-stands n (line.Fail k) m b a w is h = record { few = tt; next = h }
+cold-stands n (line.Dump x) m b a w is h = record { few = tt; next = h }
+cold-stands n line.Power m b a w is h = record { few = tt; next = power-stands (warmed m b a) (hit_of a (power_moves (warmed m b a)) w) (warmed-stands m b a h) }
+cold-stands n (line.Load u fixed session) m b a w is h = record { few = tt; next = h }
+cold-stands n (line.Select x) m b a w is h = record { few = tt; next = h }
+cold-stands n (line.Delete x) m b a w is h = record { few = tt; next = h }
+cold-stands n (line.Apdu x) m b a w is h = record { few = tt; next = h }
+
+-- ---- plays
+
+step-stands : (z : State) (l : ℕ × DeckLine) (w : Option WornAt) → IsLine l.1 → StateFits z → StateStands z → LineStands (step z l w)
+unfolding step
+step-stands (Cold m b a) l w is f h = cold-stands l.0 l.1 m b a w is h
+step-stands (Hot s) l w is f h = hot-stands l.0 l.1 s w is f h
+
+card-says : (n : ℕ) (l : DeckLine) (s : Warm) (v : Live) (b : Base) (w : Option WornAt) → (card_line n l s v b w).line ≡ l
+card-says n l s (Running seat) (OnCard c) w = refl
+card-says n l s (Running seat) (AtFault cause p) w = refl
+card-says n l s Unpowered b w = refl
+card-says n l s Muted b w = refl
+
+hot-says : (n : ℕ) (l : DeckLine) (s : Warm) (w : Option WornAt) → (hot_step n l s w).line ≡ l
+hot-says n line.Format s w = refl
+hot-says n (line.Poke at x) s w = refl
+hot-says n line.Named s w = refl
+hot-says n (line.Budget b) s w = refl
+hot-says n (line.Cut k x) s w = refl
+hot-says n (line.Fail k) s w = refl
+hot-says n (line.Dump x) s w = refl
+hot-says n line.Power s w = refl
+hot-says n (line.Load u fixed session) s w = card-says n (line.Load u fixed session) s s.live s.base w
+hot-says n (line.Select x) s w = card-says n (line.Select x) s s.live s.base w
+hot-says n (line.Delete x) s w = card-says n (line.Delete x) s s.live s.base w
+hot-says n (line.Apdu x) s w = card-says n (line.Apdu x) s s.live s.base w
+
+cold-says : (n : ℕ) (l : DeckLine) (m : List (List ℕ)) (b : ℕ) (a : Armed) (w : Option WornAt) → (cold_step n l m b a w).line ≡ l
+cold-says n line.Format m b a w = refl
+cold-says n (line.Poke at x) m b a w = refl
+cold-says n line.Named m b a w = refl
+cold-says n (line.Budget c) m b a w = refl
+cold-says n (line.Cut k x) m b a w = refl
+cold-says n (line.Fail k) m b a w = refl
+cold-says n (line.Dump x) m b a w = refl
+cold-says n line.Power m b a w = refl
+cold-says n (line.Load u fixed session) m b a w = refl
+cold-says n (line.Select x) m b a w = refl
+cold-says n (line.Delete x) m b a w = refl
+cold-says n (line.Apdu x) m b a w = refl
+
+-- a step is of its line
+pub step-says : (z : State) (l : ℕ × DeckLine) (w : Option WornAt) → (step z l w).line ≡ l.1
+unfolding step
+step-says (Cold m b a) l w = cold-says l.0 l.1 m b a w
+step-says (Hot s) l w = hot-says l.0 l.1 s w
+
+few-from : (n : ℕ) (z : State) (ls : List (ℕ × DeckLine)) (ws : List (Option WornAt)) → StateFits z → StateStands z → AreLines (take n (plays z ls ws)) → AllFitJournal (take n (plays z ls ws))
+unfolding plays
+few-from zero z ls ws f h are = tt
+few-from (suc n) z [] ws f h are = tt
+few-from (suc n) z (l ∷ ls) ws f h are =
+    let u : Step = step z l (first_worn ws) in
+    let is : IsLine l.1 = subst IsLine (step-says z l (first_worn ws)) are.0 in
+    let k : LineStands u = step-stands z l (first_worn ws) is f h in
+    (k.few, few-from n u.after ls (drop 1 ws) (step-fits z l (first_worn ws) f).next k.next are.1)
+
+-- of a play from an image on, for every front of it
+pub few_words : (n : ℕ) (m : List (List ℕ)) (ls : List (ℕ × DeckLine)) (ws : List (Option WornAt)) → IsImage m → AreLines (take n (plays (start m) ls ws)) → AllFitJournal (take n (plays (start m) ls ws))
+few_words n m ls ws image are = few-from n (start m) ls ws tt image are
