@@ -13,15 +13,15 @@ use Rattle.mc_bank.specs.Bank.{BankState, app_of}
 use Rattle.mc_bank.proofs.Commits.{slots-in_order, sites-in_order}
 use Rattle.mc_store.specs.declared.store.Store.{Store}
 use Rattle.mc_store.specs.Store.{is_going, store_state, store_named, store_room, store_standing}
-use Rattle.mc_store.specs.Did.{store_did}
-use Rattle.mc_store.specs.Going.{going_is}
+use Rattle.mc_store.specs.StoreItems.{store_did}
+use Rattle.mc_store.specs.GoingLaws.{going_is}
 use Rattle.mc_store.specs.Laws.{store_keeps, store_spares, store_leaves}
 use Rattle.mc_manager.specs.declared.selection.Selection.{Selection}
-use Rattle.mc_manager.specs.Held.{BankView, Held, seat_of}
+use Rattle.mc_manager.specs.ManagerState.{BankView, Held, seat_of}
 use Rattle.mc_manager.proofs.CommitLemmas.{Keeps, fits_kept, seat_kept}
 use Rattle.mc_card.specs.declared.card.Card.{Card}
 use Rattle.mc_machine.specs.Chains.{Chained, Wrote}
-use Rattle.mc_card.specs.Made.{Made}
+use Rattle.mc_card.specs.ItemWrites.{Made}
 use Rattle.mc_card.specs.Parts.{card_in, seat_in, with_session, IsUp}
 use Rattle.mc_machine.proofs.SoundChains.{AreSound, SameSizes, sizes_done}
 use Rattle.mc_card.proofs.MadeLemmas.{card-found}

@@ -4,29 +4,32 @@ use Rattle.std.specs.Prelude.{◌==◌, ◌&&◌, is_some, option_map, IsSome, I
 use Rattle.mc_model.specs.declared.device.Stop.{Stop}
 use Rattle.mc_model.specs.Orders.{Answer, InOrder, answer_of}
 use Rattle.mc_model.specs.Apdu.{ApduParts, apdu_read}
-use Rattle.mc_model.specs.Device.{DeviceState, Wrote as DeviceWrote}
+use Rattle.mc_model.specs.Device.{DeviceState, IsSized, Wrote as DeviceWrote}
 use Rattle.mc_model.specs.Card.{App, Card as ModelCard}
 use Rattle.mc_model.specs.Items.{BankItem}
 use Rattle.mc_model.specs.Chain.{Chain, Ran, start, run}
 use Rattle.mc_model.specs.Manager.{Selected, Seat, Route, WrongClass, ToSelect, ToManager, ToApplication, routed, route}
-use Rattle.mc_model.specs.Play.{Command, command, status, ran_command, passed, by_route}
+use Rattle.mc_model.specs.Play.{Command, command, status, write_items, ran_command, passed, by_route}
 use Rattle.mc_bank.specs.Bank.{BankState, app_of, name_or}
 use Rattle.mc_manager.specs.declared.selection.Selection.{Selection}
-use Rattle.mc_manager.specs.Due.{most_ticks}
+use Rattle.mc_manager.specs.CommandDue.{most_ticks}
 use Rattle.mc_machine.specs.declared.outcome.Outcome.{Outcome}
 use Rattle.mc_machine.specs.Chains.{Chained, Runs, Wrote}
 use Rattle.mc_machine.specs.Turns.{outcome_value}
 use Rattle.mc_machine.specs.Lone.{RanDone}
 use Rattle.mc_store.specs.declared.store.Store.{Store}
 use Rattle.mc_store.specs.Store.{apps_in, store_state, store_named}
-use Rattle.mc_store.specs.Did.{store_did}
+use Rattle.mc_store.specs.StoreItems.{store_did}
+use Rattle.mc_store.specs.GoingLaws.{going_is}
 use Rattle.mc_card.specs.declared.card.Card.{Card}
 use Rattle.mc_card.specs.Parts.{card_in, seat_in, view_in, due, IsReady}
-use Rattle.mc_card.specs.Ends.{RunSteps, PassedSteps, RouteSteps, is_passed, Commanded, Passed, Answered}
+use Rattle.mc_card.specs.Ends.{RunSteps, PassedSteps, RouteSteps, is_passed, most_weight, Commanded, Passed, Answered}
+use Rattle.mc_card.specs.ItemWrites.{MadeWithin}
 use Rattle.mc_card.specs.Managing.{IsAnswered, IsPassed}
 use Rattle.mc_card.proofs.StaticLemmas.{going-apps}
 use Rattle.mc_card.proofs.ManagerLemmas.{going-base}
 use Rattle.mc_card.proofs.MadeLemmas.{made-none}
+use Rattle.mc_card.proofs.FewLemmas.{AllWithin, within-made, writes-within, route-within, going-few}
 use Rattle.mc_machine.proofs.SoundRuns.{RunSound, run_sound, start_sound}
 use Rattle.mc_card.proofs.AfterLemmas.{card_made, still_up, seat_after}
 
@@ -55,6 +58,10 @@ pub due-route : (c : ModelCard) (seat : Seat) (bytes : List ℕ) (budget : ℕ) 
 unfolding command
 due-route c seat bytes budget o is = ap (λ (x : Option ApduParts). by_route c seat budget (routed x)) is
 
+due-within : (c : ModelCard) (seat : Seat) (bytes : List ℕ) (budget : ℕ) → length c.apps ≤ 32 → is_passed (route bytes) seat.selected ≡ false → AllWithin (most_weight (route bytes)) (command c seat bytes budget).items
+unfolding command
+due-within c seat bytes budget few stays = route-within c seat budget (route bytes) few stays
+
 module _ {N : Type 0} (state : N → DeviceState) (wrote : N → ℕ → List ℕ → Answer → N → Type 0)
     (obeys : (d : N) (at : ℕ) (w : List ℕ) (a : Answer) (e : N) → (state d).on ≡ true → wrote d at w a e → DeviceWrote (state d) at w a (state e)) where
   abbrev bank_state : Store N → BankState
@@ -80,6 +87,14 @@ module _ {N : Type 0} (state : N → DeviceState) (wrote : N → ℕ → List �
         stays = ap (λ (x : Option ApduParts). is_passed (routed x) (seat_in state c).selected) is ∙ h.stays;
         commanded = subst (λ (r : Command). Commanded state wrote c r result d) (sym (due-route (card_in state c) (seat_in state c) bytes budget (Some a) is)) (h.commanded budget);
       }
+
+  -- each of its items is small
+  pub answered-within : (c d : Card N) (bytes : List ℕ) (budget : ℕ) (result : Result Outcome Stop) → IsReady state c → IsSized (state c.store.device).words → Answered state wrote c bytes budget result d
+      → MadeWithin wrote (most_weight (route bytes)) (due state c bytes budget).items c.store.device (answer_of result) d.store.device
+  answered-within c d bytes budget result ready image h =
+      let few : length (card_in state c).apps ≤ 32 = going-few (state c.store.device) c.store.count image ready.up.going in
+      within-made state wrote (most_weight (route bytes)) (card_in state c) (due state c bytes budget).items c.store.device (answer_of result) d.store.device h.commanded.made
+      (due-within (card_in state c) (seat_in state c) bytes budget few h.stays)
 
   -- ---- a command that the selected application runs
 
@@ -176,6 +191,18 @@ module _ {N : Type 0} (state : N → DeviceState) (wrote : N → ℕ → List �
         subst (λ (r : Command). Commanded state wrote c r result (record c { store = e; session = session })) (sym (due-ran a budget bytes read to))
         (ran-commanded a budget result e session (subst (λ (r : Ran). RunDid c r result e session) (run-same a budget slot at) h))
 
+    -- each write that was begun is small
+    pub ran-within : (a : ApduParts) (budget slot : ℕ) (bytes : List ℕ) (result : Result Outcome Stop) (e : Store N) (session : List ℕ) → t.slot ≡ slot → apdu_read bytes ≡ Some a → routed (Some a) ≡ ToApplication a
+        → RunDid c (run_of c slot a budget) result e session
+        → MadeWithin wrote (most_weight (route bytes)) (due state c bytes budget).items c.store.device (answer_of result) e.device
+    ran-within a budget slot bytes result e session at read to h =
+        let r = run (card_in state c).apps t.aid c.session a budget in
+        let writes : InOrder (Wrote did bank_state) c.store r.writes (answer_of result) e = subst (λ (x : Ran). InOrder (Wrote did bank_state) c.store x.writes (answer_of result) e) (run-same a budget slot at) h.writes in
+        let within : MadeWithin wrote 147 (write_items r.writes) c.store.device (answer_of result) e.device =
+        writes-within state wrote obeys r.writes c.store e (answer_of result) (going_is (state c.store.device) c.store.count ready.up.going) (sound a budget).writes writes in
+        subst (λ (x : Command). MadeWithin wrote (most_weight (route bytes)) x.items c.store.device (answer_of result) e.device) (sym (due-ran a budget bytes read to))
+        (subst (λ (x : Route). MadeWithin wrote (most_weight x) (write_items r.writes) c.store.device (answer_of result) e.device) (sym (ap (λ (o : Option ApduParts). routed o) read ∙ to)) within)
+
     steps-by : (r : Ran) (result : Result Outcome Stop) (old new : ℕ) → OnOk result (new ≡ old + r.count) → OnErr result (new ≤ old + r.count) → RunSteps r (answer_of result) old new
     steps-by r (Ok o) old new done most = done
     steps-by r (Err s) old new done most = most
@@ -222,6 +249,11 @@ module _ {N : Type 0} (state : N → DeviceState) (wrote : N → ℕ → List �
   passed-commanded c d a slot budget bytes result e session ready p read did =
       subst (λ (x : Card N). Commanded state wrote c (due state c bytes budget) result (record x { store = e; session = session })) (sym p.unchanged)
       (ran-done c ready p.selected p.is a budget slot bytes result e session p.slot_is read p.route (subst (λ (x : Card N). RunDid x (run_of x slot a budget) result e session) p.unchanged did))
+
+  pub passed-within : (c d : Card N) (a : ApduParts) (slot budget : ℕ) (bytes : List ℕ) (result : Result Outcome Stop) (e : Store N) (session : List ℕ) → IsReady state c → IsPassed state wrote c a slot d → apdu_read bytes ≡ Some a
+      → RunDid d (run_of d slot a budget) result e session → MadeWithin wrote (most_weight (route bytes)) (due state c bytes budget).items c.store.device (answer_of result) e.device
+  passed-within c d a slot budget bytes result e session ready p read did =
+      ran-within c ready p.selected p.is a budget slot bytes result e session p.slot_is read p.route (subst (λ (x : Card N). RunDid x (run_of x slot a budget) result e session) p.unchanged did)
 
   pub passed-session : (c d : Card N) (a : ApduParts) (slot : ℕ) → IsReady state c → IsPassed state wrote c a slot d → length d.session ≡ (app_of (apps_in (state d.store.device).words) (store_named (state d.store.device) slot)).session
   passed-session c d a slot ready p =

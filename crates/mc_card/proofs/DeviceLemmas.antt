@@ -11,9 +11,9 @@ use Rattle.mc_model.specs.Items.{Item}
 use Rattle.mc_model.proofs.DeviceLemmas.{DoneAll, makes-done, makes-stopped}
 use Rattle.mc_model.proofs.LoopLemmas.{makes-same}
 use Rattle.mc_machine.specs.declared.outcome.Outcome.{Outcome}
-use Rattle.mc_store.specs.Going.{going_is}
+use Rattle.mc_store.specs.GoingLaws.{going_is}
 use Rattle.mc_card.specs.declared.card.Card.{Card as CardOf}
-use Rattle.mc_card.specs.Made.{Made}
+use Rattle.mc_card.specs.ItemWrites.{Made}
 use Rattle.mc_card.specs.Parts.{device_in, card_in, seat_in, IsUp, IsReady}
 use Rattle.mc_card.specs.Ends.{Commanded}
 use Rattle.mc_card.specs.Managing.{IsAnswered}

@@ -18,21 +18,21 @@ use Rattle.mc_model.specs.Manager.{Selected, Seat, Open, Managed, Declines, Acce
 use Rattle.mc_model.specs.Chain.{Reply}
 use Rattle.mc_model.specs.Play.{Command, managed, passed, by_route}
 use Rattle.mc_bank.specs.Bank.{no_app, app_of}
-use Rattle.mc_bank.specs.Names.{name_is_itself, same_name, lookup-beside}
+use Rattle.mc_bank.specs.NameLaws.{name_is_itself, same_name, lookup-beside}
 use Rattle.mc_bank.specs.Slots.{slot_place}
 use Rattle.mc_bank.specs.SlotLaws.{has_sizes}
 use Rattle.mc_apdu.specs.declared.reply.Reply.{Reply as CardReply}
 use Rattle.mc_manager.specs.declared.selection.Selection.{Selection}
 use Rattle.mc_manager.specs.declared.routed.Routed.{Routed}
 use Rattle.mc_manager.specs.declared.routed.Routed.TheVariants.{Answer as Answers, Fresh, Pass}
-use Rattle.mc_manager.specs.Held.{BankView, Held, seat_of, Fits}
-use Rattle.mc_manager.specs.Due.{Due, Refuses, Selects, Does, Passes, due_select, due_manager, due_application, due_on, due, items_of, apps_after, Leaves}
+use Rattle.mc_manager.specs.ManagerState.{BankView, Held, seat_of, Fits}
+use Rattle.mc_manager.specs.CommandDue.{Due, Refuses, Selects, Does, Passes, due_select, due_manager, due_application, due_on, due, items_of, apps_after, Leaves}
 use Rattle.mc_manager.specs.Ends.{Ends}
 use Rattle.mc_machine.specs.declared.outcome.Outcome.TheVariants as outcome
 use Rattle.mc_machine.specs.Turns.{outcome_value}
 use Rattle.mc_store.specs.declared.store.Store.{Store}
 use Rattle.mc_store.specs.Store.{apps_in, is_going, place_named, store_named, store_standing}
-use Rattle.mc_store.specs.Did.{store_did, named-there}
+use Rattle.mc_store.specs.StoreItems.{store_did, named-there}
 use Rattle.mc_store.proofs.BankLemmas.{running}
 use Rattle.mc_card.specs.declared.card.Card.{Card}
 use Rattle.mc_card.specs.Parts.{card_in, seat_in, view_in, IsReady}

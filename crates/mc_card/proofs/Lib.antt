@@ -7,3 +7,4 @@ pub mod WriteLemmas
 pub mod AfterLemmas
 pub mod TurnLemmas
 pub mod CommandLemmas
+pub mod FewLemmas

@@ -10,7 +10,7 @@ use Rattle.mc_model.specs.declared.device.Stop.{Stop}
 use Rattle.mc_model.specs.Orders.{Answer, InOrder}
 use Rattle.mc_model.specs.Bytes.{lookup}
 use Rattle.mc_model.specs.Image.{Two, look, Closed, debt}
-use Rattle.mc_model.specs.Device.{DeviceState, IsImage, Wrote}
+use Rattle.mc_model.specs.Device.{DeviceState, IsSized, Wrote}
 use Rattle.mc_model.specs.Stopped.{cost, stands, owes, torn, writes, IsAtomic}
 use Rattle.mc_model.specs.Card.{App, Card, card_of, means}
 use Rattle.mc_model.specs.Layout.{words_fault, fault, step_of, IsWellLaid}
@@ -23,14 +23,14 @@ use Rattle.mc_model.proofs.CallLemmas.{length-writes}
 use Rattle.mc_bank.specs.Bank.{no_app, app_of, CanCommit, item_done}
 use Rattle.mc_store.specs.Store.{apps_in, part_in, static_writes, card_with, card_without, item_writes, store_standing, Allows, StoreDid}
 use Rattle.mc_store.specs.Power.{IsBase}
-use Rattle.mc_store.specs.Going.{Going, going_is, closed_means, closed_fault}
+use Rattle.mc_store.specs.GoingLaws.{Going, going_is, closed_means, closed_fault}
 use Rattle.mc_store.specs.Stops.{card_after, IsStoppedAt}
-use Rattle.mc_store.specs.Commits.{Committed, commits}
-use Rattle.mc_store.specs.Creation.{creates-plan}
-use Rattle.mc_store.specs.Deletion.{deletes-plan}
-use Rattle.mc_store.specs.Turns.{Turned, Standing, standing-of, some-is, turns}
+use Rattle.mc_store.specs.CommitLaws.{Committed, commits}
+use Rattle.mc_store.specs.CreationLaws.{creates-plan}
+use Rattle.mc_store.specs.DeletionLaws.{deletes-plan}
+use Rattle.mc_store.specs.TurnLaws.{Turned, Standing, standing-of, some-is, turns}
 use Rattle.mc_store.proofs.StopLemmas.{item_stops}
-use Rattle.mc_card.specs.Made.{IsStopped, IsAll, IsDone, Made}
+use Rattle.mc_card.specs.ItemWrites.{IsStopped, IsAll, IsDone, Made}
 
 -- ---- lists of items
 
@@ -211,7 +211,7 @@ card-chosen : (b : Bool) (c : Card) (w : ℕ) (ch : Change) → card_done c (con
 card-chosen true c w ch = refl
 card-chosen false c w ch = refl
 
-module _ (m : List (List ℕ)) (image : IsImage m) (closed : look m ≡ Closed) (good : words_fault m ≡ None) where
+module _ (m : List (List ℕ)) (image : IsSized m) (closed : look m ≡ Closed) (good : words_fault m ≡ None) where
   well : IsWellLaid m
   well = closed_fault m closed ∙ good
 

@@ -11,7 +11,7 @@ use Rattle.mc_model.specs.declared.unit.AidFault.{AidFault}
 use Rattle.mc_model.specs.declared.device.Stop.{Stop}
 use Rattle.mc_model.specs.Orders.{Answer, InOrder}
 use Rattle.mc_model.specs.Apdu.{ApduParts}
-use Rattle.mc_model.specs.Bytes.{zeros, lookup, insert}
+use Rattle.mc_model.specs.Bytes.{lookup, insert}
 use Rattle.mc_model.specs.Image.{Two}
 use Rattle.mc_model.specs.Device.{DeviceState, Wrote}
 use Rattle.mc_model.specs.Card.{App, Card, means}
@@ -21,18 +21,18 @@ use Rattle.mc_model.specs.Items.{Created, Deleted, Item, Plain, Atomic, card_don
 use Rattle.mc_model.specs.Manager.{Seat, Open, got_of, select_body, Managed, Declines, Accepts, Accepted, Route, WrongLength, WrongClass, ToSelect, ToManager, ToApplication, can_create, first_status, answered, select_refusals, select_done, select, open_refusals, open_done, open_load, load_refusals, load_done, load_part, create_refusals, create_done, create_items, create, dir_in, fresh, delete_refusals, delete_done, delete, manage, word_parts, room_on}
 use Rattle.mc_model.specs.Play.{OnCard, item_of, atomic_of, managed, passed, by_route}
 use Rattle.mc_bank.specs.Bank.{entered}
-use Rattle.mc_manager.specs.Held.{BankView, Loaded, Held, open_of, seat_of, Fits, FitsLoad}
+use Rattle.mc_manager.specs.ManagerState.{BankView, Loaded, Held, open_of, seat_of, Fits, FitsLoad}
 use Rattle.mc_manager.specs.declared.selection.Selection.{Selection}
 use Rattle.mc_manager.specs.Load.{is_full}
-use Rattle.mc_manager.specs.Due.{Passes, due_select, due_manager, due_application, due_on, items_of}
+use Rattle.mc_manager.specs.CommandDue.{Passes, due_select, due_manager, due_application, due_on, items_of}
 use Rattle.mc_manager.proofs.LoadLemmas.{complete_full, fresh_entered}
 use Rattle.mc_store.specs.declared.store.Store.{Store}
 use Rattle.mc_store.specs.Store.{part_in, is_going, store_state, store_named, store_room, store_standing}
 use Rattle.mc_store.specs.Power.{IsBase, device_of, count_of}
-use Rattle.mc_store.specs.Going.{Going, going_is, closed_means}
-use Rattle.mc_store.specs.Did.{store_did}
-use Rattle.mc_store.proofs.FoldLemmas.{IsPlain, IsQuiet, Kept, all_kept, all_stand, stands_now, before_enter, creation_is, creation_quiet}
-use Rattle.mc_card.specs.Made.{Made}
+use Rattle.mc_store.specs.GoingLaws.{Going, going_is, closed_means}
+use Rattle.mc_store.specs.StoreItems.{store_did}
+use Rattle.mc_store.proofs.FoldLemmas.{IsPlain, IsQuiet, Kept, all_kept, all_stand, stands_now, before_enter, creation_is, creation_quiet, quiet_plain as quiet-plain, same_entered as entered-same}
+use Rattle.mc_card.specs.ItemWrites.{Made}
 use Rattle.mc_card.proofs.StaticLemmas.{going-apps}
 use Rattle.mc_card.proofs.MadeLemmas.{IsAs, card-found, closed-base, made-stopped, made-append, made-fold, made-one}
 
@@ -74,14 +74,6 @@ plain-as m (Commit n ws) whole h = absurd h
 plain-as m (Enter s n) whole h = absurd h
 plain-as m (Remove n) whole h = absurd h
 
-quiet-plain : (t : Site) (i : BankItem) → IsQuiet t i → IsPlain i
-quiet-plain t (Piece s p at b) h = tt
-quiet-plain t (Blank s at n) h = tt
-quiet-plain t (Note s n i) h = tt
-quiet-plain t (Commit n ws) h = absurd h
-quiet-plain t (Enter s n) h = absurd h
-quiet-plain t (Remove n) h = absurd h
-
 all-plain : (t : Site) (is : List BankItem) → AllByRecursion (IsQuiet t) is → AllByRecursion IsPlain is
 all-plain t [] h = tt
 all-plain t (i ∷ is) h = (quiet-plain t i h.0, all-plain t is h.1)
@@ -89,15 +81,6 @@ all-plain t (i ∷ is) h = (quiet-plain t i h.0, all-plain t is h.1)
 pieces-plain : (t : Site) (p : Part) (cs : List (ℕ × List ℕ)) → AllByRecursion IsPlain (map (λ c. Piece t p c.0 c.1) cs)
 pieces-plain t p [] = tt
 pieces-plain t p (c ∷ cs) = (tt, pieces-plain t p cs)
-
--- what stands at a site makes the application
-entered-same : (s : Site) (f g : Part → List ℕ) → ((p : Part) → f p ≡ g p) → entered s f ≡ entered s g
-entered-same s f g h =
-    let x = entered s f in
-    ap (λ (l : List ℕ). record x { code = l }) (h part.Code)
-    ∙ ap (λ (l : List ℕ). record x { code = g part.Code; fixed = l ++ zeros (s.sizes.fixed - s.sizes.init) }) (h part.Data)
-    ∙ ap (λ (l : List ℕ). record (entered s g) { dir = l; fci = f part.Fci }) (h part.Dir)
-    ∙ ap (λ (l : List ℕ). record (entered s g) { fci = l }) (h part.Fci)
 
 pub going-base : (d : DeviceState) (c : ℕ) → is_going d c ≡ true → IsBase (OnCard (means d.words)) 0 Two d.words
 going-base d c h = let g : Going d c = going_is d c h in closed-base d.words (means d.words) g.closed g.laid (sym (closed_means d.words g.closed))

@@ -7,8 +7,8 @@ use Rattle.mc_model.specs.Card.{App, means}
 use Rattle.mc_model.specs.declared.card.Sizes.{Sizes}
 use Rattle.mc_bank.specs.Bank.{no_app, app_of, sizes_of}
 use Rattle.mc_store.specs.Store.{apps_in, is_going, store_named}
-use Rattle.mc_store.specs.Going.{going_is}
-use Rattle.mc_store.specs.Turns.{Standing, standing-of}
+use Rattle.mc_store.specs.GoingLaws.{going_is}
+use Rattle.mc_store.specs.TurnLaws.{Standing, standing-of}
 
 -- the applications of a bank that goes on are those of the card
 pub going-apps : (d : DeviceState) (c : ℕ) → is_going d c ≡ true → apps_in d.words ≡ (means d.words).apps

@@ -3,28 +3,29 @@ use Rattle.std.proofs.Common.{◌≡◌, ℕ, ◌+◌, ◌-◌, true, false, Lis
 use Rattle.std.specs.Prelude.{option_map, is_some}
 use Rattle.mc_model.specs.declared.device.Stop.{Stop}
 use Rattle.mc_model.specs.Orders.{Answer, answer_of, InOrder}
-use Rattle.mc_model.specs.Device.{DeviceState, Wrote as DeviceWrote}
+use Rattle.mc_model.specs.Device.{DeviceState, IsSized, Wrote as DeviceWrote}
 use Rattle.mc_model.specs.Card.{App}
 use Rattle.mc_model.specs.Items.{BankItem, done}
 use Rattle.mc_model.specs.Chain.{Chain, Turn as ModelTurn, Outcome as ModelOutcome, Acted, Follows, Continues, Ends, chain_session, end_of, turn_of}
 use Rattle.mc_model.specs.Play.{write_items}
-use Rattle.mc_bank.specs.Bank.{BankState, app_of}
+use Rattle.mc_bank.specs.Bank.{BankState, AreApps, app_of}
 use Rattle.mc_store.specs.declared.store.Store.{Store}
 use Rattle.mc_store.specs.Store.{store_state, store_named}
-use Rattle.mc_store.specs.Did.{store_did}
+use Rattle.mc_store.specs.StoreItems.{store_did}
 use Rattle.mc_manager.specs.declared.selection.Selection.{Selection}
-use Rattle.mc_manager.specs.Held.{Held}
+use Rattle.mc_manager.specs.ManagerState.{Held}
 use Rattle.mc_card.specs.declared.card.Card.{Card}
 use Rattle.mc_machine.specs.declared.outcome.Outcome.{Outcome}
 use Rattle.mc_machine.specs.declared.outcome.Turn.{Turn}
 use Rattle.mc_machine.specs.Chains.{Chained, Runs, Wrote, session_in}
-use Rattle.mc_machine.specs.Turns.{Follow, Acts, TurnDone, outcome_value}
+use Rattle.mc_machine.specs.Turns.{Follow, Acts, TurnDone, WritesFew, outcome_value}
 use Rattle.mc_card.specs.Ends.{GoesOn, Turned}
-use Rattle.mc_card.specs.Made.{Made}
+use Rattle.mc_card.specs.ItemWrites.{Made}
 use Rattle.mc_card.specs.Parts.{card_in, seat_in, with_session, RunsChain}
 use Rattle.mc_machine.proofs.SoundChains.{AreSound, TurnSound, FollowsSound, first_in, session_size, turn_sound}
 use Rattle.mc_machine.proofs.SoundRuns.{turn_end}
 use Rattle.mc_card.proofs.StaticLemmas.{going-apps}
+use Rattle.mc_card.proofs.FewLemmas.{going-entries}
 use Rattle.mc_card.proofs.AfterLemmas.{card_made, still_up, same_seat, seat_after}
 
 -- a card of these parts
@@ -184,6 +185,12 @@ module _ {N : Type 0} (state : N → DeviceState) (wrote : N → ℕ → List �
         some_end : (o : Option Outcome) → is_some o ≡ true → (x : ModelOutcome) × (option_map outcome_value o ≡ Some x)
         some_end None h = absurd (cc h)
         some_end (Some x) h = (outcome_value x, refl)
+
+    -- how much it writes
+    pub turned_few : ((ch : Chain) → Runs (bank_state c.store) (named c.store) k ch → AreApps (bank_state c.store).apps → WritesFew (turn_of k.left ch)) → IsSized (state c.store.device).words
+        → (ch : Chain) (left : ℕ) → RunsChain state c ch left → WritesFew (turn_of left ch)
+    turned_few few image ch left r =
+        subst (λ (n : ℕ). WritesFew (turn_of n ch)) (left_own ch left r) (few ch (runs_own ch left r) (going-entries (state c.store.device) c.store.count image r.up.going))
 
     -- its steps
     pub turned_steps : (old new : ℕ) → ((ch : Chain) → Runs (bank_state c.store) (named c.store) k ch → new ≡ old + (turn_of k.left ch).count) → (ch : Chain) (left : ℕ) → RunsChain state c ch left → new ≡ old + (turn_of left ch).count

@@ -17,12 +17,12 @@ use Rattle.mc_bank.proofs.Commits.{Words, commits}
 use Rattle.mc_store.specs.declared.store.Store.{Store}
 use Rattle.mc_store.specs.Store.{apps_in, is_going, store_state, store_standing}
 use Rattle.mc_store.specs.Laws.{store_obeys}
-use Rattle.mc_store.specs.Did.{store_did}
-use Rattle.mc_store.specs.Going.{Going, going_is, closed_means}
+use Rattle.mc_store.specs.StoreItems.{store_did}
+use Rattle.mc_store.specs.GoingLaws.{Going, going_is, closed_means}
 use Rattle.mc_card.proofs.StaticLemmas.{going-apps}
 use Rattle.mc_card.proofs.ManagerLemmas.{not-false}
-use Rattle.mc_store.specs.Turns.{some-is}
-use Rattle.mc_card.specs.Made.{Made}
+use Rattle.mc_store.specs.TurnLaws.{some-is}
+use Rattle.mc_card.specs.ItemWrites.{Made}
 use Rattle.mc_machine.specs.Sound.{Within}
 use Rattle.mc_machine.specs.Chains.{Wrote}
 use Rattle.mc_machine.proofs.SoundChains.{IsSoundWrite, AreSound}
@@ -138,11 +138,11 @@ module _ {N : Type 0} (state : N → DeviceState) (wrote : N → ℕ → List �
         apps = committed_is (means m).apps w.name w.pieces ws there.0 there.1 sound.within here;
       }
 
-  write_made : (s e : Store N) (w : Write) (a : Answer) → IsSoundWrite (means (words_of s)).apps w → Wrote did bank_state s w a e → Made state wrote (means (words_of s)) (item_of w ∷ []) s.device a e.device
+  pub write_made : (s e : Store N) (w : Write) (a : Answer) → IsSoundWrite (means (words_of s)).apps w → Wrote did bank_state s w a e → Made state wrote (means (words_of s)) (item_of w ∷ []) s.device a e.device
   write_made s e w a sound h = made-one state wrote obeys s.device e.device s.count e.count (Commit w.name h.0) (item_of w) a (write_as s e w h.0 a sound h.1 h.2) h.2
 
   -- a store that made a write goes on
-  goes_on : (s e : Store N) (w : Write) → Wrote did bank_state s w (Ok tt) e → Going (state e.device) e.count
+  pub goes_on : (s e : Store N) (w : Write) → Wrote did bank_state s w (Ok tt) e → Going (state e.device) e.count
   goes_on s e w h =
       let t : Changes (bank_state s) (item_done (store_standing (state s.device)) (Commit w.name h.0) (bank_state s).apps) (Ok tt) (bank_state e) =
       store_obeys state wrote obeys s.device e.device s.count e.count (Commit w.name h.0) (Ok tt) h.2 in

@@ -13,12 +13,12 @@ use Rattle.mc_machine.specs.declared.outcome.Outcome.{Outcome}
 use Rattle.mc_machine.specs.declared.outcome.Outcome.TheVariants as outcome
 use Rattle.mc_machine.specs.declared.outcome.Turn.{Turn}
 use Rattle.mc_machine.specs.Turns.{outcome_value, turn_value}
-use Rattle.mc_manager.specs.Due.{most_ticks}
+use Rattle.mc_manager.specs.CommandDue.{most_ticks}
 use Rattle.mc_store.specs.declared.power.Up.{Up}
 use Rattle.mc_store.specs.Power.{Powered, Runs as Runs_with, failed, count_of}
 use Rattle.mc_card.specs.declared.card.Card.{Card}
 use Rattle.mc_card.specs.Parts.{device_in, card_in, seat_in, due, with_session, IsReady, RunsChain}
-use Rattle.mc_card.specs.Made.{Made}
+use Rattle.mc_card.specs.ItemWrites.{Made}
 
 -- ---- steps
 
@@ -47,6 +47,12 @@ BeginSteps c WrongClass old new = new ≡ old
 BeginSteps c (ToSelect a) old new = new ≡ old
 BeginSteps c (ToManager a) old new = (old ≤ new) × (new ≤ old + most_ticks a (2 + length (gaps c)))
 BeginSteps c (ToApplication a) old new = new ≡ old
+
+-- The most device writes of one item of a command: 147 of an application's, which touches at most 64 words, and 84 of the manager's, which
+-- touches at most 36. A card that runs has layout 2.
+abbrev pub most_weight : Route → ℕ
+most_weight (ToApplication a) = 147
+most_weight _ = 84
 
 -- ---- a power-up
 

@@ -10,7 +10,7 @@ use Rattle.mc_model.specs.Play.{Command, command}
 use Rattle.mc_bank.specs.Bank.{app_of}
 use Rattle.mc_store.specs.Store.{is_going, store_state, store_named, store_room, store_standing}
 use Rattle.mc_store.specs.Power.{device_of, count_of, over}
-use Rattle.mc_manager.specs.Held.{BankView, Fits, seat_of}
+use Rattle.mc_manager.specs.ManagerState.{BankView, Fits, seat_of}
 use Rattle.mc_machine.specs.Chains.{Chained, Runs}
 use Rattle.mc_card.specs.declared.card.Card.{Card}
 use Rattle.mc_machine.specs.Sound.{IsSound}

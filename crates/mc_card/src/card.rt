@@ -1,17 +1,18 @@
 ghost use Rattle.std.specs.Prelude.{◌≡◌, ◌+◌, ◌-◌, ◌≤◌, ℕ, true, length, take, drop, option_map, Ok, Some, None, IsSome, IfSome, IfOk, OnOk};
 ghost use Rattle.mc_model.specs.Bytes.{lookup};
 ghost use Rattle.mc_model.specs.Orders.{answer_of};
-ghost use Rattle.mc_model.specs.Device.{Makes, Ended};
+ghost use Rattle.mc_model.specs.Device.{Makes, Ended, IsSized};
 ghost use Rattle.mc_model.specs.Chain.{Chain as ModelChain, turn_of};
 ghost use Rattle.mc_model.specs.Manager.{empty_seat, route};
 ghost use Rattle.mc_model.specs.Code.{Shaped};
 ghost use Rattle.mc_model.specs.Play.{status};
 ghost use Rattle.mc_bank.specs.Bank.{app_of};
 ghost use Rattle.mc_machine.specs.declared.outcome.Outcome.TheVariants as outcome;
-ghost use Rattle.mc_machine.specs.Turns.{outcome_value, put_out, placed};
+ghost use Rattle.mc_machine.specs.Turns.{outcome_value, put_out, placed, WritesFew};
 ghost use Rattle.mc_store.specs.Power.{power_writes, power_answer, PowersUp};
 ghost use Rattle.mc_card.specs.Parts.{device_in, card_in, seat_in, due, IsUp, IsReady, RunsChain, IsRunning};
-ghost use Rattle.mc_card.specs.Ends.{powered, restarted, device_after, Commanded, Begun, Turned, RouteSteps, BeginSteps, IsReply, put_in};
+ghost use Rattle.mc_card.specs.Ends.{powered, restarted, device_after, Commanded, Begun, Turned, RouteSteps, BeginSteps, IsReply, put_in, most_weight};
+ghost use Rattle.mc_card.specs.ItemWrites.{MadeWithin};
 
 use crate::managing::Directed;
 use arrayvec::ArrayVec;
@@ -121,6 +122,9 @@ impl<N: Nvm> Card<N> {
         ensures done { Commanded N.state N.wrote self.old (due N.state self.old bytes.now budget) result self.new }
         ensures steps { RouteSteps (card_in N.state self.old) (seat_in N.state self.old).selected budget
             (route bytes.now) (answer_of result) steps.old steps.new }
+        ensures few { IsSized (N.state (device_in self.old)).words → MadeWithin N.wrote (most_weight (route bytes.now))
+            (due N.state self.old bytes.now budget).items (device_in self.old) (answer_of result)
+            (device_in self.new) }
         ensures ended { Ended (answer_of result) (N.state (device_in self.old)) (N.state (device_in self.new)) }
         ensures lent { N.same (device_in self.old) (device_in self.new) }
     {
@@ -145,6 +149,9 @@ impl<N: Nvm> Card<N> {
             (put_in result into.new) self.new }
         ensures steps { RouteSteps (card_in N.state self.old) (seat_in N.state self.old).selected budget
             (route bytes.now) (answer_of result) steps.old steps.new }
+        ensures few { IsSized (N.state (device_in self.old)).words → MadeWithin N.wrote (most_weight (route bytes.now))
+            (due N.state self.old bytes.now budget).items (device_in self.old) (answer_of result)
+            (device_in self.new) }
         ensures ended { Ended (answer_of result) (N.state (device_in self.old)) (N.state (device_in self.new)) }
         ensures lent { N.same (device_in self.old) (device_in self.new) }
     {
@@ -174,6 +181,9 @@ impl<N: Nvm> Card<N> {
             (put_out result into.new) self.new }
         ensures steps { RouteSteps (card_in N.state self.old) (seat_in N.state self.old).selected budget
             (route bytes.now) (answer_of (put_out result into.new)) steps.old steps.new }
+        ensures few { IsSized (N.state (device_in self.old)).words → MadeWithin N.wrote (most_weight (route bytes.now))
+            (due N.state self.old bytes.now budget).items (device_in self.old) (answer_of (put_out result into.new))
+            (device_in self.new) }
     {
         match into {
             Outcome::Reply(reply) => self.perform(bytes, budget, reply, steps),
@@ -196,6 +206,9 @@ impl<N: Nvm> Card<N> {
             (placed result reply.new) self.new }
         ensures steps { RouteSteps (card_in N.state self.old) (seat_in N.state self.old).selected budget
             (route bytes.now) (answer_of (placed result reply.new)) steps.old steps.new }
+        ensures few { IsSized (N.state (device_in self.old)).words → MadeWithin N.wrote (most_weight (route bytes.now))
+            (due N.state self.old bytes.now budget).items (device_in self.old) (answer_of (placed result reply.new))
+            (device_in self.new) }
     {
         let Ok(apdu) = parse(bytes) else {
             wrong_length(reply);
@@ -259,6 +272,8 @@ impl<N: Nvm> Card<N> {
         ensures shaped { IfOk result (λ turn. IfSome turn.ins Shaped) }
         ensures low { IfOk result (λ turn. 1 ≤ turn.depth) }
         ensures high { IfOk result (λ turn. turn.depth ≤ 4) }
+        ensures few { IsSized (N.state (device_in self.old)).words → (ch : ModelChain) (left : ℕ)
+            → RunsChain N.state self.old ch left → WritesFew (turn_of left ch) }
         ensures ended { Ended (answer_of result) (N.state (device_in self.old)) (N.state (device_in self.new)) }
         ensures lent { N.same (device_in self.old) (device_in self.new) }
     {

@@ -4,7 +4,7 @@ ghost use Rattle.mc_model.specs.Bytes.{zeros};
 ghost use Rattle.mc_model.specs.Layout.{gaps};
 ghost use Rattle.mc_apdu.specs.Command.{parts_of};
 ghost use Rattle.mc_bank.specs.Bank.{app_of};
-ghost use Rattle.mc_manager.specs.Due.{most_ticks};
+ghost use Rattle.mc_manager.specs.CommandDue.{most_ticks};
 ghost use Rattle.mc_store.specs.Store.{apps_in, is_going, store_named};
 ghost use Rattle.mc_store.specs.Power.{device_of, count_of};
 ghost use Rattle.mc_card.specs.Parts.{device_in, card_in, IsReady};

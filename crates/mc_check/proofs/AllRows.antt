@@ -11,12 +11,13 @@ use Rattle.mc_model.specs.Primitives.{Around, Then, Goes, Exits, Delegates, Done
 use Rattle.mc_model.specs.Chain.{stepped}
 use Rattle.mc_model.specs.Row.{causes, first_cause, effect, holds, no_place, known, judged, row, Does}
 use Rattle.mc_model.specs.StackRows.{need, height_after, row_uses, WritesNothing, row_writing, always_abends, is_indirect, counts, goes_on, call_target}
+use Rattle.mc_family.proofs.RowWords.{none_holds}
 use Rattle.mc_check.specs.Standing.{StandsAt}
 use Rattle.mc_check.proofs.RowFacts.{GoesTo, RowStays, RowFacts}
 use Rattle.mc_check.proofs.CalmAddresses.{IsSafe}
 use Rattle.mc_check.proofs.CalmCauses.{always_first, stepped_stands, need_few, row_pops, rows_calm}
 use Rattle.mc_check.proofs.CalmPublic.{effect_grows}
-use Rattle.mc_check.proofs.CalmEffects.{IsRunning, place_after, effect_kept, none_holds, no_call}
+use Rattle.mc_check.proofs.CalmEffects.{IsRunning, place_after, effect_kept, no_call}
 
 -- ---- where a frame goes on
 

@@ -10,8 +10,8 @@ use Rattle.mc_check.specs.declared.bases.Progress.TheVariants as progress
 use Rattle.mc_check.specs.CallList.{IsCalled, EntersIn}
 use Rattle.mc_check.specs.CallList as list
 use Rattle.mc_check.specs.Searching.{unseen, Searches, IsSeen, StaySeen}
-use Rattle.mc_check.proofs.Gets.{get_push, before, last}
-use Rattle.mc_check.proofs.Steps.{unseen_set, written, this, other, entered_bound, stay_seen}
+use Rattle.mc_check.proofs.ListPlaces.{get_push, before, last}
+use Rattle.mc_check.proofs.SearchSteps.{unseen_set, written, this, other, entered_bound, stay_seen}
 
 pub none_there : (k q : ℕ) → slice_get {X = ℕ} [] k ≡ Some q → ⊥
 none_there k q e = cc

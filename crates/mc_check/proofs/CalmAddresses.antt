@@ -1,17 +1,17 @@
 -- Written addresses that are plain touch no byte of the stack below LB; and how many bytes the rows read and write.
-use Rattle.std.proofs.Common.{◌≡◌, ◌⊎◌, ℕ, zero, suc, ◌+◌, ◌-◌, ◌≤◌, ◌<◌, ℤ, pos, negsuc, Bool, true, false, cond, List, [], ◌∷◌, take, drop, length, map, Option, Some, None, refl, ap, inl, inr, arith}
+use Rattle.std.proofs.Common.{◌≡◌, ◌⊎◌, ℕ, zero, suc, ◌+◌, ◌-◌, ◌≤◌, ◌<◌, ℤ, pos, negsuc, Bool, true, false, cond, List, [], ◌∷◌, take, drop, length, Option, Some, None, refl, ap, inl, inr, arith}
 use Rattle.std.specs.Prelude.{◌==◌, ◌&&◌, not, nat_lt, nat_le, is_none}
 use Rattle.std.proofs.lemmas.Bool.{and_parts, leb-true, ltb-true, eqb-true}
-use Rattle.std.proofs.lemmas.List.{length-take, length-drop, length-map, length-replicate}
+use Rattle.std.proofs.lemmas.List.{length-take, length-drop, length-replicate}
 use Rattle.mc_model.specs.Bytes.{bytes, splice, zeros}
-use Rattle.mc_model.specs.Blocks.{each_byte}
 use Rattle.mc_model.specs.Code.{IsAddress}
 use Rattle.mc_model.specs.Pieces.{laid_pieces}
-use Rattle.mc_model.specs.Frame.{Frame, Place, Static, Dynamic, Public, where_is, floor, dynamic_base, dynamic_end, public_base, public_end, moved, static_bytes, bytes_in, bytes_at, is_outside, no_access, stacked}
+use Rattle.mc_model.specs.Frame.{Frame, Place, Static, Dynamic, Public, where_is, floor, dynamic_base, dynamic_end, public_base, public_end, moved, static_bytes, bytes_in, bytes_at, is_outside, no_access}
 use Rattle.mc_model.specs.Row.{known, place_of}
 use Rattle.mc_model.specs.StackRows.{Writing, WritesAt, WritesAnywhere, is_plain, is_plain_at}
+use Rattle.mc_model.proofs.ListLemmas.{splice-longer}
 use Rattle.mc_check.specs.Standing.{StandsAt}
-use Rattle.mc_check.proofs.CalmWrites.{IsRoomy, IsSafeAt, Untouched, session, stack, none, splice-longer}
+use Rattle.mc_check.proofs.CalmWrites.{IsRoomy, IsSafeAt, Untouched, session, stack, none}
 
 -- ---- plain addresses
 
@@ -113,41 +113,8 @@ length-bytes : (n v : ℕ) → length (bytes n v) ≡ n
 length-bytes zero v = refl
 length-bytes (suc n) v = ap suc (length-bytes n v)
 
--- a result of so many bytes as an operand that has at most n
-pub worked-short : (a : List ℕ) (n v : ℕ) → length a ≤ n → length (bytes (length a) v) ≤ n
-worked-short a n v few = omega (arith, length-bytes (length a) v)
-
-pub each-short : (op : ℕ → ℕ → ℕ) (a b : List ℕ) (n : ℕ) → length a ≤ n → length (each_byte op a b) ≤ n
-each-short op [] b n few = omega arith
-each-short op (x ∷ a) [] n few = omega arith
-each-short op (x ∷ a) (y ∷ b) n few =
-    let less : length (each_byte op a b) ≤ length a = each-short op a b (length a) (omega arith) in
-    omega arith
-
-pub map-short : (op : ℕ → ℕ) (a : List ℕ) (n : ℕ) → length a ≤ n → length (map op a) ≤ n
-map-short op a n few = omega (arith, length-map a op)
-
 pub zeros-short : (n : ℕ) → length (zeros n) ≤ n
 zeros-short n = omega (arith, length-replicate {A = ℕ} n 0)
-
--- bytes of the stack
-pub stacked-short : (f : Frame) (k n : ℕ) → length (stacked f k n) ≤ n
-stacked-short f k n = omega (arith, length-take n (drop (f.dt - k - dynamic_base) f.dyn))
-
--- bytes at an address
-in-short : (f : Frame) (public : List ℕ) (n : ℕ) (place : Option Place) → length (bytes_in f public n place) ≤ n
-in-short f public n None = omega arith
-in-short f public n (Some (Static i)) = omega (arith, length-take n (drop i (static_bytes f)))
-in-short f public n (Some (Dynamic i)) = omega (arith, length-take n (drop i f.dyn))
-in-short f public n (Some (Public i)) = omega (arith, length-take n (drop i public))
-
-none-or : (b : Bool) (l : List ℕ) (n : ℕ) → length l ≤ n → length (cond b [] l) ≤ n
-none-or true l n few = omega arith
-none-or false l n few = few
-
-pub at-short : (f : Frame) (public : List ℕ) (a n : ℕ) → length (bytes_at f public a n) ≤ n
-unfolding bytes_at
-at-short f public a n = none-or (n == 0) (bytes_in f public n (where_is f a n)) n (in-short f public n (where_is f a n))
 
 -- ---- bytes that are all there
 

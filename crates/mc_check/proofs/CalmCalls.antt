@@ -15,7 +15,7 @@ use Rattle.mc_model.specs.StackRows.{call_target, is_conditional}
 use Rattle.mc_model.specs.StackShape.{Routine, At, fact, Reached, calls, passes, Depth, called, Accepts, Gives}
 use Rattle.mc_check.specs.Standing.{Open, call}
 use Rattle.mc_check.proofs.AcceptedFacts.{GoodAt, HasRoom, HasBases, room_at, gives_at}
-use Rattle.mc_check.proofs.Opened.{IsAtFact, open_front, open_depth, spliced_length, spliced_above, spliced_words}
+use Rattle.mc_check.proofs.OpenCalls.{IsAtFact, open_front, open_depth, spliced_length, spliced_above, spliced_words}
 
 -- ---- the end of a row
 

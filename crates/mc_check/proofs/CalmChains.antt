@@ -16,16 +16,17 @@ use Rattle.mc_model.specs.Chain.{Chain, Outcome, Reply, Abended, Follows, Contin
 use Rattle.mc_model.specs.Manager.{most_static}
 use Rattle.mc_model.specs.StackShape.{Main, fact, begins, main, Accepts}
 use Rattle.mc_bank.specs.Bank.{no_app, app_of}
-use Rattle.mc_bank.specs.Names.{same_name, lookup-inserted, lookup-beside}
-use Rattle.mc_check.specs.Checked.{ends_excluded, RunsCode, IsCalm, OnFollows, AreLimited}
+use Rattle.mc_bank.specs.NameLaws.{same_name, lookup-inserted, lookup-beside}
+use Rattle.mc_model.proofs.ListLemmas.{splice-longer}
+use Rattle.mc_check.specs.Checked.{ends_excluded, RunsCode, IsCalm, OnFollows}
+use Rattle.mc_family.specs.Begins.{AreLimited}
 use Rattle.mc_machine.specs.Sound.{IsSoundFrame, IsSound}
 use Rattle.mc_check.specs.Standing.{none}
 use Rattle.mc_machine.proofs.SoundRows.{ChangesWithin, Keeps, RowKeeps, row_keeps}
 use Rattle.mc_machine.proofs.SoundChains.{SameSizes, sizes_changed}
 use Rattle.mc_check.proofs.RowFacts.{RowFacts}
-use Rattle.mc_check.proofs.CalmWrites.{splice-longer}
 use Rattle.mc_check.proofs.AcceptedFacts.{HasBases, room_at, undefined_never, past_never, GoodAt, good_at}
-use Rattle.mc_check.proofs.Opened.{IsStanding}
+use Rattle.mc_check.proofs.OpenCalls.{IsStanding}
 use Rattle.mc_check.proofs.CalmTurns.{OnGoing, IsLow, DoneCalm, RowCalm, FixedStays, row_calm, low_at}
 
 -- ---- applications with the code

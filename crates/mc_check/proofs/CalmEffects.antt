@@ -13,9 +13,11 @@ use Rattle.mc_model.specs.Frame.{Frame, dynamic_end, public_base, public_end, mo
 use Rattle.mc_model.specs.Primitives.{Around, framed, effect_flagged, Primitive, CheckCase, LoadCcr, StoreCcr, Lookup, MemoryCompare, MemoryCopy, DelegateTo, DelegatorAid, Digest, CompareFixed, CopyFixed, SetProtection, Encipher, Decipher, Sign, BitByte, ShiftLeft, ShiftRight, BitWord, primitive, prim_done, prim_effect, looked_up, delegator_told, manipulated}
 use Rattle.mc_model.specs.Row.{causes, first_cause, effect, holds, gone, known, on_stack, operand, place_of, value_of}
 use Rattle.mc_model.specs.StackRows.{WritesAt, WritesAnywhere, height_after, pair_uses, prim_uses, row_uses, prim_writing, row_writing, is_indirect, counts, call_target}
+use Rattle.mc_family.proofs.RowWords.{none_holds}
+use Rattle.mc_family.proofs.BlockLengths.{worked-short, each-short, map-short, stacked-short, at-short}
 use Rattle.mc_check.specs.Standing.{StandsAt}
 use Rattle.mc_check.proofs.CalmWrites.{IsRoomy, stands_roomy, popped_roomy, Keeps, framed_kept, popped_kept, gone_kept, flagged_kept, pushed_kept, topped_kept, written_kept, protect_kept}
-use Rattle.mc_check.proofs.CalmAddresses.{IsSafe, operand_safe, anywhere_safe, worked-short, each-short, map-short, zeros-short, stacked-short, at-short, operand-whole, at-whole}
+use Rattle.mc_check.proofs.CalmAddresses.{IsSafe, operand_safe, anywhere_safe, zeros-short, operand-whole, at-whole}
 use Rattle.mc_check.proofs.CalmCauses.{row_pops}
 
 -- ---- no cause
@@ -24,16 +26,6 @@ use Rattle.mc_check.proofs.CalmCauses.{row_pops}
 abbrev pub NoneHolds : List (Abend × Bool) → Type 0
 NoneHolds [] = Unit {0}
 NoneHolds (c ∷ cs) = (c.1 ≡ false) × NoneHolds cs
-
-not_first : (b : Bool) (a : Abend) (rest : Option Abend) → cond b (Some a) rest ≡ None → (b ≡ false) × (rest ≡ None)
-not_first true a rest e = absurd (cc e)
-not_first false a rest e = (refl, e)
-
-pub none_holds : (cs : List (Abend × Bool)) → first_cause cs ≡ None → NoneHolds cs
-none_holds [] e = tt
-none_holds (c ∷ cs) e =
-    let parts = not_first c.1 c.0 (first_cause cs) e in
-    (parts.0, none_holds cs parts.1)
 
 -- an operand on the stack lies on it whole
 on_top : (b : Bool) (n m h : ℕ) → cond b n m ≤ h → b ≡ true → n ≤ h

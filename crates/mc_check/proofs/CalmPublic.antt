@@ -9,7 +9,7 @@ use Rattle.mc_model.specs.Bytes.{bytes2, zeros}
 use Rattle.mc_model.specs.Frame.{Frame, Effect, Place, Static, Dynamic, Public, where_is, public_base, public_end, static_bytes, static_written, written_in, written, committed, popped, protect, with_sw, with_la, new_public}
 use Rattle.mc_model.specs.Primitives.{Around, Primitive, Lookup, MemoryCopy, DelegatorAid, Digest, CopyFixed, SetProtection, Encipher, Decipher, Sign, primitive, prim_done, prim_effect, looked_up, delegator_told}
 use Rattle.mc_model.specs.Row.{effect}
-use Rattle.mc_check.proofs.CalmWrites.{splice-longer}
+use Rattle.mc_model.proofs.ListLemmas.{splice-longer}
 
 -- the public segment of an effect is no shorter than this one
 abbrev Grows : List ℕ → Effect → Type 0

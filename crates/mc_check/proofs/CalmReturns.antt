@@ -15,8 +15,8 @@ use Rattle.mc_model.specs.StackRows.{need, counts, goes_on, jump_target, call_ta
 use Rattle.mc_model.specs.StackShape.{Routine, At, fact, Reached, returns, Gives, Counts, Accepts}
 use Rattle.mc_check.specs.Standing.{StandsAt, Open, none, call}
 use Rattle.mc_check.proofs.AcceptedFacts.{GoodAt, good_at, HasRoom, HasBases, room_at}
-use Rattle.mc_check.proofs.Looks.{fine}
-use Rattle.mc_check.proofs.Opened.{IsAtFact, IsStanding, open_front, open_depth, spliced_length, spliced_above, num_bytes2}
+use Rattle.mc_check.proofs.FactLooks.{fine}
+use Rattle.mc_check.proofs.OpenCalls.{IsAtFact, IsStanding, open_front, open_depth, spliced_length, spliced_above, num_bytes2}
 
 -- ---- the rows of returns
 

@@ -8,7 +8,8 @@ use Rattle.mc_model.specs.Card.{App}
 use Rattle.mc_model.specs.Chain.{Chain, Follows, Continues, Ends, acted, turn_of, no_app, start, start_app}
 use Rattle.mc_model.specs.StackShape.{Accepts}
 use Rattle.mc_bank.specs.Bank.{app_of}
-use Rattle.mc_check.specs.Checked.{RunsCode, IsCalm, OnFollows, RunsCalmly, session_in, AreLimited, IsChecked}
+use Rattle.mc_check.specs.Checked.{RunsCode, IsCalm, OnFollows, RunsCalmly, IsChecked}
+use Rattle.mc_family.specs.Begins.{session_in, AreLimited}
 use Rattle.mc_machine.specs.Sound.{IsSound}
 use Rattle.mc_machine.proofs.SoundChains.{FollowsSound, turn_sound}
 use Rattle.mc_machine.proofs.SoundRuns.{start_sound}

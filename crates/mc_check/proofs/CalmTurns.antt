@@ -19,10 +19,10 @@ use Rattle.mc_check.specs.Checked.{is_excluded}
 use Rattle.mc_check.specs.Standing.{StandsAt, Open, none, call, calls_of}
 use Rattle.mc_check.proofs.RowFacts.{RowFacts, RowStays, GoesTo}
 use Rattle.mc_check.proofs.AcceptedFacts.{GoodAt, HasRoom, HasBases, room_at, gives_at}
-use Rattle.mc_check.proofs.Opened.{IsAtFact, IsStanding, open_front, open_depth, calls_below, target_of_call}
+use Rattle.mc_check.proofs.OpenCalls.{IsAtFact, IsStanding, open_front, open_depth, calls_below, target_of_call}
 use Rattle.mc_check.proofs.HeightLemmas.{moves, jump_height, exit_height}
 use Rattle.mc_check.proofs.CalmCalls.{row_cause, row_done, CallEnd, call_end, call_room, entered_at, passed_at}
-use Rattle.mc_check.proofs.Looks.{fine}
+use Rattle.mc_check.proofs.FactLooks.{fine}
 use Rattle.mc_check.proofs.CalmReturns.{returning, Back, comes_back}
 
 -- what holds of a frame that does not exit

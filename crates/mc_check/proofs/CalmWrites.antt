@@ -2,23 +2,14 @@
 use Rattle.std.proofs.Common.{◌≡◌, ℕ, ◌+◌, ◌-◌, ◌≤◌, Bool, true, false, cond, List, [], ◌++◌, take, drop, length, Option, Some, None, refl, sym, ap, subst, ◌∙◌, arith, drop_at, drop-drop, take-take}
 use Rattle.std.specs.Prelude.{◌==◌, ◌&&◌, ◌||◌, nat_le}
 use Rattle.std.proofs.lemmas.Bool.{and_parts, leb-true}
-use Rattle.std.proofs.lemmas.List.{length-append, length-take, length-drop, length-take-le, take-append-le, drop-take}
+use Rattle.std.proofs.lemmas.List.{length-append, length-take-le, take-append-le, drop-take}
 use Rattle.mc_model.specs.Bytes.{splice}
 use Rattle.mc_model.specs.Frame.{Frame, Effect, Place, Static, Dynamic, Public, where_is, floor, dynamic_base, dynamic_end, static_written, written_in, written, pushed, popped, topped, flagged, protect, static_bytes, committed}
 use Rattle.mc_model.specs.Primitives.{framed, effect_flagged}
+use Rattle.mc_model.proofs.ListLemmas.{length-splice}
 use Rattle.mc_check.specs.Standing.{StandsAt, calls_of}
 
 -- ---- lists
-
--- bytes written within a list keep its length
-pub length-splice : (l : List ℕ) (at : ℕ) (b : List ℕ) → at + length b ≤ length l → length (splice l at b) ≡ length l
-length-splice l at b fits =
-    omega (arith, length-append (take at l ++ b) (drop (at + length b) l), length-append (take at l) b, length-take at l, length-drop (at + length b) l)
-
--- bytes that are written never make a list shorter
-pub splice-longer : (l : List ℕ) (at : ℕ) (b : List ℕ) → length l ≤ length (splice l at b)
-splice-longer l at b =
-    omega (arith, length-append (take at l ++ b) (drop (at + length b) l), length-append (take at l) b, length-take at l, length-drop (at + length b) l)
 
 -- the front of a list, written from there on
 front-splice : (l : List ℕ) (n at : ℕ) (b : List ℕ) → n ≤ at → at ≤ length l → take n (splice l at b) ≡ take n l

@@ -11,7 +11,7 @@ use Rattle.mc_check.specs.declared.closing.Found.{Found}
 use Rattle.mc_check.specs.Table.{fact_of, IsIn, IsGood}
 use Rattle.mc_check.specs.Closing.{found_fact, IsFound, Tables, IsAmong, IsReal, ComesBack, ComesBackFrom, Adds}
 use Rattle.mc_check.proofs.ClosingLists.{in_at, in_alike}
-use Rattle.mc_check.proofs.Looks.{is_at}
+use Rattle.mc_check.proofs.FactLooks.{is_at}
 use Rattle.mc_check.proofs.ClosingPlaces.{return_less}
 use Rattle.mc_check.proofs.ClosingTables.{comes_kept}
 

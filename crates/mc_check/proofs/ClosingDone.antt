@@ -8,7 +8,7 @@ use Rattle.mc_check.specs.declared.closing.Found.{Found}
 use Rattle.mc_check.specs.Table.{IsIn}
 use Rattle.mc_check.specs.Closing.{found_fact, IsFound, Tables, IsFit, ComesBack, IsOpen, Adds}
 use Rattle.mc_check.proofs.ClosingLists.{in_empty}
-use Rattle.mc_check.proofs.Looks.{fine}
+use Rattle.mc_check.proofs.FactLooks.{fine}
 use Rattle.mc_check.proofs.ClosingPlaces.{BeginsInside, reached_inside}
 use Rattle.mc_check.proofs.ClosingTables.{adds_none, adds_then, open_followed, closed_return}
 use Rattle.mc_check.proofs.ClosingSteps.{closed_call, closed_step, closed_high}

@@ -5,7 +5,7 @@ use Rattle.mc_model.specs.StackShape.{Fact}
 use Rattle.mc_check.specs.declared.table.Entry.{Entry}
 use Rattle.mc_check.specs.Table.{fact_of, IsIn}
 use Rattle.mc_check.specs.Closing.{IsAmong, free}
-use Rattle.mc_check.proofs.Gets.{get_set_same, get_set_other}
+use Rattle.mc_check.proofs.ListPlaces.{get_set_same, get_set_other}
 
 -- ---- empty tables
 

@@ -6,7 +6,7 @@ use Rattle.mc_model.specs.declared.instruction.Ins.TheVariants as ins
 use Rattle.mc_model.specs.Code.{Shaped}
 use Rattle.mc_model.specs.StackRows.{counts, goes_on, jump_target, call_target, target_inside, call_inside}
 use Rattle.mc_model.specs.StackShape.{Routine, Main, At, Fact, Stands, look, Reached, begins, goes, jumps, calls, passes, returns}
-use Rattle.mc_check.proofs.Looks.{fine}
+use Rattle.mc_check.proofs.FactLooks.{fine}
 
 -- ---- kinds of instruction
 

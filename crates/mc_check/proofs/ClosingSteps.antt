@@ -10,7 +10,7 @@ use Rattle.mc_check.specs.declared.table.Entry.{Entry}
 use Rattle.mc_check.specs.declared.shape.Counts.{Counts as Pair}
 use Rattle.mc_check.specs.Table.{IsIn}
 use Rattle.mc_check.specs.Closing.{IsReal, ComesBack, IsClosed}
-use Rattle.mc_check.proofs.Looks.{is_at, refuses_good}
+use Rattle.mc_check.proofs.FactLooks.{is_at, refuses_good}
 use Rattle.mc_check.proofs.ClosingPlaces.{call_returns_not, call_jumps_not}
 use Rattle.mc_check.proofs.ClosingTables.{closed_from}
 

@@ -8,7 +8,7 @@ use Rattle.mc_check.specs.declared.table.Entry.{Entry}
 use Rattle.mc_check.specs.declared.shape.Counts.{Counts as Pair}
 use Rattle.mc_check.specs.Table.{fact_of, IsIn, IsGood, IsSound}
 use Rattle.mc_check.specs.Closing.{Tables, IsAmong, IsReal, IsFit, Leads, ComesBack, ComesBackFrom, HasCounts, IsFollowed, IsClosed, IsOpen, Adds}
-use Rattle.mc_check.proofs.Gets.{get_set_same, get_set_other}
+use Rattle.mc_check.proofs.ListPlaces.{get_set_same, get_set_other}
 use Rattle.mc_check.proofs.ClosingLists.{among_more, among_last, among_taken, free_written, in_alike, in_written_before, in_written}
 use Rattle.mc_check.proofs.ClosingPlaces.{return_ends}
 

@@ -6,7 +6,7 @@ use Rattle.mc_model.specs.StackShape.{Routine, Main, At, Fact, fact, Stands, loo
 use Rattle.mc_check.specs.declared.shape.Counts.{Counts as Pair}
 use Rattle.mc_check.specs.Table.{IsIn, IsWhole}
 use Rattle.mc_check.specs.Closing.{Tables, HasCounts, IsFollowed, IsClosed, IsOpen}
-use Rattle.mc_check.proofs.Looks.{stands_at}
+use Rattle.mc_check.proofs.FactLooks.{stands_at}
 
 some_same : (a b : Pair) → ◌≡◌ {A = Option (Option Pair)} (Some (Some a)) (Some (Some b)) → a ≡ b
 some_same a b h = cc

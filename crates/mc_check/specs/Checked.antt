@@ -7,7 +7,7 @@ use Rattle.mc_model.specs.Apdu.{ApduParts}
 use Rattle.mc_model.specs.Card.{App}
 use Rattle.mc_model.specs.Frame.{dynamic_base}
 use Rattle.mc_model.specs.Chain.{Chain, Turn, Outcome, Reply, Abended, Follows, Continues, Ends, turn_of, start}
-use Rattle.mc_model.specs.Manager.{most_static}
+use Rattle.mc_family.specs.Begins.{session_in, AreLimited}
 
 -- the abends with which accepted code ends no turn
 abbrev pub is_excluded : Abend → Bool
@@ -45,15 +45,6 @@ unfoldable pub RunsCalmly : List ℕ → ℕ → ℕ → ℕ → Chain → Type 
 RunsCalmly code session most zero ch = RunsCode code session ch → IsCalm session most (turn_of zero ch).turn
 RunsCalmly code session most (suc n) ch =
     (RunsCode code session ch → IsCalm session most (turn_of (suc n) ch).turn) × OnFollows (turn_of (suc n) ch).follows (λ c. RunsCalmly code session most n c)
-
--- the session bytes of an application, none where it is not there
-abbrev pub session_in : Option App → ℕ
-session_in None = 0
-session_in (Some a) = a.session
-
--- each application keeps to the most static bytes
-abbrev pub AreLimited : List (List ℕ × App) → Type 0
-AreLimited map = (name : List ℕ) (a : App) → lookup map name ≡ Some a → length a.fixed ≤ most_static
 
 -- On every card, for every command with every session bytes: each turn in a frame of an application with this code.
 abbrev pub IsChecked : List ℕ → ℕ → ℕ → Type 0

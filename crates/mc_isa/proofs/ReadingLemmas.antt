@@ -6,7 +6,7 @@ use Rattle.std.proofs.lemmas.Int.{ints, to_z-of_z, of_z-to_z}
 use Rattle.mc_model.specs.Bytes.{bytes2}
 use Rattle.mc_model.specs.Code.{Form, Plain, OneByte, TwoBytes, Word, TwoWords, Near, Target, Offset, ByteOffset, WordOffset, made_of, IsTarget, IsAddress, offset, target}
 use Rattle.mc_model.specs.declared.instruction.Ins.{Ins}
-use Rattle.mc_model.specs.declared.instruction.Ins.TheVariants.{Prim}
+use Rattle.mc_model.proofs.ListLemmas.{two-bytes as word_of}
 
 -- an instruction lies inside the bytes that it is made of
 pub made_of_inside : (o : Option Form) (bs : List ℕ) (i : Ins) (n : ℕ) → made_of o bs ≡ Ok (i, n) → n ≤ length bs + 1
@@ -16,9 +16,6 @@ made_of_inside (Some f) bs i n h = grind (arith, h)
 -- a word and its two bytes
 pub bytes2_of : (x y : ℕ) → x < 256 → y < 256 → bytes2 (256 * x + y) ≡ x ∷ y ∷ []
 bytes2_of x y h k = grind arith
-
-pub word_of : (n : ℕ) → n < 65536 → 256 * (n / 256 % 256) + n % 256 ≡ n
-word_of n h = grind arith
 
 pub unsigned8 : (x : ℕ) → x < 256 → cast_unsigned w8 (cast_signed w8 x) ≡ x
 unsigned8 x h = of_z-to_z w8 x h

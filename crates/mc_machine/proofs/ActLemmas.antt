@@ -17,7 +17,7 @@ use Rattle.mc_bank.specs.Bank.{BankState, app_of}
 use Rattle.mc_segs.specs.declared.ends.Halt.{Halt}
 use Rattle.mc_segs.specs.declared.ends.Halt.TheVariants as halt
 use Rattle.mc_segs.specs.declared.ends.Next.{Next}
-use Rattle.mc_segs.specs.Held.{Held, Seen, shown, seen, app_under}
+use Rattle.mc_segs.specs.HeldFrames.{Held, Seen, shown, seen, app_under}
 use Rattle.mc_segs.specs.Ends.{Acts as CallActs, Left, scene, then_of}
 use Rattle.mc_machine.specs.Alike.{SameEffect, SameRowEnd, KeepsEffect, KeepsRow}
 use Rattle.mc_machine.specs.Chains.{Chained, Runs, FitsChain, Wrote, first_held, session_in}

@@ -9,7 +9,7 @@ use Rattle.mc_model.specs.Primitives.{Around, Done}
 use Rattle.mc_model.specs.Row.{RowEnd, Abends, Does, causes, effect, first_cause, judged, row}
 use Rattle.mc_model.specs.Orders.{Answer}
 use Rattle.mc_model.specs.Items.{BankItem}
-use Rattle.mc_segs.specs.Held.{Seen, seen}
+use Rattle.mc_segs.specs.HeldFrames.{Seen, seen}
 use Rattle.mc_segs.specs.Ends.{Committed, changed_bytes}
 use Rattle.mc_machine.specs.Alike.{seen_end, seen_change, IsGuarded, SameDone, SameRowEnd}
 use Rattle.mc_machine.proofs.AlikeBytes.{SamePieces, with_pieces}
@@ -103,4 +103,4 @@ committed_seen did name fixed None (Some qs) b a e s done = absurd (cc s)
 committed_seen did name fixed (Some ps) None b a e s done = absurd (cc s)
 committed_seen did name fixed (Some ps) (Some qs) b a e s done =
     let same = some_seen fixed ps qs s in
-    (done.0, hold_seen fixed ps qs done.0 same.1 same.0 done.1, done.2)
+    (done.0, hold_seen fixed ps qs done.0 same.1 same.0 done.1, done.2, done.3)

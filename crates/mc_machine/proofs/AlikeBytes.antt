@@ -2,10 +2,10 @@
 use Rattle.std.proofs.Common.{◌≡◌, ℕ, Bool, true, false, cond, List, [], ◌∷◌, ◌++◌, length, take, drop, Option, Some, None, refl, sym, ap, ◌∙◌}
 use Rattle.std.specs.Prelude.{nat_lt, ◌==◌}
 use Rattle.mc_model.specs.Bytes.{zeros}
-use Rattle.mc_model.specs.Pieces.{laid_pieces, touched, with_touched, with_words}
+use Rattle.mc_model.specs.Pieces.{laid_pieces, touched, with_touched}
 use Rattle.mc_model.specs.Frame.{Frame, Place, Static, Dynamic, Public, where_is, bytes_in, bytes_at, passes_limit, too_many}
-use Rattle.mc_model.specs.Bytes.{splice}
-use Rattle.mc_segs.specs.Held.{no_pieces}
+use Rattle.mc_segs.specs.HeldFrames.{no_pieces}
+use Rattle.mc_model.proofs.ListLemmas.{laid-append, touched-append}
 
 -- pieces that lay the same bytes over a segment, and touch the same words
 pub record SamePieces (fixed : List ℕ) (ps qs : List (ℕ × List ℕ)) : Type 0 where
@@ -16,18 +16,6 @@ pub record SamePieces (fixed : List ℕ) (ps qs : List (ℕ × List ℕ)) : Type
 -- a frame with other pieces
 abbrev pub with_pieces : List (ℕ × List ℕ) → Frame → Frame
 with_pieces qs f = record f { pieces = qs }
-
-pub laid-append : (l : List ℕ) (ps qs : List (ℕ × List ℕ)) → laid_pieces l (ps ++ qs) ≡ laid_pieces (laid_pieces l ps) qs
-laid-append l [] qs = refl
-laid-append l (p ∷ ps) qs = laid-append (splice l p.0 p.1) ps qs
-
-with_touched-append : (ns : List ℕ) (ps qs : List (ℕ × List ℕ)) → with_touched ns (ps ++ qs) ≡ with_touched (with_touched ns ps) qs
-with_touched-append ns [] qs = refl
-with_touched-append ns (p ∷ ps) qs = with_touched-append (with_words p.0 p.1 ns) ps qs
-
-touched-append : (ps qs : List (ℕ × List ℕ)) → touched (ps ++ qs) ≡ with_touched (touched ps) qs
-unfolding touched
-touched-append ps qs = with_touched-append [] ps qs
 
 no_pieces-append : (ps : List (ℕ × List ℕ)) (p : ℕ × List ℕ) → no_pieces (ps ++ p ∷ []) ≡ false
 no_pieces-append [] p = refl

@@ -101,3 +101,8 @@ stands_read code into zeros at n tested code_len r within is len six size read s
     let window : take n (into ++ drop n zeros) ≡ take n (drop at code) =
     ap (λ (k : ℕ). take k (into ++ drop n zeros)) (sym front) ∙ take-append_seam into (drop n zeros) ∙ read ∙ ap (λ (k : ℕ). take k (drop at code)) same in
     stands_there code at n r (omega (arith, within, is, len)) (size ∙ ap (λ (k : ℕ). min (k - at) 6) len) (subst (λ (w : List ℕ). Stands w 0 r) window stands)
+
+-- the same where six bytes are left, which the whole array holds
+pub stands_whole : (code into : List ℕ) (at tested code_len : ℕ) (r : Result (Ins × ℕ) DecodeFault) → at < tested → tested ≡ code_len → code_len ≡ length code → 6 ≤ code_len - at → into ≡ take 6 (drop at code) → Stands into 0 r → Stands code at (from_place at r)
+stands_whole code into at tested code_len r within is len six read stands =
+    stands_there code at 6 r (omega (arith, within, is, len)) (omega (arith, len, six)) (subst (λ (w : List ℕ). Stands w 0 r) read stands)

@@ -4,13 +4,13 @@ use Rattle.std.specs.Prelude.{IsSome, bytes_eq, ◌||◌, nat_le, is_some}
 use Rattle.std.specs.List.{AllByRecursion}
 use Rattle.std.proofs.lemmas.Bool.Decides.{nat_tests}
 use Rattle.mc_bank.specs.Bank.{BankState, app_of, name_or, sizes_of}
-use Rattle.mc_bank.specs.Names.{other_way}
+use Rattle.mc_bank.specs.NameLaws.{other_way}
 use Rattle.mc_model.specs.declared.card.Sizes.{Sizes}
 use Rattle.mc_model.specs.Bytes.{lookup, zeros}
 use Rattle.mc_model.specs.Card.{App}
 use Rattle.mc_model.specs.Frame.{Frame, with_sw}
 use Rattle.mc_model.specs.Chain.{Chain, is_active, depth_of, called, called_app, entered_app}
-use Rattle.mc_segs.specs.Held.{new_held}
+use Rattle.mc_segs.specs.HeldFrames.{new_held}
 use Rattle.mc_machine.specs.Chains.{Chained, Runs}
 use Rattle.mc_machine.specs.Turns.{has_frame}
 use Rattle.mc_machine.proofs.ReadsLemmas.{as_many, active_runs, app_by, entered_reads}

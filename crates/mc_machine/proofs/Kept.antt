@@ -1,17 +1,17 @@
 -- What a row keeps: the application of its frame, that bytes are pending only while protection is on, and the length of the public segment.
-use Rattle.std.proofs.Common.{◌≡◌, ℕ, ◌+◌, ◌-◌, ◌≤◌, Bool, true, false, cond, List, [], ◌∷◌, ◌++◌, take, drop, length, Option, Some, None, refl, ap, subst, ◌∙◌, arith}
+use Rattle.std.proofs.Common.{◌≡◌, ℕ, ◌+◌, ◌-◌, ◌≤◌, Bool, true, false, cond, List, [], ◌∷◌, ◌++◌, length, Option, Some, None, refl, ap, subst, ◌∙◌, arith}
 use Rattle.std.specs.Prelude.{◌==◌, ◌&&◌, ◌||◌, nat_le, slice_index}
 use Rattle.std.proofs.lemmas.Bool.Decides.{nat_tests}
-use Rattle.std.proofs.lemmas.List.{length-append, length-take, length-drop}
 use Rattle.mc_model.specs.declared.instruction.Ins.{Ins}
 use Rattle.mc_model.specs.declared.instruction.Ins.TheVariants as ins
 use Rattle.mc_model.specs.declared.machine.Abend.{Abend}
-use Rattle.mc_model.specs.Bytes.{bytes2, splice}
+use Rattle.mc_model.specs.Bytes.{bytes2}
 use Rattle.mc_model.specs.Pieces.{laid_pieces}
 use Rattle.mc_model.specs.Frame.{Frame, static_bytes, committed, Effect, Place, Static, Dynamic, Public, where_is, public_base, public_end, static_written, written_in, written, popped, flagged, protect, with_sw, with_la}
 use Rattle.mc_model.specs.Primitives.{Around, Done, framed, effect_flagged, Primitive, CheckCase, LoadCcr, StoreCcr, Lookup, MemoryCompare, MemoryCopy, DelegateTo, DelegatorAid, Digest, CompareFixed, CopyFixed, SetProtection, Encipher, Decipher, Sign, BitByte, ShiftLeft, ShiftRight, BitWord, primitive, prim_done, prim_effect, looked_up, delegator_told}
 use Rattle.mc_model.specs.Row.{effect, holds, gone, called, target, causes, first_cause, judged, row, RowEnd, Does}
 use Rattle.mc_segs.specs.Ends.{changed_bytes}
+use Rattle.mc_model.proofs.ListLemmas.{length-splice}
 use Rattle.mc_machine.specs.Alike.{IsGuarded, KeepsEffect, KeepsRow}
 
 -- what a frame has of its application
@@ -35,10 +35,6 @@ abbrev Keeps : Frame → List ℕ → Effect → Type 0
 Keeps f public e = KeepsFacts (facts f) (IsGuarded f) f.fixed public e
 
 -- ---- effects by kind
-
-length-splice : (l : List ℕ) (at : ℕ) (b : List ℕ) → at + length b ≤ length l → length (splice l at b) ≡ length l
-length-splice l at b fits =
-    omega (arith, length-append (take at l ++ b) (drop (at + length b) l), length-append (take at l) b, length-take at l, length-drop (at + length b) l)
 
 framed_kept : (f : Frame) (public : List ℕ) → Keeps f public (framed f public)
 framed_kept f public = record { app_kept = refl; guard_kept = λ g. g; fixed_kept = refl; public_kept = λ e. e }

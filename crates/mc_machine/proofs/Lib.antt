@@ -14,3 +14,4 @@ pub mod SoundRows
 pub mod SoundChains
 pub mod SoundRuns
 pub mod LoneLemmas
+pub mod FewLemmas

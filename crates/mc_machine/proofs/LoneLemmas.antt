@@ -15,7 +15,7 @@ use Rattle.mc_segs.specs.declared.ends.Next.TheVariants as go
 use Rattle.mc_segs.specs.declared.ends.Next.{Next}
 use Rattle.mc_segs.specs.declared.ends.Halt.{Halt}
 use Rattle.mc_segs.specs.declared.ends.Halt.TheVariants as halt
-use Rattle.mc_segs.specs.Held.{Held, app_under}
+use Rattle.mc_segs.specs.HeldFrames.{Held, app_under}
 use Rattle.mc_segs.specs.Ends.{Acts as CallActs, scene, then_of}
 use Rattle.mc_machine.specs.Alike.{SameRowEnd, KeepsRow}
 use Rattle.mc_machine.specs.Chains.{Chained, ReadAll, Runs}

@@ -7,15 +7,12 @@ use Rattle.mc_model.specs.Bytes.{lookup, zeros}
 use Rattle.mc_model.specs.Card.{App}
 use Rattle.mc_model.specs.Frame.{Frame, session_of, new_frame}
 use Rattle.mc_model.specs.Chain.{Chain, delegator_in, first_frame, chain_session, is_active, stepped}
-use Rattle.mc_segs.specs.Held.{Held, Seen, seen, app_under, new_held}
+use Rattle.mc_segs.specs.HeldFrames.{Held, Seen, seen, app_under, new_held}
+use Rattle.mc_bank.proofs.LeftLemmas.{some_name}
 use Rattle.mc_machine.specs.Chains.{Chained, Reads, ReadAll, Runs, first_held, session_in}
 use Rattle.mc_machine.specs.Turns.{AllFit, delegator_of, has_frame, advanced}
 
 -- ---- one frame
-
-some_name : (o : Option (List ℕ)) → IsSome o → o ≡ Some (name_or o)
-some_name None there = absurd (cc there)
-some_name (Some n) there = refl
 
 some_app : (l : Option App) → IsSome l → l ≡ Some (unwrap_or l no_app)
 some_app None there = absurd (cc there)

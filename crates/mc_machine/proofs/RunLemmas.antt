@@ -15,7 +15,7 @@ use Rattle.mc_model.specs.Frame.{Frame, session_of}
 use Rattle.mc_model.specs.Row.{RowEnd, Abends, Does, row}
 use Rattle.mc_model.specs.Chain.{Chain, Outcome, Abended, Acted, Ran, Follows, Continues, Ends, around, code_in, stepped, first_frame, chain_session, row_turn, fetched, acted, spent, turn_of, end_of, ends_with, goes_on, ran_on, ran, called}
 use Rattle.mc_bank.specs.Bank.{BankState}
-use Rattle.mc_segs.specs.Held.{Held, Seen}
+use Rattle.mc_segs.specs.HeldFrames.{Held, Seen}
 use Rattle.mc_machine.specs.declared.outcome.End.{End}
 use Rattle.mc_machine.specs.declared.outcome.Step.{Step}
 use Rattle.mc_machine.specs.Chains.{Chained, Reads, ReadAll, Runs, Wrote, first_held, session_in}

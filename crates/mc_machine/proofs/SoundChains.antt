@@ -17,7 +17,7 @@ use Rattle.mc_model.specs.Chain.{Chain, Write, Acted, Follows, Continues, Ends, 
 use Rattle.mc_model.specs.Items.{done}
 use Rattle.mc_model.specs.Play.{write_items}
 use Rattle.mc_bank.specs.Bank.{no_app, app_of}
-use Rattle.mc_bank.specs.Names.{same_name, lookup-inserted, lookup-beside}
+use Rattle.mc_bank.specs.NameLaws.{same_name, lookup-inserted, lookup-beside}
 use Rattle.mc_machine.specs.Sound.{Within, IsSoundFrame, IsSound}
 use Rattle.mc_machine.proofs.SoundRows.{ChangesWithin, Keeps, RowKeeps, row_keeps, length-pieces}
 

@@ -1,9 +1,8 @@
 -- What a row keeps of its frame: its name and its number of session bytes, which its dynamic bytes hold; its static change and what it
 -- has pending lie in its static segment.
-use Rattle.std.proofs.Common.{◌≡◌, ℕ, ◌+◌, ◌-◌, ◌≤◌, Bool, true, false, cond, List, [], ◌∷◌, ◌++◌, take, drop, length, Option, Some, None, refl, sym, ap, subst, ◌∙◌, arith}
+use Rattle.std.proofs.Common.{◌≡◌, ℕ, ◌+◌, ◌-◌, ◌≤◌, Bool, true, false, cond, List, [], ◌∷◌, ◌++◌, length, Option, Some, None, refl, sym, ap, subst, ◌∙◌, arith}
 use Rattle.std.specs.Prelude.{◌==◌, ◌||◌, nat_le, slice_index}
 use Rattle.std.proofs.lemmas.Bool.Decides.{nat_tests}
-use Rattle.std.proofs.lemmas.List.{length-append, length-take, length-drop}
 use Rattle.mc_model.specs.declared.instruction.Ins.{Ins}
 use Rattle.mc_model.specs.declared.instruction.Ins.TheVariants as ins
 use Rattle.mc_model.specs.declared.machine.Abend.{Abend}
@@ -12,18 +11,10 @@ use Rattle.mc_model.specs.Pieces.{laid_pieces}
 use Rattle.mc_model.specs.Frame.{Frame, static_bytes, committed, Effect, Place, Static, Dynamic, Public, where_is, dynamic_base, static_written, written_in, written, pushed, popped, top, topped, flagged, protect, come_back}
 use Rattle.mc_model.specs.Primitives.{Around, Done, framed, effect_flagged, Primitive, CheckCase, LoadCcr, StoreCcr, Lookup, MemoryCompare, MemoryCopy, DelegateTo, DelegatorAid, Digest, CompareFixed, CopyFixed, SetProtection, Encipher, Decipher, Sign, BitByte, ShiftLeft, ShiftRight, BitWord, primitive, prim_done, prim_effect, looked_up, delegator_told}
 use Rattle.mc_model.specs.Row.{effect, holds, gone, called, target, causes, first_cause, judged, row, RowEnd, Abends, Does}
+use Rattle.mc_model.proofs.ListLemmas.{length-splice, splice-longer as longer}
 use Rattle.mc_machine.specs.Sound.{Within}
 
 -- ---- lists
-
-length-splice : (l : List ℕ) (at : ℕ) (b : List ℕ) → at + length b ≤ length l → length (splice l at b) ≡ length l
-length-splice l at b fits =
-    omega (arith, length-append (take at l ++ b) (drop (at + length b) l), length-append (take at l) b, length-take at l, length-drop (at + length b) l)
-
--- bytes that are written never make a list shorter
-longer : (l : List ℕ) (at : ℕ) (b : List ℕ) → length l ≤ length (splice l at b)
-longer l at b =
-    omega (arith, length-append (take at l ++ b) (drop (at + length b) l), length-append (take at l) b, length-take at l, length-drop (at + length b) l)
 
 pub length-pieces : (l : List ℕ) (ps : List (ℕ × List ℕ)) → Within (length l) ps → length (laid_pieces l ps) ≡ length l
 length-pieces l [] within = refl

@@ -1,17 +1,18 @@
 -- What an instruction leaves of a chain: its atomic writes, the applications after them, and the frames.
-use Rattle.std.proofs.Common.{◌≡◌, ℕ, false, List, [], ◌∷◌, Option, Some, None, Ok, Err, sym, ap, subst, ◌∙◌, inl, inr}
+use Rattle.std.proofs.Common.{◌≡◌, ℕ, false, List, [], ◌∷◌, ◌≤◌, length, Option, Some, None, Ok, Err, sym, ap, subst, ◌∙◌, inl, inr, arith}
 use Rattle.std.specs.Prelude.{bytes_eq, unwrap_or}
+use Rattle.std.proofs.lemmas.List.{length-map}
 use Rattle.std.specs.List.{AllByRecursion}
 use Rattle.mc_model.specs.Orders.{Answer, InOrder}
 use Rattle.mc_model.specs.Items.{BankItem, Commit}
-use Rattle.mc_model.specs.Pieces.{laid_pieces, laid_words, HoldPieces}
+use Rattle.mc_model.specs.Pieces.{laid_pieces, laid_words, touched, HoldPieces}
 use Rattle.mc_model.specs.Bytes.{lookup, insert}
 use Rattle.mc_model.specs.Card.{App}
 use Rattle.mc_model.specs.Frame.{Frame, Effect}
 use Rattle.mc_model.specs.Chain.{Chain, changed_app, map_changed, write_of, settled}
 use Rattle.mc_bank.specs.Bank.{BankState, app_of, name_or, no_app, with_words, committed, Changes}
-use Rattle.mc_bank.specs.Names.{lookup-inserted, lookup-beside}
-use Rattle.mc_segs.specs.Held.{Held, Seen, app_under}
+use Rattle.mc_bank.specs.NameLaws.{lookup-inserted, lookup-beside}
+use Rattle.mc_segs.specs.HeldFrames.{Held, Seen, app_under}
 use Rattle.mc_segs.specs.Ends.{Committed, changed_bytes, scene, Left}
 use Rattle.mc_machine.specs.Alike.{SameEffect, KeepsEffect}
 use Rattle.mc_machine.specs.Chains.{Chained, ReadAll, Runs, Wrote}
@@ -30,14 +31,19 @@ module _ {B : Type 0} (did : B → BankItem → Answer → B → Type 0) (state 
   none_wrote b (Ok u) e done = done
   none_wrote b (Err s) e done = absurd done
 
+  -- words are as many as their pieces touch
+  few_touched : (l : List ℕ) (ps ws : List (ℕ × List ℕ)) → HoldPieces l ps ws → length ws ≤ 64 → length (touched ps) ≤ 64
+  few_touched l ps ws held few = let same = ap (λ (ns : List ℕ). length ns) held.touched_words in omega (arith, length-map ws (λ w. w.0), same, few)
+
   pub writes_of : (name fixed : List ℕ) (changes : Option (List (ℕ × List ℕ))) (b : B) (a : Answer) (e : B) → fixed ≡ (app_of (state b).apps (Some name)).fixed → Committed did name fixed changes b a e
       → InOrder (Wrote did state) b (write_of name changes) a e
   writes_of name fixed None b a e is done = none_wrote b a e done
   writes_of name fixed (Some ps) b a e is done =
       let held : HoldPieces (app_of (state b).apps (Some name)).fixed ps done.0 = subst (λ (l : List ℕ). HoldPieces l ps done.0) is done.1 in
+      let few = few_touched fixed ps done.0 done.1 done.3 in
       elim done.2 [
-        | inl whole ↦ inl (whole.0, (done.0, held, whole.1), none_wrote whole.0 a e whole.2)
-        | inr stop ↦ inr (stop.0, (done.0, held, stop.1), stop.2)
+        | inl whole ↦ inl (whole.0, (done.0, held, whole.1, few), none_wrote whole.0 a e whole.2)
+        | inr stop ↦ inr (stop.0, (done.0, held, stop.1, few), stop.2)
       ]
 
 -- ---- the bank after a change

@@ -5,7 +5,7 @@ use Rattle.mc_model.specs.Pieces.{laid_pieces, touched}
 use Rattle.mc_model.specs.Frame.{Frame, Effect}
 use Rattle.mc_model.specs.Primitives.{Then, Done}
 use Rattle.mc_model.specs.Row.{RowEnd, Abends, Does}
-use Rattle.mc_segs.specs.Held.{Seen, seen, no_pieces}
+use Rattle.mc_segs.specs.HeldFrames.{Seen, seen, no_pieces}
 use Rattle.mc_segs.specs.Ends.{changed_bytes}
 
 -- a static change, whichever pieces it is made of: the bytes after it, and the words that it touches

@@ -12,7 +12,7 @@ use Rattle.mc_model.specs.Bytes.{lookup}
 use Rattle.mc_model.specs.Card.{App}
 use Rattle.mc_apdu.specs.declared.command.Apdu.{Apdu}
 use Rattle.mc_apdu.specs.Command.{parts_of}
-use Rattle.mc_segs.specs.Held.{Held, Fits, shown, seen}
+use Rattle.mc_segs.specs.HeldFrames.{Held, Fits, shown, seen}
 use Rattle.mc_machine.specs.Alike.{IsGuarded}
 
 -- the running frame, the frames below it, of which the one that delegated to it comes first, the public segment, the case of the command,
@@ -71,9 +71,9 @@ session_in c = session_of (first_held c.running c.below).frame
 
 -- ---- atomic writes
 
--- an atomic write of a chain is a commit of words that hold its pieces over the static bytes
+-- an atomic write of a chain, of at most 64 words, is a commit of words that hold its pieces over the static bytes
 abbrev pub Wrote : {B : Type 0} → (B → BankItem → Answer → B → Type 0) → (B → BankState) → B → Write → Answer → B → Type 0
-Wrote did state b w a e = (ws : List (ℕ × List ℕ)) × HoldPieces (app_of (state b).apps (Some w.name)).fixed w.pieces ws × did b (Commit w.name ws) a e
+Wrote did state b w a e = (ws : List (ℕ × List ℕ)) × HoldPieces (app_of (state b).apps (Some w.name)).fixed w.pieces ws × did b (Commit w.name ws) a e × (w.words ≤ 64)
 
 -- ---- runs
 

@@ -1,22 +1,28 @@
 -- The frames that wait in a chain, as a list.
-use Rattle.std.specs.Prelude.{◌≡◌, ℕ, List, [], ◌∷◌, Option, Some, None}
-use Rattle.mc_segs.specs.Held.{Held}
-use Rattle.mc_machine.specs.declared.waiting.Waiting.{Waiting}
-use Rattle.mc_machine.specs.declared.waiting.Waiting.TheVariants as waiting
+use Rattle.std.specs.Prelude.{◌≡◌, ℕ, true, List, [], ◌∷◌, Option, Some, None, is_some}
+use Rattle.mc_segs.specs.HeldFrames.{Held}
+use Rattle.mc_machine.specs.declared.waiting.Waiting.TheInside.{Inside}
+
+-- the frame of a place, if there is one, before others
+abbrev pub held_before : Option Held → List Held → List Held
+held_before None hs = hs
+held_before (Some h) hs = h ∷ hs
 
 -- the one that delegated last comes first
-abbrev pub waiting_frames : Waiting → List Held
-waiting_frames waiting.None = []
-waiting_frames (waiting.One a) = a ∷ []
-waiting_frames (waiting.Two a b) = a ∷ b ∷ []
-waiting_frames (waiting.Three a b c) = a ∷ b ∷ c ∷ []
+abbrev pub waiting_frames : Inside → List Held
+waiting_frames w = held_before w.third (held_before w.second (held_before w.first []))
+
+-- a place is taken only where the one before it is
+pub record HasNoGap (w : Inside) : Type 0 where
+  pub second : is_some w.second ≡ true → is_some w.first ≡ true
+  pub third : is_some w.third ≡ true → is_some w.second ≡ true
 
 -- the first frame was taken, if there is one
-abbrev pub TookTop : List Held → Option (Held × Waiting) → Type 0
-TookTop [] None = Unit {0}
-TookTop (h ∷ hs) (Some p) = (p.0 ≡ h) × (waiting_frames p.1 ≡ hs)
-TookTop [] (Some p) = ⊥
-TookTop (h ∷ hs) None = ⊥
+abbrev pub TookTop : List Held → Option Held → List Held → Type 0
+TookTop [] None left = left ≡ []
+TookTop (h ∷ hs) (Some g) left = (g ≡ h) × (left ≡ hs)
+TookTop [] (Some g) left = ⊥
+TookTop (h ∷ hs) None left = ⊥
 
 -- the slot of the first frame, if there is one
 abbrev pub top_slot : List Held → Option ℕ

@@ -7,7 +7,7 @@ use Rattle.mc_model.specs.Bytes.{lookup}
 use Rattle.mc_model.specs.Chain.{Chain, Acted, Continues, Ran, called}
 use Rattle.mc_model.specs.Chain as model
 use Rattle.mc_bank.specs.Bank.{BankState}
-use Rattle.mc_segs.specs.Held.{Held}
+use Rattle.mc_segs.specs.HeldFrames.{Held}
 use Rattle.mc_segs.specs.declared.ends.Halt.{Halt}
 use Rattle.mc_segs.specs.declared.ends.Halt.TheVariants as halt
 use Rattle.mc_segs.specs.declared.ends.Next.{Next}

@@ -1,16 +1,18 @@
 -- What a turn of the code tells, and what it leaves.
-use Rattle.std.specs.Prelude.{◌≡◌, ℕ, ◌+◌, ◌-◌, Bool, false, cond, nat_lt, ◌||◌, ◌≤◌, bytes_eq, min, List, [], ◌∷◌, length, take, option_map, Option, Some, None, Result, Ok, Err}
+use Rattle.std.specs.Prelude.{◌≡◌, ℕ, ◌+◌, ◌-◌, Bool, true, false, cond, nat_lt, ◌||◌, ◌≤◌, bytes_eq, min, List, [], ◌∷◌, length, take, option_map, Option, Some, None, IfSome, Result, Ok, Err}
 use Rattle.std.specs.List.{AllByRecursion}
 use Rattle.mc_model.specs.declared.machine.Abend.TheVariants.{A09}
 use Rattle.mc_model.specs.declared.instruction.Ins.{Ins}
+use Rattle.mc_model.specs.declared.instruction.Ins.TheVariants as ins
 use Rattle.mc_model.specs.declared.device.Stop.{Stop}
 use Rattle.mc_model.specs.Orders.{Answer, InOrder}
 use Rattle.mc_model.specs.Items.{BankItem}
 use Rattle.mc_model.specs.Frame.{la_of, sw_of}
 use Rattle.mc_model.specs.Chain.{Chain, Turn as ModelTurn, Acted, Follows, Continues, Ends, chain_session}
 use Rattle.mc_model.specs.Chain as model
+use Rattle.mc_family.specs.FewWords.{most_words}
 use Rattle.mc_bank.specs.Bank.{BankState, name_or}
-use Rattle.mc_segs.specs.Held.{Held, Fits}
+use Rattle.mc_segs.specs.HeldFrames.{Held, Fits}
 use Rattle.mc_segs.specs.declared.ends.Halt.{Halt}
 use Rattle.mc_segs.specs.declared.ends.Halt.TheVariants as halt
 use Rattle.mc_machine.specs.Chains.{Chained, Runs, Wrote, session_in}
@@ -90,6 +92,27 @@ ActDone did state named b e c d ch t (Err stop) = InOrder (Wrote did state) b t.
 abbrev pub TurnDone : {B : Type 0} → (B → BankItem → Answer → B → Type 0) → (B → BankState) → (B → ℕ → Option (List ℕ)) → B → B → Chained → Chained → Chain → Acted → Result Turn Stop → Type 0
 TurnDone did state named b e c d ch t (Ok turn) = Acts did state named b e c d ch t × (t.turn ≡ turn_value turn t.turn.wrote)
 TurnDone did state named b e c d ch t (Err stop) = InOrder (Wrote did state) b t.writes (Err stop) e
+
+-- ---- how much a turn writes
+
+-- an instruction with which a frame exits
+abbrev pub is_exit : Ins → Bool
+is_exit ins.Exit = true
+is_exit (ins.Exitsw sw) = true
+is_exit (ins.Exitla la) = true
+is_exit (ins.Exitswla sw la) = true
+is_exit _ = false
+
+-- the most words that the instruction of a turn changes: 64 where it may commit, else 33; and none where there is none
+abbrev pub most_told : Option Ins → ℕ
+most_told None = 0
+most_told (Some i) = most_words i
+
+-- a turn makes at most one atomic write, of no more words than its instruction changes, and none where that is an exit
+pub record WritesFew (t : Acted) : Type 0 where
+  pub one : length t.writes ≤ 1
+  pub words : AllByRecursion (λ w. w.words ≤ most_told t.turn.ins) t.writes
+  pub exit : IfSome t.turn.ins (λ i. is_exit i ≡ true → t.writes ≡ [])
 
 -- ---- parts of a turn
 

@@ -26,13 +26,12 @@ pub struct Chain {
 impl Model for Chain {
     ghost use Rattle.std.specs.Prelude.{◌≤◌};
     ghost use Rattle.mc_machine.specs.Chains.{Chained};
-    ghost use Rattle.mc_machine.specs.Frames.{waiting_frames};
 
     ghost Value = { Chained };
 
     ghost view = { λ c. record {
       running = c.running;
-      below = waiting_frames c.waiting;
+      below = c.waiting;
       public = c.public;
       case = c.case;
       le = c.le;
@@ -57,7 +56,7 @@ pub fn begin<B: Bank>(bank: &B, first: Slot, session: &Session, apdu: &Apdu, bud
 {
     Chain {
         running: first_frame(bank, first, session),
-        waiting: Waiting::None,
+        waiting: Waiting::new(),
         public: Public::new(apdu),
         case: apdu.case(),
         le: apdu.le.unwrap_or(0),
@@ -81,11 +80,9 @@ impl Chain {
     pub fn session(&self) -> Session
         ensures { result ≡ session_in self.now }
     {
-        match &self.waiting {
-            Waiting::None => self.running.session(),
-            Waiting::One(first) => first.session(),
-            Waiting::Two(_, first) => first.session(),
-            Waiting::Three(_, _, first) => first.session(),
+        match &self.waiting.first {
+            Some(first) => first.session(),
+            None => self.running.session(),
         }
     }
 }

@@ -1,7 +1,7 @@
 // The instruction at the code address of a frame.
-ghost use Rattle.std.specs.Prelude.{◌≡◌, false};
+ghost use Rattle.std.specs.Prelude.{◌≡◌, ◌+◌, ◌<◌, false};
 ghost use Rattle.mc_model.specs.Code.{decoded, Stands};
-ghost use Rattle.mc_segs.specs.Held.{Fits, app_under};
+ghost use Rattle.mc_segs.specs.HeldFrames.{Fits, app_under};
 
 use mc_bank::Bank;
 use mc_isa::{DecodeFault, Ins, decode};
@@ -23,8 +23,30 @@ pub fn fetch<B: Bank>(bank: &B, frame: &Frame) -> Result<(Ins, u16), DecodeFault
     if at >= frame.code_len() {
         return Err(DecodeFault::Past);
     }
+    if frame.code_len() - at < LONGEST {
+        return fetch_last(bank, frame);
+    }
     let mut bytes = [0; 6];
-    let count = (frame.code_len() - at).min(LONGEST) as usize;
+    bank.code(frame.slot(), at, &mut bytes);
+    let (ins, size) = decode(&bytes, 0)?;
+    Ok((ins, at + size))
+}
+
+// The same where fewer bytes of code are left than an instruction may have.
+#[cold]
+#[inline(never)]
+fn fetch_last<B: Bank>(bank: &B, frame: &Frame) -> Result<(Ins, u16), DecodeFault>
+    requires going { (B.state bank.now).stopped ≡ false }
+    requires fits { Fits (B.state bank.now) (B.named bank.now) frame.now }
+    requires inside { frame.now.frame.at < frame.now.frame.code_len }
+    requires last { frame.now.frame.code_len < frame.now.frame.at + 6 }
+    ensures exact { result ≡ decoded (app_under (B.state bank.now) (B.named bank.now) frame.now).code
+        frame.now.frame.at }
+    ensures stands { Stands (app_under (B.state bank.now) (B.named bank.now) frame.now).code frame.now.frame.at result }
+{
+    let at = frame.at();
+    let mut bytes = [0; 6];
+    let count = (frame.code_len() - at) as usize;
     bank.code(frame.slot(), at, &mut bytes[..count]);
     let (ins, size) = decode(&bytes[..count], 0)?;
     Ok((ins, at + size))

@@ -3,7 +3,7 @@ ghost use Rattle.mc_model.specs.declared.instruction.Ins.{Ins};
 ghost use Rattle.mc_model.specs.Frame.{Frame, new_frame};
 ghost use Rattle.mc_model.specs.Primitives.{Around};
 ghost use Rattle.mc_model.specs.Row.{row};
-ghost use Rattle.mc_segs.specs.Held.{seen};
+ghost use Rattle.mc_segs.specs.HeldFrames.{seen};
 ghost use Rattle.mc_machine.specs.Alike.{seen_end, IsGuarded, KeepsRow};
 
 /// A row does the same to frames that read the same, whichever pieces their pending bytes come from, where bytes are pending only while

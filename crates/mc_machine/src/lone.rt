@@ -2,7 +2,7 @@
 ghost use Rattle.std.specs.Prelude.{◌≡◌, ◌≢◌, ◌+◌, false, ℕ, List, Ok, None};
 ghost use Rattle.mc_model.specs.Code.{Shaped};
 ghost use Rattle.mc_model.specs.Chain.{Chain as ModelChain, turn_of};
-ghost use Rattle.mc_segs.specs.Held.{Fits};
+ghost use Rattle.mc_segs.specs.HeldFrames.{Fits};
 ghost use Rattle.mc_segs.specs.Ends.{scene, RowActs};
 ghost use Rattle.mc_machine.specs.Chains.{Runs};
 ghost use Rattle.mc_machine.specs.Lone.{lone_chain, lone_halt_of, lone_next_of, LoneDone, LoneFits};

@@ -1,5 +1,6 @@
 // A command to an application, from its first turn to its end.
 ghost use Rattle.std.specs.Prelude.{◌≡◌, ◌+◌, ◌≤◌, length, false, IsSome, IfOk, OnOk, OnErr};
+ghost use Rattle.std.specs.List.{AllByRecursion};
 ghost use Rattle.mc_model.specs.Orders.{InOrder, answer_of};
 ghost use Rattle.mc_model.specs.Bytes.{lookup};
 ghost use Rattle.mc_model.specs.Chain.{Chain as ModelChain, called, ran};
@@ -22,8 +23,8 @@ use std::sync::ledger::Ledger;
 
 /// A command to the application of a slot: all turns of its chain, under a budget of 1 to 65,536 instructions. It begins with
 /// the session bytes of the selection and leaves them as they are at its end. Each decoded instruction is one step. The
-/// outcome is a reply of ISO/IEC 7816-4 or an abend. A `Stop` is that of the bank in a change of static bytes; the changes
-/// before it stand.
+/// outcome is a reply of ISO/IEC 7816-4 or an abend. A `Stop` is that of the bank in a change of static bytes, each of which is
+/// one atomic write of at most 64 words; the changes before it stand.
 pub fn run<B: Bank, L: Ledger>(
     bank: &mut B,
     first: Slot,
@@ -41,6 +42,8 @@ pub fn run<B: Bank, L: Ledger>(
     ensures writes { InOrder (Wrote B.did B.state) bank.old
         (ran_of (B.state bank.old) (B.named bank.old) first session.old apdu.now budget).writes
         (answer_of result) bank.new }
+    ensures few { OnOk result (AllByRecursion (λ w. w.words ≤ 64)
+        (ran_of (B.state bank.old) (B.named bank.old) first session.old apdu.now budget).writes) }
     ensures outcome { IfOk result (λ outcome. outcome_value outcome
         ≡ (ran_of (B.state bank.old) (B.named bank.old) first session.old apdu.now budget).outcome) }
     ensures session { OnOk result (session.new
@@ -133,7 +136,7 @@ fn run_chain<B: Bank, L: Ledger>(
 {
     let mut chain = Chain {
         running: frame,
-        waiting: Waiting::None,
+        waiting: Waiting::new(),
         public,
         case,
         le,

@@ -1,14 +1,14 @@
 // One turn of a chain: an executed instruction, or a fetch that abends.
-ghost use Rattle.std.specs.Prelude.{◌≡◌, ◌≢◌, ◌+◌, ◌<◌, ◌≤◌, ◌∷◌, ◌||◌, false, bytes_eq, length, nat_le, option_map, ℕ, List, IfOk, IfSome};
-ghost use Rattle.mc_bank.specs.Bank.{name_or};
+ghost use Rattle.std.specs.Prelude.{[], ◌≡◌, ◌≢◌, ◌+◌, ◌<◌, ◌≤◌, ◌∷◌, ◌||◌, false, bytes_eq, length, nat_le, option_map, ℕ, List, IfOk, IfSome};
+ghost use Rattle.mc_bank.specs.Bank.{AreApps, name_or};
 ghost use Rattle.mc_model.specs.Bytes.{lookup};
 ghost use Rattle.mc_model.specs.Code.{Shaped};
 ghost use Rattle.mc_model.specs.Chain.{Chain as ModelChain, turn_of, called, follows};
-ghost use Rattle.mc_segs.specs.Held.{Fits};
+ghost use Rattle.mc_segs.specs.HeldFrames.{Fits};
 ghost use Rattle.mc_segs.specs.Ends.{scene, RowActs, then_of};
 ghost use Rattle.mc_machine.specs.Chains.{Runs, FitsChain};
-ghost use Rattle.mc_machine.specs.Frames.{waiting_frames};
-ghost use Rattle.mc_machine.specs.Turns.{ActDone, TurnDone, EndFits, Followed, Leaves, advanced, halted, delegator_of, has_frame, AllFit, outcome_value, end_value};
+ghost use Rattle.mc_machine.specs.Frames.{held_before};
+ghost use Rattle.mc_machine.specs.Turns.{ActDone, TurnDone, WritesFew, EndFits, Followed, Leaves, advanced, halted, delegator_of, has_frame, AllFit, outcome_value, end_value};
 
 use crate::chain::Chain;
 use crate::fetch::fetch;
@@ -33,7 +33,8 @@ const NOT_FOUND: u16 = 0x6A82;
 const NOT_ALLOWED: u16 = 0x6985;
 
 /// One turn of a chain that no end was answered for: one executed instruction, and one step, or a fetch that ends the chain.
-/// A `Stop` is that of the bank in the instruction's change.
+/// A `Stop` is that of the bank in the instruction's change, which is one atomic write of at most 33 words, or of at most 64 where the
+/// instruction commits what is pending.
 pub fn turn<B: Bank, L: Ledger>(
     chain: &mut Chain,
     bank: &mut B,
@@ -45,6 +46,8 @@ pub fn turn<B: Bank, L: Ledger>(
         → TurnDone B.did B.state B.named bank.old bank.new chain.old chain.new ch (turn_of chain.old.left ch) result }
     ensures ticks { (ch : ModelChain) → Runs (B.state bank.old) (B.named bank.old) chain.old ch
         → steps.new ≡ steps.old + (turn_of chain.old.left ch).count }
+    ensures few { (ch : ModelChain) → Runs (B.state bank.old) (B.named bank.old) chain.old ch
+        → AreApps (B.state bank.old).apps → WritesFew (turn_of chain.old.left ch) }
     ensures shaped { IfOk result (λ turn. IfSome turn.ins Shaped) }
     ensures low { IfOk result (λ turn. 1 ≤ turn.depth) }
     ensures high { IfOk result (λ turn. turn.depth ≤ 4) }
@@ -80,6 +83,8 @@ pub fn act<B: Bank, L: Ledger>(
         → ActDone B.did B.state B.named bank.old bank.new chain.old chain.new ch (turn_of chain.old.left ch) result }
     ensures ticks { (ch : ModelChain) → Runs (B.state bank.old) (B.named bank.old) chain.old ch
         → steps.new ≡ steps.old + (turn_of chain.old.left ch).count }
+    ensures few { (ch : ModelChain) → Runs (B.state bank.old) (B.named bank.old) chain.old ch
+        → AreApps (B.state bank.old).apps → WritesFew (turn_of chain.old.left ch) }
     ensures ends { IfOk result (λ step. IfSome step.end (λ end. EndFits chain.new.public end)) }
     ensures shaped { IfOk result (λ step. IfSome step.ins Shaped) }
 {
@@ -217,10 +222,9 @@ impl Chain {
     fn leave(&mut self) -> Option<End>
         ensures { Leaves self.old self.new result self.old.below }
     {
-        match mem::replace(&mut self.waiting, Waiting::None).without_top() {
-            Some((frame, waiting)) => {
+        match self.waiting.pop() {
+            Some(frame) => {
                 self.running = frame;
-                self.waiting = waiting;
                 None
             }
             None => Some(last_exit(&self.public)),
@@ -276,22 +280,30 @@ impl Chain {
         ensures { self.new ≡ record self.old { running = callee; below = self.old.running ∷ self.old.below } }
     {
         let caller = mem::replace(&mut self.running, callee);
-        let waiting = mem::replace(&mut self.waiting, Waiting::None);
-        self.waiting = waiting.with(caller);
+        self.waiting.push(caller);
     }
 }
 
 // Whether one of the frames that wait runs the application of a name.
 fn waits<B: Bank>(bank: &B, waiting: &Waiting, aid: &Aid) -> bool
     requires going { (B.state bank.now).stopped ≡ false }
-    requires fits { AllFit (B.state bank.now) (B.named bank.now) (waiting_frames waiting.now) }
-    ensures { result ≡ has_frame (B.named bank.now) aid.now (waiting_frames waiting.now) }
+    requires fits { AllFit (B.state bank.now) (B.named bank.now) waiting.now }
+    ensures { result ≡ has_frame (B.named bank.now) aid.now waiting.now }
 {
-    match waiting {
-        Waiting::None => false,
-        Waiting::One(a) => runs(bank, a, aid),
-        Waiting::Two(a, b) => runs(bank, a, aid) || runs(bank, b, aid),
-        Waiting::Three(a, b, c) => runs(bank, a, aid) || runs(bank, b, aid) || runs(bank, c, aid),
+    runs_in(bank, &waiting.third, aid)
+        || runs_in(bank, &waiting.second, aid)
+        || runs_in(bank, &waiting.first, aid)
+}
+
+// Whether the frame of a place, if there is one, runs the application of a name.
+fn runs_in<B: Bank>(bank: &B, place: &Option<Frame>, aid: &Aid) -> bool
+    requires going { (B.state bank.now).stopped ≡ false }
+    requires fits { AllFit (B.state bank.now) (B.named bank.now) (held_before place.now []) }
+    ensures { result ≡ has_frame (B.named bank.now) aid.now (held_before place.now []) }
+{
+    match place {
+        Some(frame) => runs(bank, frame, aid),
+        None => false,
     }
 }
 

@@ -1,67 +1,93 @@
 // The frames of a chain that wait for the one that they delegated to.
 ghost use Rattle.std.specs.Prelude.{◌≡◌, ◌<◌, ◌≤◌, [], ◌∷◌, length};
-ghost use Rattle.mc_machine.specs.Frames.{waiting_frames, top_slot, TookTop};
+ghost use Rattle.mc_machine.specs.Frames.{top_slot, TookTop};
 
 use mc_bank::Slot;
 use mc_segs::Frame;
+use std::marker::Model;
 
-/// At most three frames, of which the one that delegated last comes first.
+/// At most three frames, of which the one that delegated last comes first. Each stays in its place while it waits: a frame is
+/// dear to move.
 #[derive(Debug, Drop)]
-pub enum Waiting {
-    None,
-    One(Frame),
-    Two(Frame, Frame),
-    Three(Frame, Frame, Frame),
+pub struct Waiting {
+    pub(crate) first: Option<Frame>,
+    pub(crate) second: Option<Frame>,
+    pub(crate) third: Option<Frame>,
+}
+
+impl Model for Waiting {
+    ghost use Rattle.std.specs.Prelude.{List};
+    ghost use Rattle.mc_segs.specs.HeldFrames.{Held};
+    ghost use Rattle.mc_machine.specs.Frames.{waiting_frames, HasNoGap};
+
+    ghost Value = { List Held };
+
+    ghost view = { waiting_frames };
+
+    ghost invariant = { HasNoGap };
 }
 
 impl Waiting {
+    /// No frame waits.
+    pub fn new() -> Waiting
+        ensures { result ≡ [] }
+    {
+        Waiting {
+            first: None,
+            second: None,
+            third: None,
+        }
+    }
+
     /// How many frames wait.
     pub fn count(&self) -> u8
-        ensures count { result ≡ length (waiting_frames self.now) }
+        ensures count { result ≡ length self.now }
         ensures few { result ≤ 3 }
     {
-        match self {
-            Waiting::None => 0,
-            Waiting::One(_) => 1,
-            Waiting::Two(_, _) => 2,
-            Waiting::Three(_, _, _) => 3,
+        if self.third.is_some() {
+            3
+        } else if self.second.is_some() {
+            2
+        } else if self.first.is_some() {
+            1
+        } else {
+            0
         }
     }
 
     /// The slot of the frame that delegated last.
     pub fn top_slot(&self) -> Option<Slot>
-        ensures { result ≡ top_slot (waiting_frames self.now) }
+        ensures { result ≡ top_slot self.now }
     {
-        match self {
-            Waiting::None => None,
-            Waiting::One(top) => Some(top.slot()),
-            Waiting::Two(top, _) => Some(top.slot()),
-            Waiting::Three(top, _, _) => Some(top.slot()),
+        match (&self.third, &self.second, &self.first) {
+            (Some(top), _, _) => Some(top.slot()),
+            (None, Some(top), _) => Some(top.slot()),
+            (None, None, Some(top)) => Some(top.slot()),
+            (None, None, None) => None,
         }
     }
 
-    /// The frames with one more, which delegated last. There are at most two before.
-    pub fn with(self, frame: Frame) -> Waiting
-        requires { length (waiting_frames self) < 3 }
-        ensures { waiting_frames result ≡ frame ∷ waiting_frames self }
+    /// One frame more, which delegated last. There are at most two before.
+    pub fn push(&mut self, frame: Frame)
+        requires { length self.old < 3 }
+        ensures { self.new ≡ frame ∷ self.old }
     {
-        match self {
-            Waiting::None => Waiting::One(frame),
-            Waiting::One(first) => Waiting::Two(frame, first),
-            Waiting::Two(second, first) => Waiting::Three(frame, second, first),
-            Waiting::Three(_, _, _) => Waiting::None,
+        match self.count() {
+            0 => self.first = Some(frame),
+            1 => self.second = Some(frame),
+            _ => self.third = Some(frame),
         }
     }
 
-    /// The frame that delegated last, and the others.
-    pub fn without_top(self) -> Option<(Frame, Waiting)>
-        ensures { TookTop (waiting_frames self) result }
+    /// Takes the frame that delegated last.
+    pub fn pop(&mut self) -> Option<Frame>
+        ensures { TookTop self.old result self.new }
     {
-        match self {
-            Waiting::None => None,
-            Waiting::One(top) => Some((top, Waiting::None)),
-            Waiting::Two(top, first) => Some((top, Waiting::One(first))),
-            Waiting::Three(top, second, first) => Some((top, Waiting::Two(second, first))),
+        match self.count() {
+            0 => None,
+            1 => self.first.take(),
+            2 => self.second.take(),
+            _ => self.third.take(),
         }
     }
 }

@@ -1,4 +1,4 @@
-// The table of worked rows, and three rows that are too long for it.
+// The worked rows of commands to single applications, and of chains of them.
 use crate::card::Fault;
 use crate::rows::{Answer, App, Row, lone, wrong_at};
 use mc_machine::Outcome;
@@ -11,34 +11,6 @@ use std::test::Fail;
 // Whether a row goes as it is due.
 fn goes(alloc: Global, row: &Row<'_>) -> bool {
     matches!(wrong_at::<Brand>(alloc, Blank::new(1), row), Ok(None))
-}
-
-// Whether a single application with some static bytes answers a command, and leaves these static bytes.
-fn single(
-    alloc: Global,
-    code: &str,
-    data: &str,
-    fixed: u16,
-    budget: u32,
-    command: &str,
-    answer: Answer<'_>,
-    left: &str,
-) -> bool {
-    goes(
-        alloc,
-        &Row {
-            apps: &[App {
-                name: "A000000001",
-                code,
-                data,
-                fixed,
-                deny: 0,
-            }],
-            budget,
-            commands: &[(command, answer)],
-            left,
-        },
-    )
 }
 
 // How a command to a single application ends, and the static bytes that it leaves.
@@ -54,286 +26,307 @@ fn ended(
 
 const CALL: &str = "80010000";
 
-// A single application: its code, data, static size, budget, the command, its answer, and the static bytes that are left.
-#[test]
-fn single_applications(rt: HostRuntime) {
-    for (title, code, data, fixed, budget, command, answer, left) in [
-        (
-            "carry and zero",
-            "B9020000280246010000060001",
-            "FFFF",
-            2,
-            65536,
-            "8001000001",
-            Answer::Reply("039000"),
-            "0000",
-        ),
-        (
-            "last static byte",
-            "3901000104",
-            "",
-            2,
-            65536,
-            CALL,
-            Answer::Reply("9000"),
-            "0000",
-        ),
-        (
-            "past the last static byte",
-            "3902000104",
-            "",
-            2,
-            65536,
-            CALL,
-            Answer::Abend(Abend::A03),
-            "0000",
-        ),
-        (
-            "budget of 3",
-            "000004",
-            "",
-            0,
-            3,
-            CALL,
-            Answer::Reply("9000"),
-            "",
-        ),
-        (
-            "budget of 2",
-            "000004",
-            "",
-            0,
-            2,
-            CALL,
-            Answer::Abend(Abend::A07),
-            "",
-        ),
-        (
-            "a loop, budget of 1",
-            "0FFE",
-            "",
-            0,
-            1,
-            CALL,
-            Answer::Abend(Abend::A07),
-            "",
-        ),
-        (
-            "a loop, budget of 65,536",
-            "0FFE",
-            "",
-            0,
-            65536,
-            CALL,
-            Answer::Abend(Abend::A07),
-            "",
-        ),
-        (
-            "call and return",
-            "21051F000C460100000600013C01FFFB78032F0101",
-            "",
-            0,
-            65536,
-            "8001000001",
-            Answer::Reply("089000"),
-            "",
-        ),
-        (
-            "abend after a write",
-            "6911000030",
-            "",
-            1,
-            65536,
-            CALL,
-            Answer::Abend(Abend::A01),
-            "11",
-        ),
-        (
-            "undefined byte",
-            "23",
-            "",
-            0,
-            65536,
-            CALL,
-            Answer::Abend(Abend::A01),
-            "",
-        ),
-        (
-            "lookup",
-            "210B220000280446010000060001",
-            "030A0B0C",
-            4,
-            65536,
-            "8001000001",
-            Answer::Reply("019000"),
-            "030A0B0C",
-        ),
-        (
-            "bit word",
-            "2240012A02020246020000060002",
-            "",
-            0,
-            65536,
-            "8001000002",
-            Answer::Reply("00049000"),
-            "",
-        ),
-        (
-            "nothing under Check Case",
-            "2801",
-            "",
-            0,
-            65536,
-            CALL,
-            Answer::Abend(Abend::A04),
-            "",
-        ),
-        (
-            "no case 5",
-            "21052801",
-            "",
-            0,
-            65536,
-            CALL,
-            Answer::Abend(Abend::A06),
-            "",
-        ),
-        (
-            "no primitive FF",
-            "28FF",
-            "",
-            0,
-            65536,
-            CALL,
-            Answer::Abend(Abend::A06),
-            "",
-        ),
-        (
-            "DES",
-            "22C00022C000220000290408060008",
-            "133457799BBCDFF1",
-            8,
-            65536,
-            "80010000080123456789ABCDEF08",
-            Answer::Reply("85E813540F0AB4059000"),
-            "133457799BBCDFF1",
-        ),
-        (
-            "no block of 7",
-            "22C00022C000220000290407060008",
-            "133457799BBCDFF1",
-            8,
-            65536,
-            "80010000080123456789ABCDEF08",
-            Answer::Abend(Abend::A06),
-            "133457799BBCDFF1",
-        ),
-        (
-            "AES",
-            "22C00022C000220000290A10060010",
-            "000102030405060708090A0B0C0D0E0F",
-            16,
-            65536,
-            "800100001000112233445566778899AABBCCDDEEFF10",
-            Answer::Reply("69C4E0D86A7B0430D8CDB78070B4C55A9000"),
-            "000102030405060708090A0B0C0D0E0F",
-        ),
-        (
-            "no block of 24",
-            "22C00022C000220000290A18060010",
-            "000102030405060708090A0B0C0D0E0F",
-            16,
-            65536,
-            "800100001000112233445566778899AABBCCDDEEFF10",
-            Answer::Abend(Abend::A06),
-            "000102030405060708090A0B0C0D0E0F",
-        ),
-        (
-            "SHA-1",
-            "22000322C00022C0002809060014",
-            "",
-            0,
-            65536,
-            "800100000361626314",
-            Answer::Reply("A9993E364706816ABA3E25717850C26C9CD0D89D9000"),
-            "",
-        ),
-        (
-            "transaction of two words",
-            "290302691100006922000829030104",
-            "",
-            9,
-            65536,
-            CALL,
-            Answer::Reply("9000"),
-            "110000000000000022",
-        ),
-        (
-            "a transaction that is not committed",
-            "2903026933000004",
-            "",
-            9,
-            65536,
-            CALL,
-            Answer::Reply("9000"),
-            "000000000000000000",
-        ),
-        (
-            "extended case 4",
-            "060004",
-            "",
-            0,
-            65536,
-            "8001000000000211220004",
-            Answer::Reply("112200009000"),
-            "",
-        ),
-        (
-            "extended case 4 with Le 0000",
-            "060004",
-            "",
-            0,
-            65536,
-            "8001000000000211220000",
-            Answer::Reply("112200009000"),
-            "",
-        ),
-        (
-            "extended case 2",
-            "060004",
-            "",
-            0,
-            65536,
-            "80010000000002",
-            Answer::Reply("00009000"),
-            "",
-        ),
-        (
-            "extended case 3",
-            "060004",
-            "",
-            0,
-            65536,
-            "800100000000021122",
-            Answer::Reply("9000"),
-            "",
-        ),
-        (
-            "a reply above 1,024 bytes",
-            "060401",
-            "",
-            0,
-            65536,
-            CALL,
-            Answer::Abend(Abend::A09),
-            "",
-        ),
-    ] {
-        assert!(rt;
-            single(rt.alloc(), code, data, fixed, budget, command, answer, left),
-            "{title}"
-        );
+// A command to a single application: its code, data and static size, the budget, the answer, and the static bytes that are left.
+#[derive(Clone, Copy)]
+struct Case {
+    title: &'static str,
+    code: &'static str,
+    data: &'static str,
+    fixed: u16,
+    budget: u32,
+    command: &'static str,
+    answer: Answer<'static>,
+    left: &'static str,
+}
+
+// An application without static bytes, and a command without data that is answered by 9000 alone.
+const PLAIN: Case = Case {
+    title: "",
+    code: "",
+    data: "",
+    fixed: 0,
+    budget: 65536,
+    command: "80010000",
+    answer: Answer::Reply("9000"),
+    left: "",
+};
+
+// Static bytes, arithmetic and calls.
+const ACCESSES: [Case; 6] = [
+    Case {
+        title: "carry and zero",
+        code: "B9020000280246010000060001",
+        data: "FFFF",
+        fixed: 2,
+        command: "8001000001",
+        answer: Answer::Reply("039000"),
+        left: "0000",
+        ..PLAIN
+    },
+    Case {
+        title: "last static byte",
+        code: "3901000104",
+        fixed: 2,
+        left: "0000",
+        ..PLAIN
+    },
+    Case {
+        title: "past the last static byte",
+        code: "3902000104",
+        fixed: 2,
+        answer: Answer::Abend(Abend::A03),
+        left: "0000",
+        ..PLAIN
+    },
+    Case {
+        title: "call and return",
+        code: "21051F000C460100000600013C01FFFB78032F0101",
+        command: "8001000001",
+        answer: Answer::Reply("089000"),
+        ..PLAIN
+    },
+    Case {
+        title: "abend after a write",
+        code: "6911000030",
+        fixed: 1,
+        answer: Answer::Abend(Abend::A01),
+        left: "11",
+        ..PLAIN
+    },
+    Case {
+        title: "undefined byte",
+        code: "23",
+        answer: Answer::Abend(Abend::A01),
+        ..PLAIN
+    },
+];
+
+// Budgets that are enough, and that are not.
+const BUDGETS: [Case; 4] = [
+    Case {
+        title: "budget of 3",
+        code: "000004",
+        budget: 3,
+        ..PLAIN
+    },
+    Case {
+        title: "budget of 2",
+        code: "000004",
+        budget: 2,
+        answer: Answer::Abend(Abend::A07),
+        ..PLAIN
+    },
+    Case {
+        title: "a loop, budget of 1",
+        code: "0FFE",
+        budget: 1,
+        answer: Answer::Abend(Abend::A07),
+        ..PLAIN
+    },
+    Case {
+        title: "a loop, budget of 65,536",
+        code: "0FFE",
+        answer: Answer::Abend(Abend::A07),
+        ..PLAIN
+    },
+];
+
+// Primitives without a key.
+const PRIMITIVES: [Case; 5] = [
+    Case {
+        title: "lookup",
+        code: "210B220000280446010000060001",
+        data: "030A0B0C",
+        fixed: 4,
+        command: "8001000001",
+        answer: Answer::Reply("019000"),
+        left: "030A0B0C",
+        ..PLAIN
+    },
+    Case {
+        title: "bit word",
+        code: "2240012A02020246020000060002",
+        command: "8001000002",
+        answer: Answer::Reply("00049000"),
+        ..PLAIN
+    },
+    Case {
+        title: "nothing under Check Case",
+        code: "2801",
+        answer: Answer::Abend(Abend::A04),
+        ..PLAIN
+    },
+    Case {
+        title: "no case 5",
+        code: "21052801",
+        answer: Answer::Abend(Abend::A06),
+        ..PLAIN
+    },
+    Case {
+        title: "no primitive FF",
+        code: "28FF",
+        answer: Answer::Abend(Abend::A06),
+        ..PLAIN
+    },
+];
+
+// Ciphers and digests.
+const CIPHERS: [Case; 5] = [
+    Case {
+        title: "DES",
+        code: "22C00022C000220000290408060008",
+        data: "133457799BBCDFF1",
+        fixed: 8,
+        command: "80010000080123456789ABCDEF08",
+        answer: Answer::Reply("85E813540F0AB4059000"),
+        left: "133457799BBCDFF1",
+        ..PLAIN
+    },
+    Case {
+        title: "no block of 7",
+        code: "22C00022C000220000290407060008",
+        data: "133457799BBCDFF1",
+        fixed: 8,
+        command: "80010000080123456789ABCDEF08",
+        answer: Answer::Abend(Abend::A06),
+        left: "133457799BBCDFF1",
+        ..PLAIN
+    },
+    Case {
+        title: "AES",
+        code: "22C00022C000220000290A10060010",
+        data: "000102030405060708090A0B0C0D0E0F",
+        fixed: 16,
+        command: "800100001000112233445566778899AABBCCDDEEFF10",
+        answer: Answer::Reply("69C4E0D86A7B0430D8CDB78070B4C55A9000"),
+        left: "000102030405060708090A0B0C0D0E0F",
+        ..PLAIN
+    },
+    Case {
+        title: "no block of 24",
+        code: "22C00022C000220000290A18060010",
+        data: "000102030405060708090A0B0C0D0E0F",
+        fixed: 16,
+        command: "800100001000112233445566778899AABBCCDDEEFF10",
+        answer: Answer::Abend(Abend::A06),
+        left: "000102030405060708090A0B0C0D0E0F",
+        ..PLAIN
+    },
+    Case {
+        title: "SHA-1",
+        code: "22000322C00022C0002809060014",
+        command: "800100000361626314",
+        answer: Answer::Reply("A9993E364706816ABA3E25717850C26C9CD0D89D9000"),
+        ..PLAIN
+    },
+];
+
+// Transactions.
+const TRANSACTIONS: [Case; 2] = [
+    Case {
+        title: "transaction of two words",
+        code: "290302691100006922000829030104",
+        fixed: 9,
+        left: "110000000000000022",
+        ..PLAIN
+    },
+    Case {
+        title: "a transaction that is not committed",
+        code: "2903026933000004",
+        fixed: 9,
+        left: "000000000000000000",
+        ..PLAIN
+    },
+];
+
+// Extended commands, and a reply that is too long.
+const COMMANDS: [Case; 5] = [
+    Case {
+        title: "extended case 4",
+        code: "060004",
+        command: "8001000000000211220004",
+        answer: Answer::Reply("112200009000"),
+        ..PLAIN
+    },
+    Case {
+        title: "extended case 4 with Le 0000",
+        code: "060004",
+        command: "8001000000000211220000",
+        answer: Answer::Reply("112200009000"),
+        ..PLAIN
+    },
+    Case {
+        title: "extended case 2",
+        code: "060004",
+        command: "80010000000002",
+        answer: Answer::Reply("00009000"),
+        ..PLAIN
+    },
+    Case {
+        title: "extended case 3",
+        code: "060004",
+        command: "800100000000021122",
+        ..PLAIN
+    },
+    Case {
+        title: "a reply above 1,024 bytes",
+        code: "060401",
+        answer: Answer::Abend(Abend::A09),
+        ..PLAIN
+    },
+];
+
+// The title of the first case that goes otherwise.
+fn wrong_case(alloc: Global, cases: &[Case]) -> Option<&'static str> {
+    for case in cases {
+        let app = App {
+            name: "A000000001",
+            code: case.code,
+            data: case.data,
+            fixed: case.fixed,
+            deny: 0,
+        };
+        let row = Row {
+            apps: &[app],
+            budget: case.budget,
+            commands: &[(case.command, case.answer)],
+            left: case.left,
+        };
+        if !goes(alloc, &row) {
+            return Some(case.title);
+        }
     }
+    None
+}
+
+#[test]
+fn accesses(rt: HostRuntime) {
+    assert_eq!(rt; wrong_case(rt.alloc(), &ACCESSES), None);
+}
+
+#[test]
+fn budgets(rt: HostRuntime) {
+    assert_eq!(rt; wrong_case(rt.alloc(), &BUDGETS), None);
+}
+
+#[test]
+fn primitives(rt: HostRuntime) {
+    assert_eq!(rt; wrong_case(rt.alloc(), &PRIMITIVES), None);
+}
+
+#[test]
+fn ciphers(rt: HostRuntime) {
+    assert_eq!(rt; wrong_case(rt.alloc(), &CIPHERS), None);
+}
+
+#[test]
+fn transactions(rt: HostRuntime) {
+    assert_eq!(rt; wrong_case(rt.alloc(), &TRANSACTIONS), None);
+}
+
+#[test]
+fn extended_commands(rt: HostRuntime) {
+    assert_eq!(rt; wrong_case(rt.alloc(), &COMMANDS), None);
 }
 
 // Public bytes do not stay from one command to the next.

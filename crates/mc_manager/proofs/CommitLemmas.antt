@@ -7,7 +7,7 @@ use Rattle.mc_model.specs.declared.card.Part.TheVariants.{Code, Data, Dir, Fci}
 use Rattle.mc_model.specs.Items.{Site}
 use Rattle.mc_model.specs.Manager.{Open}
 use Rattle.mc_bank.specs.Bank.{IsGood}
-use Rattle.mc_manager.specs.Held.{BankView, Loaded, Held, open_of, seat_of, FitsLoad, Fits}
+use Rattle.mc_manager.specs.ManagerState.{BankView, Loaded, Held, open_of, seat_of, FitsLoad, Fits}
 
 -- slots, good sites and their bytes stay
 pub record Keeps (v w : BankView) : Type 0 where

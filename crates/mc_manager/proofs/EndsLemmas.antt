@@ -17,13 +17,13 @@ use Rattle.mc_model.specs.Manager.{Open, Seat, Accepted, Managed, first_status, 
 use Rattle.mc_model.specs.Units.{name_of}
 use Rattle.mc_apdu.specs.declared.reply.Reply.{Reply}
 use Rattle.mc_bank.specs.Bank.{part_len, no_app, app_of, name_or, entered, Changes}
-use Rattle.mc_bank.specs.Names.{name_is_itself}
+use Rattle.mc_bank.specs.NameLaws.{name_is_itself}
 use Rattle.mc_manager.specs.declared.selection.Selection.{Selection}
 use Rattle.mc_manager.specs.declared.routed.Routed.{Routed}
 use Rattle.mc_manager.specs.declared.routed.Routed.TheVariants as routed
 use Rattle.mc_manager.specs.Load.{is_full}
-use Rattle.mc_manager.specs.Held.{BankView, Loaded, Held, got_len, open_of, selected_of, seat_of, FitsLoad, Fits}
-use Rattle.mc_manager.specs.Due.{Due, Refuses, Selects, Does, due_select, due_manager, due_on, due, items_of, apps_after, Says, Leaves}
+use Rattle.mc_manager.specs.ManagerState.{BankView, Loaded, Held, got_len, open_of, selected_of, seat_of, FitsLoad, Fits}
+use Rattle.mc_manager.specs.CommandDue.{Due, Refuses, Selects, Does, due_select, due_manager, due_on, due, items_of, apps_after, Says, Leaves}
 use Rattle.mc_manager.specs.Calls.{CanSelect, CanCreate, CanDelete, has_selected, delete_causes}
 use Rattle.mc_manager.specs.Ends.{Ends}
 use Rattle.mc_manager.proofs.LoadLemmas.{length_got, same_size, fresh_entered}

@@ -11,7 +11,7 @@ use Rattle.mc_model.specs.Items.{Site}
 use Rattle.mc_model.specs.Manager.{got_of, size_of, with_got, is_complete, can_create, fresh}
 use Rattle.mc_bank.specs.Bank.{part_len, IsGood, StayGood, entered}
 use Rattle.mc_bank.proofs.LeftLemmas.{length-spliced}
-use Rattle.mc_manager.specs.Held.{BankView, Loaded, got_len, got_at, open_of, FitsLoad}
+use Rattle.mc_manager.specs.ManagerState.{BankView, Loaded, got_len, got_at, open_of, FitsLoad}
 use Rattle.mc_manager.specs.Load.{with_more, is_full}
 
 -- ---- sections

@@ -12,9 +12,9 @@ use Rattle.mc_model.specs.Card.{App}
 use Rattle.mc_model.specs.Manager.{Selected, Open, Seat, Accepted, Managed, Declines, first_status, answered, WrongClass, ToSelect, ToManager, ToApplication, select_refusals, select_done, select, open_refusals, open_done, open_load, load_refusals, load_done, load_part, create_refusals, create_done, create, dir_in, fresh, delete_refusals, delete_done, delete, manage}
 use Rattle.mc_model.specs.Units.{name_of}
 use Rattle.mc_bank.specs.Bank.{BankState, Changes}
-use Rattle.mc_bank.specs.Names.{same_name, lookup-inserted, lookup-beside}
-use Rattle.mc_manager.specs.Held.{BankView, Held, seat_of, load_of}
-use Rattle.mc_manager.specs.Due.{Due, Refuses, Selects, Does, due_select, due_manager, due_application, due_on, due, apps_after, NoneStale}
+use Rattle.mc_bank.specs.NameLaws.{same_name, lookup-inserted, lookup-beside}
+use Rattle.mc_manager.specs.ManagerState.{BankView, Held, seat_of, load_of}
+use Rattle.mc_manager.specs.CommandDue.{Due, Refuses, Selects, Does, due_select, due_manager, due_application, due_on, due, apps_after, NoneStale}
 
 -- ---- maps
 

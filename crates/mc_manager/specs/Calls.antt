@@ -6,7 +6,7 @@ use Rattle.mc_model.specs.Card.{App}
 use Rattle.mc_model.specs.Manager.{p1p2, is_empty, sizes_in, first_status, select_refusals, open_refusals, create_refusals}
 use Rattle.mc_model.specs.Units.{name_of}
 use Rattle.mc_manager.specs.declared.selection.Selection.{Selection}
-use Rattle.mc_manager.specs.Held.{BankView, Loaded, open_of, FitsLoad, NamedBy}
+use Rattle.mc_manager.specs.ManagerState.{BankView, Loaded, open_of, FitsLoad, NamedBy}
 use Rattle.mc_manager.specs.Load.{empty_load, is_full}
 
 -- a SELECT selects this application

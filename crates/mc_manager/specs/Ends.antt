@@ -5,8 +5,8 @@ use Rattle.mc_model.specs.Orders.{Answer, answer_of, InOrder}
 use Rattle.mc_model.specs.Items.{BankItem}
 use Rattle.mc_bank.specs.Bank.{Changes}
 use Rattle.mc_manager.specs.declared.routed.Routed.{Routed}
-use Rattle.mc_manager.specs.Held.{BankView, Held, Fits}
-use Rattle.mc_manager.specs.Due.{Due, items_of, apps_after, Leaves}
+use Rattle.mc_manager.specs.ManagerState.{BankView, Held, Fits}
+use Rattle.mc_manager.specs.CommandDue.{Due, items_of, apps_after, Leaves}
 
 -- What is due may depend on the session bytes, which the manager does not know. Its items are done in order, the
 -- applications are changed by it, and where no stop came it is answered, and the manager fits the bank again, which goes on.

@@ -1,5 +1,5 @@
-pub mod Held
-pub mod Due
+pub mod ManagerState
+pub mod CommandDue
 pub mod Load
 pub mod Calls
 pub mod Ends

@@ -3,7 +3,7 @@ use Rattle.std.specs.Prelude.{ℕ, ◌+◌, Bool, ◌&&◌, ◌==◌, List, [], 
 use Rattle.mc_model.specs.declared.card.Part.{Part}
 use Rattle.mc_model.specs.declared.card.Part.TheVariants.{Code, Data, Dir, Fci}
 use Rattle.mc_model.specs.Items.{Site}
-use Rattle.mc_manager.specs.Held.{Loaded}
+use Rattle.mc_manager.specs.ManagerState.{Loaded}
 
 -- no section has got a byte
 abbrev pub empty_load : Site → Loaded

@@ -5,7 +5,7 @@ ghost use Rattle.mc_model.specs.Manager.{create_refusals, dir_in, first_status};
 ghost use Rattle.mc_model.specs.Units.{name_of};
 ghost use Rattle.mc_apdu.specs.Command.{parts_of};
 ghost use Rattle.mc_bank.specs.Bank.{part_len};
-ghost use Rattle.mc_manager.specs.Held.{view_of, got_len, open_of, FitsLoad};
+ghost use Rattle.mc_manager.specs.ManagerState.{view_of, got_len, open_of, FitsLoad};
 ghost use Rattle.mc_manager.specs.Load.{is_full};
 ghost use Rattle.mc_manager.specs.Calls.{CanCreate};
 ghost use Rattle.mc_manager.specs.Status.{word_of};

@@ -5,7 +5,7 @@ ghost use Rattle.mc_model.specs.Items.{Piece};
 ghost use Rattle.mc_model.specs.Manager.{first_status, load_refusals, with_got, word_parts};
 ghost use Rattle.mc_apdu.specs.Command.{parts_of};
 ghost use Rattle.mc_bank.specs.Bank.{Changes, part_len};
-ghost use Rattle.mc_manager.specs.Held.{BankView, view_of, got_len, open_of, FitsLoad};
+ghost use Rattle.mc_manager.specs.ManagerState.{BankView, view_of, got_len, open_of, FitsLoad};
 ghost use Rattle.mc_manager.specs.Load.{with_more};
 ghost use Rattle.mc_manager.specs.Status.{word_of};
 

@@ -1,7 +1,7 @@
 ghost use Rattle.std.specs.Prelude.{◌≡◌, ℕ, List};
 ghost use Rattle.mc_model.specs.Orders.{Answer, InOrder};
 ghost use Rattle.mc_bank.proofs.Commits.{Words, commits};
-ghost use Rattle.mc_manager.specs.Held.{view_of, Held, Fits, seat_of};
+ghost use Rattle.mc_manager.specs.ManagerState.{view_of, Held, Fits, seat_of};
 
 use mc_bank::Bank;
 

@@ -1,6 +1,6 @@
 ghost use Rattle.std.specs.Prelude.{◌≡◌, ◌+◌, ◌≤◌, length, []};
 ghost use Rattle.mc_bank.specs.Bank.{part_len, FitsLimits};
-ghost use Rattle.mc_manager.specs.Held.{Loaded, got_len};
+ghost use Rattle.mc_manager.specs.ManagerState.{Loaded, got_len};
 ghost use Rattle.mc_manager.specs.Load.{empty_load, with_more};
 
 use arrayvec::ArrayVec;
@@ -22,7 +22,7 @@ pub struct Load {
 }
 
 impl Model for Load {
-    ghost use Rattle.mc_manager.specs.Held.{Loaded};
+    ghost use Rattle.mc_manager.specs.ManagerState.{Loaded};
 
     ghost Value = { Loaded };
 

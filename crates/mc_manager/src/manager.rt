@@ -1,8 +1,8 @@
 ghost use Rattle.std.specs.Prelude.{◌≡◌, ◌+◌, ◌≤◌, ◌==◌, cond, ℕ, List, false, Ok, None};
 ghost use Rattle.mc_model.specs.Manager.{select, open_load, load_part, create, delete, manage};
 ghost use Rattle.mc_apdu.specs.Command.{parts_of};
-ghost use Rattle.mc_manager.specs.Held.{BankView, view_of, selected_of, seat_of, load_of, Fits};
-ghost use Rattle.mc_manager.specs.Due.{due, due_application, due_select, due_manager, Leaves, most_ticks, NoneStale};
+ghost use Rattle.mc_manager.specs.ManagerState.{BankView, view_of, selected_of, seat_of, load_of, Fits};
+ghost use Rattle.mc_manager.specs.CommandDue.{due, due_application, due_select, due_manager, Leaves, most_ticks, NoneStale};
 ghost use Rattle.mc_manager.specs.Ends.{Ends};
 ghost use Rattle.mc_manager.specs.Ruled.{ruled, placed};
 
@@ -31,7 +31,7 @@ pub struct Manager {
 }
 
 impl Model for Manager {
-    ghost use Rattle.mc_manager.specs.Held.{Held};
+    ghost use Rattle.mc_manager.specs.ManagerState.{Held};
 
     ghost Value = { Held };
 

@@ -1,6 +1,6 @@
 ghost use Rattle.std.specs.Prelude.{◌≡◌, false, IsSome, IfSome, IfNone, Some, None};
 ghost use Rattle.mc_model.specs.Bytes.{lookup};
-ghost use Rattle.mc_manager.specs.Held.{NamedBy};
+ghost use Rattle.mc_manager.specs.ManagerState.{NamedBy};
 
 use crate::selection::Selection;
 use mc_bank::Bank;

@@ -2,8 +2,8 @@ ghost use Rattle.std.specs.Prelude.{◌≡◌, false, take, Some, IsSome, IfOk, 
 ghost use Rattle.mc_model.specs.Manager.{first_status, select_refusals, select_body};
 ghost use Rattle.mc_apdu.specs.Command.{parts_of};
 ghost use Rattle.mc_bank.specs.Bank.{app_of};
-ghost use Rattle.mc_manager.specs.Due.{Says};
-ghost use Rattle.mc_manager.specs.Held.{NamedBy};
+ghost use Rattle.mc_manager.specs.CommandDue.{Says};
+ghost use Rattle.mc_manager.specs.ManagerState.{NamedBy};
 ghost use Rattle.mc_manager.specs.Calls.{CanSelect};
 ghost use Rattle.mc_manager.specs.Status.{word_of};
 

@@ -1,5 +1,5 @@
 ghost use Rattle.std.specs.Prelude.{◌≡◌, []};
-ghost use Rattle.mc_manager.specs.Due.{Says};
+ghost use Rattle.mc_manager.specs.CommandDue.{Says};
 ghost use Rattle.mc_manager.specs.Status.{word_of};
 
 use mc_apdu::Reply;

@@ -1,5 +1,5 @@
 ghost use Rattle.std.specs.Prelude.{◌≡◌, ◌<◌, ◌≤◌, false, true, length};
-ghost use Rattle.mc_manager.specs.Held.{view_of, Fits};
+ghost use Rattle.mc_manager.specs.ManagerState.{view_of, Fits};
 
 use crate::rig::{Want, comes_to};
 use arrayvec::ArrayVec;

@@ -1,5 +1,5 @@
 ghost use Rattle.std.specs.Prelude.{◌≡◌, false, true, None, IsSome, IfSome};
-ghost use Rattle.mc_manager.specs.Held.{view_of, Fits};
+ghost use Rattle.mc_manager.specs.ManagerState.{view_of, Fits};
 
 use hex::decode;
 use mc_apdu::{Reply, parse};

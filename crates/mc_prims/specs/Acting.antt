@@ -9,7 +9,7 @@ use Rattle.mc_model.specs.Frame.{Frame, is_under, popped, top, is_outside, bytes
 use Rattle.mc_model.specs.Primitives.{Around, Primitive, Done, going, compared, in_range, count_at, later_causes, prim_effect}
 use Rattle.mc_model.specs.Row.{first_cause, judged}
 use Rattle.mc_bank.specs.Bank.{BankState}
-use Rattle.mc_segs.specs.Held.{Held}
+use Rattle.mc_segs.specs.HeldFrames.{Held}
 use Rattle.mc_segs.specs.Ends.{Scene, before, Acts}
 use Rattle.mc_segs.specs.declared.ends.Halt.{Halt}
 use Rattle.mc_segs.specs.declared.ends.Next.{Next}

@@ -3,7 +3,7 @@ ghost use Rattle.std.specs.Prelude.{◌≡◌, ◌%◌, ◌≤◌, ◌<◌, ◌�
 ghost use Rattle.mc_model.specs.Modes.{ecb};
 ghost use Rattle.mc_model.specs.Frame.{is_outside};
 ghost use Rattle.mc_model.specs.Primitives as model;
-ghost use Rattle.mc_segs.specs.Held.{Fits, shown};
+ghost use Rattle.mc_segs.specs.HeldFrames.{Fits, shown};
 ghost use Rattle.mc_segs.specs.Ends.{IfDue};
 ghost use Rattle.mc_prims.specs.Acting.{IsLength, Reads, ReadsCount};
 ghost use Rattle.mc_prims.specs.Table.{cipher_of, turned};

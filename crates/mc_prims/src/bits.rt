@@ -4,7 +4,7 @@ ghost use Rattle.mc_model.specs.declared.machine.Abend.TheVariants.{A04};
 ghost use Rattle.mc_model.specs.Blocks.{and_blocks, is_zero};
 ghost use Rattle.mc_model.specs.Frame.{is_under, top};
 ghost use Rattle.mc_model.specs.Primitives as model;
-ghost use Rattle.mc_segs.specs.Held.{Fits, shown};
+ghost use Rattle.mc_segs.specs.HeldFrames.{Fits, shown};
 ghost use Rattle.mc_segs.specs.Ends.{scene};
 ghost use Rattle.mc_prims.specs.Acting.{CausesAct, PopsInto};
 ghost use Rattle.mc_prims.specs.Table.{shift_block};

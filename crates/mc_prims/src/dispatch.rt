@@ -2,7 +2,7 @@
 ghost use Rattle.std.specs.Prelude.{◌≡◌, ◌≤◌, false, length};
 ghost use Rattle.mc_model.specs.declared.instruction.Ins.TheVariants.{Prim};
 ghost use Rattle.mc_model.specs.Primitives as model;
-ghost use Rattle.mc_segs.specs.Held.{Fits, shown};
+ghost use Rattle.mc_segs.specs.HeldFrames.{Fits, shown};
 ghost use Rattle.mc_segs.specs.Ends.{RowActs, scene};
 ghost use Rattle.mc_prims.specs.Acting.{PrimActs};
 ghost use Rattle.mc_prims.specs.Table.{known, primitive_of};

@@ -3,7 +3,7 @@ ghost use Rattle.std.specs.Prelude.{◌≡◌, ◌+◌, ◌==◌, ◌≤◌, [],
 ghost use Rattle.mc_model.specs.Frame.{flagged, pushed};
 ghost use Rattle.mc_model.specs.Primitives as model;
 ghost use Rattle.mc_model.specs.Primitives.{Lookup, MemoryCompare, MemoryCopy, CompareFixed, CopyFixed, Digest};
-ghost use Rattle.mc_segs.specs.Held.{Fits, shown};
+ghost use Rattle.mc_segs.specs.HeldFrames.{Fits, shown};
 ghost use Rattle.mc_segs.specs.Ends.{scene};
 ghost use Rattle.mc_segs.specs.declared.ends.Next.TheVariants.{Go};
 ghost use Rattle.mc_prims.specs.Acting.{alone, CausesAct, PrimActs, compare_causes, flags_compared};

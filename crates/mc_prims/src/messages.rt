@@ -1,7 +1,7 @@
 // Messages enciphered, deciphered and signed.
 ghost use Rattle.std.specs.Prelude.{◌≡◌, [], ◌∷◌, false, true, get_or, slice_index};
 ghost use Rattle.mc_model.specs.Primitives as model;
-ghost use Rattle.mc_segs.specs.Held.{Fits, shown};
+ghost use Rattle.mc_segs.specs.HeldFrames.{Fits, shown};
 ghost use Rattle.mc_segs.specs.Ends.{scene};
 ghost use Rattle.mc_prims.specs.Acting.{alone, CausesAct, PrimActs};
 ghost use Rattle.mc_prims.specs.Table.{cipher_of, turned};

@@ -2,7 +2,7 @@
 ghost use Rattle.std.specs.Prelude.{◌≡◌, ◌≤◌, [], ◌∷◌, false, length};
 ghost use Rattle.mc_model.specs.Primitives as model;
 ghost use Rattle.mc_model.specs.Primitives.{DelegateTo, DelegatorAid};
-ghost use Rattle.mc_segs.specs.Held.{Fits};
+ghost use Rattle.mc_segs.specs.HeldFrames.{Fits};
 ghost use Rattle.mc_segs.specs.Ends.{scene};
 ghost use Rattle.mc_prims.specs.Acting.{alone, PrimActs};
 

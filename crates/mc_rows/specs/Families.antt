@@ -19,6 +19,19 @@ IsRegisterRow (Exitla la) = Unit {0}
 IsRegisterRow (Exitswla sw la) = Unit {0}
 IsRegisterRow _ = ⊥
 
+-- the other rows but those of primitives: they lead to the next instruction where they are done
+abbrev pub LeadsOn : Ins → Type 0
+LeadsOn Nop = ⊥
+LeadsOn (Setsw sw) = ⊥
+LeadsOn (Setla la) = ⊥
+LeadsOn (Setswla sw la) = ⊥
+LeadsOn Exit = ⊥
+LeadsOn (Exitsw sw) = ⊥
+LeadsOn (Exitla la) = ⊥
+LeadsOn (Exitswla sw la) = ⊥
+LeadsOn (Prim set number args) = ⊥
+LeadsOn _ = Unit {0}
+
 -- the rows that have an operand with an address tag
 abbrev pub IsTagged : Ins → Type 0
 IsTagged Nop = ⊥

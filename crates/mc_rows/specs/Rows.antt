@@ -6,6 +6,9 @@ use Rattle.mc_model.specs.Blocks.{Worked, add_blocks, sub_blocks, inc_block, dec
 use Rattle.mc_model.specs.Frame.{Frame, address_at, bytes_at, is_outside, no_access, written, is_under, top}
 use Rattle.mc_model.specs.Primitives.{Around, Done, going, in_range}
 use Rattle.mc_model.specs.Row.{RowEnd, first_cause, judged, operand, on_stack, immediate_reads, immediate_writes, pair_writes, becomes, flags_of, place_of, value_of, first_of}
+use Rattle.mc_segs.specs.declared.ends.Halt.{Halt}
+use Rattle.mc_segs.specs.declared.ends.Next.{Next}
+use Rattle.mc_segs.specs.declared.ends.Next.TheVariants.{Go}
 use Rattle.mc_rows.specs.declared.operations.Binary.{Binary}
 use Rattle.mc_rows.specs.declared.operations.Binary.TheVariants.{Add, Sub, And, Or, Xor}
 use Rattle.mc_rows.specs.declared.operations.Unary.{Unary}
@@ -14,6 +17,11 @@ use Rattle.mc_rows.specs.declared.operations.Unary.TheVariants.{Inc, Dec, Not}
 -- nothing is known around the frame: only primitives ask
 abbrev pub alone : Around
 alone = record { case = 0; delegator = None }
+
+-- a row that leads to the next instruction where it is done, as all rows answer
+abbrev pub onward : Result (Unit {0}) Halt → Result Next Halt
+onward (Ok u) = Ok Go
+onward (Err halt) = Err halt
 
 -- the place of an operand: 04 where the stack is too short, 03 where there is no such address
 abbrev pub Placed : Result ℕ Abend → Bool → Option ℕ → Type 0

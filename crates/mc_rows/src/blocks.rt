@@ -1,15 +1,15 @@
 // Rows of a block of n bytes at a place.
 ghost use Rattle.std.specs.Prelude.{◌≡◌, ◌≤◌, false, length};
 ghost use Rattle.mc_model.specs.declared.instruction.Ins.TheVariants.{Clearn, Testn};
-ghost use Rattle.mc_segs.specs.Held.{Fits, shown};
+ghost use Rattle.mc_segs.specs.HeldFrames.{Fits, shown};
 ghost use Rattle.mc_segs.specs.Ends.{scene, Acts, RowActs};
-ghost use Rattle.mc_rows.specs.Rows.{alone, change_end, changed_end, most_unary};
+ghost use Rattle.mc_rows.specs.Rows.{alone, change_end, changed_end, most_unary, onward};
 
 use crate::bytes::{is_zero, zeros};
 use crate::operand::place;
 use crate::operations::{Unary, change, check_block, check_unary};
 use mc_bank::Bank;
-use mc_segs::{Frame, Halt, Next, Public, load, store};
+use mc_segs::{Frame, Halt, Public, load, store};
 
 /// INCN, DECN and NOTN: the operand becomes the result.
 pub fn change_block<B: Bank>(
@@ -20,12 +20,12 @@ pub fn change_block<B: Bank>(
     frame: &mut Frame,
     public: &mut Public,
     bank: &mut B,
-) -> Result<Next, Halt>
+) -> Result<(), Halt>
     requires going { (B.state bank.old).stopped ≡ false }
     requires fits { Fits (B.state bank.old) (B.named bank.old) frame.old }
     requires tag { tag ≤ 7 }
     ensures { Acts B.did B.state B.named (scene bank.old bank.new frame.old frame.new public.old public.new)
-        (change_end kind (shown (B.state bank.old) (B.named bank.old) frame.old) public.old tag off n) result }
+        (change_end kind (shown (B.state bank.old) (B.named bank.old) frame.old) public.old tag off n) (onward result) }
 {
     check_unary(kind, n)?;
     let count = n as usize;
@@ -46,7 +46,7 @@ fn change_in<B: Bank>(
     frame: &mut Frame,
     public: &mut Public,
     bank: &mut B,
-) -> Result<Next, Halt>
+) -> Result<(), Halt>
     requires low { 1 ≤ length value.old }
     requires high { length value.old ≤ most_unary kind }
     requires going { (B.state bank.old).stopped ≡ false }
@@ -54,14 +54,14 @@ fn change_in<B: Bank>(
     requires tag { tag ≤ 7 }
     ensures { Acts B.did B.state B.named (scene bank.old bank.new frame.old frame.new public.old public.new)
         (changed_end kind (shown (B.state bank.old) (B.named bank.old) frame.old) public.old tag off
-        (length value.old)) result }
+        (length value.old)) (onward result) }
 {
     let at = place(frame, tag, off, value.len() as u16)?;
     load(bank, frame, public, at, value)?;
     let flags = change(kind, frame.c(), value);
     store(bank, frame, public, at, value)?;
     frame.set_flags(flags.c, flags.z);
-    Ok(Next::Go)
+    Ok(())
 }
 
 /// CLEARN: the bytes at the operand's place become zero.
@@ -73,19 +73,19 @@ pub fn clear_block<B: Bank>(
     frame: &mut Frame,
     public: &mut Public,
     bank: &mut B,
-) -> Result<Next, Halt>
+) -> Result<(), Halt>
     requires going { (B.state bank.old).stopped ≡ false }
     requires fits { Fits (B.state bank.old) (B.named bank.old) frame.old }
     requires tag { tag ≤ 7 }
     ensures { RowActs B.did B.state B.named (scene bank.old bank.new frame.old frame.new public.old public.new)
-        (Clearn tag off n) alone result }
+        (Clearn tag off n) alone (onward result) }
 {
     check_block(n)?;
     let at = place(frame, tag, off, n as u16)?;
     let c = frame.c();
     store(bank, frame, public, at, zeros(n))?;
     frame.set_flags(c, true);
-    Ok(Next::Go)
+    Ok(())
 }
 
 /// TESTN: whether the operand is zero.
@@ -97,12 +97,12 @@ pub fn test_block<B: Bank>(
     frame: &mut Frame,
     public: &mut Public,
     bank: &mut B,
-) -> Result<Next, Halt>
+) -> Result<(), Halt>
     requires going { (B.state bank.old).stopped ≡ false }
     requires fits { Fits (B.state bank.old) (B.named bank.old) frame.old }
     requires tag { tag ≤ 7 }
     ensures { RowActs B.did B.state B.named (scene bank.old bank.new frame.old frame.new public.old public.new)
-        (Testn tag off n) alone result }
+        (Testn tag off n) alone (onward result) }
 {
     check_block(n)?;
     let mut buffer = [0; 255];
@@ -110,5 +110,5 @@ pub fn test_block<B: Bank>(
     let at = place(frame, tag, off, n as u16)?;
     load(bank, frame, public, at, value)?;
     frame.set_flags(frame.c(), is_zero(value));
-    Ok(Next::Go)
+    Ok(())
 }

@@ -3,13 +3,13 @@ ghost use Rattle.std.specs.Prelude.{◌≡◌, ◌≤◌, ◌&&◌, ◌==◌, On
 ghost use Rattle.mc_model.specs.declared.instruction.Ins.TheVariants.{Branch, Jump, Call, Retio};
 ghost use Rattle.mc_model.specs.Frame.{come_back, is_under, moved, no_return, saved};
 ghost use Rattle.mc_model.specs.Row.{holds, no_place, target, without_target};
-ghost use Rattle.mc_segs.specs.Held.{Fits};
+ghost use Rattle.mc_segs.specs.HeldFrames.{Fits};
 ghost use Rattle.mc_segs.specs.Ends.{scene, Gives, IfDue, RowActs};
-ghost use Rattle.mc_rows.specs.Rows.{alone, Led, Returns};
+ghost use Rattle.mc_rows.specs.Rows.{alone, Led, Returns, onward};
 
 use crate::bytes::number;
 use mc_bank::Bank;
-use mc_segs::{Abend, Frame, Halt, Next, Public, come_back, enter, pop, return_address};
+use mc_segs::{Abend, Frame, Halt, Public, come_back, enter, pop, return_address};
 
 /// BRANCH: where the condition holds, to a place relative to the next instruction.
 #[tactic(auto, unfolding(mc_model::specs::Row::row, mc_model::specs::Row::causes, mc_model::specs::Row::effect))]
@@ -19,18 +19,18 @@ pub fn branch<B: Bank>(
     frame: &mut Frame,
     public: &mut Public,
     bank: &mut B,
-) -> Result<Next, Halt>
+) -> Result<(), Halt>
     requires going { (B.state bank.old).stopped ≡ false }
     requires fits { Fits (B.state bank.old) (B.named bank.old) frame.old }
     ensures { RowActs B.did B.state B.named (scene bank.old bank.new frame.old frame.new public.old public.new)
-        (Branch cond d) alone result }
+        (Branch cond d) alone (onward result) }
 {
     if holds(frame, cond) {
         let to = moved(frame.at(), d)?;
         check_place(frame, to)?;
         frame.go(to);
     }
-    Ok(Next::Go)
+    Ok(())
 }
 
 /// JUMP: where the condition holds, to an address, which condition 0 pops.
@@ -41,18 +41,18 @@ pub fn jump<B: Bank>(
     frame: &mut Frame,
     public: &mut Public,
     bank: &mut B,
-) -> Result<Next, Halt>
+) -> Result<(), Halt>
     requires going { (B.state bank.old).stopped ≡ false }
     requires fits { Fits (B.state bank.old) (B.named bank.old) frame.old }
     ensures { RowActs B.did B.state B.named (scene bank.old bank.new frame.old frame.new public.old public.new)
-        (Jump cond to) alone result }
+        (Jump cond to) alone (onward result) }
 {
     let to = target(frame, cond, to)?;
     if holds(frame, cond) {
         check_place(frame, to)?;
         frame.go(to);
     }
-    Ok(Next::Go)
+    Ok(())
 }
 
 /// CALL: the same, with LB and the next place on the stack.
@@ -63,18 +63,18 @@ pub fn call<B: Bank>(
     frame: &mut Frame,
     public: &mut Public,
     bank: &mut B,
-) -> Result<Next, Halt>
+) -> Result<(), Halt>
     requires going { (B.state bank.old).stopped ≡ false }
     requires fits { Fits (B.state bank.old) (B.named bank.old) frame.old }
     ensures { RowActs B.did B.state B.named (scene bank.old bank.new frame.old frame.new public.old public.new)
-        (Call cond to) alone result }
+        (Call cond to) alone (onward result) }
 {
     let to = target(frame, cond, to)?;
     if holds(frame, cond) {
         check_place(frame, to)?;
         enter(frame, to)?;
     }
-    Ok(Next::Go)
+    Ok(())
 }
 
 /// RETIO, and with no bytes RET, RETI and RETO: the call is left, its top `o` bytes stay, and the `i` bytes below it go.
@@ -85,14 +85,14 @@ pub fn return_with<B: Bank>(
     frame: &mut Frame,
     public: &mut Public,
     bank: &mut B,
-) -> Result<Next, Halt>
+) -> Result<(), Halt>
     requires going { (B.state bank.old).stopped ≡ false }
     requires fits { Fits (B.state bank.old) (B.named bank.old) frame.old }
     ensures { RowActs B.did B.state B.named (scene bank.old bank.new frame.old frame.new public.old public.new)
-        (Retio i o) alone result }
+        (Retio i o) alone (onward result) }
 {
     leave(frame, i, o)?;
-    Ok(Next::Go)
+    Ok(())
 }
 
 // Whether a condition holds: 1 to 7 are EQ, LT, LE, GT, GE, NE and ALL, and 0 has none.

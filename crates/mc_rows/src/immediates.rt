@@ -1,14 +1,14 @@
 // Rows of a byte or a word at a place against an immediate.
 ghost use Rattle.std.specs.Prelude.{◌≡◌, ◌≤◌, false, length};
-ghost use Rattle.mc_segs.specs.Held.{Fits, shown};
+ghost use Rattle.mc_segs.specs.HeldFrames.{Fits, shown};
 ghost use Rattle.mc_segs.specs.Ends.{scene, Acts};
-ghost use Rattle.mc_rows.specs.Rows.{set_end, compare_end, combine_end};
+ghost use Rattle.mc_rows.specs.Rows.{set_end, compare_end, combine_end, onward};
 
 use crate::operand::place;
 use crate::operations::{Binary, combine};
 use mc_arith::compare;
 use mc_bank::Bank;
-use mc_segs::{Frame, Halt, Next, Public, load, store};
+use mc_segs::{Frame, Halt, Public, load, store};
 
 /// SETB and SETW: the bytes at the operand's place become these, one or two.
 pub fn set<B: Bank>(
@@ -18,18 +18,18 @@ pub fn set<B: Bank>(
     frame: &mut Frame,
     public: &mut Public,
     bank: &mut B,
-) -> Result<Next, Halt>
+) -> Result<(), Halt>
     requires going { (B.state bank.old).stopped ≡ false }
     requires fits { Fits (B.state bank.old) (B.named bank.old) frame.old }
     requires tag { tag ≤ 7 }
     requires low { 1 ≤ length bytes.now }
     requires high { length bytes.now ≤ 2 }
     ensures { Acts B.did B.state B.named (scene bank.old bank.new frame.old frame.new public.old public.new)
-        (set_end (shown (B.state bank.old) (B.named bank.old) frame.old) public.old tag off bytes.now) result }
+        (set_end (shown (B.state bank.old) (B.named bank.old) frame.old) public.old tag off bytes.now) (onward result) }
 {
     let at = place(frame, tag, off, bytes.len() as u16)?;
     store(bank, frame, public, at, bytes)?;
-    Ok(Next::Go)
+    Ok(())
 }
 
 /// CMPB and CMPW: the flags of the operand minus these bytes, one or two.
@@ -40,14 +40,15 @@ pub fn compare_with<B: Bank>(
     frame: &mut Frame,
     public: &mut Public,
     bank: &mut B,
-) -> Result<Next, Halt>
+) -> Result<(), Halt>
     requires going { (B.state bank.old).stopped ≡ false }
     requires fits { Fits (B.state bank.old) (B.named bank.old) frame.old }
     requires tag { tag ≤ 7 }
     requires low { 1 ≤ length bytes.now }
     requires high { length bytes.now ≤ 2 }
     ensures { Acts B.did B.state B.named (scene bank.old bank.new frame.old frame.new public.old public.new)
-        (compare_end (shown (B.state bank.old) (B.named bank.old) frame.old) public.old tag off bytes.now) result }
+        (compare_end (shown (B.state bank.old) (B.named bank.old) frame.old) public.old tag off bytes.now)
+        (onward result) }
 {
     let mut buffer = [0; 2];
     let value = &mut buffer[..bytes.len()];
@@ -55,7 +56,7 @@ pub fn compare_with<B: Bank>(
     load(bank, frame, public, at, value)?;
     let flags = compare(value, bytes);
     frame.set_flags(flags.c, flags.z);
-    Ok(Next::Go)
+    Ok(())
 }
 
 /// ADDB, ADDW, SUBB and SUBW: the operand becomes the result with these bytes, one or two.
@@ -67,14 +68,15 @@ pub fn combine_with<B: Bank>(
     frame: &mut Frame,
     public: &mut Public,
     bank: &mut B,
-) -> Result<Next, Halt>
+) -> Result<(), Halt>
     requires going { (B.state bank.old).stopped ≡ false }
     requires fits { Fits (B.state bank.old) (B.named bank.old) frame.old }
     requires tag { tag ≤ 7 }
     requires low { 1 ≤ length bytes.now }
     requires high { length bytes.now ≤ 2 }
     ensures { Acts B.did B.state B.named (scene bank.old bank.new frame.old frame.new public.old public.new)
-        (combine_end kind (shown (B.state bank.old) (B.named bank.old) frame.old) public.old tag off bytes.now) result }
+        (combine_end kind (shown (B.state bank.old) (B.named bank.old) frame.old) public.old tag off bytes.now)
+        (onward result) }
 {
     let mut buffer = [0; 2];
     let value = &mut buffer[..bytes.len()];
@@ -83,5 +85,5 @@ pub fn combine_with<B: Bank>(
     let flags = combine(kind, frame.c(), value, bytes);
     store(bank, frame, public, at, value)?;
     frame.set_flags(flags.c, flags.z);
-    Ok(Next::Go)
+    Ok(())
 }

@@ -3,7 +3,7 @@ ghost use Rattle.std.specs.Prelude.{◌≡◌, ◌+◌, ◌*◌, ◌≤◌, ◌=
 ghost use Rattle.mc_model.specs.Bytes.{num};
 ghost use Rattle.mc_model.specs.Frame.{address_at, in_two_bytes, is_outside, is_under, popped};
 ghost use Rattle.mc_model.specs.Row.{indexed, on_stack, operand};
-ghost use Rattle.mc_segs.specs.Held.{Fits, shown};
+ghost use Rattle.mc_segs.specs.HeldFrames.{Fits, shown};
 ghost use Rattle.mc_segs.specs.Ends.{addressed, Gives, IfDue};
 ghost use Rattle.mc_rows.specs.Rows.{FirstRead, Placed};
 

@@ -1,15 +1,15 @@
 // Rows of n bytes at a place and the top n bytes of the stack.
 ghost use Rattle.std.specs.Prelude.{◌≡◌, ◌≤◌, false, length};
 ghost use Rattle.mc_model.specs.declared.instruction.Ins.TheVariants.{Cmpn};
-ghost use Rattle.mc_segs.specs.Held.{Fits, shown};
+ghost use Rattle.mc_segs.specs.HeldFrames.{Fits, shown};
 ghost use Rattle.mc_segs.specs.Ends.{scene, Acts, RowActs};
-ghost use Rattle.mc_rows.specs.Rows.{alone, most_binary, pair_end, paired_end};
+ghost use Rattle.mc_rows.specs.Rows.{alone, most_binary, pair_end, paired_end, onward};
 
 use crate::operand::read_first;
 use crate::operations::{Binary, check_binary, check_block, combine};
 use mc_arith::compare;
 use mc_bank::Bank;
-use mc_segs::{Frame, Halt, Next, Public, store, top};
+use mc_segs::{Frame, Halt, Public, store, top};
 
 /// ADDN, SUBN, ANDN, ORN and XORN: the first operand becomes the result with the second, which stays on the stack.
 pub fn combine_pair<B: Bank>(
@@ -20,12 +20,12 @@ pub fn combine_pair<B: Bank>(
     frame: &mut Frame,
     public: &mut Public,
     bank: &mut B,
-) -> Result<Next, Halt>
+) -> Result<(), Halt>
     requires going { (B.state bank.old).stopped ≡ false }
     requires fits { Fits (B.state bank.old) (B.named bank.old) frame.old }
     requires tag { tag ≤ 7 }
     ensures { Acts B.did B.state B.named (scene bank.old bank.new frame.old frame.new public.old public.new)
-        (pair_end kind (shown (B.state bank.old) (B.named bank.old) frame.old) public.old tag off n) result }
+        (pair_end kind (shown (B.state bank.old) (B.named bank.old) frame.old) public.old tag off n) (onward result) }
 {
     check_binary(kind, n)?;
     let count = n as usize;
@@ -48,7 +48,7 @@ fn combine_in<B: Bank>(
     frame: &mut Frame,
     public: &mut Public,
     bank: &mut B,
-) -> Result<Next, Halt>
+) -> Result<(), Halt>
     requires low { 1 ≤ length first.old }
     requires high { length first.old ≤ most_binary kind }
     requires going { (B.state bank.old).stopped ≡ false }
@@ -56,14 +56,14 @@ fn combine_in<B: Bank>(
     requires tag { tag ≤ 7 }
     ensures { Acts B.did B.state B.named (scene bank.old bank.new frame.old frame.new public.old public.new)
         (paired_end kind (shown (B.state bank.old) (B.named bank.old) frame.old) public.old tag off
-        (length first.old)) result }
+        (length first.old)) (onward result) }
 {
     let at = read_first(tag, off, first, frame, public, bank)?;
     let second = top(frame, first.len() as u8);
     let flags = combine(kind, frame.c(), first, second);
     store(bank, frame, public, at, first)?;
     frame.set_flags(flags.c, flags.z);
-    Ok(Next::Go)
+    Ok(())
 }
 
 /// CMPN: the flags of the first operand minus the second.
@@ -75,12 +75,12 @@ pub fn compare_pair<B: Bank>(
     frame: &mut Frame,
     public: &mut Public,
     bank: &mut B,
-) -> Result<Next, Halt>
+) -> Result<(), Halt>
     requires going { (B.state bank.old).stopped ≡ false }
     requires fits { Fits (B.state bank.old) (B.named bank.old) frame.old }
     requires tag { tag ≤ 7 }
     ensures { RowActs B.did B.state B.named (scene bank.old bank.new frame.old frame.new public.old public.new)
-        (Cmpn tag off n) alone result }
+        (Cmpn tag off n) alone (onward result) }
 {
     check_block(n)?;
     let mut buffer = [0; 255];
@@ -88,5 +88,5 @@ pub fn compare_pair<B: Bank>(
     read_first(tag, off, first, frame, public, bank)?;
     let flags = compare(first, top(frame, n));
     frame.set_flags(flags.c, flags.z);
-    Ok(Next::Go)
+    Ok(())
 }

@@ -1,6 +1,6 @@
 // Rows that set the status and the length of the reply, and those that end the frame.
 ghost use Rattle.std.specs.Prelude.{◌≡◌, false};
-ghost use Rattle.mc_segs.specs.Held.{Fits};
+ghost use Rattle.mc_segs.specs.HeldFrames.{Fits};
 ghost use Rattle.mc_segs.specs.Ends.{scene, RowActs};
 ghost use Rattle.mc_rows.specs.Rows.{alone};
 ghost use Rattle.mc_rows.specs.Families.{IsRegisterRow};

@@ -1,10 +1,10 @@
 // One instruction: its row, by families.
 ghost use Rattle.std.specs.Prelude.{◌≡◌, false};
 ghost use Rattle.mc_model.specs.Code.{Shaped};
-ghost use Rattle.mc_segs.specs.Held.{Fits};
+ghost use Rattle.mc_segs.specs.HeldFrames.{Fits};
 ghost use Rattle.mc_segs.specs.Ends.{scene, RowActs};
-ghost use Rattle.mc_rows.specs.Rows.{alone};
-ghost use Rattle.mc_rows.specs.Families.{IsBlockRow, IsNoPrimitive, IsTagged};
+ghost use Rattle.mc_rows.specs.Rows.{alone, onward};
+ghost use Rattle.mc_rows.specs.Families.{IsBlockRow, IsNoPrimitive, IsTagged, LeadsOn};
 
 use crate::blocks::{change_block, clear_block, test_block};
 use crate::bytes::word;
@@ -48,6 +48,30 @@ pub fn step<B: Bank>(
         | Ins::Exitsw { .. }
         | Ins::Exitla { .. }
         | Ins::Exitswla { .. } => registers(ins, frame, public, bank),
+        _ => match step_on(ins, frame, public, bank) {
+            Ok(()) => Ok(Next::Go),
+            Err(halt) => Err(halt),
+        },
+    }
+}
+
+// The rows that lead to the next instruction where they are done.
+#[tactic(auto, unfolding(mc_model::specs::Row::row, mc_model::specs::Row::causes, mc_model::specs::Row::effect))]
+#[inline(always)]
+fn step_on<B: Bank>(
+    ins: &Ins,
+    frame: &mut Frame,
+    public: &mut Public,
+    bank: &mut B,
+) -> Result<(), Halt>
+    requires going { (B.state bank.old).stopped ≡ false }
+    requires fits { Fits (B.state bank.old) (B.named bank.old) frame.old }
+    requires shaped { Shaped ins.now }
+    requires family { LeadsOn ins.now }
+    ensures { RowActs B.did B.state B.named
+        (scene bank.old bank.new frame.old frame.new public.old public.new) ins.now alone (onward result) }
+{
+    match *ins {
         Ins::Branch { cond, d } => branch(cond, d, frame, public, bank),
         Ins::Jump { cond, to } => jump(cond, to, frame, public, bank),
         Ins::Call { cond, to } => call(cond, to, frame, public, bank),
@@ -73,13 +97,13 @@ fn step_tagged<B: Bank>(
     frame: &mut Frame,
     public: &mut Public,
     bank: &mut B,
-) -> Result<Next, Halt>
+) -> Result<(), Halt>
     requires going { (B.state bank.old).stopped ≡ false }
     requires fits { Fits (B.state bank.old) (B.named bank.old) frame.old }
     requires shaped { Shaped ins.now }
     requires family { IsTagged ins.now }
     ensures { RowActs B.did B.state B.named
-        (scene bank.old bank.new frame.old frame.new public.old public.new) ins.now alone result }
+        (scene bank.old bank.new frame.old frame.new public.old public.new) ins.now alone (onward result) }
 {
     match *ins {
         Ins::Load { tag, off, n } => load_block(tag, off, n, frame, public, bank),
@@ -124,13 +148,13 @@ fn step_block<B: Bank>(
     frame: &mut Frame,
     public: &mut Public,
     bank: &mut B,
-) -> Result<Next, Halt>
+) -> Result<(), Halt>
     requires going { (B.state bank.old).stopped ≡ false }
     requires fits { Fits (B.state bank.old) (B.named bank.old) frame.old }
     requires shaped { Shaped ins.now }
     requires family { IsBlockRow ins.now }
     ensures { RowActs B.did B.state B.named
-        (scene bank.old bank.new frame.old frame.new public.old public.new) ins.now alone result }
+        (scene bank.old bank.new frame.old frame.new public.old public.new) ins.now alone (onward result) }
 {
     match *ins {
         Ins::Clearn { tag, off, n } => clear_block(tag, off, n, frame, public, bank),

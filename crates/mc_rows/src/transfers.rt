@@ -1,15 +1,15 @@
 // Rows that move bytes between the stack and an address.
 ghost use Rattle.std.specs.Prelude.{◌≡◌, ◌≤◌, false};
 ghost use Rattle.mc_model.specs.declared.instruction.Ins.TheVariants.{Load, Store, Loadi, Storei, Loada, Index};
-ghost use Rattle.mc_segs.specs.Held.{Fits, shown};
+ghost use Rattle.mc_segs.specs.HeldFrames.{Fits, shown};
 ghost use Rattle.mc_segs.specs.Ends.{scene, RowActs};
-ghost use Rattle.mc_rows.specs.Rows.{alone, AddressUnder};
+ghost use Rattle.mc_rows.specs.Rows.{alone, AddressUnder, onward};
 
 use crate::bytes::word;
 use crate::operand::{indexed, need, on_stack, operand, place, read_address};
 use crate::operations::check_block;
 use mc_bank::Bank;
-use mc_segs::{Abend, Frame, Halt, Next, Public, load, pop, push, store};
+use mc_segs::{Abend, Frame, Halt, Public, load, pop, push, store};
 
 /// LOAD: the n bytes of the operand are pushed.
 #[tactic(auto, unfolding(mc_model::specs::Row::row, mc_model::specs::Row::causes, mc_model::specs::Row::effect))]
@@ -20,12 +20,12 @@ pub fn load_block<B: Bank>(
     frame: &mut Frame,
     public: &mut Public,
     bank: &mut B,
-) -> Result<Next, Halt>
+) -> Result<(), Halt>
     requires going { (B.state bank.old).stopped ≡ false }
     requires fits { Fits (B.state bank.old) (B.named bank.old) frame.old }
     requires tag { tag ≤ 7 }
     ensures { RowActs B.did B.state B.named (scene bank.old bank.new frame.old frame.new public.old public.new)
-        (Load tag off n) alone result }
+        (Load tag off n) alone (onward result) }
 {
     check_block(n)?;
     let mut buffer = [0; 255];
@@ -33,7 +33,7 @@ pub fn load_block<B: Bank>(
     let at = place(frame, tag, off, n as u16)?;
     load(bank, frame, public, at, bytes)?;
     push(frame, bytes)?;
-    Ok(Next::Go)
+    Ok(())
 }
 
 /// STORE: n bytes are popped, and written to the operand's place.
@@ -45,12 +45,12 @@ pub fn store_block<B: Bank>(
     frame: &mut Frame,
     public: &mut Public,
     bank: &mut B,
-) -> Result<Next, Halt>
+) -> Result<(), Halt>
     requires going { (B.state bank.old).stopped ≡ false }
     requires fits { Fits (B.state bank.old) (B.named bank.old) frame.old }
     requires tag { tag ≤ 7 }
     ensures { RowActs B.did B.state B.named (scene bank.old bank.new frame.old frame.new public.old public.new)
-        (Store tag off n) alone result }
+        (Store tag off n) alone (onward result) }
 {
     check_block(n)?;
     let count = n as u16;
@@ -60,7 +60,7 @@ pub fn store_block<B: Bank>(
     let bytes = &mut buffer[..n as usize];
     pop(frame, bytes)?;
     store(bank, frame, public, at, bytes)?;
-    Ok(Next::Go)
+    Ok(())
 }
 
 /// LOADI: the operand is the address of n bytes that are pushed.
@@ -72,12 +72,12 @@ pub fn load_indirect<B: Bank>(
     frame: &mut Frame,
     public: &mut Public,
     bank: &mut B,
-) -> Result<Next, Halt>
+) -> Result<(), Halt>
     requires going { (B.state bank.old).stopped ≡ false }
     requires fits { Fits (B.state bank.old) (B.named bank.old) frame.old }
     requires tag { tag ≤ 7 }
     ensures { RowActs B.did B.state B.named (scene bank.old bank.new frame.old frame.new public.old public.new)
-        (Loadi tag off n) alone result }
+        (Loadi tag off n) alone (onward result) }
 {
     check_block(n)?;
     let at = place(frame, tag, off, 2)?;
@@ -86,7 +86,7 @@ pub fn load_indirect<B: Bank>(
     let bytes = &mut buffer[..n as usize];
     load(bank, frame, public, from, bytes)?;
     push(frame, bytes)?;
-    Ok(Next::Go)
+    Ok(())
 }
 
 /// STOREI: n bytes are popped, and written to the address that the operand was before.
@@ -98,12 +98,12 @@ pub fn store_indirect<B: Bank>(
     frame: &mut Frame,
     public: &mut Public,
     bank: &mut B,
-) -> Result<Next, Halt>
+) -> Result<(), Halt>
     requires going { (B.state bank.old).stopped ≡ false }
     requires fits { Fits (B.state bank.old) (B.named bank.old) frame.old }
     requires tag { tag ≤ 7 }
     ensures { RowActs B.did B.state B.named (scene bank.old bank.new frame.old frame.new public.old public.new)
-        (Storei tag off n) alone result }
+        (Storei tag off n) alone (onward result) }
 {
     check_block(n)?;
     let to = address_under(n, tag, off, frame, public, bank)?;
@@ -111,7 +111,7 @@ pub fn store_indirect<B: Bank>(
     let bytes = &mut buffer[..n as usize];
     pop(frame, bytes)?;
     store(bank, frame, public, to, bytes)?;
-    Ok(Next::Go)
+    Ok(())
 }
 
 /// LOADA: the operand's address is pushed, with tag 0 that of the top of the stack.
@@ -122,16 +122,16 @@ pub fn load_address<B: Bank>(
     frame: &mut Frame,
     public: &mut Public,
     bank: &mut B,
-) -> Result<Next, Halt>
+) -> Result<(), Halt>
     requires going { (B.state bank.old).stopped ≡ false }
     requires fits { Fits (B.state bank.old) (B.named bank.old) frame.old }
     requires tag { tag ≤ 7 }
     ensures { RowActs B.did B.state B.named (scene bank.old bank.new frame.old frame.new public.old public.new)
-        (Loada tag off) alone result }
+        (Loada tag off) alone (onward result) }
 {
     let at = operand(frame, tag, off, 0)?;
     push(frame, &word(at))?;
-    Ok(Next::Go)
+    Ok(())
 }
 
 /// INDEX: the address of an element of a table is pushed; its number is popped, and with tag 0 the table's address too.
@@ -143,16 +143,16 @@ pub fn index<B: Bank>(
     frame: &mut Frame,
     public: &mut Public,
     bank: &mut B,
-) -> Result<Next, Halt>
+) -> Result<(), Halt>
     requires going { (B.state bank.old).stopped ≡ false }
     requires fits { Fits (B.state bank.old) (B.named bank.old) frame.old }
     requires tag { tag ≤ 7 }
     ensures { RowActs B.did B.state B.named (scene bank.old bank.new frame.old frame.new public.old public.new)
-        (Index tag off size) alone result }
+        (Index tag off size) alone (onward result) }
 {
     let at = indexed(frame, tag, off, size)?;
     push(frame, &word(at))?;
-    Ok(Next::Go)
+    Ok(())
 }
 
 // The address to which STOREI writes n bytes from the top of the stack.

@@ -7,9 +7,10 @@ use Rattle.mc_model.specs.Bytes.{splice}
 use Rattle.mc_model.specs.Pieces.{covered, laid_pieces, word_pieces}
 use Rattle.mc_model.specs.Frame.{Frame, Place, where_is, bytes_at, bytes_in}
 use Rattle.mc_bank.specs.Bank.{BankState}
-use Rattle.mc_trans.proofs.Overlay.{length-laid, length-splice, splice_before, splice_in, splice_behind, get_some, get_none, lt-leb}
+use Rattle.mc_trans.proofs.Overlay.{length-laid, splice_before, splice_in, splice_behind, get_some, get_none, lt-leb}
+use Rattle.mc_model.proofs.ListLemmas.{length-splice}
 use Rattle.mc_segs.specs.Overlaid.{IsOverlaid}
-use Rattle.mc_segs.specs.Held.{Held, Fits, shown, pieces_of, ArePendingIn}
+use Rattle.mc_segs.specs.HeldFrames.{Held, Fits, shown, pieces_of, ArePendingIn}
 use Rattle.mc_segs.specs.Inside.{frame_value, KeepsInside}
 use Rattle.mc_segs.specs.declared.frame.Frame.TheInside.{Inside}
 use Rattle.mc_segs.proofs.PendingLemmas.{read_byte, pieces_lie}

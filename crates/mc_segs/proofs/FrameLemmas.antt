@@ -5,7 +5,7 @@ use Rattle.std.proofs.Math.Seq.{take-append_seam}
 use Rattle.mc_model.specs.Bytes.{zeros, splice}
 use Rattle.mc_model.specs.declared.card.Sizes.{Sizes}
 use Rattle.mc_segs.specs.Sessions.{KeepsSession}
-use Rattle.mc_segs.specs.Held.{Held, new_held}
+use Rattle.mc_segs.specs.HeldFrames.{Held, new_held}
 use Rattle.mc_segs.specs.Inside.{frame_value}
 
 -- zeros, as a front of them and the rest

@@ -9,7 +9,7 @@ use Rattle.mc_model.specs.Pieces.{covered, laid_pieces, word_pieces, with_number
 use Rattle.mc_trans.proofs.Overlay.{LieIn_begin, laid_covered, lt-leb}
 use Rattle.mc_trans.proofs.Touched.{covered_word}
 use Rattle.mc_trans.proofs.Putting.{with_number_twice}
-use Rattle.mc_segs.specs.Held.{pieces_of, ArePendingIn}
+use Rattle.mc_segs.specs.HeldFrames.{pieces_of, ArePendingIn}
 
 -- ---- numbers
 

@@ -11,8 +11,8 @@ use Rattle.mc_model.proofs.ImageLemmas.{all-append}
 use Rattle.mc_trans.proofs.Words.{put_pending}
 use Rattle.mc_trans.proofs.Touched.{untouched}
 use Rattle.mc_trans.proofs.Putting.{piece_put, pieces_joined}
-use Rattle.mc_trans.proofs.Overlay.{length-splice}
-use Rattle.mc_segs.specs.Held.{ArePendingIn}
+use Rattle.mc_model.proofs.ListLemmas.{length-splice}
+use Rattle.mc_segs.specs.HeldFrames.{ArePendingIn}
 use Rattle.mc_segs.specs.Puts.{IsWordOf, PutsPiece}
 
 -- ---- counts

@@ -3,7 +3,7 @@ use Rattle.std.proofs.Common.{◌≡◌, ℕ, ◌+◌, ◌-◌, ◌≤◌, ◌<�
 use Rattle.std.proofs.lemmas.List.{drop_more}
 use Rattle.mc_model.specs.Bytes.{be2, num, splice}
 use Rattle.mc_model.specs.Frame as model
-use Rattle.mc_segs.specs.Held.{Held}
+use Rattle.mc_segs.specs.HeldFrames.{Held}
 use Rattle.mc_segs.specs.Inside.{frame_value}
 use Rattle.mc_segs.specs.declared.frame.Frame.TheInside.{Inside}
 

@@ -9,12 +9,12 @@ use Rattle.mc_model.specs.Card.{App}
 use Rattle.mc_model.specs.Pieces.{laid_pieces, touched, not_pending, HoldPieces, LieIn}
 use Rattle.mc_model.specs.Frame.{Frame, Static, static_bytes, static_written, passes_limit, committed as changes_of}
 use Rattle.mc_bank.specs.Bank.{BankState, app_of, name_or, no_app, with_words, committed, Changes}
-use Rattle.mc_bank.specs.Names.{lookup-inserted}
+use Rattle.mc_bank.specs.NameLaws.{lookup-inserted}
 use Rattle.mc_model.proofs.ImageLemmas.{all-append}
 use Rattle.mc_trans.proofs.Overlay.{length-laid}
 use Rattle.mc_trans.proofs.Holding.{words_laid, none_held}
 use Rattle.mc_trans.proofs.Counting.{words_counted}
-use Rattle.mc_segs.specs.Held.{Held, Fits, shown, seen, no_pieces, pieces_of, ArePendingIn, app_under}
+use Rattle.mc_segs.specs.HeldFrames.{Held, Fits, shown, seen, no_pieces, pieces_of, ArePendingIn, app_under}
 use Rattle.mc_segs.specs.Inside.{frame_value}
 use Rattle.mc_segs.specs.Commits.{IsCommitted}
 use Rattle.mc_segs.specs.Ends.{Left, Committed, Commits, scene}
@@ -78,7 +78,7 @@ fixed_under state named b h = (app_under (state b) (named b) h).fixed
 module _ {B : Type 0} (did : B → BankItem → Answer → B → Type 0) (state : B → BankState) (named : B → ℕ → Option (List ℕ)) where
   commit_items : (b e : B) (h : Held) (at : ℕ) (from : List ℕ) (ws : List (ℕ × List ℕ)) (a : Answer) → PutsBytes (fixed_under state named b h) [] at from ws → InOrder did b (Commit (name_or (named b h.slot)) ws ∷ []) a e
       → Committed did (name_or (named b h.slot)) (fixed_under state named b h) (Some ((at, from) ∷ [])) b a e
-  commit_items b e h at from ws a puts items = (ws, puts.holds [] tt (none_held (fixed_under state named b h)), items)
+  commit_items b e h at from ws a puts items = (ws, puts.holds [] tt (none_held (fixed_under state named b h)), items, puts.pending.few)
 
   committed_at_once : (b e : B) (h : Held) (at : ℕ) (from : List ℕ) (ws : List (ℕ × List ℕ)) → Fits (state b) (named b) h → 1 ≤ length from → at + length from ≤ length h.frame.fixed → PutsBytes (fixed_under state named b h) [] at from ws
       → InOrder did b (Commit (name_or (named b h.slot)) ws ∷ []) (Ok tt) e → (state e).apps ≡ committed (state b).apps (name_or (named b h.slot)) ws → ((k : ℕ) → named e k ≡ named b k) → (state e).stopped ≡ false
@@ -197,10 +197,10 @@ limit_by m l ws list at n more pieces are some same is =
 
 -- ---- pending words at once
 
-some_changed : {B : Type 0} (did : B → BankItem → Answer → B → Type 0) (b e : B) (name l : List ℕ) (m : Frame) (ws : List (ℕ × List ℕ)) (a : Answer) → 1 ≤ length ws → HoldPieces l (pieces_of (length l) ws) ws → InOrder did b (Commit name ws ∷ []) a e
+some_changed : {B : Type 0} (did : B → BankItem → Answer → B → Type 0) (b e : B) (name l : List ℕ) (m : Frame) (ws : List (ℕ × List ℕ)) (a : Answer) → 1 ≤ length ws → length ws ≤ 64 → HoldPieces l (pieces_of (length l) ws) ws → InOrder did b (Commit name ws ∷ []) a e
     → Committed did name l (changes_of m (pieces_of (length l) ws)) b a e
-some_changed did b e name l m [] a some held items = absurd (omega arith)
-some_changed did b e name l m (w ∷ ws) a some held items = (w ∷ ws, held, items)
+some_changed did b e name l m [] a some few held items = absurd (omega arith)
+some_changed did b e name l m (w ∷ ws) a some few held items = (w ∷ ws, held, items, few)
 
 module _ {B : Type 0} (did : B → BankItem → Answer → B → Type 0) (state : B → BankState) (named : B → ℕ → Option (List ℕ)) where
   abbrev pub pending_changed : B → B → Held → Answer → Type 0
@@ -217,7 +217,7 @@ module _ {B : Type 0} (did : B → BankItem → Answer → B → Type 0) (state 
       let all : InOrder did b (Commit name f.pending ∷ []) a e = subst (λ (t : List (ℕ × List ℕ)). InOrder did b (Commit name t ∷ []) a e) is (subst (λ (i : ℕ). InOrder did b (Commit (name_or (named b i)) list ∷ []) a e) same items) in
       let long = ap (λ (t : List (ℕ × List ℕ)). length t) is in
       subst (λ (ps : List (ℕ × List ℕ)). Committed did name l (changes_of (shown (state b) (named b) h) ps) b a e) (sym has.pieces)
-      (some_changed did b e name l (shown (state b) (named b) h) f.pending a (omega arith) (pieces_held l f.pending has.pending) all)
+      (some_changed did b e name l (shown (state b) (named b) h) f.pending a (omega arith) has.pending.few (pieces_held l f.pending has.pending) all)
 
   pub all_words_now : (b e : B) (f : Inside) (h : Held) (k : ℕ) (list : List (ℕ × List ℕ)) → k ≡ h.slot → list ≡ f.pending → Fits (state b) (named b) h → HasWords (fixed_under state named b h) f.fixed_len f.pending h
       → (state e).apps ≡ committed (state b).apps (name_or (named b k)) list → ((i : ℕ) → named e i ≡ named b i) → is_now b e h

@@ -10,7 +10,7 @@ use Rattle.mc_model.specs.Items.{BankItem}
 use Rattle.mc_model.specs.Bytes.{splice}
 use Rattle.mc_model.specs.Frame.{Frame, Effect, Place, Static, Dynamic, Public, where_is, is_outside, passes_limit, too_many, static_written, written_in, written}
 use Rattle.mc_bank.specs.Bank.{BankState}
-use Rattle.mc_segs.specs.Held.{Held, Fits, shown}
+use Rattle.mc_segs.specs.HeldFrames.{Held, Fits, shown}
 use Rattle.mc_segs.specs.Inside.{frame_value}
 use Rattle.mc_segs.specs.Ends.{Left, Commits, CanWrite, Stores, scene}
 use Rattle.mc_segs.specs.declared.frame.Frame.TheInside.{Inside}

@@ -1,5 +1,5 @@
 -- How calls on frames end, and what they leave.
-use Rattle.std.specs.Prelude.{◌≡◌, ◌⊎◌, ℕ, Bool, true, false, List, [], ◌∷◌, Option, Some, None, Result, Ok, Err}
+use Rattle.std.specs.Prelude.{◌≡◌, ◌⊎◌, ℕ, ◌≤◌, Bool, true, false, List, [], ◌∷◌, length, Option, Some, None, Result, Ok, Err}
 use Rattle.mc_model.specs.declared.instruction.Ins.{Ins}
 use Rattle.mc_model.specs.declared.machine.Abend.{Abend}
 use Rattle.mc_model.specs.declared.machine.Abend.TheVariants.{A03, A08}
@@ -11,7 +11,7 @@ use Rattle.mc_model.specs.Frame.{Frame, Effect, is_outside, too_many}
 use Rattle.mc_model.specs.Primitives.{Around, Then, Goes, Exits, Delegates}
 use Rattle.mc_model.specs.Row.{RowEnd, Abends, Does, row}
 use Rattle.mc_bank.specs.Bank.{BankState}
-use Rattle.mc_segs.specs.Held.{Held, Fits, shown, seen}
+use Rattle.mc_segs.specs.HeldFrames.{Held, Fits, shown, seen}
 use Rattle.mc_segs.specs.declared.ends.Halt.{Halt}
 use Rattle.mc_segs.specs.declared.ends.Halt.TheVariants as halt
 use Rattle.mc_segs.specs.declared.ends.Next.{Next}
@@ -34,10 +34,10 @@ addressed None = Err A03
 
 -- ---- static changes
 
--- A change of static bytes is one commit of the words that hold its pieces; without a change there is none. An abend is no stop.
+-- A change of static bytes is one commit of at most 64 words that hold its pieces; without a change there is none. An abend is no stop.
 abbrev pub Committed : {B : Type 0} → (B → BankItem → Answer → B → Type 0) → List ℕ → List ℕ → Option (List (ℕ × List ℕ)) → B → Answer → B → Type 0
 Committed did name fixed None b a e = InOrder did b [] a e
-Committed did name fixed (Some ps) b a e = (ws : List (ℕ × List ℕ)) × HoldPieces fixed ps ws × InOrder did b (Commit name ws ∷ []) a e
+Committed did name fixed (Some ps) b a e = (ws : List (ℕ × List ℕ)) × HoldPieces fixed ps ws × InOrder did b (Commit name ws ∷ []) a e × (length ws ≤ 64)
 
 -- static bytes after a change
 abbrev pub changed_bytes : List ℕ → Option (List (ℕ × List ℕ)) → List ℕ

@@ -1,7 +1,7 @@
 -- What the fields of a frame stand for.
 use Rattle.std.specs.Prelude.{[]}
 use Rattle.mc_model.specs.Bytes.{zeros}
-use Rattle.mc_segs.specs.Held.{Held, pieces_of, ArePendingIn, KeepsFrame}
+use Rattle.mc_segs.specs.HeldFrames.{Held, pieces_of, ArePendingIn, KeepsFrame}
 use Rattle.mc_segs.specs.declared.frame.Frame.TheInside.{Inside}
 
 -- the frame of the fields

@@ -1,4 +1,4 @@
-pub mod Held
+pub mod HeldFrames
 pub mod Inside
 pub mod Sessions
 pub mod Ends

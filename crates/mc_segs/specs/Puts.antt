@@ -2,7 +2,7 @@
 use Rattle.std.specs.Prelude.{◌≡◌, ℕ, ◌+◌, ◌-◌, ◌*◌, ◌/◌, ◌<◌, List, [], ◌∷◌, ◌++◌, length, slice_index, None, IfSome}
 use Rattle.mc_model.specs.Bytes.{splice}
 use Rattle.mc_model.specs.Pieces.{pending_at, put_word, not_pending, HoldPieces, LieIn}
-use Rattle.mc_segs.specs.Held.{ArePendingIn}
+use Rattle.mc_segs.specs.HeldFrames.{ArePendingIn}
 
 -- Word n of a segment, before bytes are put into it: the one that is there, or the segment's bytes. Behind the segment's end it may hold anything.
 pub record IsWordOf (l : List ℕ) (ws : List (ℕ × List ℕ)) (n : ℕ) (word : List ℕ) : Type 0 where

@@ -1,7 +1,7 @@
 // Addresses, and accesses that lie whole in a segment.
 ghost use Rattle.std.specs.Prelude.{◌≡◌, ◌+◌, ◌*◌, ◌/◌, ◌^◌, ◌≤◌, ◌<◌, length, take, drop, false, OnOk, OnErr, option_map};
 ghost use Rattle.mc_model.specs.Frame as model;
-ghost use Rattle.mc_segs.specs.Held.{Fits, shown};
+ghost use Rattle.mc_segs.specs.HeldFrames.{Fits, shown};
 ghost use Rattle.mc_segs.specs.Ends.{IfDue, scene, Stores, addressed};
 ghost use Rattle.mc_segs.specs.Overlaid.{IsOverlaid};
 ghost use Rattle.mc_segs.specs.Places.{place_value};

@@ -1,6 +1,6 @@
 ghost use Rattle.std.specs.Prelude.{◌≡◌, ◌≢◌, ◌-◌, ◌+◌, ◌≤◌, ◌<◌, length, true, false, OnOk, OnErr};
 ghost use Rattle.mc_model.specs.Frame.{flagged, floor, session_of};
-ghost use Rattle.mc_segs.specs.Held.{new_held};
+ghost use Rattle.mc_segs.specs.HeldFrames.{new_held};
 
 use crate::bytes::write;
 use crate::session::Session;
@@ -31,7 +31,7 @@ pub struct Frame {
 }
 
 impl Model for Frame {
-    ghost use Rattle.mc_segs.specs.Held.{Held};
+    ghost use Rattle.mc_segs.specs.HeldFrames.{Held};
     ghost use Rattle.mc_segs.specs.Inside.{frame_value, KeepsInside};
 
     ghost Value = { Held };

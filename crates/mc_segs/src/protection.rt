@@ -3,7 +3,7 @@ ghost use Rattle.std.specs.Prelude.{◌≡◌, ℕ, ◌+◌, ◌*◌, ◌/◌, �
 ghost use Rattle.mc_model.specs.Frame as model;
 ghost use Rattle.mc_model.specs.Pieces.{not_pending, pending_at, put_word};
 ghost use Rattle.mc_bank.specs.Bank.{app_of};
-ghost use Rattle.mc_segs.specs.Held.{Fits, shown, ArePendingIn};
+ghost use Rattle.mc_segs.specs.HeldFrames.{Fits, shown, ArePendingIn};
 ghost use Rattle.mc_segs.specs.Puts.{words_under, IsWordOf, PutsPiece, PutsBytes};
 ghost use Rattle.mc_segs.specs.Commits.{IsCommitted};
 ghost use Rattle.mc_segs.specs.Ends.{IfDue, Committed, Commits, Left, scene, Protects};

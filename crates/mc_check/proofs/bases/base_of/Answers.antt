@@ -1,6 +1,6 @@
 use Rattle.std.proofs.Common.{◌+◌, ℕ, get_or, sym, subst, ◌∙◌}
 use Rattle.std.proofs.lemmas.Option.{slice_get-get_or}
-use Rattle.mc_check.proofs.Telling.{TellsUpTo, no_call, caller_is_inside, greater_is, tells_other, tells_base, tells_all, tells_stop}
+use Rattle.mc_check.proofs.CallTelling.{TellsUpTo, no_call, caller_is_inside, greater_is, tells_other, tells_base, tells_all, tells_stop}
 use Rattle.mc_check.proofs.bases.base_of.Goals as goal
 use Rattle.mc_check.proofs.bases.base_of.Goals.{then-call-routine+in-Base, else-call-routine}
 

@@ -1,4 +1,4 @@
-use Rattle.mc_check.proofs.Telling.{TellsUpTo}
+use Rattle.mc_check.proofs.CallTelling.{TellsUpTo}
 use Rattle.mc_check.proofs.bases.base_of.Given as goal
 
 abbrev pub invariant-loop-call : goal.invariant-loop-call

@@ -1,6 +1,6 @@
 use Rattle.std.proofs.Common.{◌≡◌, [], length}
 use Rattle.mc_check.specs.Searching.{Searches}
-use Rattle.mc_check.proofs.Found.{SeenUpTo}
+use Rattle.mc_check.proofs.SearchFound.{SeenUpTo}
 use Rattle.mc_check.proofs.bases.bases_by.Given as goal
 
 abbrev pub invariant-loop-call : goal.invariant-loop-call

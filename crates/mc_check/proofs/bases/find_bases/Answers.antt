@@ -4,7 +4,7 @@ use Rattle.std.proofs.lemmas.Result.{IfOk-weaker, IfErr-weaker}
 use Rattle.mc_check.specs.Table.{AreBases, IsDue}
 use Rattle.mc_check.specs.declared.calls.Call.{Call}
 use Rattle.mc_check.specs.CallList.{AreBasesIn, IsRing}
-use Rattle.mc_check.proofs.Found.{are_bases, fault_of}
+use Rattle.mc_check.proofs.SearchFound.{are_bases, fault_of}
 use Rattle.mc_check.proofs.bases.find_bases.Goals as goal
 
 pub returns-clause-bases : goal.returns-clause-bases

@@ -5,7 +5,7 @@ use Rattle.mc_check.specs.declared.calls.Call.{Call}
 use Rattle.mc_check.specs.declared.table.Entry.{Entry}
 use Rattle.mc_model.specs.Code.{decoded}
 use Rattle.mc_check.specs.CallList.{call_of, target_of}
-use Rattle.mc_check.proofs.Listing.{ListsUpTo, lists_same, lists_more, are_calls}
+use Rattle.mc_check.proofs.CallList.{ListsUpTo, lists_same, lists_more, are_calls}
 use Rattle.mc_check.proofs.calls.list_calls.Goals as goal
 use Rattle.mc_check.proofs.calls.list_calls.Goals.{in-Some+in-Some-call_at+in_ok-push, in-Some+in_default-call_at, in_default}
 

@@ -1,4 +1,4 @@
-use Rattle.mc_check.proofs.Listing.{ListsUpTo}
+use Rattle.mc_check.proofs.CallList.{ListsUpTo}
 use Rattle.mc_check.proofs.calls.list_calls.Given as goal
 
 abbrev pub invariant-loop-place : goal.invariant-loop-place

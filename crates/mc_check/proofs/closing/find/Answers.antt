@@ -1,6 +1,6 @@
 use Rattle.std.proofs.Common.{sym}
 use Rattle.mc_check.specs.Table.{fact_of}
-use Rattle.mc_check.proofs.Looks.{refuses_bad}
+use Rattle.mc_check.proofs.FactLooks.{refuses_bad}
 use Rattle.mc_check.proofs.closing.find.Goals as goal
 
 pub returns-in-Err-clause-due : goal.returns-in-Err-clause-due

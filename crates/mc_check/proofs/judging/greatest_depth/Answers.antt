@@ -6,8 +6,8 @@ use Rattle.mc_check.specs.declared.table.Entry.{Entry}
 use Rattle.mc_check.specs.declared.table.Refusal.{Refusal}
 use Rattle.mc_check.specs.Judging.{plain_at, depth_of}
 use Rattle.mc_check.specs.Table.{routine_of, base_in}
-use Rattle.mc_check.proofs.Passes.{Known, Passes, depth_in, passes-none, passes-skip, passes-more, accepts, refuses, entry-begins, entry-reached}
-use Rattle.mc_check.proofs.Tables.{read-kept, unread}
+use Rattle.mc_check.proofs.TablePasses.{Known, Passes, depth_in, passes-none, passes-skip, passes-more, accepts, refuses, entry-begins, entry-reached}
+use Rattle.mc_check.proofs.TableReads.{read-kept, unread}
 use Rattle.mc_check.proofs.judging.greatest_depth.Goals as goal
 use Rattle.mc_check.proofs.judging.greatest_depth.Goals.{After-has_call-has_calls, in-Some+in_ok-depth, in_default}
 

@@ -1,5 +1,5 @@
 -- no entry before the place breaks a rule
-use Rattle.mc_check.proofs.Passes.{Passes}
+use Rattle.mc_check.proofs.TablePasses.{Passes}
 use Rattle.mc_check.proofs.judging.greatest_depth.Given as goal
 
 abbrev pub invariant-loop-place : goal.invariant-loop-place

@@ -2,7 +2,7 @@ use Rattle.std.proofs.Common.{◌≡◌, ℕ, false, sym, ◌∙◌}
 use borrow.Author.Count.{below_more}
 use Rattle.mc_model.specs.Code.{decoded}
 use Rattle.mc_check.specs.Judging.{IsKept, calls_at}
-use Rattle.mc_check.proofs.Tables.{some-kept, none-kept}
+use Rattle.mc_check.proofs.TableReads.{some-kept, none-kept}
 use Rattle.mc_check.proofs.judging.has_call.Goals as goal
 use Rattle.mc_check.proofs.judging.has_call.Goals.{else-is_some-via-then-is_some+else-calls, else-is_some-via-else-is_some}
 

@@ -7,7 +7,7 @@ use Rattle.mc_model.specs.Items.{Commit}
 use Rattle.mc_model.specs.Code.{decoded}
 use Rattle.mc_model.specs.Row.{row}
 use Rattle.mc_model.specs.Chain.{Acted, abends_at, around, stepped, row_turn, turn_of}
-use Rattle.mc_segs.specs.Held.{Held, shown, app_under}
+use Rattle.mc_segs.specs.HeldFrames.{Held, shown, app_under}
 use Rattle.mc_segs.specs.Ends.{RowActs, scene}
 use Rattle.mc_model.specs.declared.device.Stop.{Stop}
 use Rattle.mc_machine.specs.Turns.{advanced, told_of}

@@ -1,7 +1,7 @@
 use Rattle.std.proofs.Common.{None, sym, subst}
 use Rattle.mc_model.specs.Primitives.{Around}
 use Rattle.mc_model.specs.Row.{RowEnd}
-use Rattle.mc_segs.specs.Held.{shown}
+use Rattle.mc_segs.specs.HeldFrames.{shown}
 use Rattle.mc_segs.specs.Ends.{Acts, scene}
 use Rattle.mc_rows.proofs.AloneLemmas.{row_alone}
 use Rattle.mc_machine.proofs.RowFacts.{no_primitive}

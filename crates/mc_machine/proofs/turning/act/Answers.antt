@@ -1,23 +1,46 @@
 use Rattle.std.proofs.Common.{◌≡◌, ◌≢◌, ℕ, ◌+◌, Some, None, Result, Ok, Err, refl, sym, ap, subst, ◌∙◌, arith}
 use Rattle.mc_model.specs.declared.instruction.DecodeFault.{DecodeFault}
 use Rattle.mc_model.specs.declared.instruction.DecodeFault.TheVariants.{Undefined, Past}
-use Rattle.mc_model.specs.declared.machine.Abend.TheVariants.{A01, A02}
+use Rattle.mc_model.specs.declared.machine.Abend.TheVariants.{A01, A02, A07}
 use Rattle.mc_model.specs.declared.device.Stop.{Stop}
 use Rattle.mc_model.specs.Items.{Commit}
 use Rattle.mc_model.specs.Code.{decoded}
 use Rattle.mc_model.specs.Row.{row}
 use Rattle.mc_model.specs.Chain.{Acted, around, stepped, row_turn, turn_of, follows}
-use Rattle.mc_segs.specs.Held.{shown, app_under}
+use Rattle.mc_segs.specs.HeldFrames.{shown, app_under}
 use Rattle.mc_segs.specs.Ends.{RowActs, scene, then_of}
 use Rattle.mc_machine.specs.Chains.{Chained}
-use Rattle.mc_machine.specs.Turns.{ActDone, Followed, advanced, told_of, delegator_of}
+use Rattle.mc_machine.specs.Turns.{ActDone, AllFit, WritesFew, Followed, advanced, told_of, delegator_of}
 use Rattle.mc_machine.specs.declared.outcome.End.TheVariants as end
 use Rattle.mc_machine.specs.declared.outcome.Step.{Step}
 use Rattle.mc_machine.proofs.Kept.{row_keeps}
 use Rattle.mc_machine.proofs.RowFacts.{row_exits}
 use Rattle.mc_machine.proofs.TurnLemmas.{BankLaws}
+use Rattle.mc_machine.proofs.FewLemmas.{abend_writes, act_writes}
 use Rattle.mc_machine.proofs.ActLemmas.{turned, abends_done, row_count, row_related, performed_halts, performed_fits, performed_done}
+use Rattle.mc_machine.proofs.ReadsLemmas.{all_fit}
 use Rattle.mc_machine.proofs.turning.act.Goals as goal
+
+pub perform-requires-clause-waiting : goal.perform-requires-clause-waiting
+perform-requires-clause-waiting g c =
+    let state = g.B.Bank.state c.args.bank.now in
+    let named = g.B.Bank.named c.args.bank.now in
+    let fits = c.requires.fits in
+    subst (λ (k : Chained). AllFit state named k.below) (sym c.advance.ensures) (all_fit state named c.args.chain.now.below fits.0.below fits.1.below)
+
+pub returns-then-chain-eq0-clause-done : goal.returns-then-chain-eq0-clause-done
+returns-then-chain-eq0-clause-done g c ch r =
+    let did = g.B.Bank.did in
+    let state = g.B.Bank.state in
+    let named = g.B.Bank.named in
+    let b = c.args.bank.now in
+    let now = c.args.chain.now in
+    let none : now.left ≡ 0 = subst (λ (k : Chained). k.left ≡ 0) c.chain.view_is c.if-chain-eq0.true in
+    let step = c.abends.result in
+    let told : c.told-before.result ≡ told_of now.running None None = subst (λ (k : Chained). c.told-before.result ≡ told_of k.running None None) c.chain.view_is c.told-before.ensures in
+    subst (λ (n : ℕ). ActDone did state named b b now now ch (turn_of n ch) (Ok step)) (sym none) (
+    abends_done did state named b b now now ch None 0 A07 step r c.requires.going refl refl (omega arith) (c.abends.ensures ∙ ap (λ (x : Step). record x { end = Some (end.Abend A07) }) told)
+    )
 
 pub returns-in-Err-Undefined-clause-done : goal.returns-in-Err-Undefined-clause-done
 returns-in-Err-Undefined-clause-done g c ch r =
@@ -208,4 +231,71 @@ returns-in-Err-clause-done g c ch r =
     subst (λ (res : Result Step Stop). ActDone did state named b e now mid ch (row_turn ch i y) res) (sym c.halts.ensures.value) (
     performed_halts did state named laws b e now mid ch next i r others c.requires.going some before (ap (λ (s : Step). record s { ins = Some i }) told) c.in-Err.halt x y same acts
     )
+    )
+
+-- ---- how much the turn writes
+
+pub returns-in-Err-Undefined-clause-few : goal.returns-in-Err-Undefined-clause-few
+returns-in-Err-Undefined-clause-few g c ch r apps =
+    let did = g.B.Bank.did in
+    let state = g.B.Bank.state in
+    let named = g.B.Bank.named in
+    let b = c.args.bank.now in
+    let now = c.args.chain.now in
+    let some : now.left ≢ 0 = subst (λ (k : Chained). k.left ≢ 0) c.chain.view_is c.if-chain-eq0.false in
+    let exact : Err Undefined ≡ decoded (app_under (state b) (named b) now.running).code now.running.frame.at =
+    subst (λ (k : Chained). Err Undefined ≡ decoded (app_under (state b) (named b) k.running).code k.running.frame.at) c.chain.view_is (
+    subst (λ (f : DecodeFault). Err f ≡ decoded (app_under (state b) (named b) c.chain.inside.running).code c.chain.inside.running.frame.at) c.in-Err-Undefined.field-0-is c.in-Err-Undefined.ensures.exact
+    ) in
+    subst (λ (t : Acted). WritesFew t) (sym (turned did state named b now ch (Err Undefined) r some exact)) (abend_writes ch A01)
+
+pub returns-in-Err-Past-clause-few : goal.returns-in-Err-Past-clause-few
+returns-in-Err-Past-clause-few g c ch r apps =
+    let did = g.B.Bank.did in
+    let state = g.B.Bank.state in
+    let named = g.B.Bank.named in
+    let b = c.args.bank.now in
+    let now = c.args.chain.now in
+    let some : now.left ≢ 0 = subst (λ (k : Chained). k.left ≢ 0) c.chain.view_is c.if-chain-eq0.false in
+    let exact : Err Past ≡ decoded (app_under (state b) (named b) now.running).code now.running.frame.at =
+    subst (λ (k : Chained). Err Past ≡ decoded (app_under (state b) (named b) k.running).code k.running.frame.at) c.chain.view_is (
+    subst (λ (f : DecodeFault). Err f ≡ decoded (app_under (state b) (named b) c.chain.inside.running).code c.chain.inside.running.frame.at) c.in-Err-Past.field-0-is c.in-Err-Past.ensures.exact
+    ) in
+    subst (λ (t : Acted). WritesFew t) (sym (turned did state named b now ch (Err Past) r some exact)) (abend_writes ch A02)
+
+pub returns-in-Ok-perform-clause-few : goal.returns-in-Ok-perform-clause-few
+returns-in-Ok-perform-clause-few g c ch r apps =
+    let did = g.B.Bank.did in
+    let state = g.B.Bank.state in
+    let named = g.B.Bank.named in
+    let b = c.args.bank.now in
+    let now = c.args.chain.now in
+    let some : now.left ≢ 0 = subst (λ (k : Chained). k.left ≢ 0) c.chain.view_is c.if-chain-eq0.false in
+    let found = c.in-Ok.found in
+    let exact : Ok found ≡ decoded (app_under (state b) (named b) now.running).code now.running.frame.at =
+    subst (λ (k : Chained). Ok found ≡ decoded (app_under (state b) (named b) k.running).code k.running.frame.at) c.chain.view_is c.in-Ok.ensures.exact in
+    let is = turned did state named b now ch (Ok found) r some exact in
+    let d = c.follow.new.chain in
+    let step = c.follow.result in
+    subst (λ (t : Acted). WritesFew t) (sym is) (
+    act_writes did state named b c.perform.new.bank now d ch found.0 found.1 (Ok step) r apps c.in-Ok.ensures.stands.shaped
+    (subst (λ (t : Acted). ActDone did state named b c.perform.new.bank now d ch t (Ok step)) is (returns-in-Ok-perform-clause-done g c ch r))
+    )
+
+pub returns-in-Err-clause-few : goal.returns-in-Err-clause-few
+returns-in-Err-clause-few g c ch r apps =
+    let did = g.B.Bank.did in
+    let state = g.B.Bank.state in
+    let named = g.B.Bank.named in
+    let b = c.args.bank.now in
+    let now = c.args.chain.now in
+    let some : now.left ≢ 0 = subst (λ (k : Chained). k.left ≢ 0) c.chain.view_is c.if-chain-eq0.false in
+    let found = c.in-Ok.found in
+    let exact : Ok found ≡ decoded (app_under (state b) (named b) now.running).code now.running.frame.at =
+    subst (λ (k : Chained). Ok found ≡ decoded (app_under (state b) (named b) k.running).code k.running.frame.at) c.chain.view_is c.in-Ok.ensures.exact in
+    let is = turned did state named b now ch (Ok found) r some exact in
+    let mid = c.perform.new.chain in
+    subst (λ (t : Acted). WritesFew t) (sym is) (
+    act_writes did state named b c.perform.new.bank now mid ch found.0 found.1 c.halts.result r apps c.in-Ok.ensures.stands.shaped
+    (subst (λ (t : Acted). ActDone did state named b c.perform.new.bank now mid ch t c.halts.result) is (returns-in-Err-clause-done g c ch r))
     )

@@ -1,7 +1,7 @@
 use Rattle.std.proofs.Common.{sym, ap, subst}
 use Rattle.mc_model.specs.Primitives.{Around}
 use Rattle.mc_model.specs.Row.{RowEnd}
-use Rattle.mc_segs.specs.Held.{shown}
+use Rattle.mc_segs.specs.HeldFrames.{shown}
 use Rattle.mc_segs.specs.Ends.{Acts, RowActs, scene}
 use Rattle.mc_rows.specs.Rows.{alone}
 use Rattle.mc_machine.specs.Chains.{Chained}

@@ -1,5 +1,5 @@
 use Rattle.std.proofs.Common.{sym, ◌∙◌, arith}
-use Rattle.mc_manager.specs.Held.{view_of}
+use Rattle.mc_manager.specs.ManagerState.{view_of}
 use Rattle.mc_manager.proofs.LoadLemmas.{cannot_create}
 use Rattle.mc_manager.proofs.creation.creation.Goals as goal
 

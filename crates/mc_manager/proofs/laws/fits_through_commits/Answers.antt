@@ -1,5 +1,5 @@
 use Rattle.mc_bank.proofs.Commits.{slots-in_order, sites-in_order}
-use Rattle.mc_manager.specs.Held.{view_of}
+use Rattle.mc_manager.specs.ManagerState.{view_of}
 use Rattle.mc_manager.proofs.CommitLemmas.{Keeps, fits_kept, seat_kept}
 use Rattle.mc_manager.proofs.laws.fits_through_commits.Goals as goal
 

@@ -1,5 +1,5 @@
 use Rattle.std.proofs.Common.{◌≡◌, false}
-use Rattle.mc_manager.specs.Held.{view_of, Fits}
+use Rattle.mc_manager.specs.ManagerState.{view_of, Fits}
 use Rattle.mc_manager_tests.proofs.loads.fills.Given as goal
 
 -- the manager fits the bank after each piece

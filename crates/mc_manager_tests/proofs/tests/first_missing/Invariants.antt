@@ -1,5 +1,5 @@
 use Rattle.mc_bank.specs.Memory.{memory_state, memory_named, memory_room, memory_standing}
-use Rattle.mc_manager.specs.Held.{view_of, Fits}
+use Rattle.mc_manager.specs.ManagerState.{view_of, Fits}
 use Rattle.mc_manager_tests.proofs.tests.first_missing.Given as goal
 
 -- the manager fits the bank after each load

@@ -1,6 +1,6 @@
 use Rattle.std.proofs.Common.{ap, sym, ◌∙◌}
 use Rattle.mc_bank.specs.Bank.{committed, name_or}
-use Rattle.mc_segs.specs.Held.{Held}
+use Rattle.mc_segs.specs.HeldFrames.{Held}
 use Rattle.mc_segs.proofs.AccessLemmas.{has_words}
 use Rattle.mc_segs.proofs.StoreLemmas.{fixed_under, all_words, all_words_now, some_words, on_ok, is_now}
 use Rattle.mc_segs.proofs.protection.commit_pending.Goals as goal

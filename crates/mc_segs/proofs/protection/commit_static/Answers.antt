@@ -1,6 +1,6 @@
 use Rattle.std.proofs.Common.{ℕ, ◌+◌, ◌/◌, ◌≤◌, List, length, sym, ap, subst}
 use Rattle.mc_model.specs.Pieces.{not_pending}
-use Rattle.mc_segs.specs.Held.{Held}
+use Rattle.mc_segs.specs.HeldFrames.{Held}
 use Rattle.mc_segs.specs.Puts.{words_under}
 use Rattle.mc_segs.proofs.StoreLemmas.{few_words, done_at_once, items_at_once}
 use Rattle.mc_segs.proofs.protection.commit_static.Goals as goal

@@ -1,6 +1,6 @@
 use Rattle.std.proofs.Common.{ℕ, ◌+◌, length, refl, ap, subst, ◌∙◌, arith}
 use Rattle.std.proofs.lemmas.Bool.{lt-ltb, le-ltb}
-use Rattle.mc_segs.specs.Held.{Held, shown}
+use Rattle.mc_segs.specs.HeldFrames.{Held, shown}
 use Rattle.mc_segs.specs.Puts.{PutsBytes}
 use Rattle.mc_bank.specs.Bank.{app_of}
 use Rattle.mc_segs.proofs.AccessLemmas.{has_words}

@@ -4,10 +4,10 @@ use Rattle.std.specs.Option.{option_copied_mut}
 use Rattle.mc_model.proofs.LoopLemmas.{makes-same}
 use Rattle.mc_model.specs.Chain.{turn_of}
 use Rattle.mc_model.specs.Device.{Ended}
-use Rattle.mc_store.specs.Going.{going_is}
+use Rattle.mc_store.specs.GoingLaws.{going_is}
 use Rattle.mc_card.specs.declared.card.Card.{Card}
 use Rattle.mc_card.specs.Ends.{Turned}
-use Rattle.mc_card.proofs.TurnLemmas.{card_of, done_made, turned_stop, turned_on, turned_off, turned_steps}
+use Rattle.mc_card.proofs.TurnLemmas.{card_of, done_made, turned_stop, turned_on, turned_off, turned_few, turned_steps}
 use Rattle.mc_card.proofs.DeviceLemmas.{made-ended}
 use Rattle.mc_card.proofs.card.Card.turn.Goals.{then-is_some, else-is_some}
 use Rattle.mc_card.proofs.card.Card.turn.Goals as goal
@@ -86,3 +86,13 @@ returns-clause-ended g c =
       | then-is_some w ↦ subst (λ (d : Card g.row.N.Denot). Ended (Ok tt) (g.N.Nvm.state old.store.device) (g.N.Nvm.state d.store.device)) (sym w.self-is) ended
       | else-is_some w ↦ subst (λ (d : Card g.row.N.Denot). Ended (Ok tt) (g.N.Nvm.state old.store.device) (g.N.Nvm.state d.store.device)) (sym w.self-is) ended
     ]
+
+pub returns-in_err-told-clause-few : goal.returns-in_err-told-clause-few
+returns-in_err-told-clause-few g c =
+    turned_few g.N.Nvm.state g.N.Nvm.wrote g.met.N.Nvm.obeys c.args.self.now c.unwrap-chain.result.now (sym c.as_mut.ensures.value ∙ ap option_copied_mut c.unwrap-chain.ensures) c.turn.new.bank c.turn.new.chain
+    c.turn.ensures.few
+
+pub returns-clause-few : goal.returns-clause-few
+returns-clause-few g c =
+    turned_few g.N.Nvm.state g.N.Nvm.wrote g.met.N.Nvm.obeys c.args.self.now c.unwrap-chain.result.now (sym c.as_mut.ensures.value ∙ ap option_copied_mut c.unwrap-chain.ensures) c.turn.new.bank c.turn.new.chain
+    c.turn.ensures.few

@@ -4,7 +4,7 @@ use Rattle.mc_check.specs.declared.bases.Answer.TheVariants as answer
 use Rattle.mc_check.specs.declared.bases.Progress.{Progress}
 use Rattle.mc_check.specs.declared.bases.Progress.TheVariants as progress
 use Rattle.mc_check.specs.Searching.{Answers}
-use Rattle.mc_check.proofs.Steps.{caller_inside, closes_ring, enters, leaves}
+use Rattle.mc_check.proofs.SearchSteps.{caller_inside, closes_ring, enters, leaves}
 use Rattle.mc_check.proofs.bases.Search.advance.Goals as goal
 
 pub enter-requires : goal.enter-requires

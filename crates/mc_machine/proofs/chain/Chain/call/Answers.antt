@@ -2,11 +2,17 @@ use Rattle.std.proofs.Common.{◌≡◌, ℕ, List, ◌∷◌, sym, ap, subst, �
 use Rattle.mc_model.specs.Bytes.{lookup}
 use Rattle.mc_model.specs.Frame.{with_sw}
 use Rattle.mc_model.specs.Chain.{called}
-use Rattle.mc_segs.specs.Held.{Held, new_held}
+use Rattle.mc_segs.specs.HeldFrames.{Held, new_held}
 use Rattle.mc_machine.specs.Chains.{Chained, Runs}
 use Rattle.mc_machine.specs.contracts.chain.Chain.{the_view}
 use Rattle.mc_machine.proofs.FollowLemmas.{refused_call, entered_call}
+use Rattle.mc_machine.proofs.ReadsLemmas.{all_fit}
 use Rattle.mc_machine.proofs.chain.Chain.call.Goals as goal
+
+pub refuses-requires-clause-waiting : goal.refuses-requires-clause-waiting
+refuses-requires-clause-waiting g c =
+    let fits = c.requires.fits in
+    all_fit (g.B.Bank.state c.args.bank.now) (g.B.Bank.named c.args.bank.now) c.args.self.now.below fits.0.below fits.1.below
 
 pub returns-then-refuses-clause-runs : goal.returns-then-refuses-clause-runs
 returns-then-refuses-clause-runs g c ch r =

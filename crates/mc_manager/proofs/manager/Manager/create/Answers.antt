@@ -1,7 +1,7 @@
 use Rattle.std.proofs.Common.{refl, sym, ◌∙◌, ap}
 use Rattle.std.proofs.lemmas.Result.{err_from_is_err_and}
 use Rattle.mc_apdu.specs.Command.{parts_of}
-use Rattle.mc_manager.specs.Held.{Held, view_of}
+use Rattle.mc_manager.specs.ManagerState.{Held, view_of}
 use Rattle.mc_manager.proofs.EndsLemmas.{can_enter, ends_created, ends_create_stopped}
 use Rattle.mc_manager.proofs.manager.Manager.create.Goals as goal
 

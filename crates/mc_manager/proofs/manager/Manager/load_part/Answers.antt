@@ -4,7 +4,7 @@ use Rattle.std.proofs.lemmas.Result.{err_from_is_err_and}
 use Rattle.mc_model.specs.Manager.{first_status, load_refusals}
 use Rattle.mc_apdu.specs.Command.{parts_of}
 use Rattle.mc_manager.specs.Status.{word_of}
-use Rattle.mc_manager.specs.Held.{Held, Loaded, view_of, open_of}
+use Rattle.mc_manager.specs.ManagerState.{Held, Loaded, view_of, open_of}
 use Rattle.mc_manager.proofs.EndsLemmas.{load_refused, ends_refused, can_load, load_is_open, has_room, ends_loaded, ends_load_stopped}
 use Rattle.mc_manager.proofs.manager.Manager.load_part.Goals as goal
 

@@ -1,5 +1,5 @@
 use Rattle.mc_apdu.specs.Command.{parts_of}
-use Rattle.mc_manager.specs.Held.{view_of}
+use Rattle.mc_manager.specs.ManagerState.{view_of}
 use Rattle.mc_manager.specs.Ruled.{placed}
 use Rattle.mc_manager.proofs.EndsLemmas.{ends_managed}
 use Rattle.mc_manager.proofs.manager.Manager.manage.Goals as goal

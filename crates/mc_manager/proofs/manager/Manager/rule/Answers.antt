@@ -2,8 +2,8 @@ use Rattle.std.proofs.Common.{[]}
 use Rattle.mc_model.specs.Orders.{answer_of}
 use Rattle.mc_model.specs.Manager.{manage}
 use Rattle.mc_apdu.specs.Command.{parts_of}
-use Rattle.mc_manager.specs.Held.{view_of, seat_of}
-use Rattle.mc_manager.specs.Due.{due_manager, due}
+use Rattle.mc_manager.specs.ManagerState.{view_of, seat_of}
+use Rattle.mc_manager.specs.CommandDue.{due_manager, due}
 use Rattle.mc_manager.specs.Ruled.{placed}
 use Rattle.mc_manager.proofs.EndsLemmas.{ends_as, manager_due}
 use Rattle.mc_manager.proofs.StaleLemmas.{none_stale}

@@ -1,6 +1,6 @@
 use Rattle.std.proofs.Common.{refl, ap}
 use Rattle.mc_apdu.specs.Command.{parts_of}
-use Rattle.mc_manager.specs.Held.{Held, view_of}
+use Rattle.mc_manager.specs.ManagerState.{Held, view_of}
 use Rattle.mc_manager.proofs.EndsLemmas.{ends_selected}
 use Rattle.mc_manager.proofs.manager.Manager.select.Goals as goal
 

@@ -16,9 +16,9 @@ use Rattle.mc_check.specs.declared.bases.Answer.TheVariants as answer
 use Rattle.mc_check.specs.CallList.{Has, IsCalled, AreClosed, EntersIn, IsBaseIn, ClosesRing}
 use Rattle.mc_check.specs.CallList as list
 use Rattle.mc_check.specs.Searching.{IsTold, Answers, is_unseen, unseen, AreBelow, StaySeen, Searches, left}
-use Rattle.mc_check.proofs.Gets.{get_set_same, get_set_other, get_push_before, get_push_last, get_push, before, last, get_take, take_get}
-use Rattle.mc_check.proofs.Telling.{called_is_inside, caller_is_inside}
-use Rattle.mc_check.proofs.Told.{told_unseen, told_open, told_bound, base_found}
+use Rattle.mc_check.proofs.ListPlaces.{get_set_same, get_set_other, get_push_before, get_push_last, get_push, before, last, get_take, take_get}
+use Rattle.mc_check.proofs.CallTelling.{called_is_inside, caller_is_inside}
+use Rattle.mc_check.proofs.ToldBases.{told_unseen, told_open, told_bound, base_found}
 
 -- ---- one change of a state
 

@@ -17,9 +17,9 @@ use Rattle.mc_check.specs.declared.table.Entry.{Entry}
 use Rattle.mc_check.specs.declared.table.Refusal.{Refusal}
 use Rattle.mc_check.specs.Judging.{calls_at, plain_at, depth_of, BeginsWithin, IsKept, HasCall, HasNoCall}
 use Rattle.mc_check.specs.Table.{routine_of, fact_of, base_in, IsWhole, AreBases, IsRefused}
-use Rattle.mc_check.proofs.Tables.{kept-inside}
+use Rattle.mc_check.proofs.TableReads.{kept-inside}
 use Rattle.mc_check.proofs.Reaching.{Entered, entered}
-use Rattle.mc_check.proofs.Looks.{Fine as GoodAlone, fine as good-alone}
+use Rattle.mc_check.proofs.FactLooks.{Fine as GoodAlone, fine as good-alone}
 
 -- ---- what stands at a place
 

@@ -7,7 +7,7 @@ use Rattle.mc_model.specs.Bytes.{bytes2, num, splice}
 use Rattle.mc_model.specs.Frame.{Frame, floor}
 use Rattle.mc_model.specs.StackRows.{call_target, is_call}
 use Rattle.mc_model.specs.StackShape.{Routine, fact, Reached, Depth, main, called}
-use Rattle.mc_check.proofs.Looks.{fine}
+use Rattle.mc_check.proofs.FactLooks.{fine}
 use Rattle.mc_check.specs.Standing.{StandsAt, Open, none, call, calls_of}
 
 -- ---- lists

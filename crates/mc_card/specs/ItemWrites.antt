@@ -1,11 +1,12 @@
 -- The device writes of items on a card, what words they leave wherever one of them stops, and where none does.
-use Rattle.std.specs.Prelude.{◌≡◌, ℕ, ◌≤◌, List, length, Ok, Err}
+use Rattle.std.specs.Prelude.{◌≡◌, ℕ, zero, suc, ◌-◌, ◌≤◌, List, [], ◌∷◌, length, Ok, Err}
+use Rattle.std.specs.List.{AllByRecursion}
 use Rattle.mc_model.specs.Orders.{Answer}
 use Rattle.mc_model.specs.Image.{Two}
 use Rattle.mc_model.specs.Device.{DeviceState, Makes}
 use Rattle.mc_model.specs.Stopped.{torn}
 use Rattle.mc_model.specs.Card.{Card}
-use Rattle.mc_model.specs.Items.{Item, Stopped, moves, card_done, at_stop}
+use Rattle.mc_model.specs.Items.{Item, Stopped, weight, moves, card_done, at_stop}
 use Rattle.mc_model.specs.Play.{OnCard}
 use Rattle.mc_store.specs.Power.{IsBase}
 
@@ -34,3 +35,16 @@ pub record Made {D : Type 0} (state : D → DeviceState) (wrote : D → ℕ → 
   pub number : IsAll is a (length writes)
   pub stops : StopsAtEach c is (state d).words writes
   pub done : IsDone c is a (state e).words
+
+-- the items that so many device writes fall in, from the first on: those that were begun
+abbrev pub begun : ℕ → List Item → List Item
+begun zero is = []
+begun (suc n) [] = []
+begun (suc n) (i ∷ is) = i ∷ begun (suc n - weight i) is
+
+-- items of which each that was begun makes at most so many device writes: the writes that were tried, in order
+pub record MadeWithin {D : Type 0} (wrote : D → ℕ → List ℕ → Answer → D → Type 0) (most : ℕ) (is : List Item) (d : D) (a : Answer) (e : D) : Type 0 where
+  pub writes : List (ℕ × List ℕ)
+  pub makes : Makes wrote d writes a e
+  pub number : IsAll is a (length writes)
+  pub few : AllByRecursion (λ i. weight i ≤ most) (begun (length writes) is)

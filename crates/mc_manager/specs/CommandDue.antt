@@ -11,7 +11,7 @@ use Rattle.mc_bank.specs.Bank.{app_of}
 use Rattle.mc_manager.specs.declared.selection.Selection.{Selection}
 use Rattle.mc_manager.specs.declared.routed.Routed.{Routed}
 use Rattle.mc_manager.specs.declared.routed.Routed.TheVariants.{Answer, Fresh, Pass}
-use Rattle.mc_manager.specs.Held.{BankView, Held, seat_of}
+use Rattle.mc_manager.specs.ManagerState.{BankView, Held, seat_of}
 
 -- a command is refused with a status, selects, is done, or is passed to the selected application
 pub data Due : Type 0 where

@@ -12,7 +12,7 @@ use Rattle.mc_check.specs.Table.{routine_of, fact_of, IsWhole}
 use Rattle.mc_check.specs.declared.calls.Call.{Call}
 use Rattle.mc_check.specs.declared.table.Entry.{Entry}
 use Rattle.mc_check.specs.CallList.{target_of, call_of, Has, IsCall, AreCalls}
-use Rattle.mc_check.proofs.Gets.{get_push, get_push_before, get_push_last, before, last}
+use Rattle.mc_check.proofs.ListPlaces.{get_push, get_push_before, get_push_last, before, last}
 use Rattle.mc_check.proofs.CallLemmas.{target_is_inside, called_by}
 
 -- the calls of the entries before a place
