@@ -4,6 +4,7 @@ use Rattle.std.specs.Prelude.{◌==◌, ◌&&◌, not, nat_lt, nat_le}
 use Rattle.mc_model.specs.Bytes.{lookup}
 use Rattle.mc_model.specs.Text.{first_cut, pieces, is_blank, is_empty, trim, trim_front, trim_end, before_trimmed, every}
 use Rattle.mc_model.specs.Assembly.{Form, Item, words, worded, operands, word_and_operands, line_read}
+use Rattle.mc_model.proofs.ListLemmas.{and-true as and_both}
 
 -- a character of an operand: no blank or less, no comma, no colon, no semicolon
 abbrev pub solid : ℕ → Bool
@@ -20,10 +21,6 @@ and_first false b h = absurd (cc h)
 pub and_second : (a b : Bool) → (a && b) ≡ true → b ≡ true
 and_second true b h = h
 and_second false b h = absurd (cc h)
-
-and_both : (a b : Bool) → a ≡ true → b ≡ true → (a && b) ≡ true
-and_both true b h k = k
-and_both false b h k = absurd (cc h)
 
 pub every_as : (p q : ℕ → Bool) (t : List ℕ) → ((c : ℕ) → p c ≡ true → q c ≡ true) → every p t ≡ true → every q t ≡ true
 every_as p q [] h e = refl

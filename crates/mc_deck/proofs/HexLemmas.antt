@@ -1,9 +1,9 @@
 -- Hexadecimal digits as the crate `hex` reads them, and as the definition does.
-use Rattle.std.proofs.Common.{◌≡◌, ℕ, ◌+◌, ◌*◌, ◌%◌, ◌<◌, List, [], ◌∷◌, length, Option, Some, None, Result, Ok, Err, inl, inr, arith, refl, sym, ap, ◌∙◌}
-use Rattle.std.specs.Prelude.{option_and_then}
+use Rattle.std.proofs.Common.{◌≡◌, ℕ, ◌+◌, ◌*◌, ◌/◌, ◌%◌, ◌<◌, List, [], ◌∷◌, length, Option, Some, None, Result, Ok, Err, inl, inr, arith, refl, sym, ap, ◌∙◌}
+use Rattle.std.specs.Prelude.{option_and_then, MatchResult}
 use Rattle.std.proofs.lemmas.Bool.{cases_eq}
 use Rattle.hex.specs.Hex
-use Rattle.hex.specs.Hex.{decode_of, decode_pairs, digit_or_error, hex_digit_value}
+use Rattle.hex.specs.Hex.{decode_of, decode_pairs, decode_sized, digit_or_error, hex_digit_value}
 use Rattle.hex.specs.declared.error.FromHexError.{FromHexError}
 use Rattle.hex.proofs.HexLemmas.{decode_of-even, decode_of-odd, decode_of-ok, decode_pairs-ok}
 use Rattle.mc_model.specs.Text.{hex_value, hex_values, before_values, paired, hex_bytes}
@@ -68,3 +68,22 @@ misspelled t e h = rw (bytes_misspelled t e h) refl
 -- a digit is a digit of some byte
 pub some_bytes : (t bs : List ℕ) → decode_of t ≡ Ok bs → 0 < length t → 0 < length bs
 some_bytes t bs h l = let p = decode_of-ok t bs h in omega (arith, p.2, l)
+
+-- ---- digits that are read into room for one byte for every two of them
+
+sized_half : (t : List ℕ) (n : ℕ) → n ≡ length t / 2 → decode_sized t n ≡ decode_of t
+sized_half t n h = grind (arith, h)
+
+spelled_by : (t out : List ℕ) (u : Unit {0}) (d : Result (List ℕ) FromHexError) (r : Result (Unit {0}) FromHexError) → decode_of t ≡ d → MatchResult d (λ bs. (r ≡ Ok tt) × (out ≡ bs)) (λ e. r ≡ Err e) → r ≡ Ok u → decode_of t ≡ Ok out
+spelled_by t out u (Ok bs) r e m h = e ∙ ap Ok (sym m.1)
+spelled_by t out u (Err x) r e m h = absurd (cc (m, h))
+
+misspelled_by : (t out : List ℕ) (x : FromHexError) (d : Result (List ℕ) FromHexError) (r : Result (Unit {0}) FromHexError) → decode_of t ≡ d → MatchResult d (λ bs. (r ≡ Ok tt) × (out ≡ bs)) (λ e. r ≡ Err e) → r ≡ Err x → hex_field t ≡ Err BadHex
+misspelled_by t out x (Ok bs) r e m h = absurd (cc (m.0, h))
+misspelled_by t out x (Err y) r e m h = misspelled t y e
+
+pub sized_spelled : (t out : List ℕ) (n : ℕ) (u : Unit {0}) (r : Result (Unit {0}) FromHexError) → n ≡ length t / 2 → MatchResult (decode_sized t n) (λ bs. (r ≡ Ok tt) × (out ≡ bs)) (λ e. r ≡ Err e) → r ≡ Ok u → decode_of t ≡ Ok out
+sized_spelled t out n u r s m h = spelled_by t out u (decode_sized t n) r (sym (sized_half t n s)) m h
+
+pub sized_misspelled : (t out : List ℕ) (n : ℕ) (x : FromHexError) (r : Result (Unit {0}) FromHexError) → n ≡ length t / 2 → MatchResult (decode_sized t n) (λ bs. (r ≡ Ok tt) × (out ≡ bs)) (λ e. r ≡ Err e) → r ≡ Err x → hex_field t ≡ Err BadHex
+sized_misspelled t out n x r s m h = misspelled_by t out x (decode_sized t n) r (sym (sized_half t n s)) m h

@@ -1,4 +1,5 @@
 pub mod HexLemmas
+pub mod PlainLemmas
 pub mod FieldLemmas
 pub mod LineLemmas
 pub mod NameLemmas
@@ -7,3 +8,4 @@ pub mod SectionLemmas
 pub mod ReaderLemmas
 pub mod TurnLemmas
 pub mod GeneratorLemmas
+pub mod GeneratedBytes

@@ -2,6 +2,7 @@
 use Rattle.std.specs.Prelude.{ℕ, List, length}
 use Rattle.std.specs.List.{AllByRecursion}
 use Rattle.mc_model.specs.DeckGrammar.{DeckLine}
+use Rattle.mc_model.specs.ReadyAgain.{IsLine}
 use Rattle.mc_deck.specs.declared.deck.Deck.TheInside.{Inside as DeckFields}
 use Rattle.mc_deck.specs.Lines.{said_lines, Inside, AreDeck}
 
@@ -9,7 +10,8 @@ use Rattle.mc_deck.specs.Lines.{said_lines, Inside, AreDeck}
 abbrev pub deck_view : DeckFields → List (ℕ × DeckLine)
 deck_view d = said_lines d.units.items d.lines.items
 
--- each `load` has its unit, and the lines are those of a deck
+-- each `load` has its unit, the lines are those of a deck, and what they carry is bytes
 pub record KeepsDeck (d : DeckFields) : Type 0 where
   pub inside : AllByRecursion (λ l. Inside (length d.units.items) l.1) d.lines.items
   pub deck : AreDeck (deck_view d)
+  pub bytes : AllByRecursion (λ l. IsLine l.1) (deck_view d)

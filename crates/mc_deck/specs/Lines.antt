@@ -50,6 +50,7 @@ said us (OwnedLine.Load i fixed session) = DeckGrammar.Load (unit_at us i) fixed
 said us (OwnedLine.Select a) = DeckGrammar.Select a
 said us (OwnedLine.Delete a) = DeckGrammar.Delete a
 said us (OwnedLine.Dump a) = DeckGrammar.Dump a
+said us (OwnedLine.Short b) = DeckGrammar.Apdu b
 said us (OwnedLine.Apdu b) = DeckGrammar.Apdu b
 said us (OwnedLine.Budget n) = DeckGrammar.Budget n
 said us (OwnedLine.Cut k fill) = DeckGrammar.Cut k fill

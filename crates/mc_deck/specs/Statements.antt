@@ -55,6 +55,7 @@ Ranged (OwnedLine.Load i fixed session) = (fixed ≤ 65535) × (session ≤ 6553
 Ranged (OwnedLine.Select a) = Within 5 16 (length a)
 Ranged (OwnedLine.Delete a) = Within 5 16 (length a)
 Ranged (OwnedLine.Dump a) = Within 5 16 (length a)
+Ranged (OwnedLine.Short b) = 0 < length b
 Ranged (OwnedLine.Apdu b) = 0 < length b
 Ranged (OwnedLine.Budget n) = Within 1 65536 n
 Ranged (OwnedLine.Cut k fill) = Within 1 4294967295 k × (length fill ≡ 8)

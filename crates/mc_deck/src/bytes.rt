@@ -41,3 +41,49 @@ impl Bytes {
         self.bytes.as_slice()
     }
 }
+
+/// At most 16 bytes, which stay where they are kept and take no memory of their own. Clauses see them as their list.
+#[derive(Drop)]
+pub struct ShortBytes {
+    bytes: [u8; 16],
+    len: usize,
+}
+
+impl Model for ShortBytes {
+    ghost use Rattle.std.specs.Prelude.{◌≡◌, ◌≤◌, ℕ, List, length, take};
+
+    ghost Value = { List ℕ };
+
+    ghost view = { λ b. take b.len b.bytes };
+
+    ghost invariant = { λ b. (length b.bytes ≡ 16) × (b.len ≤ 16) };
+}
+
+impl ShortBytes {
+    ghost use Rattle.std.specs.Prelude.{◌≡◌, ◌≤◌, length, take};
+
+    /// The first of these bytes.
+    pub fn front(bytes: [u8; 16], len: usize) -> Self
+        requires { len ≤ 16 }
+        ensures { result ≡ take len bytes }
+    {
+        ShortBytes { bytes, len }
+    }
+
+    /// A copy of these bytes.
+    pub fn copied(bytes: &[u8]) -> Self
+        requires { length bytes.now ≤ 16 }
+        ensures { result ≡ bytes.now }
+    {
+        let mut front = [0; 16];
+        front[..bytes.len()].copy_from_slice(bytes);
+        ShortBytes::front(front, bytes.len())
+    }
+
+    /// The bytes.
+    pub fn as_slice(&self) -> &[u8]
+        ensures { result.now ≡ self.now }
+    {
+        &self.bytes[..self.len]
+    }
+}

@@ -25,17 +25,22 @@ impl Model for Deck {
 
 impl Deck {
     ghost use Rattle.std.specs.Prelude.{◌≡◌, ◌<◌, length, slice_get, Some};
+    ghost use Rattle.std.specs.List.{AllByRecursion};
+    ghost use Rattle.mc_model.specs.ReadyAgain.{IsLine};
     ghost use Rattle.mc_deck.specs.Lines.{line_of, AreDeck, GoodLine};
 
     /// How many lines the deck has.
     pub fn len(&self) -> usize
         ensures value { result ≡ length self.now }
         ensures deck { AreDeck self.now }
+        ensures bytes { AllByRecursion (λ l. IsLine l.1) self.now }
     {
         self.lines.len()
     }
 
     /// The line at a place from 0 on, and its number.
+    // A line is large, since a `Load` is: it is best made where it is looked at.
+    #[inline(always)]
     pub fn line(&self, i: usize) -> (u32, Line<'_>)
         requires { i < length self.now }
         ensures line { slice_get self.now i ≡ Some (result.0, line_of result.1) }

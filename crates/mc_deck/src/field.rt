@@ -1,14 +1,18 @@
 // The kinds of fields.
-ghost use Rattle.std.specs.Prelude.{◌≡◌, ◌+◌, ◌*◌, ◌<◌, ◌≤◌, ◌^◌, length, Ok, Err, IfOk, IfErr, MatchResult, option_map};
+ghost use Rattle.std.specs.Prelude.{◌≡◌, ◌+◌, ◌*◌, ◌<◌, ◌≤◌, ◌/◌, ◌^◌, length, Ok, Err, IfOk, IfErr, OnOk, MatchResult, option_map};
 ghost use Rattle.mc_model.specs.DeckGrammar.{aid_field, bytes_field, fill_field, hex_field, name_field, number_field};
 ghost use Rattle.mc_deck.specs.Refused.{Faulty};
 
+use crate::bytes::ShortBytes;
 use crate::refusal::Fault;
 use hex::FromHexError;
 use mc_base::{Aid, Word};
 use mc_model::DeckCause;
 use mc_text::{decimal_number, has_name_characters};
 use std::alloc::Global;
+
+/// How many digits spell a short command at the most.
+pub const SHORT_DIGITS: usize = 32;
 
 /// A name: 1 to 32 letters, digits and underscores.
 pub fn name_field(text: &[u8]) -> Result<&[u8], DeckCause>
@@ -32,6 +36,31 @@ pub fn hex_field(alloc: Global, text: &[u8]) -> Result<Vec<u8>, Fault>
         Err(FromHexError::OutOfMemory) => Err(Fault::NoMemory),
         Err(_) => Err(Fault::Cause(DeckCause::BadHex)),
     }
+}
+
+// The same bytes, put where there is room for one for every two digits.
+fn spell(text: &[u8], into: &mut [u8]) -> Result<(), DeckCause>
+    requires { length into.old ≡ length text.now / 2 }
+    ensures value { MatchResult result (λ _. hex_field text.now ≡ Ok into.new) (λ e. hex_field text.now ≡ Err e) }
+    ensures some { OnOk result (0 < length text.now → 0 < length into.new) }
+    ensures length { length into.new ≡ length into.old }
+{
+    match hex::decode_to_slice(text, into) {
+        Ok(()) => Ok(()),
+        Err(_) => Err(DeckCause::BadHex),
+    }
+}
+
+/// The bytes that at most 32 hexadecimal digits in either case spell, which take no memory.
+pub fn short_hex_field(text: &[u8]) -> Result<ShortBytes, DeckCause>
+    requires { length text.now ≤ 32 }
+    ensures some { IfOk result (λ b. 0 < length text.now → 0 < length b) }
+    ensures value { MatchResult result (λ b. hex_field text.now ≡ Ok b) (λ e. hex_field text.now ≡ Err e) }
+{
+    let mut bytes = [0; 16];
+    let len = text.len() / 2;
+    spell(text, &mut bytes[..len])?;
+    Ok(ShortBytes::front(bytes, len))
 }
 
 /// A name of an application: 5 to 16 bytes.

@@ -7,7 +7,7 @@ ghost use Rattle.mc_model.specs.Generator.{closing, cut_line, generated, line_of
 ghost use Rattle.mc_deck.specs.Lines.{said, said_lines, Inside};
 ghost use Rattle.mc_deck.specs.Generated.{AreUnits};
 
-use crate::bytes::Bytes;
+use crate::bytes::ShortBytes;
 use crate::deck::Deck;
 use crate::line::OwnedLine;
 use crate::unit::{OwnedUnit, made};
@@ -52,19 +52,20 @@ fn aid(last: u8) -> Aid
     Aid::new(&[0xA0, 0, 0, 0, last]).unwrap()
 }
 
-// A line with a command.
-fn apdu(alloc: Global, bytes: &[u8]) -> Result<OwnedLine, AllocError>
-    ensures { IfOk result (λ l. l ≡ OwnedLine.Apdu bytes.now) }
+// A line with a short command.
+fn apdu(bytes: &[u8]) -> OwnedLine
+    requires { length bytes.now ≤ 16 }
+    ensures { result ≡ OwnedLine.Short bytes.now }
 {
-    Ok(OwnedLine::Apdu(Bytes::copied(alloc, bytes)?))
+    OwnedLine::Short(ShortBytes::copied(bytes))
 }
 
 // A command to the purse with a number of four bytes.
-fn command(alloc: Global, ins: u8, number: u32) -> Result<OwnedLine, AllocError>
-    ensures { IfOk result (λ l. l ≡ OwnedLine.Apdu (0x80 ∷ ins ∷ 0 ∷ 0 ∷ 4 ∷ bytes 4 number)) }
+fn command(ins: u8, number: u32) -> OwnedLine
+    ensures { result ≡ OwnedLine.Short (0x80 ∷ ins ∷ 0 ∷ 0 ∷ 4 ∷ bytes 4 number) }
 {
     let [a, b, c, d] = number.to_be_bytes();
-    apdu(alloc, &[0x80, ins, 0, 0, 4, a, b, c, d])
+    apdu(&[0x80, ins, 0, 0, 4, a, b, c, d])
 }
 
 // A cut by a draw.
@@ -100,21 +101,21 @@ fn purse_line(q: u32) -> OwnedLine
 }
 
 // The line of a turn that draws r and q.
-fn line_of(alloc: Global, r: u32, q: u32) -> Result<OwnedLine, AllocError>
-    ensures value { IfOk result (λ l. (us : List OwnedUnit) → AreUnits us → said us l ≡ line_of r q) }
-    ensures inside { IfOk result (Inside 3) }
+fn line_of(r: u32, q: u32) -> OwnedLine
+    ensures value { (us : List OwnedUnit) → AreUnits us → said us result ≡ line_of r q }
+    ensures inside { Inside 3 result }
 {
     match r % 16 {
-        0 => Ok(OwnedLine::Select(aid(1))),
-        1 => Ok(OwnedLine::Select(aid(3))),
-        2 => Ok(OwnedLine::Select(aid(2))),
-        3 => Ok(OwnedLine::Power),
-        4..=8 => apdu(alloc, &[0x80, 0x01, 0, 0, 2]),
-        9 | 10 => command(alloc, 0x30, q),
-        11 | 12 => command(alloc, 0x40, q),
-        13 => apdu(alloc, &[0x80, 0x50, 0, 0, 4]),
-        14 => Ok(cut_line(q)),
-        _ => Ok(purse_line(q)),
+        0 => OwnedLine::Select(aid(1)),
+        1 => OwnedLine::Select(aid(3)),
+        2 => OwnedLine::Select(aid(2)),
+        3 => OwnedLine::Power,
+        4..=8 => apdu(&[0x80, 0x01, 0, 0, 2]),
+        9 | 10 => command(0x30, q),
+        11 | 12 => command(0x40, q),
+        13 => apdu(&[0x80, 0x50, 0, 0, 4]),
+        14 => cut_line(q),
+        _ => purse_line(q),
     }
 }
 
@@ -200,7 +201,7 @@ fn push(lines: &mut Vec<(u32, OwnedLine)>, number: u32, line: OwnedLine) -> Resu
 }
 
 // The turns behind the opening.
-fn push_turns(alloc: Global, lines: &mut Vec<(u32, OwnedLine)>, n: u32) -> Result<(), AllocError>
+fn push_turns(lines: &mut Vec<(u32, OwnedLine)>, n: u32) -> Result<(), AllocError>
     requires number { n < 2 ^ 31 }
     requires inside { AllByRecursion (λ l. Inside 3 l.1) lines.old.items }
     ensures lines { OnOk result ((us : List OwnedUnit) → AreUnits us
@@ -211,8 +212,7 @@ fn push_turns(alloc: Global, lines: &mut Vec<(u32, OwnedLine)>, n: u32) -> Resul
     for number in 9..4009 {
         let first = next(x);
         let second = next(first);
-        let line = line_of(alloc, first / 65536, second / 65536)?;
-        push(lines, number, line)?;
+        push(lines, number, line_of(first / 65536, second / 65536))?;
         x = second;
     }
     Ok(())
@@ -241,7 +241,7 @@ pub fn generate(alloc: Global, n: u32) -> Result<Deck, NoMemory>
 {
     let units = units(alloc)?;
     let mut lines = opening(alloc)?;
-    push_turns(alloc, &mut lines, n)?;
+    push_turns(&mut lines, n)?;
     push_closing(&mut lines)?;
     Ok(Deck { units, lines })
 }

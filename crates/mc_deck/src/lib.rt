@@ -8,6 +8,7 @@ mod field;
 mod generator;
 mod line;
 mod names;
+mod plain;
 mod reading;
 mod refusal;
 mod section;

@@ -3,7 +3,7 @@ ghost use Rattle.std.specs.Prelude.{◌≡◌, ◌<◌, length};
 ghost use Rattle.mc_unit.specs.Parts.{parts_of};
 ghost use Rattle.mc_deck.specs.Lines.{line_of, said, unit_at, Inside};
 
-use crate::bytes::Bytes;
+use crate::bytes::{Bytes, ShortBytes};
 use crate::unit::{OwnedUnit, lent};
 use mc_base::{Aid, Word};
 use mc_unit::Unit;
@@ -36,7 +36,8 @@ pub enum Line<'a> {
     },
 }
 
-/// A line as a deck keeps it: a `Load` has the place of its unit among the named units.
+/// A line as a deck keeps it: a `Load` has the place of its unit among the named units. A command is `Short` where it has at most
+/// 16 bytes, as nearly all have: it takes no memory but its line's.
 #[derive(Drop)]
 pub enum OwnedLine {
     Format,
@@ -50,6 +51,7 @@ pub enum OwnedLine {
     Select(Aid),
     Delete(Aid),
     Dump(Aid),
+    Short(ShortBytes),
     Apdu(Bytes),
     Budget(u32),
     Cut {
@@ -72,6 +74,7 @@ fn lent_unit(units: &[OwnedUnit], place: usize) -> Unit<'_>
 }
 
 /// The line, lent.
+#[inline(always)]
 pub fn lent_line<'a>(units: &'a [OwnedUnit], line: &'a OwnedLine) -> Line<'a>
     requires { Inside (length units.now) line.now }
     ensures { line_of result ≡ said units.now line.now }
@@ -92,6 +95,7 @@ pub fn lent_line<'a>(units: &'a [OwnedUnit], line: &'a OwnedLine) -> Line<'a>
         OwnedLine::Select(aid) => Line::Select(*aid),
         OwnedLine::Delete(aid) => Line::Delete(*aid),
         OwnedLine::Dump(aid) => Line::Dump(*aid),
+        OwnedLine::Short(bytes) => Line::Apdu(bytes.as_slice()),
         OwnedLine::Apdu(bytes) => Line::Apdu(bytes.as_slice()),
         OwnedLine::Budget(count) => Line::Budget(*count),
         OwnedLine::Cut { k, fill } => Line::Cut { k: *k, fill: *fill },

@@ -3,6 +3,7 @@ ghost use Rattle.std.specs.Prelude.{◌≡◌, ◌≢◌, ◌==◌, ◌≤◌, �
 ghost use Rattle.std.specs.List.{AllByRecursion};
 ghost use Rattle.mc_model.specs.Text.{begins, fields};
 ghost use Rattle.mc_model.specs.DeckGrammar.{between, deck_read, turn_at, turn_in, turn_of, with_unit, Context, Named, Within};
+ghost use Rattle.mc_model.specs.ReadyAgain.{IsLine};
 ghost use Rattle.mc_asm.specs.Items.{texts};
 ghost use Rattle.mc_asm.specs.Passes.{numbered_lines};
 ghost use Rattle.mc_deck.specs.Refused.{Refused};
@@ -15,6 +16,7 @@ ghost use Rattle.mc_deck.specs.Readers.{line_stated, lines_of, mode_of, Stands, 
 use crate::deck::Deck;
 use crate::line::OwnedLine;
 use crate::names::{Names, give_name, no_names};
+use crate::plain::plain_command;
 use crate::refusal::{DeckRefusal, Fault};
 use crate::section::{Section, ends_section, section_unit};
 use crate::statement::{Statement, keyword_named, read_statement};
@@ -116,6 +118,9 @@ fn read_line<'a>(
     ensures fits { (c : Context) → InContext names.now powered c
         → IfOk result (λ o. MatchOption o ⊤ (Fits (length names.now.units.items) powered)) }
 {
+    if let Some(bytes) = plain_command(text) {
+        return Ok(Some(Statement::Line(OwnedLine::Short(bytes))));
+    }
     statement_of(alloc, names, powered, number, fields(text).as_slice())
 }
 
@@ -276,7 +281,8 @@ fn turn<'a>(
 
 // The deck of what was read.
 fn deck_of(reader: Reader<'_>) -> Deck
-    requires { (c : Context) × Stands reader c }
+    requires stands { (c : Context) × Stands reader c }
+    requires bytes { AllByRecursion (λ l. IsLine l.1) (lines_of reader) }
     ensures { result ≡ lines_of reader.entry }
 {
     let Reader { names, lines, .. } = reader;

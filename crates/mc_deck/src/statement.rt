@@ -14,7 +14,9 @@ ghost use Rattle.mc_deck.specs.Contexts.{AreNames};
 ghost use Rattle.mc_deck.specs.Statements.{first_words, keyword_of, second_words, stated_of, Fits, InContext};
 
 use crate::bytes::Bytes;
-use crate::field::{aid_field, fill_field, hex_field, name_field, number_field};
+use crate::field::{
+    SHORT_DIGITS, aid_field, fill_field, hex_field, name_field, number_field, short_hex_field,
+};
 use crate::line::OwnedLine;
 use crate::names::{Names, place_of};
 use crate::refusal::Fault;
@@ -299,6 +301,9 @@ fn apdu_statement<'a>(alloc: Global, fields: &[&'a [u8]]) -> Result<Statement<'a
     ensures fits { (m : ℕ) (powered : Bool) → IfOk result (Fits m powered) }
 {
     match fields {
+        [hex] if hex.len() <= SHORT_DIGITS => {
+            Ok(Statement::Line(OwnedLine::Short(short_hex_field(hex)?)))
+        }
         [hex] => Ok(Statement::Line(OwnedLine::Apdu(Bytes::from_vec(hex_field(alloc, hex)?)))),
         _ => Err(Fault::Cause(DeckCause::BadLine)),
     }

@@ -10,6 +10,7 @@ use Rattle.mc_model.specs.Image as image
 use Rattle.mc_model.specs.Stopped.{cost, opens_at, stands}
 use Rattle.mc_model.specs.Card.{App}
 use Rattle.mc_model.specs.Items.{Change, Item, Plain, Atomic, moves, changed, done, at_stop, Stopped}
+use Rattle.mc_model.proofs.ListLemmas.{and-true as joined}
 use Rattle.mc_lab.specs.Sweeps.{held_under, is_same_held, are_same_held}
 use Rattle.mc_lab.specs.SweepLaws.{changes, changing, opening}
 
@@ -24,11 +25,6 @@ held-same (Some a) None h = absurd (cc h)
 held-itself : (a : Option (List ℕ)) → is_same_held a a ≡ true
 held-itself None = refl
 held-itself (Some a) = (bytes_eq-Decides a a).1 refl
-
-joined : (a b : Bool) → a ≡ true → b ≡ true → (a && b) ≡ true
-joined true true x y = refl
-joined true false x y = absurd (cc y)
-joined false b x y = absurd (cc x)
 
 pub all-same-held : (a b : List (Option (List ℕ))) → are_same_held a b ≡ true → a ≡ b
 all-same-held [] [] h = refl

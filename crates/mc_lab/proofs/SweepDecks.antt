@@ -13,6 +13,7 @@ use Rattle.mc_model.specs.DeckGrammar as line
 use Rattle.mc_base.specs.declared.refusals.WriteFault.{WriteFault}
 use Rattle.mc_text.specs.Texts.{Sunk, Puts, Fails, Writes}
 use Rattle.mc_text.proofs.TextLemmas.{puts_as, puts_then, fails_before}
+use Rattle.mc_model.proofs.ListLemmas.{and-true, length-map as map-length}
 use Rattle.mc_lab.specs.declared.sweep_trial.Place.{Place}
 use Rattle.mc_lab.specs.declared.sweep_text.Sums.{Sums}
 use Rattle.mc_lab.specs.declared.sweep_word.Word.{Word}
@@ -88,10 +89,6 @@ pub open-is : (p : Place) → is_open_at p.deck.now p.at ≡ true → IsOpen p
 open-is p h =
     let q = both (is_card_line (line_in p).1) (is_unarmed (armed_in (played (front_of p)))) h in
     record { card = q.0; unarmed = q.1 }
-
-and-true : (a b : Bool) → a ≡ true → b ≡ true → (a && b) ≡ true
-and-true true b x y = y
-and-true false b x y = absurd (cc x)
 
 and-false : (a : Bool) → (a && false) ≡ false
 and-false true = refl
@@ -181,10 +178,6 @@ pub place-text : (p : Place) (number n : ℕ) (words : List Word) (plays : ℕ) 
     → swept_text (record { number = number; words = take n words; plays = plays }) ≡ swept_texts (swept_in p)
 place-text p number n words plays is s o some =
     sym (append-nil (swept_text (record { number = number; words = take n words; plays = plays }))) ∙ ap swept_texts (sym (one-swept p number n words plays is s o some))
-
-map-length : {A B : Type 0} (f : A → B) (xs : List A) → length (map f xs) ≡ length xs
-map-length f [] = refl
-map-length f (x ∷ xs) = ap suc (map-length f xs)
 
 taken-length : (p : Place) (n : ℕ) (words : List Word) (plays : ℕ) → SweptAs p n words plays → length (take n words) ≡ n
 taken-length p n words plays s =

@@ -4,6 +4,7 @@ use Rattle.std.proofs.Common.{arith, ap, sym, ◌∙◌}
 use Rattle.std.proofs.lemmas.Bool.{leb-true}
 use Rattle.std.proofs.lemmas.Bool.Decides.{nat_tests}
 use Rattle.mc_model.specs.Play.{Armed, Unarmed, ArmedCut, ArmedFail, Hot, armed_in}
+use Rattle.mc_model.proofs.ListLemmas.{length-map as map-length}
 use Rattle.mc_lab.specs.Sweeps.{Tried, plays_of, played, Told, is_same, all_same, count_from, cut, power, under_cut, ones, tried, is_unarmed}
 use Rattle.mc_model.specs.Bytes.{zeros}
 use Rattle.std.proofs.Common.{length-append}
@@ -52,10 +53,6 @@ map-more f n =
 pub count-length : (k n : ℕ) → length (count_from k n) ≡ n
 count-length k zero = refl
 count-length k (suc n) = ap suc (count-length (k + 1) n)
-
-map-length : {A B : Type 0} (f : A → B) (xs : List A) → length (map f xs) ≡ length xs
-map-length f [] = refl
-map-length f (x ∷ xs) = ap suc (map-length f xs)
 
 pub counted-length : {A : Type 0} (f : ℕ → A) (n : ℕ) → length (map f (count_from 1 n)) ≡ n
 counted-length f n = map-length f (count_from 1 n) ∙ count-length 1 n

@@ -7,7 +7,6 @@ use Rattle.mc_model.specs.Bytes.{lookup}
 use Rattle.mc_model.specs.Card.{App, heap_start}
 use Rattle.mc_model.specs.Chain.{Turn}
 use Rattle.mc_model.specs.Device.{DeviceState, BenchState, Entry}
-use Rattle.mc_model.specs.Image.{laid}
 use Rattle.mc_model.specs.Play.{Armed, Live, Running, Unpowered, Muted, Base, OnCard, AtFault, Warm, State, Cold, Hot, WornAt, LineResult, step, card_line, static_of, steady_at, moves_of, armed_in, warmed, power_moves, migration, laid_entries, words_left, start, formatted, plays, steady_worn}
 use Rattle.mc_model.specs.DeckGrammar.{DeckLine}
 use Rattle.mc_model.specs.DeckGrammar as line
@@ -21,6 +20,7 @@ use Rattle.mc_card.specs.declared.card.Card.{Card}
 use Rattle.mc_card.specs.Parts.{card_in, device_in}
 use Rattle.mc_script.specs.Players.{answer_value, device_of, dump_value, statics_by, statics_in, LiveIs, StateIs, IsAt, IsPlaying}
 use Rattle.mc_script.specs.Lines.{LineDone}
+use Rattle.mc_model.proofs.ImageLemmas.{length-laid as laid-size}
 use Rattle.mc_lab.specs.Sweeps.{blank, played, played_from, told, told_by, Holds, held_under, running_apps, running_in, cut, under_cut}
 use Rattle.mc_lab.specs.SweepLaws.{is_off}
 use Rattle.mc_lab.specs.SweepBodies.{told_with, next, lines_behind, hits, front_of, line_in, names_in, told_in, hit_in, again_in, IsFewBehind}
@@ -45,10 +45,6 @@ got-or (y ∷ ys) zero d x h = cc h
 got-or (y ∷ ys) (suc i) d x h = got-or ys i d x h
 
 -- ---- how many words a device has
-
-laid-size : (m : List (List ℕ)) (ps : List (ℕ × List ℕ)) → length (laid m ps) ≡ length m
-laid-size m [] = refl
-laid-size m (p ∷ ps) = laid-size (slice_set m p.0 p.1) ps ∙ length-set m p.0 p.1
 
 hot-size : (m : List (List ℕ)) (es : List Entry) → length (laid_entries m es) ≡ length m
 hot-size m es = laid-size m (map (λ e. (e.at, e.left)) es)

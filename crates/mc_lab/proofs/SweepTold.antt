@@ -13,6 +13,7 @@ use Rattle.mc_model.specs.Given.{apps_in}
 use Rattle.mc_model.specs.Transcript.{cause_text}
 use Rattle.mc_model.specs.Play.{Armed, Unarmed, ArmedCut, ArmedFail, Base, OnCard, State, Hot, moves_of, armed_in, is_card_line}
 use Rattle.mc_model.specs.DeckGrammar.{DeckLine}
+use Rattle.mc_model.proofs.ListLemmas.{and-true as both-true}
 use Rattle.mc_lab.specs.Sweeps.{played, Told, Holds, NoCard, held_under, are_same_held, told, is_same, word_by, word_if, word_of, all_same, ones, cut, power, under_cut, under_cuts, writes_behind, recovered, tried, is_unarmed, is_swept}
 use Rattle.mc_lab.specs.declared.sweep_word.Word.{Word}
 use Rattle.mc_lab.specs.declared.sweep_word.Word.TheVariants.{Before, After, Same}
@@ -22,10 +23,6 @@ use Rattle.mc_lab.proofs.SweepChanges.{all-held-itself, apart-turned, none-stopp
 use Rattle.mc_lab.proofs.SweepRuns.{all-counted}
 
 -- ---- the same is told
-
-both-true : (a b : Bool) → a ≡ true → b ≡ true → (a && b) ≡ true
-both-true true b x y = y
-both-true false b x y = absurd (cc x)
 
 told-itself : (t : Told) → is_same t t ≡ true
 told-itself (Holds a) = all-held-itself a

@@ -12,7 +12,7 @@ use Rattle.mc_store.specs.Power.{count_of}
 use Rattle.mc_card.specs.declared.card.Card.{Card}
 use Rattle.mc_card.specs.Parts.{device_in, seat_in, with_device, IsReady}
 use Rattle.mc_bank.specs.Bank.{app_of}
-use Rattle.mc_manager.specs.Held.{Fits, seat_of}
+use Rattle.mc_manager.specs.ManagerState.{Fits, seat_of}
 
 closed_owes_none : (l : Look) → is_closed l ≡ true → debt l ≡ 0
 closed_owes_none (Refused p) h = refl

@@ -16,20 +16,20 @@ use Rattle.mc_model.specs.Play as play
 use Rattle.mc_model.specs.Play.{Live, Running, Base, OnCard, Warm, State, Cold, Hot, Answered, WornAt, Step, step, line_command, card_line, command_step, line_after, stopped_line, result_of_stop, hit_of, worn_entry, moves_of, Stands, stopped}
 use Rattle.mc_machine.specs.declared.outcome.Outcome.{Outcome}
 use Rattle.mc_card.specs.declared.card.Card.{Card}
-use Rattle.mc_card.specs.Made.{StopsAtEach, IsDone}
+use Rattle.mc_card.specs.ItemWrites.{StopsAtEach, IsDone}
 use Rattle.mc_card.specs.Parts.{device_in, card_in, seat_in, with_device, IsReady}
 use Rattle.mc_store.specs.Power.{found, IsBase}
 use Rattle.mc_script.specs.declared.answer.Answer.{Answer}
 use Rattle.mc_script.specs.declared.answer.Answer.TheVariants as answer
 use Rattle.mc_script.specs.declared.armed.Armed.{Armed}
 use Rattle.mc_script.specs.declared.armed.Armed.TheVariants as armed
-use Rattle.mc_script.specs.declared.commands.Command.{Command}
+use Rattle.mc_script.specs.declared.commands.CardLine.{CardLine}
 use Rattle.mc_script.specs.declared.player.Power.{Power}
 use Rattle.mc_script.specs.declared.player.Power.TheVariants as power
 use Rattle.mc_script.specs.declared.player.Player.{Player}
 use Rattle.mc_script.specs.Players.{answer_value, device_of, IsCard, LiveIs, IsAt}
 use Rattle.mc_script.specs.Arming.{armed_bench, power_after_stop, answer_after_stop}
-use Rattle.mc_script.specs.Commands.{command_line}
+use Rattle.mc_script.specs.Commands.{deck_line_of}
 use Rattle.mc_script.specs.Lines.{LineDone}
 use Rattle.mc_script.specs.Runs.{Ran}
 use Rattle.mc_script.proofs.AccountLemmas.{base_card, stands_hot, StopsStand}
@@ -40,7 +40,7 @@ use Rattle.mc_script.proofs.LinedLemmas.{lined}
 use Rattle.mc_script.proofs.TriedLemmas.{Handed, Worth, Went, went, went_stepped, Hit, hit, hit_stepped}
 use Rattle.mc_script.proofs.PowerLineLemmas.{live_stopped, answer_stopped}
 
-worth : (c : Command) (s : State) → Worth s (command_line c) 0
+worth : (c : CardLine) (s : State) → Worth s (deck_line_of c) 0
 worth c s = record { card = is_card c; powers = no_powers c; pokes = no_pokes c s; cuts = no_cuts c; fails = no_fails c }
 
 module _ {N R : Type 0} (state : N → DeviceState) (bench : N → BenchState) (wrote : N → ℕ → List ℕ → Ended → N → Type 0)
@@ -48,25 +48,25 @@ module _ {N R : Type 0} (state : N → DeviceState) (bench : N → BenchState) (
     (burns : (d : N) (at : ℕ) (w : List ℕ) (a : Ended) (e : N) → (state d).on ≡ true → wrote d at w a e → BenchWrote (state d) (bench d) at a (state e) (bench e))
     (fits : (d : N) (at : ℕ) (w : List ℕ) (a : Ended) (e : N) → wrote d at w a e → (at < length (state d).words) × (length w ≡ 8)) (told : R → List Turn → R → Type 0) where
   -- what a line asks of a card in a play
-  asked : Card N → Warm → Command → play.Command
-  asked c w cmd = line_command (card_in state c) (seat_in state c) w.budget (command_line cmd)
+  asked : Card N → Warm → CardLine → play.Command
+  asked c w cmd = line_command (card_in state c) (seat_in state c) w.budget (deck_line_of cmd)
 
   -- the step of the line
-  step_is : (c : Card N) (w : Warm) (n : ℕ) (cmd : Command) (x : Option WornAt) → IsCard state c w.base w.live
-      → step (Hot w) (n, command_line cmd) x ≡ command_step n (command_line cmd) w (card_in state c) (asked c w cmd) (hit_of w.armed (moves (asked c w cmd).items) x)
+  step_is : (c : Card N) (w : Warm) (n : ℕ) (cmd : CardLine) (x : Option WornAt) → IsCard state c w.base w.live
+      → step (Hot w) (n, deck_line_of cmd) x ≡ command_step n (deck_line_of cmd) w (card_in state c) (asked c w cmd) (hit_of w.armed (moves (asked c w cmd).items) x)
   unfolding asked
   step_is c w n cmd x on =
-      hot_is cmd w n x ∙ ap (λ (v : Live). card_line n (command_line cmd) w v w.base x) on.live ∙ ap (λ (b : Base). card_line n (command_line cmd) w (Running (seat_in state c)) b x) on.base
+      hot_is cmd w n x ∙ ap (λ (v : Live). card_line n (deck_line_of cmd) w v w.base x) on.live ∙ ap (λ (b : Base). card_line n (deck_line_of cmd) w (Running (seat_in state c)) b x) on.base
 
-  moves_are : (c : Card N) (w : Warm) (n : ℕ) (cmd : Command) → IsCard state c w.base w.live → moves_of (Hot w) (n, command_line cmd) ≡ moves (asked c w cmd).items
+  moves_are : (c : Card N) (w : Warm) (n : ℕ) (cmd : CardLine) → IsCard state c w.base w.live → moves_of (Hot w) (n, deck_line_of cmd) ≡ moves (asked c w cmd).items
   unfolding asked
   moves_are c w n cmd on =
-      moves_hot cmd w n ∙ ap (λ (v : Live). moves (card_line n (command_line cmd) w v w.base None).items) on.live
-      ∙ ap (λ (b : Base). moves (card_line n (command_line cmd) w (Running (seat_in state c)) b None).items) on.base
+      moves_hot cmd w n ∙ ap (λ (v : Live). moves (card_line n (deck_line_of cmd) w v w.base None).items) on.live
+      ∙ ap (λ (b : Base). moves (card_line n (deck_line_of cmd) w (Running (seat_in state c)) b None).items) on.base
 
   -- wherever a write of the line stops, the words stand for the play
-  command_stands : (c : Card N) (w : Warm) (n : ℕ) (cmd : Command) (ws : List (ℕ × List ℕ)) → IsCard state c w.base w.live → StopsAtEach (card_in state c) (asked c w cmd).items (state (device_in c)).words ws
-      → StopsStand (state (device_in c)).words (Hot w) (n, command_line cmd) 0 ws
+  command_stands : (c : Card N) (w : Warm) (n : ℕ) (cmd : CardLine) (ws : List (ℕ × List ℕ)) → IsCard state c w.base w.live → StopsAtEach (card_in state c) (asked c w cmd).items (state (device_in c)).words ws
+      → StopsStand (state (device_in c)).words (Hot w) (n, deck_line_of cmd) 0 ws
   command_stands c w n cmd ws on stops k x low high size =
       let m = torn (state (device_in c)).words ws k x in
       let t : StopAt = record { kind = Worn; at = k; left = x } in
@@ -74,15 +74,15 @@ module _ {N R : Type 0} (state : N → DeviceState) (bench : N → BenchState) (
       let base : IsBase v.base v.owed v.by m = stops k x low high size in
       let here : Stands m (Hot v) = stands_hot m v base in
       let zero_on : 0 + k ≡ k = omega arith in
-      subst (λ (i : ℕ). Stands m (stopped (Hot w) (n, command_line cmd) i x)) (sym zero_on)
+      subst (λ (i : ℕ). Stands m (stopped (Hot w) (n, deck_line_of cmd) i x)) (sym zero_on)
       (subst (λ (u : Step). Stands m u.after) (sym (step_is c w n cmd (Some (record { at = k; left = x })) on)) here)
 
   -- the card that is armed is asked the same
-  asked_over : (c u : Card N) (k : ℕ) (w : Warm) (cmd : Command) (result : _) (e : Card N) (before after : R) → u ≡ with_device c (device_in u) → state (device_in u) ≡ state (device_in c) → k ≡ w.budget
-      → Ran state wrote told u (line_command (card_in state u) (seat_in state u) k (command_line cmd)) result e before after → Ran state wrote told u (asked c w cmd) result e before after
+  asked_over : (c u : Card N) (k : ℕ) (w : Warm) (cmd : CardLine) (result : _) (e : Card N) (before after : R) → u ≡ with_device c (device_in u) → state (device_in u) ≡ state (device_in c) → k ≡ w.budget
+      → Ran state wrote told u (line_command (card_in state u) (seat_in state u) k (deck_line_of cmd)) result e before after → Ran state wrote told u (asked c w cmd) result e before after
   unfolding asked
   asked_over c u k w cmd result e before after rest same budget ran =
-      let f : model.Card → Seat → ℕ → Type 0 = λ x y z. Ran state wrote told u (line_command x y z (command_line cmd)) result e before after in
+      let f : model.Card → Seat → ℕ → Type 0 = λ x y z. Ran state wrote told u (line_command x y z (deck_line_of cmd)) result e before after in
       subst (λ (x : model.Card). f x (seat_in state c) w.budget) (ap (λ (x : DeviceState). means x.words) same)
       (subst (λ (y : Seat). f (card_in state u) y w.budget) (seat_over state c u rest same) (subst (λ (z : ℕ). f (card_in state u) (seat_in state u) z) budget ran))
 
@@ -104,18 +104,18 @@ module _ {N R : Type 0} (state : N → DeviceState) (bench : N → BenchState) (
 
   -- ---- a command that was answered
 
-  pub command_done : (p : Player N) (u e f : Card N) (cmd : Command) (o : Outcome) (before after : R) → p.power ≡ power.On → IsReady state p.card → state (device_in u) ≡ state (device_of p)
+  pub command_done : (p : Player N) (u e f : Card N) (cmd : CardLine) (o : Outcome) (before after : R) → p.power ≡ power.On → IsReady state p.card → state (device_in u) ≡ state (device_of p)
       → bench (device_in u) ≡ armed_bench p.armed (bench (device_of p)) → u ≡ with_device p.card (device_in u)
-      → Ran state wrote told u (line_command (card_in state u) (seat_in state u) p.budget (command_line cmd)) (Ok o) e before after
+      → Ran state wrote told u (line_command (card_in state u) (seat_in state u) p.budget (deck_line_of cmd)) (Ok o) e before after
       → state (device_in f) ≡ state (device_in e) → bench (device_in f) ≡ record (bench (device_in e)) { cut = None; worn = None } → f ≡ with_device e (device_in f)
-      → LineDone state bench told p (command_line cmd) before after (Some answer.Outcome) (record p { card = f; armed = armed.Not; outcome = o })
+      → LineDone state bench told p (deck_line_of cmd) before after (Some answer.Outcome) (record p { card = f; armed = armed.Not; outcome = o })
   command_done p u e f cmd o before after on_is ready same is rest ran kept free over (Cold m b r) n at = absurd (cc (sym at.stands.0 ∙ on_is))
   command_done p u e f cmd o before after on_is ready same is rest ran kept free over (Hot w) n at =
       let c = p.card in
       let k = p.budget in
       let a = p.armed in
       let q : Player N = record p { card = f; armed = armed.Not; outcome = o } in
-      let l = command_line cmd in
+      let l = deck_line_of cmd in
       let on : IsCard state c w.base w.live = subst (λ (y : Power). LiveIs state y c w.base w.live) on_is at.stands.0 in
       let r = asked c w cmd in
       let card = card_in state c in
@@ -151,11 +151,11 @@ module _ {N R : Type 0} (state : N → DeviceState) (bench : N → BenchState) (
 
   -- ---- a command that was stopped
 
-  pub command_stopped : (p : Player N) (u e f : Card N) (cmd : Command) (o : Outcome) (how : Stop) (before after : R) → p.power ≡ power.On → IsReady state p.card → state (device_in u) ≡ state (device_of p)
+  pub command_stopped : (p : Player N) (u e f : Card N) (cmd : CardLine) (o : Outcome) (how : Stop) (before after : R) → p.power ≡ power.On → IsReady state p.card → state (device_in u) ≡ state (device_of p)
       → bench (device_in u) ≡ armed_bench p.armed (bench (device_of p)) → u ≡ with_device p.card (device_in u)
-      → Ran state wrote told u (line_command (card_in state u) (seat_in state u) p.budget (command_line cmd)) (Err how) e before after
+      → Ran state wrote told u (line_command (card_in state u) (seat_in state u) p.budget (deck_line_of cmd)) (Err how) e before after
       → state (device_in f) ≡ state (device_in e) → bench (device_in f) ≡ record (bench (device_in e)) { cut = None; worn = None }
-      → LineDone state bench told p (command_line cmd) before after (Some (answer_after_stop how p.armed)) (record p { card = f; power = power_after_stop how; armed = armed.Not; outcome = o })
+      → LineDone state bench told p (deck_line_of cmd) before after (Some (answer_after_stop how p.armed)) (record p { card = f; power = power_after_stop how; armed = armed.Not; outcome = o })
   command_stopped p u e f cmd o how before after on_is ready same is rest ran kept free (Cold m b r) n at = absurd (cc (sym at.stands.0 ∙ on_is))
   command_stopped p u e f cmd o how before after on_is ready same is rest ran kept free (Hot w) n at =
       let c = p.card in
@@ -164,7 +164,7 @@ module _ {N R : Type 0} (state : N → DeviceState) (bench : N → BenchState) (
       let d = device_in f in
       let ans = answer_after_stop how a in
       let q : Player N = record p { card = f; power = power_after_stop how; armed = armed.Not; outcome = o } in
-      let l = command_line cmd in
+      let l = deck_line_of cmd in
       let on : IsCard state c w.base w.live = subst (λ (y : Power). LiveIs state y c w.base w.live) on_is at.stands.0 in
       let r = asked c w cmd in
       let card = card_in state c in
@@ -199,12 +199,12 @@ module _ {N R : Type 0} (state : N → DeviceState) (bench : N → BenchState) (
       (worn_entry i x (Some how), lined state bench told p q (Hot w) (n, l) (worn_entry i x (Some how)) (command_step n l w card r (Some t)) (Some ans) before after step_on stepped tells.2)
 
   -- the same, of the power and the answer that are these
-  pub command_stopped_as : (p : Player N) (u e f : Card N) (cmd : Command) (o : Outcome) (how : Stop) (pw : Power) (ans : Answer) (before after : R) → p.power ≡ power.On → IsReady state p.card → state (device_in u) ≡ state (device_of p)
+  pub command_stopped_as : (p : Player N) (u e f : Card N) (cmd : CardLine) (o : Outcome) (how : Stop) (pw : Power) (ans : Answer) (before after : R) → p.power ≡ power.On → IsReady state p.card → state (device_in u) ≡ state (device_of p)
       → bench (device_in u) ≡ armed_bench p.armed (bench (device_of p)) → u ≡ with_device p.card (device_in u)
-      → Ran state wrote told u (line_command (card_in state u) (seat_in state u) p.budget (command_line cmd)) (Err how) e before after
+      → Ran state wrote told u (line_command (card_in state u) (seat_in state u) p.budget (deck_line_of cmd)) (Err how) e before after
       → state (device_in f) ≡ state (device_in e) → bench (device_in f) ≡ record (bench (device_in e)) { cut = None; worn = None } → pw ≡ power_after_stop how → ans ≡ answer_after_stop how p.armed
-      → LineDone state bench told p (command_line cmd) before after (Some ans) (record p { card = f; power = pw; armed = armed.Not; outcome = o })
+      → LineDone state bench told p (deck_line_of cmd) before after (Some ans) (record p { card = f; power = pw; armed = armed.Not; outcome = o })
   command_stopped_as p u e f cmd o how pw ans before after on_is ready same is rest ran kept free goes says =
-      subst (λ (x : Power). LineDone state bench told p (command_line cmd) before after (Some ans) (record p { card = f; power = x; armed = armed.Not; outcome = o })) (sym goes)
-      (subst (λ (x : Answer). LineDone state bench told p (command_line cmd) before after (Some x) (record p { card = f; power = power_after_stop how; armed = armed.Not; outcome = o })) (sym says)
+      subst (λ (x : Power). LineDone state bench told p (deck_line_of cmd) before after (Some ans) (record p { card = f; power = x; armed = armed.Not; outcome = o })) (sym goes)
+      (subst (λ (x : Answer). LineDone state bench told p (deck_line_of cmd) before after (Some x) (record p { card = f; power = power_after_stop how; armed = armed.Not; outcome = o })) (sym says)
       (command_stopped p u e f cmd o how before after on_is ready same is rest ran kept free))

@@ -1,23 +1,40 @@
 -- The laws of plays, of decks that were played.
-use Rattle.std.proofs.Common.{◌≡◌, ℕ, List, Result}
+use Rattle.std.proofs.Common.{◌≡◌, ℕ, List, [], ◌∷◌, ◌++◌, Result, subst}
+use Rattle.std.specs.List.{AllByRecursion}
+use Rattle.mc_model.specs.Device.{IsImage}
 use Rattle.mc_model.specs.DeckGrammar.{DeckLine}
-use Rattle.mc_model.specs.Play.{Step, start}
+use Rattle.mc_model.specs.Laws.{HoldsOf}
+use Rattle.mc_model.specs.Play.{Step, start, plays}
+use Rattle.mc_model.specs.ReadyAgain.{IsLine, AreLines}
+use Rattle.mc_family.proofs.DeckBytes.{played_bytes}
 use Rattle.mc_family.proofs.PlayLaw.{play_law}
 use Rattle.mc_base.specs.declared.refusals.WriteFault.{WriteFault}
 use Rattle.mc_text.specs.Texts.{Sunk}
 use Rattle.mc_script.specs.Plays.{Bench, PlaysFrom, PlaysDeck, SumsDeck}
 use Rattle.mc_script.specs.Sums.{SumsFrom}
 
+-- the first of some lines carry bytes where all of them do
+front_bytes : (ls ks : List (ℕ × DeckLine)) → AllByRecursion (λ l. IsLine l.1) (ls ++ ks) → AllByRecursion (λ l. IsLine l.1) ls
+front_bytes [] ks h = tt
+front_bytes (l ∷ ls) ks h = (h.0, front_bytes ls ks h.1)
+
 -- a deck that was played from the words of a device, and what is left of the device and of the sink
 pub play_deck : (f : Step → List ℕ) (ls : List (ℕ × DeckLine)) (a : Bench) (x : Sunk) (r s : Result (Unit {0}) WriteFault) (b c : Bench) (y z : Sunk) → PlaysFrom f (start a.device.words) ls a x r b y
-    → b.device ≡ c.device → b.bench ≡ c.bench → y.taken ≡ z.taken → y.faults ≡ z.faults → r ≡ s → PlaysDeck f ls a x s c z
-play_deck f ls a x r s b c y z h device bench taken faults result =
+    → IsImage a.device.words → AllByRecursion (λ l. IsLine l.1) ls → b.device ≡ c.device → b.bench ≡ c.bench → y.taken ≡ z.taken → y.faults ≡ z.faults → r ≡ s → PlaysDeck f ls a x s c z
+play_deck f ls a x r s b c y z h image bytes device bench taken faults result =
     let from : PlaysFrom f (start a.device.words) ls a x s c z = rw (← device, ← bench, ← taken, ← faults, ← result) h in
-    record { from = from; laws = play_law from.lines a.device.words from.worn from.played.possible }
+    let m : List (List ℕ) = a.device.words in
+    let laws : HoldsOf m (plays (start m) from.lines from.worn) = play_law from.lines m from.worn from.played.possible in
+    let mine = front_bytes from.lines from.rest (subst (λ (k : List (ℕ × DeckLine)). AllByRecursion (λ l. IsLine l.1) k) from.are bytes) in
+    let are : AreLines (plays (start m) from.lines from.worn) = played_bytes (start m) from.lines from.worn mine in
+    record { from = from; laws = laws; few = laws.few image are; ready = laws.ready image are }
 
 -- a deck that was played and summed up
 pub sum_deck : (f : List Step → List ℕ) (ls : List (ℕ × DeckLine)) (a : Bench) (x : Sunk) (r s : Result (Unit {0}) WriteFault) (b c : Bench) (y z : Sunk) → SumsFrom f (start a.device.words) ls a x r b y
-    → b.device ≡ c.device → b.bench ≡ c.bench → y.taken ≡ z.taken → y.faults ≡ z.faults → r ≡ s → SumsDeck f ls a x s c z
-sum_deck f ls a x r s b c y z h device bench taken faults result =
+    → IsImage a.device.words → AllByRecursion (λ l. IsLine l.1) ls → b.device ≡ c.device → b.bench ≡ c.bench → y.taken ≡ z.taken → y.faults ≡ z.faults → r ≡ s → SumsDeck f ls a x s c z
+sum_deck f ls a x r s b c y z h image bytes device bench taken faults result =
     let from : SumsFrom f (start a.device.words) ls a x s c z = rw (← device, ← bench, ← taken, ← faults, ← result) h in
-    record { worn = from.worn; played = from.played; laws = play_law ls a.device.words from.worn from.played.possible; text = from.text }
+    let m : List (List ℕ) = a.device.words in
+    let laws : HoldsOf m (plays (start m) ls from.worn) = play_law ls m from.worn from.played.possible in
+    let are : AreLines (plays (start m) ls from.worn) = played_bytes (start m) ls from.worn bytes in
+    record { worn = from.worn; played = from.played; laws = laws; few = laws.few image are; ready = laws.ready image are; text = from.text }

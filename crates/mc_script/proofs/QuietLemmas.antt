@@ -14,14 +14,14 @@ use Rattle.mc_script.specs.declared.answer.Answer.{Answer}
 use Rattle.mc_script.specs.declared.answer.Answer.TheVariants as answer
 use Rattle.mc_script.specs.declared.armed.Armed.{Armed}
 use Rattle.mc_script.specs.declared.armed.Armed.TheVariants as armed
-use Rattle.mc_script.specs.declared.commands.Command.{Command}
+use Rattle.mc_script.specs.declared.commands.CardLine.{CardLine}
 use Rattle.mc_script.specs.declared.player.Power.{Power}
 use Rattle.mc_script.specs.declared.player.Power.TheVariants as power
 use Rattle.mc_script.specs.declared.player.Player.{Player}
 use Rattle.mc_script.specs.Players.{answer_value, armed_value, dump_value, device_of, CanArm, LiveIs, IsAt}
 use Rattle.mc_script.specs.Counting.{raised, line_powers, line_pokes, line_cuts, line_fails, Arms, LineCounts}
 use Rattle.mc_script.specs.Arming.{armed_bench}
-use Rattle.mc_script.specs.Commands.{command_line}
+use Rattle.mc_script.specs.Commands.{deck_line_of}
 use Rattle.mc_script.specs.Plays.{StepTape}
 use Rattle.mc_script.specs.Lines.{Stepped, Silent, SilentDone}
 use Rattle.mc_script.proofs.FuseLemmas.{past_none}
@@ -201,8 +201,8 @@ module _ {N : Type 0} (state : N → DeviceState) (bench : N → BenchState) whe
 
   -- ---- lines of commands without a card
 
-  no_arms : (c : Command) (b : BenchState) (a : play.Armed) → Arms b a (line_cuts (command_line c)) (line_fails (command_line c)) b Unarmed
-  no_arms c b a = subst (λ (i : ℕ). Arms b a i (line_fails (command_line c)) b Unarmed) (sym (no_cuts c)) (subst (λ (i : ℕ). Arms b a 0 i b Unarmed) (sym (no_fails c)) (arms_dropped b a))
+  no_arms : (c : CardLine) (b : BenchState) (a : play.Armed) → Arms b a (line_cuts (deck_line_of c)) (line_fails (deck_line_of c)) b Unarmed
+  no_arms c b a = subst (λ (i : ℕ). Arms b a i (line_fails (deck_line_of c)) b Unarmed) (sym (no_cuts c)) (subst (λ (i : ℕ). Arms b a 0 i b Unarmed) (sym (no_fails c)) (arms_dropped b a))
 
   no_steady : (a : Armed) (b : BenchState) (v : play.Armed) (l : DeckLine) (m : ℕ) → CanArm a → armed_value a ≡ v → m ≡ 0 → None ≡ steady_at v l m
   no_steady a b v l m can is none =
@@ -215,12 +215,12 @@ module _ {N : Type 0} (state : N → DeviceState) (bench : N → BenchState) whe
   quiet_silent p q s n l result after r is stepped =
       record { stepped = subst (λ (t : Step). Stepped state bench p s (n, l) None t r q) (sym is) stepped; silent = subst (λ (t : Step). shown_turns t.turns t.stop ≡ []) (sym is) refl }
 
-  pub none_cold : (p : Player N) (c : Command) → p.power ≡ power.Cold → SilentDone state bench p (command_line c) (Some answer.NoCard) (record p { armed = armed.Not })
+  pub none_cold : (p : Player N) (c : CardLine) → p.power ≡ power.Cold → SilentDone state bench p (deck_line_of c) (Some answer.NoCard) (record p { armed = armed.Not })
   none_cold p c cold (Hot w) n at = absurd (subst (λ (x : Power). LiveIs state x p.card w.base w.live) cold at.stands.0)
   none_cold p c cold (Cold m b r) n at =
       let q : Player N = record p { armed = armed.Not } in
       let d = device_of p in
-      let l = command_line c in
+      let l = deck_line_of c in
       let then : IsAt state bench q (Cold m b Unarmed) = record { stands = at.stands; budget = at.budget; armed = refl; some = at.some; most = at.most; can_arm = tt; unfused = at.unfused } in (
         None,
         quiet_silent p q (Cold m b r) n l (Some NoCard) (Cold m b Unarmed) (Some answer.NoCard) (cold_is c m b r n None)
@@ -229,18 +229,18 @@ module _ {N : Type 0} (state : N → DeviceState) (bench : N → BenchState) whe
       )
 
   -- a line of commands in a play that has begun, where no card runs
-  none_hot : (p q : Player N) (w : Warm) (n : ℕ) (c : Command) (v : Live) (result : LineResult) (r : Answer) → device_of q ≡ device_of p → IsAt state bench p (Hot w) → IsAt state bench q (Hot (record w { armed = Unarmed }))
-      → w.live ≡ v → card_line n (command_line c) w v w.base None ≡ quiet n (command_line c) (Hot w) (Some result) (Hot (record w { armed = Unarmed })) → answer_value state q r ≡ result
-      → Silent state bench p (Hot w) (n, command_line c) None (Some r) q
+  none_hot : (p q : Player N) (w : Warm) (n : ℕ) (c : CardLine) (v : Live) (result : LineResult) (r : Answer) → device_of q ≡ device_of p → IsAt state bench p (Hot w) → IsAt state bench q (Hot (record w { armed = Unarmed }))
+      → w.live ≡ v → card_line n (deck_line_of c) w v w.base None ≡ quiet n (deck_line_of c) (Hot w) (Some result) (Hot (record w { armed = Unarmed })) → answer_value state q r ≡ result
+      → Silent state bench p (Hot w) (n, deck_line_of c) None (Some r) q
   none_hot p q w n c v result r same at then live quiet_is answers =
-      let l = command_line c in
+      let l = deck_line_of c in
       let line_is : card_line n l w w.live w.base None ≡ quiet n l (Hot w) (Some result) (Hot (record w { armed = Unarmed })) = ap (λ (x : Live). card_line n l w x w.base None) live ∙ quiet_is in
       let none : moves_of (Hot w) (n, l) ≡ 0 = moves_hot c w n ∙ ap (λ (t : Step). moves t.items) line_is in
       quiet_silent p q (Hot w) n l (Some result) (Hot (record w { armed = Unarmed })) (Some r) (hot_is c w n None ∙ line_is)
       (quietly p q (Hot w) n l (Some result) (Hot (record w { armed = Unarmed })) (Some r) same then (ap (λ (x : LineResult). Some x) answers) (no_powers c) (no_pokes c (Hot w)) (no_arms c (bench (device_of p)) w.armed)
       (no_steady p.armed (bench (device_of p)) w.armed l (moves_of (Hot w) (n, l)) at.can_arm at.armed none) refl)
 
-  pub none_off : (p : Player N) (c : Command) → p.power ≡ power.Off → SilentDone state bench p (command_line c) (Some answer.NoCard) (record p { armed = armed.Not })
+  pub none_off : (p : Player N) (c : CardLine) → p.power ≡ power.Off → SilentDone state bench p (deck_line_of c) (Some answer.NoCard) (record p { armed = armed.Not })
   none_off p c off (Cold m b r) n at = absurd (cc (sym at.stands.0 ∙ off))
   none_off p c off (Hot w) n at =
       let q : Player N = record p { armed = armed.Not } in
@@ -248,7 +248,7 @@ module _ {N : Type 0} (state : N → DeviceState) (bench : N → BenchState) whe
       let then : IsAt state bench q (Hot (record w { armed = Unarmed })) = record { stands = at.stands; budget = at.budget; armed = refl; some = at.some; most = at.most; can_arm = tt; unfused = at.unfused } in
       (None, none_hot p q w n c Unpowered NoCard answer.NoCard refl at then live refl refl)
 
-  pub none_mute : (p : Player N) (c : Command) → p.power ≡ power.Mute → SilentDone state bench p (command_line c) (Some answer.Mute) (record p { armed = armed.Not })
+  pub none_mute : (p : Player N) (c : CardLine) → p.power ≡ power.Mute → SilentDone state bench p (deck_line_of c) (Some answer.Mute) (record p { armed = armed.Not })
   none_mute p c mute (Cold m b r) n at = absurd (cc (sym at.stands.0 ∙ mute))
   none_mute p c mute (Hot w) n at =
       let q : Player N = record p { armed = armed.Not } in

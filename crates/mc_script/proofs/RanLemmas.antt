@@ -22,7 +22,7 @@ use Rattle.mc_machine.specs.declared.outcome.Outcome.{Outcome}
 use Rattle.mc_machine.specs.declared.outcome.Turn.{Turn as CodeTurn}
 use Rattle.mc_machine.specs.Turns.{outcome_value, turn_value}
 use Rattle.mc_card.specs.declared.card.Card.{Card as CardOf}
-use Rattle.mc_card.specs.Made.{IsStopped, StopsAtEach, IsAll, IsDone, Made}
+use Rattle.mc_card.specs.ItemWrites.{IsStopped, StopsAtEach, IsAll, IsDone, Made}
 use Rattle.mc_card.specs.Parts.{device_in, card_in, seat_in, with_session, IsReady, RunsChain}
 use Rattle.mc_card.specs.Ends.{GoesOn, Turned}
 use Rattle.mc_card.proofs.MadeLemmas.{moves-append, card-append, behind, stop-within, stop-past, card-found}

@@ -3,7 +3,7 @@ use Rattle.std.proofs.Common.{◌≡◌, true}
 use Rattle.mc_model.specs.Device.{DeviceState}
 use Rattle.mc_model.specs.Image.{Two}
 use Rattle.mc_model.specs.Play.{OnCard}
-use Rattle.mc_store.specs.Going.{going_is}
+use Rattle.mc_store.specs.GoingLaws.{going_is}
 use Rattle.mc_store.specs.Power.{IsBase, count_of}
 use Rattle.mc_card.specs.declared.card.Card.{Card}
 use Rattle.mc_card.specs.Parts.{device_in, card_in, IsUp}

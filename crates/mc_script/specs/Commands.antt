@@ -2,12 +2,12 @@
 use Rattle.mc_model.specs.DeckGrammar.{DeckLine}
 use Rattle.mc_model.specs.DeckGrammar as line
 use Rattle.mc_unit.specs.Parts.{parts_of}
-use Rattle.mc_script.specs.declared.commands.Command.{Command}
-use Rattle.mc_script.specs.declared.commands.Command.TheVariants as command
+use Rattle.mc_script.specs.declared.commands.CardLine.{CardLine}
+use Rattle.mc_script.specs.declared.commands.CardLine.TheVariants as command
 
 -- the line of a deck that a command is
-abbrev pub command_line : Command → DeckLine
-command_line (command.Select aid) = line.Select aid.now
-command_line (command.Delete aid) = line.Delete aid.now
-command_line (command.Apdu bytes) = line.Apdu bytes.now
-command_line (command.Load u fixed session) = line.Load (parts_of u.now) fixed session
+abbrev pub deck_line_of : CardLine → DeckLine
+deck_line_of (command.Select aid) = line.Select aid.now
+deck_line_of (command.Delete aid) = line.Delete aid.now
+deck_line_of (command.Apdu bytes) = line.Apdu bytes.now
+deck_line_of (command.Load u fixed session) = line.Load (parts_of u.now) fixed session

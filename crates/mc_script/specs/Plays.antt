@@ -1,10 +1,11 @@
 -- A deck played on a device from the words that it holds: its text, the words and counts that it leaves, and the worn stops that account for all of it.
-use Rattle.std.specs.Prelude.{◌≡◌, ℕ, ◌<◌, true, List, [], ◌∷◌, ◌++◌, length, Option, Some, None, Result, Ok, Err}
+use Rattle.std.specs.Prelude.{◌≡◌, ℕ, ◌<◌, true, false, List, [], ◌∷◌, ◌++◌, length, Option, Some, None, Result, Ok, Err}
 use Rattle.mc_model.specs.Counts.{Rose}
 use Rattle.mc_model.specs.Device.{DeviceState, BenchState, Entry, GrowsBy}
 use Rattle.mc_model.specs.DeckGrammar.{DeckLine}
 use Rattle.mc_model.specs.Play.{State, WornAt, Step, armed_in, plays, start, last_state, Possible, Stands, steady_worn, tape_worn, Accounts, MayHit, moves_of, steady_at, worn_in, words_left, AccountsForLine}
 use Rattle.mc_model.specs.Laws.{HoldsOf}
+use Rattle.mc_model.specs.ReadyAgain.{AllFitJournal, ReadyAgain}
 pub use Rattle.mc_model.specs.Transcript.{plain_text, texts}
 pub use Rattle.mc_model.specs.TraceText.{traced_text}
 use Rattle.mc_base.specs.Streams.{Grew}
@@ -96,14 +97,19 @@ pub record PlaysFrom (f : Step → List ℕ) (s : State) (ls : List (ℕ × Deck
   pub text : Ends f x rest (plays s lines worn) result y
 
 -- A deck played on a device, with its text. Every closed family of applications is told and holds what it is told and holds on a card of
--- its own, each line leaves the card with its whole items, and no new application has a stale byte.
+-- its own, each line leaves the card with its whole items, and no new application has a stale byte. Each item fits a journal, and a card that
+-- was found or formatted is found by every later power line that no stop hits.
 pub record PlaysDeck (f : Step → List ℕ) (ls : List (ℕ × DeckLine)) (a : Bench) (x : Sunk) (result : Result (Unit {0}) WriteFault) (b : Bench) (y : Sunk) : Type 0 where
   pub from : PlaysFrom f (start a.device.words) ls a x result b y
   pub laws : HoldsOf a.device.words (plays (start a.device.words) from.lines from.worn)
+  pub few : AllFitJournal (plays (start a.device.words) from.lines from.worn)
+  pub ready : ReadyAgain false (plays (start a.device.words) from.lines from.worn)
 
--- A deck played on a device, and a text of the whole play.
+-- A deck played on a device, and a text of the whole play, with the same laws.
 pub record SumsDeck (f : List Step → List ℕ) (ls : List (ℕ × DeckLine)) (a : Bench) (x : Sunk) (result : Result (Unit {0}) WriteFault) (b : Bench) (y : Sunk) : Type 0 where
   pub worn : List (Option WornAt)
   pub played : Played (start a.device.words) ls worn a b
   pub laws : HoldsOf a.device.words (plays (start a.device.words) ls worn)
+  pub few : AllFitJournal (plays (start a.device.words) ls worn)
+  pub ready : ReadyAgain false (plays (start a.device.words) ls worn)
   pub text : Puts x (f (plays (start a.device.words) ls worn)) result y

@@ -3,7 +3,7 @@ ghost use Rattle.std.specs.Prelude.{◌≡◌, ◌≤◌, ◌++◌, ◌∷◌, l
 ghost use Rattle.mc_model.specs.Play.{line_command};
 ghost use Rattle.mc_deck.specs.Lines.{GoodLine};
 ghost use Rattle.mc_card.specs.Parts.{device_in, card_in, seat_in, IsReady};
-ghost use Rattle.mc_script.specs.Commands.{command_line};
+ghost use Rattle.mc_script.specs.Commands.{deck_line_of};
 ghost use Rattle.mc_script.specs.Runs.{Ran};
 ghost use Rattle.mc_card.specs.Ends.{put_in};
 
@@ -19,7 +19,7 @@ use std::sync::ledger::Ledger;
 
 /// A line that is one command to a card, or the commands of a load.
 #[derive(Clone, Copy, Debug)]
-pub enum Command<'a> {
+pub enum CardLine<'a> {
     Select(&'a Aid),
     Delete(&'a Aid),
     Apdu(&'a [u8]),
@@ -44,7 +44,7 @@ fn with_name(header: [u8; 4], aid: &Aid) -> ArrayVec<u8, 21>
 /// Runs the command or the commands of a line on a card, whose outcome is put in place of another.
 pub fn run_line<N: Nvm, R: Runner, L: Ledger>(
     card: &mut Card<N>,
-    command: &Command<'_>,
+    command: &CardLine<'_>,
     budget: u32,
     runner: &mut R,
     into: &mut Outcome,
@@ -53,29 +53,29 @@ pub fn run_line<N: Nvm, R: Runner, L: Ledger>(
     requires ready { IsReady N.state card.old }
     requires some { 1 ≤ budget }
     requires budget { budget ≤ 65536 }
-    requires good { GoodLine (command_line command.now) }
+    requires good { GoodLine (deck_line_of command.now) }
     ensures done { Ran N.state N.wrote R.told card.old
-        (line_command (card_in N.state card.old) (seat_in N.state card.old) budget (command_line command.now))
+        (line_command (card_in N.state card.old) (seat_in N.state card.old) budget (deck_line_of command.now))
         (put_in result into.new) card.new runner.old runner.new }
     ensures lent { N.same (device_in card.old) (device_in card.new) }
 {
     match command {
-        Command::Select(aid) => runner.run(
+        CardLine::Select(aid) => runner.run(
             card,
             with_name([0x00, 0xA4, 0x04, 0x0C], aid).as_slice(),
             budget,
             into,
             steps,
         ),
-        Command::Delete(aid) => runner.run(
+        CardLine::Delete(aid) => runner.run(
             card,
             with_name([0xBE, 0x18, 0x00, 0x00], aid).as_slice(),
             budget,
             into,
             steps,
         ),
-        Command::Apdu(bytes) => runner.run(card, bytes, budget, into, steps),
-        Command::Load {
+        CardLine::Apdu(bytes) => runner.run(card, bytes, budget, into, steps),
+        CardLine::Load {
             unit,
             fixed,
             session,

@@ -5,7 +5,7 @@ ghost use Rattle.mc_script.specs.Players.{device_of, IsPlaying};
 ghost use Rattle.mc_script.specs.Lines.{LineDone};
 
 use crate::answer::Answer;
-use crate::commands::Command;
+use crate::commands::CardLine;
 use crate::player::Player;
 use crate::runner::Runner;
 use mc_base::Steps;
@@ -39,17 +39,17 @@ impl<N: Bench> Player<N> {
                 fixed,
                 session,
             } => {
-                let command = Command::Load {
+                let command = CardLine::Load {
                     unit,
                     fixed: *fixed,
                     session: *session,
                 };
                 Some(self.card_line(&command, runner, steps))
             }
-            Line::Select(aid) => Some(self.card_line(&Command::Select(aid), runner, steps)),
-            Line::Delete(aid) => Some(self.card_line(&Command::Delete(aid), runner, steps)),
+            Line::Select(aid) => Some(self.card_line(&CardLine::Select(aid), runner, steps)),
+            Line::Delete(aid) => Some(self.card_line(&CardLine::Delete(aid), runner, steps)),
             Line::Dump(aid) => Some(Answer::Dump(*aid)),
-            Line::Apdu(bytes) => Some(self.card_line(&Command::Apdu(bytes), runner, steps)),
+            Line::Apdu(bytes) => Some(self.card_line(&CardLine::Apdu(bytes), runner, steps)),
             Line::Budget(budget) => {
                 self.set_budget(*budget);
                 None

@@ -1,6 +1,9 @@
 // Whole decks.
 ghost use Rattle.std.specs.Prelude.{◌≡◌, None};
+ghost use Rattle.std.specs.List.{AllByRecursion};
+ghost use Rattle.mc_model.specs.Device.{IsImage};
 ghost use Rattle.mc_model.specs.Play.{start};
+ghost use Rattle.mc_model.specs.ReadyAgain.{IsLine};
 ghost use Rattle.mc_script.specs.Players.{IsUnfused};
 ghost use Rattle.mc_script.specs.Scripts.{ended, text_by};
 ghost use Rattle.mc_model.specs.Generator.{summary};
@@ -29,9 +32,12 @@ fn play_lines<N: Bench, S: Script, L: Ledger>(
     ensures plays { PlaysFrom (text_by S.text) (start (N.state device).words) deck.now
         (record { device = N.state device; bench = N.bench device }) (S.out script.old) (ended (S.fault script.new))
         (record { device = N.state result; bench = N.bench result }) (S.out script.new) }
+    ensures image { IsImage (N.state device).words }
+    ensures lines { AllByRecursion (λ l. IsLine l.1) deck.now }
     ensures lent { N.same device result }
     ensures same { S.same script.old script.new }
 {
+    let _words = device.len();
     let mut player = Player::new(device);
     for i in 0..deck.len() {
         let (number, line) = deck.line(i);

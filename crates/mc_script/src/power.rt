@@ -7,12 +7,12 @@ ghost use Rattle.mc_script.specs.Arming.{armed_bench, power_after_stop, answer_a
 ghost use Rattle.mc_script.specs.Players.{device_of, CanArm, IsPlaying};
 ghost use Rattle.mc_script.specs.declared.armed.Armed.TheVariants as armed;
 ghost use Rattle.mc_script.specs.declared.player.Power.TheVariants as live;
-ghost use Rattle.mc_script.specs.Commands.{command_line};
+ghost use Rattle.mc_script.specs.Commands.{deck_line_of};
 ghost use Rattle.mc_script.specs.Lines.{SilentDone, LineDone};
 
 use crate::answer::Answer;
 use crate::armed::Armed;
-use crate::commands::{Command, run_line};
+use crate::commands::{CardLine, run_line};
 use crate::player::{Player, Power};
 use crate::runner::Runner;
 use mc_base::{Steps, Stop};
@@ -107,13 +107,13 @@ impl<N: Bench> Player<N> {
     /// A line of commands, which wants a card that runs. The armed stop goes with it.
     pub(crate) fn card_line<R: Runner, L: Ledger>(
         &mut self,
-        command: &Command<'_>,
+        command: &CardLine<'_>,
         runner: &mut R,
         steps: &mut Steps<L>,
     ) -> Answer
         requires playing { IsPlaying N.state N.bench self.old }
-        requires good { GoodLine (command_line command.now) }
-        ensures done { LineDone N.state N.bench R.told self.old (command_line command.now) runner.old runner.new
+        requires good { GoodLine (deck_line_of command.now) }
+        ensures done { LineDone N.state N.bench R.told self.old (deck_line_of command.now) runner.old runner.new
             (Some result) self.new }
         ensures lent { N.same (device_of self.old) (device_of self.new) }
     {
@@ -137,7 +137,7 @@ impl<N: Bench> Player<N> {
     // A line of commands to a card that runs, under the armed stop.
     fn run_on<R: Runner, L: Ledger>(
         &mut self,
-        command: &Command<'_>,
+        command: &CardLine<'_>,
         runner: &mut R,
         steps: &mut Steps<L>,
     ) -> Answer
@@ -146,8 +146,8 @@ impl<N: Bench> Player<N> {
         requires some { 1 ≤ self.old.budget }
         requires most { self.old.budget ≤ 65536 }
         requires can { CanArm self.old.armed }
-        requires good { GoodLine (command_line command.now) }
-        ensures done { LineDone N.state N.bench R.told self.old (command_line command.now) runner.old runner.new
+        requires good { GoodLine (deck_line_of command.now) }
+        ensures done { LineDone N.state N.bench R.told self.old (deck_line_of command.now) runner.old runner.new
             (Some result) self.new }
         ensures lent { N.same (device_of self.old) (device_of self.new) }
     {

@@ -1,6 +1,9 @@
 // A deck that is played and counted, and the results of its dump lines.
 ghost use Rattle.std.specs.Prelude.{◌≡◌, ◌++◌, List, None};
+ghost use Rattle.std.specs.List.{AllByRecursion};
+ghost use Rattle.mc_model.specs.Device.{IsImage};
 ghost use Rattle.mc_model.specs.Play.{start, State, LineResult};
+ghost use Rattle.mc_model.specs.ReadyAgain.{IsLine};
 ghost use Rattle.mc_model.specs.Generator.{count_line, summary};
 ghost use Rattle.mc_deck.specs.Lines.{line_of};
 ghost use Rattle.mc_text.specs.Texts.{sunk_in, Puts};
@@ -107,9 +110,13 @@ pub fn sum_lines<N: Bench, T: Sink, L: Ledger>(
         (record { device = N.state device; bench = N.bench device }) (sunk_in T.taken T.faults script.old.out.now)
         (ended script.new.fault) (record { device = N.state result; bench = N.bench result })
         (sunk_in T.taken T.faults script.new.out.now) }
+    ensures image { IsImage (N.state device).words }
+    ensures lines { AllByRecursion (λ l. IsLine l.1) deck.now }
     ensures lent { N.same device result }
     ensures same { script.new.out.ghost_name ≡ script.old.out.ghost_name }
 {
+    let _words = device.len();
+    let _lines = deck.len();
     let mut player = Player::new(device);
     let counts = tally(&mut player, deck, steps);
     script.fault = put_summary(script.out, &mut script.line, &counts, &player, deck).err();

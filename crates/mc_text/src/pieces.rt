@@ -8,6 +8,9 @@ use arrayvec::ArrayVec;
 use itoa::Buffer;
 use mc_base::{Sink, WriteFault, put_all};
 
+// The upper case hexadecimal digits.
+const DIGITS: [u8; 16] = *b"0123456789ABCDEF";
+
 /// How many bytes are written in hexadecimal at a time.
 const PIECE: usize = 16;
 
@@ -40,11 +43,7 @@ pub fn digit(value: u8) -> u8
     requires { value < 16 }
     ensures { result ≡ hex_digit value }
 {
-    if value < 10 {
-        b'0' + value
-    } else {
-        b'A' + (value - 10)
-    }
+    DIGITS[value as usize]
 }
 
 // A piece in hexadecimal.

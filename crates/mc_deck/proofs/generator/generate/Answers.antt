@@ -1,10 +1,13 @@
-use Rattle.std.proofs.Common.{◌++◌, ℕ, sym, ap, subst, ◌∙◌}
+use Rattle.std.proofs.Common.{◌++◌, ℕ, List, sym, ap, subst, ◌∙◌}
 use Rattle.std.specs.List.{AllByRecursion}
 use Rattle.mc_model.specs.Text.{numbered}
+use Rattle.mc_model.specs.DeckGrammar.{DeckLine}
 use Rattle.mc_model.specs.Generator.{turns, closing}
+use Rattle.mc_model.specs.ReadyAgain.{IsLine}
 use Rattle.mc_deck.specs.declared.line.OwnedLine.{OwnedLine}
 use Rattle.mc_deck.specs.Lines.{AreDeck, Inside}
 use Rattle.mc_deck.proofs.GeneratorLemmas.{generated_parts, generated_deck}
+use Rattle.mc_deck.proofs.GeneratedBytes.{generated_bytes}
 use Rattle.mc_deck.proofs.generator.generate.Goals as goal
 
 pub invariant_of-result : goal.invariant_of-result
@@ -15,6 +18,7 @@ invariant_of-result c =
     record {
       inside = subst (λ (k : ℕ). AllByRecursion (λ (l : ℕ × OwnedLine). Inside k l.1) c.push_closing.new.lines.items) (sym c.in_ok-units.ensures.count) c.in_ok-push_closing.ensures.inside;
       deck = subst AreDeck (sym said) (generated_deck c.args.n);
+      bytes = subst (λ (ls : List (ℕ × DeckLine)). AllByRecursion (λ l. IsLine l.1) ls) (sym said) (generated_bytes c.args.n);
     }
 
 pub returns : goal.returns

@@ -2,6 +2,7 @@ use Rattle.std.proofs.Common.{◌≡◌, ◌+◌, arith, ℕ, List, Bor, [], fal
 use Rattle.std.specs.Prelude.{option_map}
 use Rattle.mc_model.specs.Text.{lines, numbered}
 use Rattle.mc_model.specs.DeckGrammar.{Context, Mode, Between, deck_lines, deck_read}
+use Rattle.mc_family.proofs.DeckBytes.{read_lines_law}
 use Rattle.mc_deck.specs.Readers.{lines_of, mode_of}
 use Rattle.mc_deck.proofs.TurnLemmas.{left_lines, first_stands, first_lines, line_read, line_refused, lines_done, ended_none, ended_some, still_few}
 use Rattle.mc_deck.proofs.reading.read_deck.Goals as goal
@@ -34,6 +35,15 @@ returns-in-Err-clause-refused c =
     let whole = deck_lines (Between (record { units = []; powered = false })) (numbered 1 (lines c.args.text.now)) in
     let next = ap (option_map (λ (l : Bor (List ℕ) × Bor (List ℕ)). (l.0.now, l.1.now))) (sym c.in-Some.is) ∙ c.next_line.ensures.line in
     line_refused (lines_of c.loop-line.reader) (mode_of c.loop-line.section leads.0) (c.loop-line.number + 1) c.loop-line.rest.now c.in-Some.line.now c.in-Some.behind.now whole c.in-Err.refusal next (c.in-Err.ensures.turned leads.0 leads.1) leads.2
+
+pub deck_of-requires-clause-bytes : goal.deck_of-requires-clause-bytes
+unfolding deck_read
+deck_of-requires-clause-bytes c =
+    let leads = c.loop-line.invariant.leads in
+    let whole = deck_lines (Between (record { units = []; powered = false })) (numbered 1 (lines c.args.text.now)) in
+    let next = ap (option_map (λ (l : Bor (List ℕ) × Bor (List ℕ)). (l.0.now, l.1.now))) (sym c.in_default.is) ∙ c.next_line.ensures.line in
+    read_lines_law c.args.text.now (lines_of c.loop-line.reader)
+    (lines_done (lines_of c.loop-line.reader) (mode_of c.loop-line.section leads.0) (c.loop-line.number + 1) c.loop-line.rest.now whole next leads.2 ∙ ended_none (lines_of c.loop-line.reader) leads.0 c.loop-line.section c.in-None.is)
 
 pub returns-in-None-clause-lines : goal.returns-in-None-clause-lines
 unfolding deck_read

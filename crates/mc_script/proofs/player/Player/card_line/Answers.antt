@@ -1,7 +1,7 @@
 use Rattle.std.proofs.Common.{Some}
 use Rattle.mc_script.specs.declared.answer.Answer.TheVariants as answer
 use Rattle.mc_script.specs.declared.armed.Armed.TheVariants as armed
-use Rattle.mc_script.specs.Commands.{command_line}
+use Rattle.mc_script.specs.Commands.{deck_line_of}
 use Rattle.mc_script.proofs.QuietLemmas.{none_cold, none_off, none_mute}
 use Rattle.mc_script.proofs.LineLemmas.{player_ready}
 use Rattle.mc_script.proofs.LinedLemmas.{silent_line, same_line}
@@ -14,7 +14,7 @@ returns-in-Cold-clause-done g c =
     let told = g.R.Runner.told in
     let p = c.args.self.now in
     let q = record p { armed = armed.Not } in
-    let l = command_line c.args.command.now in
+    let l = deck_line_of c.args.command.now in
     let r = c.args.runner.now in
     same_line state bench told p q c.refuse.new.self l answer.NoCard c.refuse.result r r
     (silent_line state bench told g.met.R.Runner.silent p q l (Some answer.NoCard) r (none_cold state bench p c.args.command.now c.in-Cold.is)) c.refuse.ensures.player c.refuse.ensures.answer
@@ -26,7 +26,7 @@ returns-in-Off-clause-done g c =
     let told = g.R.Runner.told in
     let p = c.args.self.now in
     let q = record p { armed = armed.Not } in
-    let l = command_line c.args.command.now in
+    let l = deck_line_of c.args.command.now in
     let r = c.args.runner.now in
     same_line state bench told p q c.refuse-in-Off.new.self l answer.NoCard c.refuse-in-Off.result r r
     (silent_line state bench told g.met.R.Runner.silent p q l (Some answer.NoCard) r (none_off state bench p c.args.command.now c.in-Off.is)) c.refuse-in-Off.ensures.player c.refuse-in-Off.ensures.answer
@@ -38,7 +38,7 @@ returns-in-Mute-clause-done g c =
     let told = g.R.Runner.told in
     let p = c.args.self.now in
     let q = record p { armed = armed.Not } in
-    let l = command_line c.args.command.now in
+    let l = deck_line_of c.args.command.now in
     let r = c.args.runner.now in
     same_line state bench told p q c.refuse-in-Mute.new.self l answer.Mute c.refuse-in-Mute.result r r
     (silent_line state bench told g.met.R.Runner.silent p q l (Some answer.Mute) r (none_mute state bench p c.args.command.now c.in-Mute.is)) c.refuse-in-Mute.ensures.player c.refuse-in-Mute.ensures.answer

@@ -1,0 +1,36 @@
+// Commands as nearly all decks write them.
+ghost use Rattle.std.specs.Prelude.{◌≡◌, ◌<◌, ◌∷◌, ℕ, length, Ok, Some, IfSome};
+ghost use Rattle.mc_model.specs.Text.{fields};
+ghost use Rattle.mc_model.specs.DeckGrammar.{Apdu, Context, Says};
+ghost use Rattle.mc_deck.specs.Readers.{line_stated};
+
+use crate::bytes::ShortBytes;
+use crate::field::{SHORT_DIGITS, short_hex_field};
+
+// What stands behind `apdu` and one blank.
+fn behind_word(text: &[u8]) -> Option<&[u8]>
+    ensures { IfSome result (λ hex. text.now ≡ 97 ∷ 112 ∷ 100 ∷ 117 ∷ 32 ∷ hex.now) }
+{
+    match text {
+        [b'a', b'p', b'd', b'u', b' ', hex @ ..] => Some(hex),
+        _ => None,
+    }
+}
+
+/// The command of a line that is `apdu`, one blank and the digits of at most 16 bytes, which needs no search for fields. None of any
+/// other line, which may be a command too, or a refused one.
+#[tactic(auto, using(crate::proofs::PlainLemmas::plain_stated))]
+pub fn plain_command(text: &[u8]) -> Option<ShortBytes>
+    ensures some { IfSome result (λ b. 0 < length b) }
+    ensures value { (c : Context) (n : ℕ)
+        → IfSome result (λ b. line_stated c n (fields text.now) ≡ Ok (Some (Says (Apdu b) c))) }
+{
+    let hex = behind_word(text)?;
+    if hex.is_empty() || hex.len() > SHORT_DIGITS {
+        return None;
+    }
+    match short_hex_field(hex) {
+        Ok(bytes) => Some(bytes),
+        Err(_) => None,
+    }
+}
