@@ -1,23 +1,23 @@
 -- What a job says at the status that it ended with.
-use Rattle.std.proofs.Common.{◌≡◌, ◌≤◌, ℕ, List, Option, Some, None, Result, Ok, Err, IfErr, IfOk, OnErr, OnOk, refl, sym, subst, ◌∙◌, inl, inr}
+use Rattle.std.proofs.Common.{◌≡◌, ℕ, List, Option, Some, None, Result, Ok, Err, IfErr, IfOk, refl, sym, subst, ◌∙◌, inl, inr}
 use Rattle.mc_model.specs.Counts.{Rose}
 use Rattle.mc_model.specs.Device.{BenchState, DeviceState}
 use Rattle.mc_model.specs.Generator.{generated}
-use Rattle.mc_base.specs.Streams.{Grew, GrewByPart}
 use Rattle.mc_base.specs.declared.refusals.WriteFault.{WriteFault as Fault}
 use Rattle.mc_text.specs.Texts.{sunk_in, Puts, Sunk}
+use Rattle.mc_filter.specs.Statuses.{Ends, ended}
 use Rattle.melcard.specs.declared.job.Form.{Form}
 use Rattle.melcard.specs.declared.job.Job.{Job}
 use Rattle.melcard.specs.declared.job.Job.TheVariants as job
 use Rattle.melcard.specs.declared.job.Telling.{Telling}
-use Rattle.melcard.specs.declared.rejection.Rejection.{Rejection}
-use Rattle.melcard.specs.declared.rejection.Rejection.TheVariants as rejection
-use Rattle.melcard.specs.declared.status.Status.{Status}
-use Rattle.melcard.specs.declared.status.Status.TheVariants.{Done, Refused, NoForm}
+use Rattle.mc_filter.specs.declared.rejection.Rejection.{Rejection}
+use Rattle.mc_filter.specs.declared.rejection.Rejection.TheVariants as rejection
+use Rattle.mc_filter.specs.declared.status.Status.{Status}
+use Rattle.mc_filter.specs.declared.status.Status.TheVariants.{Done, Failed, NoForm}
 use Rattle.melcard.specs.Jobs.{usage}
 use Rattle.melcard.specs.Verdicts.{Verdict, Whole, Refusal, Plays, Sums}
-use Rattle.melcard.specs.Running.{Ends, PlaysInput, RejectsJob, WritesInput}
-use Rattle.melcard.specs.Statuses.{bench_of, ended, Around, IsDue, IsSummed, IsWritten, Says, SaysDone, TakesAtMost, Untouched}
+use Rattle.melcard.specs.Running.{PlaysInput, RejectsJob, WritesInput}
+use Rattle.melcard.specs.Statuses.{bench_of, Around, IsDue, IsSummed, IsWritten, Says, SaysDone, TakesAtMost, Untouched}
 
 -- ---- results
 
@@ -38,12 +38,6 @@ pub memory_only : {X : Type 0} (work : Job) (a : Around) (r : Result X Rejection
 memory_only work a (Ok x) source only = tt
 memory_only work a (Err e) source only = subst (λ (e : Rejection). RejectsJob work a e) (sym only) source
 
--- a text that was put, by what the call says of its piece
-pub puts_by : (a b : Sunk) (piece text : List ℕ) (r : Result (Unit {0}) Fault) → piece ≡ text → OnOk r (Grew a.taken b.taken piece) → OnErr r (Rose a.faults b.faults) → OnErr r (GrewByPart a.taken b.taken piece)
-    → a.faults ≤ b.faults → Puts a text r b
-puts_by a b piece text (Ok u) is grew rose part counted = record { whole = subst (λ (t : List ℕ). Grew a.taken b.taken t) is grew; counted = counted }
-puts_by a b piece text (Err f) is grew rose part counted = record { part = subst (λ (t : List ℕ). GrewByPart a.taken b.taken t) is part; cause = rose }
-
 -- ---- what was done
 
 -- what was done says itself, at the status that its writing ended with
@@ -51,7 +45,7 @@ says_done : (Kept : Type 0) (work : Job) (a : Around) (r : Result (Unit {0}) Fau
 says_done Kept work a (Ok u) s e d = subst (λ s. Says Kept s (Some work) a) (sym e) (subst (λ s. SaysDone Kept work s a) e d)
 says_done Kept work a (Err f) s e d = subst (λ s. Says Kept s (Some work) a) (sym e) (subst (λ s. SaysDone Kept work s a) e d)
 
-says_refused : (Kept : Type 0) (work : Job) (a : Around) (r : Result (Unit {0}) Fault) (s : Status) → s ≡ ended Refused r → SaysDone Kept work s a → Says Kept s (Some work) a
+says_refused : (Kept : Type 0) (work : Job) (a : Around) (r : Result (Unit {0}) Fault) (s : Status) → s ≡ ended Failed r → SaysDone Kept work s a → Says Kept s (Some work) a
 says_refused Kept work a (Ok u) s e d = subst (λ s. Says Kept s (Some work) a) (sym e) (subst (λ s. SaysDone Kept work s a) e d)
 says_refused Kept work a (Err f) s e d = subst (λ s. Says Kept s (Some work) a) (sym e) (subst (λ s. SaysDone Kept work s a) e d)
 
@@ -89,7 +83,7 @@ takes_still (job.Write f) a x takes = takes
 -- a job that was rejected ended
 says_rejected : (Kept : Type 0) (work : Job) (a : Around) (x : Sunk) (e : Rejection) (s : Status) → Kept → RejectsJob work (record a { out = x }) e → Ends e a.out_old s a.out → Says Kept s (Some work) a
 says_rejected Kept work a x (rejection.Refusal line) s kept why ends =
-    let written : IsWritten Refused line.items s a = record { result = ends.0; status = ends.1; written = ends.2 } in
+    let written : IsWritten Failed line.items s a = record { result = ends.0; status = ends.1; written = ends.2 } in
     says_refused Kept work a ends.0 s ends.1 (record { verdict = Refusal line.items; due = due_still work a x (Refusal line.items) why; done = written; kept = kept })
 says_rejected Kept work a x rejection.ReadFault s kept why ends = subst (λ s. Says Kept s (Some work) a) (sym ends.0) (why.0, record { cause = why.1; source = takes_still work a x why.2; written = ends.1; kept = kept })
 says_rejected Kept work a x rejection.NoMemory s kept why ends = subst (λ s. Says Kept s (Some work) a) (sym ends.0) (record { source = takes_still work a x why; written = ends.1; kept = kept })

@@ -2,12 +2,11 @@
 use Rattle.std.specs.Prelude.{◌≡◌, ℕ, not, List, [], ◌∷◌, ◌++◌, filter, ok_or, option_map, Result, Ok, Err, ⊤}
 use Rattle.mc_model.specs.Text
 use Rattle.mc_model.specs.Text.{CodeFault, ◌>>=◌, hex_values, is_blank, ok_as}
+use Rattle.mc_filter.specs.Inputs.{Rejects}
 use Rattle.melcard.specs.declared.code.CodeRefusal.{CodeRefusal}
-use Rattle.melcard.specs.declared.rejection.Rejection.{Rejection}
-use Rattle.melcard.specs.declared.rejection.Rejection.TheVariants as rejection
+use Rattle.mc_filter.specs.declared.rejection.Rejection.{Rejection}
 use Rattle.mc_model.specs.DeckGrammar.{DeckLine}
-use Rattle.mc_model.specs.declared.deck.DeckCause.{DeckCause}
-use Rattle.melcard.specs.Verdicts.{Verdict, Refusal, deck_line, AreVerdicts}
+use Rattle.melcard.specs.Verdicts.{Verdict, Refusal, AreVerdicts}
 use Rattle.melcard.specs.declared.code.CodeRefusal.TheVariants.{BadHex, TooLarge, NoMemory}
 
 -- the digits of one line of code
@@ -26,15 +25,8 @@ RefusesCode r TooLarge = r ≡ Err Text.TooLarge
 RefusesCode r NoMemory = ⊤
 
 -- a rejection of an input that stands for this
-abbrev pub Rejects : (Verdict → Type 0) → Rejection → Type 0
-Rejects IsOf (rejection.Refusal line) = IsOf (Refusal line.items)
-Rejects IsOf rejection.ReadFault = ⊥
-Rejects IsOf rejection.NoMemory = ⊤
-
--- the line that refuses a deck
-abbrev pub refused_deck : Result (List (ℕ × DeckLine)) (ℕ × DeckCause) → Verdict → Type 0
-refused_deck (Ok lines) v = ⊥
-refused_deck (Err e) v = v ≡ Refusal (deck_line e)
+abbrev pub RejectsAs : (Verdict → Type 0) → Rejection → Type 0
+RejectsAs IsOf why = Rejects (λ line. IsOf (Refusal line)) why
 
 -- a text grew by the line of a load line, and else not
 abbrev pub AddsVerdict : ℕ × DeckLine → List ℕ → List ℕ → Type 0

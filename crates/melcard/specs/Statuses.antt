@@ -1,35 +1,29 @@
 -- What the top call says of the outside at each of its statuses.
-use Rattle.std.specs.Prelude.{◌≡◌, ℕ, ◌+◌, ◌≤◌, ◌<◌, ◌⊎◌, List, length, Option, Some, None, Result, Ok, Err, ⊤}
+use Rattle.std.specs.Prelude.{◌≡◌, ℕ, ◌≤◌, ◌<◌, ◌⊎◌, List, length, Option, Some, None, Result, Ok, Err, ⊤}
 use Rattle.mc_model.specs.Counts.{Rose}
 use Rattle.mc_model.specs.Device.{DeviceState, BenchState}
 use Rattle.mc_model.specs.DeckGrammar.{DeckLine}
 use Rattle.mc_model.specs.Generator.{generated, summary}
 use Rattle.mc_model.specs.Play as play
 use Rattle.mc_model.specs.Play.{Step}
-use Rattle.mc_base.specs.Streams.{Took, AtEnd, TookAtMost, TookMore}
+use Rattle.mc_base.specs.Streams.{TookMore}
 use Rattle.mc_base.specs.declared.refusals.WriteFault.{WriteFault as Fault}
 use Rattle.mc_base.specs.declared.sink.Sink as sink
 use Rattle.mc_base.specs.declared.source.Source as source
 use Rattle.mc_text.specs.Texts.{sunk_in, Sunk, Puts}
 use Rattle.mc_check.specs.Plays.{KeepToVerdicts}
 use Rattle.mc_script.specs.Plays.{Bench, plain_text, traced_text, PlaysDeck, SumsDeck}
+use Rattle.mc_filter.specs.Inputs.{input_limit, IsAll, ReadWhole, TookLimited}
+use Rattle.mc_filter.specs.Lines.{too_long}
+use Rattle.mc_filter.specs.Statuses.{ended}
 use Rattle.melcard.specs.declared.job.Job.{Job}
 use Rattle.melcard.specs.declared.job.Job.TheVariants as job
 use Rattle.melcard.specs.declared.job.Telling.{Telling}
 use Rattle.melcard.specs.declared.job.Telling.TheVariants.{Transcript, Trace}
-use Rattle.melcard.specs.declared.status.Status.{Status}
-use Rattle.melcard.specs.declared.status.Status.TheVariants.{Done, Refused, NoForm, ReadFault, WriteFault, NoMemory}
+use Rattle.mc_filter.specs.declared.status.Status.{Status}
+use Rattle.mc_filter.specs.declared.status.Status.TheVariants.{Done, Failed, NoForm, ReadFault, WriteFault, NoMemory}
 use Rattle.melcard.specs.Jobs.{usage}
-use Rattle.melcard.specs.Verdicts.{Verdict, Whole, Refusal, Plays, Sums, input_limit, too_long, StandsFor}
-
--- the number of a status
-abbrev pub number_of : Status → ℕ
-number_of Done = 0
-number_of Refused = 1
-number_of NoForm = 2
-number_of ReadFault = 3
-number_of WriteFault = 4
-number_of NoMemory = 5
+use Rattle.melcard.specs.Verdicts.{Verdict, Whole, Refusal, Plays, Sums, StandsFor}
 
 -- ---- the outside
 
@@ -70,21 +64,11 @@ pub record Untouched (a : Around) : Type 0 where
 
 -- ---- what was read
 
--- this was read, to the end, and is within the limit
-pub record ReadWhole (old new : Option (List ℕ)) (input : List ℕ) : Type 0 where
-  pub bytes : Took old new input
-  pub end : AtEnd new
-  pub fits : length input ≤ input_limit
-
 -- what was read to its end stands for this
 pub record Stands (job : Job) (a : Around) (v : Verdict) : Type 0 where
   pub input : List ℕ
   pub read : ReadWhole a.left_old a.left input
   pub is : StandsFor job input v
-
--- no more was read than the limit and one byte behind it
-abbrev pub TookLimited : Option (List ℕ) → Option (List ℕ) → Type 0
-TookLimited old new = TookAtMost old new (input_limit + 1)
 
 -- more was read than the limit allows, and no more than the byte that shows it
 pub record IsTooLong (a : Around) (v : Verdict) : Type 0 where
@@ -105,11 +89,6 @@ TakesAtMost (job.Play t) a = TookLimited a.left_old a.left
 TakesAtMost (job.Write f) a = TookLimited a.left_old a.left
 
 -- ---- what was done
-
--- a status by how the writing ended
-abbrev pub ended : Status → Result (Unit {0}) Fault → Status
-ended good (Ok u) = good
-ended good (Err f) = WriteFault
 
 -- the text of a line of a play, as it is told
 abbrev pub told : Telling → Step → List ℕ
@@ -139,7 +118,7 @@ pub record IsSummed (lines : List (ℕ × DeckLine)) (s : Status) (a : Around) :
 -- what an input stands for was done
 abbrev pub IsDone : Verdict → Status → Around → Type 0
 IsDone (Whole text) s a = IsWritten Done text s a
-IsDone (Refusal line) s a = IsWritten Refused line s a
+IsDone (Refusal line) s a = IsWritten Failed line s a
 IsDone (Plays t lines) s a = IsPlayed t lines s a
 IsDone (Sums lines) s a = IsSummed lines s a
 
@@ -190,21 +169,16 @@ Says Kept ReadFault (Some job) a = IsReading job × SaysReadFault Kept job a
 Says Kept NoMemory (Some job) a = SaysNoMemory Kept job a
 Says Kept NoForm (Some job) a = ⊥
 Says Kept Done (Some job) a = SaysDone Kept job Done a
-Says Kept Refused (Some job) a = SaysDone Kept job Refused a
+Says Kept Failed (Some job) a = SaysDone Kept job Failed a
 Says Kept WriteFault (Some job) a = SaysDone Kept job WriteFault a
 Says Kept ReadFault None a = ⊥
 Says Kept NoMemory None a = ⊥
 Says Kept Done None a = ⊥
-Says Kept Refused None a = ⊥
+Says Kept Failed None a = ⊥
 Says Kept NoForm None a = SaysNoForm Kept NoForm a
 Says Kept WriteFault None a = SaysNoForm Kept WriteFault a
 
 -- ---- completeness
-
--- these bytes are all that a source had left, where it tells them
-abbrev pub IsAll : Option (List ℕ) → List ℕ → Type 0
-IsAll None input = ⊤
-IsAll (Some bytes) input = bytes ≡ input
 
 -- no call of source or sink failed
 pub record IsWithoutFault (a : Around) : Type 0 where
@@ -214,7 +188,7 @@ pub record IsWithoutFault (a : Around) : Type 0 where
 -- the status that comes where a verdict is done whole
 abbrev pub status_of : Verdict → Status
 status_of (Whole text) = Done
-status_of (Refusal line) = Refused
+status_of (Refusal line) = Failed
 status_of (Plays t lines) = Done
 status_of (Sums lines) = Done
 

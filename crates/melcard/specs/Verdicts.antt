@@ -6,22 +6,19 @@ use Rattle.mc_model.specs.DeckGrammar as line
 use Rattle.mc_model.specs.Listing.{listed}
 use Rattle.mc_model.specs.Text.{CodeFault, BadHex, TooLarge, code_text_read}
 use Rattle.mc_model.specs.Transcript.{hex_text}
-use Rattle.mc_model.specs.Words.{asm_word, check_word, decode_word, deck_word}
+use Rattle.mc_model.specs.Words.{asm_word, check_word, decode_word}
 use Rattle.mc_model.specs.declared.assembler.AsmCause.{AsmCause}
 use Rattle.mc_model.specs.declared.deck.DeckCause.{DeckCause}
 use Rattle.mc_model.specs.declared.instruction.DecodeFault.{DecodeFault}
 use Rattle.mc_check.specs.declared.verdict.Verdict.{Verdict as CodeVerdict}
 use Rattle.mc_check.specs.declared.verdict.Verdict.TheVariants.{Accept, Refuse}
 use Rattle.mc_check.specs.Verdicts.{IsVerdictOf, KeepsTo}
+use Rattle.mc_filter.specs.Lines.{at_line, at_place, deck_line, too_long}
 use Rattle.melcard.specs.declared.job.Job.{Job}
 use Rattle.melcard.specs.declared.job.Job.TheVariants as job
 use Rattle.melcard.specs.declared.job.Telling.{Telling}
 use Rattle.melcard.specs.declared.job.Form.{Form}
 use Rattle.melcard.specs.declared.job.Form.TheVariants as form
-
--- an input of more bytes is refused
-abbrev pub input_limit : ℕ
-input_limit = 1048576
 
 -- the whole text of a job, the line of a refusal, a deck that is played and told, or one whose play is summarised
 pub data Verdict : Type 0 where
@@ -29,24 +26,6 @@ pub data Verdict : Type 0 where
   Refusal : (line : List ℕ) → Verdict
   Plays : (telling : Telling) (lines : List (ℕ × DeckLine)) → Verdict
   Sums : (lines : List (ℕ × DeckLine)) → Verdict
-
--- ---- lines of refusals
-
--- a line or a place, its number, and why it is refused
-abbrev pub refusal_line : List ℕ → ℕ → List ℕ → List ℕ
-refusal_line kind n cause = kind ++ codes " " ++ decimal n ++ codes " " ++ cause ++ codes "\n"
-
--- a line of the input
-abbrev pub at_line : ℕ → List ℕ → List ℕ
-at_line n cause = refusal_line (codes "line") n cause
-
--- a place of listed code
-abbrev pub at_place : ℕ → List ℕ → List ℕ
-at_place n cause = refusal_line (codes "place") n cause
-
--- the input, or its code, is too long
-abbrev pub too_long : List ℕ
-too_long = codes "line 0 TooLong\n"
 
 -- ---- texts
 
@@ -67,10 +46,6 @@ of_code (Err (BadHex number)) = Refusal (at_line number (codes "BadHex"))
 of_code (Err TooLarge) = Refusal too_long
 
 -- ---- decks
-
--- the line that refuses a deck
-abbrev pub deck_line : ℕ × DeckCause → List ℕ
-deck_line (number, cause) = at_line number (deck_word cause)
 
 -- a deck that is played
 abbrev pub of_deck : Telling → Result (List (ℕ × DeckLine)) (ℕ × DeckCause) → Verdict

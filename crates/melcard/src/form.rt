@@ -4,34 +4,22 @@ ghost use Rattle.mc_model.specs.Assembly.{assembled};
 ghost use Rattle.mc_model.specs.DeckGrammar.{deck_read};
 ghost use Rattle.mc_model.specs.Listing.{listed};
 ghost use Rattle.mc_model.specs.Text.{code_text_read};
-ghost use Rattle.melcard.specs.Verdicts.{input_limit, of_assembly, of_code, of_listing, IsCheckOf, IsTextOf, Whole};
-ghost use Rattle.melcard.specs.Judging.{refused_deck, Rejects};
+ghost use Rattle.mc_filter.specs.Inputs.{input_limit};
+ghost use Rattle.melcard.specs.Verdicts.{of_assembly, of_code, of_listing, IsCheckOf, IsTextOf, Whole};
+ghost use Rattle.melcard.specs.Judging.{RejectsAs};
 
 use crate::checking::verdicts_of;
 use crate::code::{CodeRefusal, read_code};
 use crate::job::Form;
-use crate::rejection::Rejection;
-use crate::text::{hex_line, refused, too_long};
+use crate::text::hex_line;
 use mc_asm::{AsmRefusal, ListRefusal, assemble, list};
-use mc_deck::{Deck, DeckRefusal, read_deck};
+use mc_filter::{Rejection, deck_of, refused, too_long};
 use std::alloc::Global;
-
-/// Reads a deck, or gives the line that refuses it.
-pub fn deck_of(alloc: Global, text: &[u8]) -> Result<Deck, Rejection>
-    ensures deck { IfOk result (λ d. deck_read text.now ≡ Ok d) }
-    ensures rejected { IfErr result (Rejects (refused_deck (deck_read text.now))) }
-{
-    match read_deck(alloc, text) {
-        Ok(deck) => Ok(deck),
-        Err(DeckRefusal::At(number, cause)) => Err(refused(alloc, "line", number, cause.word())),
-        Err(DeckRefusal::NoMemory) => Err(Rejection::NoMemory),
-    }
-}
 
 // The code of an assembly text.
 fn assembled(alloc: Global, text: &[u8]) -> Result<Vec<u8>, Rejection>
     ensures { MatchResult result (λ t. Whole t.items
-        ≡ of_assembly (assembled text.now)) (Rejects (λ v. v ≡ of_assembly (assembled text.now))) }
+        ≡ of_assembly (assembled text.now)) (RejectsAs (λ v. v ≡ of_assembly (assembled text.now))) }
 {
     match assemble(alloc, text) {
         Ok(code) => Ok(hex_line(alloc, code.as_slice())?),
@@ -44,7 +32,7 @@ fn assembled(alloc: Global, text: &[u8]) -> Result<Vec<u8>, Rejection>
 fn listed(alloc: Global, code: &[u8]) -> Result<Vec<u8>, Rejection>
     requires { length code.now ≤ 8192 }
     ensures { MatchResult result (λ t. Whole t.items
-        ≡ of_listing (listed code.now)) (Rejects (λ v. v ≡ of_listing (listed code.now))) }
+        ≡ of_listing (listed code.now)) (RejectsAs (λ v. v ≡ of_listing (listed code.now))) }
 {
     match list(alloc, code) {
         Ok(text) => Ok(text),
@@ -59,7 +47,7 @@ fn listed(alloc: Global, code: &[u8]) -> Result<Vec<u8>, Rejection>
 fn read_and_listed(alloc: Global, text: &[u8]) -> Result<Vec<u8>, Rejection>
     requires { length text.now ≤ input_limit }
     ensures { MatchResult result (λ t. Whole t.items
-        ≡ of_code (code_text_read text.now)) (Rejects (λ v. v ≡ of_code (code_text_read text.now))) }
+        ≡ of_code (code_text_read text.now)) (RejectsAs (λ v. v ≡ of_code (code_text_read text.now))) }
 {
     match read_code(alloc, text) {
         Ok(code) => listed(alloc, code.as_slice()),
@@ -72,7 +60,7 @@ fn read_and_listed(alloc: Global, text: &[u8]) -> Result<Vec<u8>, Rejection>
 // What the checker says of the code of a deck.
 fn checked(alloc: Global, text: &[u8]) -> Result<Vec<u8>, Rejection>
     ensures { MatchResult result (λ t. IsCheckOf (deck_read text.now) (Whole t.items))
-        (Rejects (IsCheckOf (deck_read text.now))) }
+        (RejectsAs (IsCheckOf (deck_read text.now))) }
 {
     let deck = deck_of(alloc, text)?;
     Ok(verdicts_of(alloc, &deck)?)
@@ -81,7 +69,7 @@ fn checked(alloc: Global, text: &[u8]) -> Result<Vec<u8>, Rejection>
 /// The text that is due for an input within the limit, or the line that refuses the input.
 pub fn text_of(alloc: Global, form: Form, input: &[u8]) -> Result<Vec<u8>, Rejection>
     requires { length input.now ≤ input_limit }
-    ensures { MatchResult result (λ t. IsTextOf form input.now (Whole t.items)) (Rejects (IsTextOf form input.now)) }
+    ensures { MatchResult result (λ t. IsTextOf form input.now (Whole t.items)) (RejectsAs (IsTextOf form input.now)) }
 {
     match form {
         Form::Code => assembled(alloc, input),

@@ -8,12 +8,10 @@ mod code;
 mod decks;
 mod form;
 mod job;
-mod rejection;
 mod rows;
 mod running;
 #[cfg(test)]
 mod samples;
-mod status;
 #[cfg(test)]
 mod stops;
 #[cfg(test)]
@@ -21,6 +19,8 @@ mod summaries;
 #[cfg(test)]
 mod tests;
 mod text;
+#[cfg(test)]
+mod worked_rows;
 
 ghost use Rattle.std.specs.Prelude.{◌≡◌, ◌<◌, IfOk};
 ghost use Rattle.mc_nvm.specs.Sim.{blank_sim};

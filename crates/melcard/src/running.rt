@@ -3,52 +3,24 @@ ghost use Rattle.std.specs.Prelude.{◌≡◌, ◌≤◌, ℕ, List, Option, Som
 ghost use Rattle.mc_model.specs.Generator.{generated};
 ghost use Rattle.mc_script.specs.Players.{IsUnfused};
 ghost use Rattle.mc_text.specs.Texts.{sunk_in};
-ghost use Rattle.melcard.specs.declared.status.Status.{Status};
+ghost use Rattle.mc_filter.specs.declared.status.Status.{Status};
+ghost use Rattle.mc_filter.specs.Statuses.{number_of};
 ghost use Rattle.melcard.specs.declared.job.Job.TheVariants as job;
-ghost use Rattle.melcard.specs.declared.rejection.Rejection.TheVariants as rejection;
+ghost use Rattle.mc_filter.specs.declared.rejection.Rejection.TheVariants as rejection;
 ghost use Rattle.melcard.specs.Jobs.{greatest_number, job_of, Fits};
-ghost use Rattle.melcard.specs.Running.{Ends, PlaysInput, RejectsJob, RejectsRead, WritesInput};
-ghost use Rattle.melcard.specs.Statuses.{bench_of, ended, number_of, outside, told, Completes, IsSummed, ReadWhole, Says};
+ghost use Rattle.melcard.specs.Running.{PlaysInput, RejectsJob, WritesInput};
+ghost use Rattle.melcard.specs.Statuses.{bench_of, outside, told, Completes, IsSummed, Says};
 ghost use Rattle.mc_script.specs.Plays.{Bench as Told, PlaysDeck};
 
-use crate::form::{deck_of, text_of};
+use crate::form::text_of;
 use crate::job::{Form, Job, Telling, job_of};
-use crate::rejection::Rejection;
-use crate::status::{Status, number};
-use crate::text::too_long;
-use mc_base::{ReadAll, Sink, Source, Steps, WriteFault, put_all, read_all};
+use mc_base::{Sink, Source, Steps, WriteFault, put_all};
 use mc_deck::{Deck, generate};
+use mc_filter::{Rejection, Status, deck_of, ended, number, read_input, reject};
 use mc_nvm::Bench;
 use mc_script::{play, summarise, trace};
 use std::alloc::Global;
 use std::sync::ledger::Ledger;
-
-// The most bytes of an input.
-const INPUT_LIMIT: usize = 1_048_576;
-
-// Reads an input to its end.
-fn read_input<S: Source>(alloc: Global, input: &mut S) -> Result<Vec<u8>, Rejection>
-    ensures read { IfOk result (λ t. ReadWhole (S.left input.old) (S.left input.new) t.items) }
-    ensures rejected { IfErr result (RejectsRead (S.left input.old) (S.left input.new) (S.faults input.old)
-        (S.faults input.new)) }
-{
-    match read_all(alloc, input, INPUT_LIMIT) {
-        Ok(text) => Ok(text),
-        Err(ReadAll::TooLong) => Err(too_long(alloc)),
-        Err(ReadAll::ReadFault) => Err(Rejection::ReadFault),
-        Err(ReadAll::NoMemory) => Err(Rejection::NoMemory),
-    }
-}
-
-// The status of a text that was to be written.
-fn ended(good: Status, written: Result<(), WriteFault>) -> Status
-    ensures { result ≡ ended good written }
-{
-    match written {
-        Ok(()) => good,
-        Err(WriteFault) => Status::WriteFault,
-    }
-}
 
 // Plays a deck and tells its play.
 fn play_as<T: Sink, N: Bench, L: Ledger>(
@@ -159,17 +131,6 @@ fn write<S: Source, T: Sink>(
     let bytes = read_input(alloc, input)?;
     let text = text_of(alloc, form, bytes.as_slice())?;
     Ok(ended(Status::Done, put_all(out, text.as_slice())))
-}
-
-// Ends a job that is not done.
-fn reject<T: Sink>(out: &mut T, rejection: &Rejection) -> Status
-    ensures { Ends rejection.now (sunk_in T.taken T.faults out.old) result (sunk_in T.taken T.faults out.new) }
-{
-    match rejection {
-        Rejection::Refusal(line) => ended(Status::Refused, put_all(out, line.as_slice())),
-        Rejection::ReadFault => Status::ReadFault,
-        Rejection::NoMemory => Status::NoMemory,
-    }
 }
 
 // Does a job.

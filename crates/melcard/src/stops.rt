@@ -115,7 +115,18 @@ fn outcome_of(
     Ok(is_whole.then_some(Outcome { is_stopped, is_new }))
 }
 
-// Each change, stopped at each of its writes, with recoveries that are cut: it is whole, and once it is there at a write,
+// Whether the change is as it came out, wherever the recovery behind it is cut: no recovery of these has 12 writes.
+fn is_kept(alloc: Global, change: &Change, stop: &str, is_new: bool) -> Result<bool, NoMemory> {
+    for cut in 1..=12 {
+        let end = outcome_of(alloc, change, stop, cut)?;
+        if end.map(|it| it.is_new) != Some(is_new) {
+            return Ok(false);
+        }
+    }
+    Ok(true)
+}
+
+// Each change, stopped at each of its writes, with recoveries that are cut at each of theirs: it is whole, and once it is there at a write,
 // it is at each later one.
 #[test]
 fn stopped_changes(rt: HostRuntime) -> Result<(), Fail> {
@@ -133,15 +144,11 @@ fn stopped_changes(rt: HostRuntime) -> Result<(), Fail> {
             for k in 1..=32 {
                 let stop = armed(alloc, arming, k)?;
                 let plain = outcome_of(alloc, change, stop.as_str(), 0)?;
-                let cut = outcome_of(alloc, change, stop.as_str(), 1)?;
                 assert!(rt; plain.is_some(), "{} {k}", change.line);
                 if let Some(plain) = plain {
                     assert!(rt; plain.is_new || !last.is_new, "{} {k}", change.line);
-                    assert!(rt;
-                        cut.map(|it| it.is_new) == Some(plain.is_new),
-                        "{} {k}",
-                        change.line
-                    );
+                    let is_kept = is_kept(alloc, change, stop.as_str(), plain.is_new)?;
+                    assert!(rt; is_kept, "{} {k}", change.line);
                     last = plain;
                 }
                 if !last.is_stopped {
@@ -234,6 +241,41 @@ fn refused_writes(rt: HostRuntime) -> Result<(), Fail> {
             text.contains("absent") || text.contains("static 000"),
             "at {n}"
         );
+    }
+    Ok(())
+}
+
+// Whether a device that refuses a write of a change by itself gives the text of one that a `fail` line has refuse it; `None`
+// where the change has no such write.
+fn refuses_alike(alloc: Global, change: &Change, k: u32) -> Result<Option<bool>, NoMemory> {
+    let stop = armed(alloc, Arming::Fail, k)?;
+    let deck = stopped_deck(alloc, change, stop.as_str(), 0)?;
+    let failed = play_taped(alloc, deck.as_bytes(), &[])?;
+    let Some(refused) = failed.refused else {
+        return Ok(None);
+    };
+    let deck = stopped_deck(alloc, change, "budget 100\n", 0)?;
+    let Ok(number) = u32::try_from(refused) else {
+        return Ok(Some(false));
+    };
+    let worn = play_taped(alloc, deck.as_bytes(), &[number])?;
+    let is_alike = worn.refused == Some(refused)
+        && worn.status == failed.status
+        && worn.text.as_slice() == failed.text.as_slice();
+    Ok(Some(is_alike))
+}
+
+// Each write of each change, refused by the device.
+#[test]
+fn worn_writes(rt: HostRuntime) -> Result<(), Fail> {
+    let alloc = rt.alloc();
+    for change in &CHANGES {
+        for k in 1..=64 {
+            let Some(is_alike) = refuses_alike(alloc, change, k)? else {
+                break;
+            };
+            assert!(rt; is_alike, "{} {k}", change.line);
+        }
     }
     Ok(())
 }

@@ -104,11 +104,11 @@ fn transcript(alloc: Global, number: u32) -> Result<Vec<u8>, NoMemory>
     played::<Brand>(alloc, Blank::new(1), &deck)
 }
 
-// What `gen` writes of three numbers is what their transcripts count up to.
+// What `gen` writes of the first twenty numbers is what their transcripts count up to.
 #[test]
 fn summaries(rt: HostRuntime) -> Result<(), Fail> {
     let alloc = rt.alloc();
-    for number in 1..=3 {
+    for number in 1..=20 {
         let transcript = transcript(alloc, number)?;
         let summary = counted(alloc, str::from_utf8(transcript.as_slice()).unwrap_or(""))?;
         let digits = format!(in alloc; "{number}")?;

@@ -3,6 +3,7 @@ ghost use Rattle.std.specs.Prelude.{◌≡◌, ◌<◌};
 use crate::decks::DECKS;
 use crate::running::melcard;
 use crate::samples::{SAMPLES, Sample};
+use crate::worked_rows::{CUTS, DELEGATIONS, IMAGES, PLAYS, TRACES};
 use mc_base::{
     MemSink, MemSource, NoMemory, ReadAll, StdSink, StdSource, Steps, put_all, read_all,
 };
@@ -151,6 +152,52 @@ fn decks(rt: HostRuntime) -> Result<(), Fail> {
     for (i, sample) in DECKS.iter().enumerate() {
         assert!(rt; is_due(rt.alloc(), sample)?, "at {i}");
     }
+    Ok(())
+}
+
+// The place of the first sample that gives something else than what is due.
+fn wrong_at(alloc: Global, samples: &[Sample]) -> Result<Option<usize>, NoMemory> {
+    for (i, sample) in samples.iter().enumerate() {
+        if !is_due(alloc, sample)? {
+            return Ok(Some(i));
+        }
+    }
+    Ok(None)
+}
+
+// The decks of the worked rows, against what the definitions compute of each.
+#[test]
+fn worked_plays(rt: HostRuntime) -> Result<(), Fail> {
+    let wrong = wrong_at(rt.alloc(), &PLAYS)?;
+    assert_eq!(rt; wrong, None);
+    Ok(())
+}
+
+#[test]
+fn worked_cuts(rt: HostRuntime) -> Result<(), Fail> {
+    let wrong = wrong_at(rt.alloc(), &CUTS)?;
+    assert_eq!(rt; wrong, None);
+    Ok(())
+}
+
+#[test]
+fn worked_delegations(rt: HostRuntime) -> Result<(), Fail> {
+    let wrong = wrong_at(rt.alloc(), &DELEGATIONS)?;
+    assert_eq!(rt; wrong, None);
+    Ok(())
+}
+
+#[test]
+fn worked_images(rt: HostRuntime) -> Result<(), Fail> {
+    let wrong = wrong_at(rt.alloc(), &IMAGES)?;
+    assert_eq!(rt; wrong, None);
+    Ok(())
+}
+
+#[test]
+fn worked_traces(rt: HostRuntime) -> Result<(), Fail> {
+    let wrong = wrong_at(rt.alloc(), &TRACES)?;
+    assert_eq!(rt; wrong, None);
     Ok(())
 }
 

@@ -1,24 +1,17 @@
 -- What a job says at the status that it ended with.
-use Rattle.std.proofs.Common.{◌≡◌, ◌≤◌, ℕ, List, Bool, true, false, Option, Some, None, Result, Ok, Err, OnErr, OnOk, refl, sym, subst, inl, inr}
-use Rattle.mc_model.specs.Counts.{Rose}
-use Rattle.mc_base.specs.Streams.{Grew, GrewByPart}
+use Rattle.std.proofs.Common.{◌≡◌, Bool, true, false, Option, Some, None, Result, Ok, Err, refl, sym, subst, inl, inr}
 use Rattle.mc_base.specs.declared.refusals.WriteFault.{WriteFault as Fault}
 use Rattle.mc_text.specs.Texts.{Puts, Sunk}
+use Rattle.mc_filter.specs.Statuses.{Ends, ended}
 use Rattle.mellab.specs.declared.job.Job.{Job}
-use Rattle.mellab.specs.declared.rejection.Rejection.{Rejection}
-use Rattle.mellab.specs.declared.rejection.Rejection.TheVariants as rejection
-use Rattle.mellab.specs.declared.status.Status.{Status}
-use Rattle.mellab.specs.declared.status.Status.TheVariants.{Failed, NoForm}
+use Rattle.mc_filter.specs.declared.rejection.Rejection.{Rejection}
+use Rattle.mc_filter.specs.declared.rejection.Rejection.TheVariants as rejection
+use Rattle.mc_filter.specs.declared.status.Status.{Status}
+use Rattle.mc_filter.specs.declared.status.Status.TheVariants.{Failed, NoForm}
 use Rattle.mellab.specs.Jobs.{usage}
 use Rattle.mellab.specs.Verdicts.{Verdict, Tells, Refusal}
-use Rattle.mellab.specs.Running.{Ends, RejectsJob}
-use Rattle.mellab.specs.Statuses.{ended, status_by, Around, IsDone, IsDue, IsWritten, Says, SaysDone, Untouched}
-
--- a text that was put, by what the call says of its piece
-pub puts_by : (a b : Sunk) (piece text : List ℕ) (r : Result (Unit {0}) Fault) → piece ≡ text → OnOk r (Grew a.taken b.taken piece) → OnErr r (Rose a.faults b.faults) → OnErr r (GrewByPart a.taken b.taken piece)
-    → a.faults ≤ b.faults → Puts a text r b
-puts_by a b piece text (Ok u) is grew rose part counted = record { whole = subst (λ (t : List ℕ). Grew a.taken b.taken t) is grew; counted = counted }
-puts_by a b piece text (Err f) is grew rose part counted = record { part = subst (λ (t : List ℕ). GrewByPart a.taken b.taken t) is part; cause = rose }
+use Rattle.mellab.specs.Running.{RejectsJob}
+use Rattle.mellab.specs.Statuses.{status_by, Around, IsDone, IsDue, IsWritten, Says, SaysDone, Untouched}
 
 -- ---- what was done
 
@@ -40,7 +33,7 @@ says_done work s a d = says_verdict work a d.verdict s d.due d.done
 -- what is due is told by the source, whatever is written afterwards
 due_still : (work : Job) (a : Around) (x : Sunk) (v : Verdict) → IsDue work (record a { out = x }) v → IsDue work a v
 due_still work a x v due = elim due [
-  | inl more ↦ inl (record { over = more.over; is = more.is })
+  | inl more ↦ inl (record { over = more.over; no_further = more.no_further; is = more.is })
   | inr whole ↦ inr (record { input = whole.input; read = whole.read; is = whole.is })
 ]
 
@@ -49,8 +42,8 @@ pub says_rejected : (work : Job) (a : Around) (x : Sunk) (e : Rejection) (s : St
 says_rejected work a x (rejection.Refusal line) s why ends =
     let written : IsWritten Failed line.items s a = record { result = ends.0; status = ends.1; written = ends.2 } in
     says_verdict work a (Refusal line.items) s (due_still work a x (Refusal line.items) why) written
-says_rejected work a x rejection.ReadFault s why ends = subst (λ s. Says s (Some work) a) (sym ends.0) (record { cause = why; written = ends.1 })
-says_rejected work a x rejection.NoMemory s why ends = subst (λ s. Says s (Some work) a) (sym ends.0) (record { written = ends.1 })
+says_rejected work a x rejection.ReadFault s why ends = subst (λ s. Says s (Some work) a) (sym ends.0) (record { cause = why.0; source = why.1; written = ends.1 })
+says_rejected work a x rejection.NoMemory s why ends = subst (λ s. Says s (Some work) a) (sym ends.0) (record { source = why; written = ends.1 })
 
 -- the words name no job, and the usage line was written
 pub says_no_form : (form : Option Job) (a : Around) (r : Result (Unit {0}) Fault) (s : Status) → form ≡ None → s ≡ ended NoForm r → Untouched a → Puts a.out_old usage r a.out → Says s form a

@@ -7,11 +7,13 @@ use Rattle.mc_model.specs.DeckGrammar.{DeckLine, deck_read}
 use Rattle.mc_lab.specs.Expectations.{Trial, blank_words, count_failed, expect_text, steady_steps, trial_read}
 use Rattle.mc_lab.specs.Judged.{done_of}
 use Rattle.mc_lab.specs.Sweeps.{sweep_text}
+use Rattle.mc_filter.specs.Statuses.{ended}
+use Rattle.mc_filter.specs.Inputs.{ReadWhole}
 use Rattle.mellab.specs.declared.job.Job.TheVariants as job
-use Rattle.mellab.specs.declared.status.Status.{Status}
-use Rattle.mellab.specs.declared.status.Status.TheVariants.{Done}
+use Rattle.mc_filter.specs.declared.status.Status.{Status}
+use Rattle.mc_filter.specs.declared.status.Status.TheVariants.{Done}
 use Rattle.mellab.specs.Verdicts.{Tells, expected, swept}
-use Rattle.mellab.specs.Statuses.{ended, status_after, status_by, Around, ReadWhole, SaysDone}
+use Rattle.mellab.specs.Statuses.{status_after, status_by, Around, SaysDone}
 
 told-status : (r : Result ℕ Fault) (n : ℕ) → ((k : ℕ) → r ≡ Ok k → k ≡ n) → status_after r ≡ ended (status_by (n == 0)) (done_of r)
 told-status (Ok k) n h = ap (λ m. status_by (m == 0)) (h k refl)

@@ -1,25 +1,19 @@
 -- What the top call says of the outside at each of its statuses.
 use Rattle.std.specs.Prelude.{◌≡◌, ℕ, ◌≤◌, ◌<◌, ◌⊎◌, ◌==◌, Bool, true, false, List, length, Option, Some, None, Result, Ok, Err, ⊤}
 use Rattle.mc_model.specs.Counts.{Rose}
-use Rattle.mc_base.specs.Streams.{Took, AtEnd, TookMore}
+use Rattle.mc_base.specs.Streams.{TookMore}
 use Rattle.mc_base.specs.declared.refusals.WriteFault.{WriteFault as Fault}
 use Rattle.mc_base.specs.declared.sink.Sink as sink
 use Rattle.mc_base.specs.declared.source.Source as source
 use Rattle.mc_text.specs.Texts.{sunk_in, Sunk, Puts}
+use Rattle.mc_filter.specs.Inputs.{input_limit, IsAll, ReadWhole, TookLimited}
+use Rattle.mc_filter.specs.Lines.{too_long}
+use Rattle.mc_filter.specs.Statuses.{ended}
 use Rattle.mellab.specs.declared.job.Job.{Job}
-use Rattle.mellab.specs.declared.status.Status.{Status}
-use Rattle.mellab.specs.declared.status.Status.TheVariants.{Done, Failed, NoForm, ReadFault, WriteFault, NoMemory}
+use Rattle.mc_filter.specs.declared.status.Status.{Status}
+use Rattle.mc_filter.specs.declared.status.Status.TheVariants.{Done, Failed, NoForm, ReadFault, WriteFault, NoMemory}
 use Rattle.mellab.specs.Jobs.{usage}
-use Rattle.mellab.specs.Verdicts.{Verdict, Tells, Refusal, input_limit, too_long, verdict_of}
-
--- the number of a status
-abbrev pub number_of : Status → ℕ
-number_of Done = 0
-number_of Failed = 1
-number_of NoForm = 2
-number_of ReadFault = 3
-number_of WriteFault = 4
-number_of NoMemory = 5
+use Rattle.mellab.specs.Verdicts.{Verdict, Tells, Refusal, verdict_of}
 
 -- ---- the outside
 
@@ -51,21 +45,16 @@ pub record Untouched (a : Around) : Type 0 where
 
 -- ---- what was read
 
--- this was read, to the end, and is within the limit
-pub record ReadWhole (old new : Option (List ℕ)) (input : List ℕ) : Type 0 where
-  pub bytes : Took old new input
-  pub end : AtEnd new
-  pub fits : length input ≤ input_limit
-
 -- what was read to its end stands for this
 pub record Stands (job : Job) (a : Around) (v : Verdict) : Type 0 where
   pub input : List ℕ
   pub read : ReadWhole a.left_old a.left input
   pub is : v ≡ verdict_of job input
 
--- more was read than the limit allows
+-- more was read than the limit allows, and no more than the byte that shows it
 pub record IsTooLong (a : Around) (v : Verdict) : Type 0 where
   pub over : TookMore a.left_old a.left input_limit
+  pub no_further : TookLimited a.left_old a.left
   pub is : v ≡ Refusal too_long
 
 -- what a job is to do, by what was read
@@ -73,11 +62,6 @@ abbrev pub IsDue : Job → Around → Verdict → Type 0
 IsDue job a v = IsTooLong a v ⊎ Stands job a v
 
 -- ---- what was done
-
--- a status by how the writing ended
-abbrev pub ended : Status → Result (Unit {0}) Fault → Status
-ended good (Ok u) = good
-ended good (Err f) = WriteFault
 
 -- the status of a whole text, by whether all is well
 abbrev pub status_by : Bool → Status
@@ -111,10 +95,12 @@ pub record SaysDone (job : Job) (s : Status) (a : Around) : Type 0 where
 -- the source failed
 pub record SaysReadFault (a : Around) : Type 0 where
   pub cause : Rose a.reads_old a.reads
+  pub source : TookLimited a.left_old a.left
   pub written : a.out ≡ a.out_old
 
 -- memory was short before the first byte
 pub record SaysNoMemory (a : Around) : Type 0 where
+  pub source : TookLimited a.left_old a.left
   pub written : a.out ≡ a.out_old
 
 -- the usage line was written
@@ -138,11 +124,6 @@ Says NoForm None a = SaysNoForm NoForm a
 Says WriteFault None a = SaysNoForm WriteFault a
 
 -- ---- completeness
-
--- these bytes are all that a source had left, where it tells them
-abbrev pub IsAll : Option (List ℕ) → List ℕ → Type 0
-IsAll None input = ⊤
-IsAll (Some bytes) input = bytes ≡ input
 
 -- no call of source or sink failed
 pub record IsWithoutFault (a : Around) : Type 0 where

@@ -1,35 +1,17 @@
 -- What the input of a job stands for: the text that is due, and whether all is well, or the one line that refuses it.
-use Rattle.std.specs.Prelude.{ℕ, Bool, true, ◌==◌, List, ◌++◌, codes, decimal, Result, Ok, Err}
+use Rattle.std.specs.Prelude.{ℕ, Bool, true, ◌==◌, List, codes, Result, Ok, Err}
 use Rattle.mc_model.specs.DeckGrammar.{DeckLine, deck_read}
-use Rattle.mc_model.specs.Words.{deck_word}
 use Rattle.mc_model.specs.declared.deck.DeckCause.{DeckCause}
 use Rattle.mc_lab.specs.Expectations.{Trial, TrialFault, DeckFault, NoAnswer, trial_read, blank_words, steady_steps, expect_text, count_failed}
 use Rattle.mc_lab.specs.Sweeps.{sweep_text}
+use Rattle.mc_filter.specs.Lines.{at_line, deck_line}
 use Rattle.mellab.specs.declared.job.Job.{Job}
 use Rattle.mellab.specs.declared.job.Job.TheVariants as job
-
--- an input of more bytes is refused
-abbrev pub input_limit : ℕ
-input_limit = 1048576
 
 -- a text, and whether all that it tells of is well, or the line of a refusal
 pub data Verdict : Type 0 where
   Tells : (text : List ℕ) (well : Bool) → Verdict
   Refusal : (line : List ℕ) → Verdict
-
--- ---- lines of refusals
-
--- a line of the input, and why it is refused
-abbrev pub at_line : ℕ → List ℕ → List ℕ
-at_line n cause = codes "line " ++ decimal n ++ codes " " ++ cause ++ codes "\n"
-
--- the input is too long
-abbrev pub too_long : List ℕ
-too_long = codes "line 0 TooLong\n"
-
--- a refused line of a deck
-abbrev pub deck_line : ℕ × DeckCause → List ℕ
-deck_line (n, c) = at_line n (deck_word c)
 
 -- a refused line of a deck, or an expectation without a result
 abbrev pub fault_line : TrialFault → List ℕ

@@ -5,12 +5,9 @@
 #[cfg(test)]
 mod examples;
 mod job;
-mod rejection;
 mod running;
-mod status;
 #[cfg(test)]
 mod tests;
-mod text;
 
 ghost use Rattle.std.specs.Prelude.{◌≡◌, ◌<◌};
 

@@ -4,56 +4,27 @@ ghost use Rattle.mc_model.specs.DeckGrammar.{deck_read};
 ghost use Rattle.mc_text.specs.Texts.{sunk_in};
 ghost use Rattle.mc_lab.specs.Expectations.{trial_read};
 ghost use Rattle.mc_lab.specs.Trials.{trial_value, IsRising};
-ghost use Rattle.mellab.specs.declared.status.Status.{Status};
+ghost use Rattle.mc_filter.specs.declared.status.Status.{Status};
+ghost use Rattle.mc_filter.specs.Inputs.{input_limit, Rejects};
+ghost use Rattle.mc_filter.specs.Statuses.{number_of};
 ghost use Rattle.mellab.specs.declared.job.Job.TheVariants as job;
 ghost use Rattle.mellab.specs.Jobs.{job_of};
-ghost use Rattle.mellab.specs.Verdicts.{input_limit};
-ghost use Rattle.mellab.specs.Running.{refused_deck, refused_trial, Ends, Rejects, RejectsJob, RejectsRead};
-ghost use Rattle.mellab.specs.Statuses.{ended, number_of, outside, status_after, Completes, ReadWhole, Says, SaysDone};
+ghost use Rattle.mellab.specs.Running.{refused_trial, RejectsJob};
+ghost use Rattle.mellab.specs.Statuses.{outside, status_after, Completes, Says, SaysDone};
 
 use crate::job::{Job, job_of};
-use crate::rejection::Rejection;
-use crate::status::{Status, number};
-use crate::text::{refused, too_long};
-use mc_base::{ReadAll, Sink, Source, Steps, WriteFault, put_all, read_all};
-use mc_deck::{Deck, DeckRefusal, read_deck};
+use mc_base::{Sink, Source, Steps, WriteFault, put_all};
+use mc_filter::{Rejection, Status, deck_of, ended, number, read_input, refused, reject};
 use mc_lab::{SweepFault, Trial, TrialRefusal, expect, read_trial, sweep};
 use mc_nvm::SimNvm;
 use std::alloc::Global;
 use std::sync::ledger::Ledger;
-
-// The most bytes of an input.
-const INPUT_LIMIT: usize = 1_048_576;
 
 // How many words a device of the laboratory has.
 const DEVICE_WORDS: u32 = 8192;
 
 // What is written where the words name no job.
 const USAGE: &[u8] = b"usage: mellab expect | sweep\n";
-
-// Reads an input to its end.
-fn read_input<S: Source>(alloc: Global, input: &mut S) -> Result<Vec<u8>, Rejection>
-    ensures read { IfOk result (λ t. ReadWhole (S.left input.old) (S.left input.new) t.items) }
-    ensures rejected { IfErr result
-        (RejectsRead (S.left input.old) (S.left input.new) (S.faults input.old) (S.faults input.new)) }
-{
-    match read_all(alloc, input, INPUT_LIMIT) {
-        Ok(text) => Ok(text),
-        Err(ReadAll::TooLong) => Err(too_long(alloc)),
-        Err(ReadAll::ReadFault) => Err(Rejection::ReadFault),
-        Err(ReadAll::NoMemory) => Err(Rejection::NoMemory),
-    }
-}
-
-// The status of a text that was to be written.
-fn ended(good: Status, written: Result<(), WriteFault>) -> Status
-    ensures { result ≡ ended good written }
-{
-    match written {
-        Ok(()) => good,
-        Err(WriteFault) => Status::WriteFault,
-    }
-}
 
 // Reads a deck and its expectations, or gives the line that refuses them.
 fn trial_of(alloc: Global, text: &[u8]) -> Result<Trial<'_>, Rejection>
@@ -64,21 +35,9 @@ fn trial_of(alloc: Global, text: &[u8]) -> Result<Trial<'_>, Rejection>
 {
     match read_trial(alloc, text) {
         Ok(trial) => Ok(trial),
-        Err(TrialRefusal::Deck(number, cause)) => Err(refused(alloc, number, cause.word())),
-        Err(TrialRefusal::NoAnswer(number)) => Err(refused(alloc, number, "NoAnswer")),
+        Err(TrialRefusal::Deck(number, cause)) => Err(refused(alloc, "line", number, cause.word())),
+        Err(TrialRefusal::NoAnswer(number)) => Err(refused(alloc, "line", number, "NoAnswer")),
         Err(TrialRefusal::NoMemory) => Err(Rejection::NoMemory),
-    }
-}
-
-// Reads a deck, or gives the line that refuses it.
-fn deck_of(alloc: Global, text: &[u8]) -> Result<Deck, Rejection>
-    ensures deck { IfOk result (λ d. deck_read text.now ≡ Ok d) }
-    ensures rejected { IfErr result (Rejects (refused_deck (deck_read text.now))) }
-{
-    match read_deck(alloc, text) {
-        Ok(deck) => Ok(deck),
-        Err(DeckRefusal::At(number, cause)) => Err(refused(alloc, number, cause.word())),
-        Err(DeckRefusal::NoMemory) => Err(Rejection::NoMemory),
     }
 }
 
@@ -149,17 +108,6 @@ fn attempt<S: Source, T: Sink, L: Ledger>(
     match job {
         Job::Expect => expect_input(alloc, input, out, steps),
         Job::Sweep => sweep_input(alloc, input, out, steps),
-    }
-}
-
-// Ends a job that is not done.
-fn reject<T: Sink>(out: &mut T, rejection: &Rejection) -> Status
-    ensures { Ends rejection.now (sunk_in T.taken T.faults out.old) result (sunk_in T.taken T.faults out.new) }
-{
-    match rejection {
-        Rejection::Refusal(line) => ended(Status::Failed, put_all(out, line.as_slice())),
-        Rejection::ReadFault => Status::ReadFault,
-        Rejection::NoMemory => Status::NoMemory,
     }
 }
 

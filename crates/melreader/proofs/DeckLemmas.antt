@@ -1,9 +1,36 @@
--- The deck of a blank card.
-use Rattle.std.proofs.Common.{◌≡◌, ℕ, List, None, codes, Result, Ok, Err, refl, ap, sym, ◌∙◌}
+-- The deck that a source has, and that of a blank card.
+use Rattle.std.proofs.Common.{◌≡◌, ◌≤◌, ℕ, List, Option, Some, None, codes, Result, Ok, Err, IfOk, IfErr, refl, ap, sym, subst, ◌∙◌, inl, inr, length, arith}
 use Rattle.mc_model.specs.DeckGrammar.{DeckLine, deck_lines, deck_read}
-use Rattle.melreader.specs.declared.deck.NoDeck.{NoDeck}
-use Rattle.melreader.specs.declared.deck.NoDeck.TheVariants as deck
-use Rattle.melreader.specs.Decks.{blank_deck, judged, HasDeck, Spells}
+use Rattle.mc_model.specs.declared.deck.DeckCause.{DeckCause}
+use Rattle.mc_filter.specs.Inputs.{refused_deck, ReadWhole, Rejects, RejectsRead, TookLimited}
+use Rattle.mc_filter.specs.declared.rejection.Rejection.{Rejection}
+use Rattle.mc_filter.specs.declared.rejection.Rejection.TheVariants as rejection
+use Rattle.melreader.specs.Decks.{blank_deck, judged, HasDeck, Stream}
+
+-- a text that was not read spells no deck
+pub not_read : (a b : Stream) (e : Rejection) → RejectsRead a.left b.left a.faults b.faults e → HasDeck (Some a) (Some b) (Err e)
+not_read a b (rejection.Refusal line) why = inl (record { over = why.0; no_further = why.1; is = ap Err why.2 })
+not_read a b rejection.ReadFault why = why
+not_read a b rejection.NoMemory why = why
+
+-- the line that refuses a deck is what the deck is judged
+refused_is : (r : Result (List (ℕ × DeckLine)) (ℕ × DeckCause)) (line : List ℕ) → refused_deck r line → Err line ≡ judged r
+refused_is (Ok lines) line why = absurd why
+refused_is (Err e) line why = ap Err why
+
+-- a text that was read whole took no more than the limit
+took_limited : (old new : Option (List ℕ)) (text : List ℕ) → ReadWhole old new text → TookLimited old new
+took_limited old new text read =
+    let fits = read.fits in
+    record { front = text; took = read.bytes; bound = omega arith }
+
+-- a text that was read is the deck that it spells, or the line that refuses it
+pub was_read : (a b : Stream) (text : List ℕ) (r : Result (List (ℕ × DeckLine)) Rejection) → ReadWhole a.left b.left text
+    → IfOk r (λ d. deck_read text ≡ Ok d) → IfErr r (Rejects (refused_deck (deck_read text))) → HasDeck (Some a) (Some b) r
+was_read a b text (Ok lines) read is why = inr (record { text = text; read = read; is = sym (ap judged is) })
+was_read a b text (Err (rejection.Refusal line)) read is why = inr (record { text = text; read = read; is = refused_is (deck_read text) line.items why })
+was_read a b text (Err rejection.ReadFault) read is why = absurd why
+was_read a b text (Err rejection.NoMemory) read is why = took_limited a.left b.left text read
 
 -- the text `format` is read as the one line
 blank_read : deck_read (codes "format") ≡ Ok blank_deck
@@ -11,9 +38,9 @@ unfolding deck_read deck_lines
 blank_read = refl
 
 -- so it spells the deck of a blank card
-pub blank_has : (r : Result (List (ℕ × DeckLine)) NoDeck) → Spells (codes "format") r → HasDeck None None r
-blank_has (Ok lines) spells = ap judged (sym spells ∙ blank_read)
-blank_has (Err (deck.At n cause)) spells = absurd (cc (sym spells ∙ blank_read))
-blank_has (Err deck.TooLong) spells = absurd spells
-blank_has (Err deck.ReadFault) spells = absurd spells
-blank_has (Err deck.NoMemory) spells = tt
+pub blank_has : (r : Result (List (ℕ × DeckLine)) Rejection) → IfOk r (λ d. deck_read (codes "format") ≡ Ok d)
+    → IfErr r (Rejects (refused_deck (deck_read (codes "format")))) → HasDeck None None r
+blank_has (Ok lines) is why = ap judged (sym is ∙ blank_read)
+blank_has (Err (rejection.Refusal line)) is why = absurd (subst (λ r. refused_deck r line.items) blank_read why)
+blank_has (Err rejection.ReadFault) is why = absurd why
+blank_has (Err rejection.NoMemory) is why = tt

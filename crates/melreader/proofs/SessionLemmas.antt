@@ -1,31 +1,33 @@
--- The lines of refusals, and the statuses with them.
-use Rattle.std.proofs.Common.{◌≡◌, ℕ, List, Result, Err, sym, subst}
+-- What a session says at the status that it ended with, where it had no deck or its input ended inside a frame.
+use Rattle.std.proofs.Common.{◌≡◌, ℕ, List, Result, Ok, Err, sym, subst, inl}
 use Rattle.mc_base.specs.declared.refusals.WriteFault.{WriteFault as Fault}
-use Rattle.mc_model.specs.Words.{deck_word}
-use Rattle.mc_model.specs.declared.deck.DeckCause.{DeckCause}
 use Rattle.mc_reader.specs.declared.serve_error.ServeError.{ServeError}
 use Rattle.mc_reader.specs.declared.serve_error.ServeError.TheVariants as serve
 use Rattle.mc_text.specs.Texts.{Sunk, Puts}
-use Rattle.melreader.specs.declared.deck.NoDeck.{NoDeck}
-use Rattle.melreader.specs.declared.deck.NoDeck.TheVariants as deck
-use Rattle.melreader.specs.declared.status.Status.{Status}
-use Rattle.melreader.specs.Decks.{at_line, too_long}
-use Rattle.melreader.specs.Sessions.{refused_by, short_frame, Ends, IsRefused, Rejects}
+use Rattle.mc_filter.specs.Statuses.{ended}
+use Rattle.mc_filter.specs.Statuses as filter
+use Rattle.mc_filter.specs.declared.rejection.Rejection.{Rejection}
+use Rattle.mc_filter.specs.declared.rejection.Rejection.TheVariants as rejection
+use Rattle.mc_filter.specs.declared.status.Status.{Status}
+use Rattle.mc_filter.specs.declared.status.Status.TheVariants.{Failed}
+use Rattle.melreader.specs.Decks.{HasDeck}
+use Rattle.melreader.specs.Sessions.{short_frame, Ends, Outside, Says, SaysRefused}
 
-module _ (a b : Sunk) (r : Result (Unit {0}) Fault) (s : Status) (by : s ≡ refused_by r) where
-  -- a line that was put is that of its refusal
-  refused : (line : List ℕ) → Puts a line r b → IsRefused line s a b
-  refused line put = record { result = r; status = by; written = put }
+-- the input ended inside a frame
+pub ends_short : (a b : Sunk) (r : Result (Unit {0}) Fault) (s : Status) (e : ServeError) (n : ℕ) → s ≡ ended Failed r → e ≡ serve.Short n
+    → Puts a (short_frame n) r b → Ends (Err e) s a b
+ends_short a b r s e n by is put = subst (λ (e : ServeError). Ends (Err e) s a b) (sym is) (record { result = r; status = by; written = put })
 
-  -- the input ended inside a frame
-  pub ends_short : (e : ServeError) (n : ℕ) → e ≡ serve.Short n → Puts a (short_frame n) r b → Ends (Err e) s a b
-  ends_short e n is put = subst (λ (e : ServeError). Ends (Err e) s a b) (sym is) (refused (short_frame n) put)
+-- a deck that is refused says so, at the status that its line ended with
+says_refused : (Kept : Type 0) (o : Outside) (r : Result (Unit {0}) Fault) (s : Status) → s ≡ ended Failed r → SaysRefused Kept s o → Says Kept s o
+says_refused Kept o (Ok u) s e d = subst (λ s. Says Kept s o) (sym e) (inl (subst (λ s. SaysRefused Kept s o) e d))
+says_refused Kept o (Err f) s e d = subst (λ s. Says Kept s o) (sym e) (inl (subst (λ s. SaysRefused Kept s o) e d))
 
-  -- a line of the deck is refused
-  pub rejects_line : (d : NoDeck) (n : ℕ) (cause : DeckCause) (word : List ℕ) → d ≡ deck.At n cause → word ≡ deck_word cause → Puts a (at_line n word) r b → Rejects d s a b
-  rejects_line d n cause word is says put =
-      subst (λ (d : NoDeck). Rejects d s a b) (sym is) (refused (at_line n (deck_word cause)) (subst (λ (w : List ℕ). Puts a (at_line n w) r b) says put))
-
-  -- the deck is too long
-  pub rejects_long : (d : NoDeck) → d ≡ deck.TooLong → Puts a too_long r b → Rejects d s a b
-  rejects_long d is put = subst (λ (d : NoDeck). Rejects d s a b) (sym is) (refused too_long put)
+-- a session without a deck
+pub says_rejected : (Kept : Type 0) (o : Outside) (e : Rejection) (s : Status) → Kept → HasDeck o.deck_old o.deck (Err e)
+    → filter.Ends e o.err_old s o.err → Says Kept s o
+says_rejected Kept o (rejection.Refusal line) s kept has ends =
+    says_refused Kept o ends.0 s ends.1
+    (record { line = line.items; deck = has; refused = record { result = ends.0; status = ends.1; written = ends.2 }; kept = kept })
+says_rejected Kept o rejection.ReadFault s kept has ends = subst (λ s. Says Kept s o) (sym ends.0) (inl (record { cause = has; err = ends.1; kept = kept }))
+says_rejected Kept o rejection.NoMemory s kept has ends = subst (λ s. Says Kept s o) (sym ends.0) (inl (record { cause = has; err = ends.1; kept = kept }))

@@ -9,20 +9,10 @@ use Rattle.mc_text.specs.Texts.{Sunk, Puts, sunk_in}
 use Rattle.mc_reader.specs.Sessions.{Around, Serves}
 use Rattle.mc_reader.specs.declared.serve_error.ServeError.{ServeError}
 use Rattle.mc_reader.specs.declared.serve_error.ServeError.TheVariants as serve
-use Rattle.melreader.specs.declared.deck.NoDeck.{NoDeck}
-use Rattle.melreader.specs.declared.deck.NoDeck.TheVariants as deck
-use Rattle.melreader.specs.declared.status.Status.{Status}
-use Rattle.melreader.specs.declared.status.Status.TheVariants.{Done, Refused, ReadFault, WriteFault, NoMemory}
-use Rattle.mc_model.specs.Words.{deck_word}
-use Rattle.melreader.specs.Decks.{Stream, IsDeck, DeckFails, at_line, too_long}
-
--- the number of a status
-abbrev pub number_of : Status → ℕ
-number_of Done = 0
-number_of Refused = 1
-number_of ReadFault = 3
-number_of WriteFault = 4
-number_of NoMemory = 5
+use Rattle.mc_filter.specs.Statuses.{ended}
+use Rattle.mc_filter.specs.declared.status.Status.{Status}
+use Rattle.mc_filter.specs.declared.status.Status.TheVariants.{Done, Failed, NoForm, ReadFault, WriteFault, NoMemory}
+use Rattle.melreader.specs.Decks.{Stream, IsDeck, DeckFails, DeckLimited}
 
 -- what is told before and after the call: the deck's source, if there is one, the sink of refusals, and what a session has to do with
 pub record Outside : Type 0 where
@@ -64,15 +54,10 @@ AreKept in_old in_new out_old out_new dev_old dev_new = (in_new ≡ in_old) × (
 abbrev pub short_frame : ℕ → List ℕ
 short_frame n = codes "frame " ++ decimal n ++ codes " Short\n"
 
--- the status of a refusal, by whether its line was written whole
-abbrev pub refused_by : Result (Unit {0}) Fault → Status
-refused_by (Ok u) = Refused
-refused_by (Err f) = WriteFault
-
 -- the line of a refusal was written, whole or up to a fault
 pub record IsRefused (line : List ℕ) (s : Status) (a b : Sunk) : Type 0 where
   pub result : Result (Unit {0}) Fault
-  pub status : s ≡ refused_by result
+  pub status : s ≡ ended Failed result
   pub written : Puts a line result b
 
 -- ---- statuses: `Kept` says that input, answers and device are as they were handed in
@@ -109,16 +94,8 @@ pub record SaysServed (s : Status) (o : Outside) : Type 0 where
 -- what each status says
 abbrev pub Says : Type 0 → Status → Outside → Type 0
 Says Kept Done o = SaysServed Done o
-Says Kept Refused o = SaysRefused Kept Refused o ⊎ SaysServed Refused o
+Says Kept Failed o = SaysRefused Kept Failed o ⊎ SaysServed Failed o
+Says Kept NoForm o = ⊥
 Says Kept ReadFault o = SaysNoDeck Kept (DeckFails o.deck_old o.deck) o ⊎ SaysServed ReadFault o
 Says Kept WriteFault o = SaysRefused Kept WriteFault o ⊎ SaysServed WriteFault o
-Says Kept NoMemory o = SaysNoDeck Kept (Unit {0}) o ⊎ SaysServed NoMemory o
-
--- ---- what the code has
-
--- how a call without a deck ends
-abbrev pub Rejects : NoDeck → Status → Sunk → Sunk → Type 0
-Rejects (deck.At n cause) s a b = IsRefused (at_line n (deck_word cause)) s a b
-Rejects deck.TooLong s a b = IsRefused too_long s a b
-Rejects deck.ReadFault s a b = (s ≡ ReadFault) × (b ≡ a)
-Rejects deck.NoMemory s a b = (s ≡ NoMemory) × (b ≡ a)
+Says Kept NoMemory o = SaysNoDeck Kept (DeckLimited o.deck_old o.deck) o ⊎ SaysServed NoMemory o

@@ -1,30 +1,11 @@
-// The lines of refusals.
+// The line of a frame that is not whole.
 ghost use Rattle.std.specs.Prelude.{decimal};
 ghost use Rattle.mc_text.specs.Texts.{sunk_in, Puts};
-ghost use Rattle.melreader.specs.Decks.{at_line, too_long};
 ghost use Rattle.melreader.specs.Sessions.{short_frame};
 
 use itoa::Buffer;
 use mc_base::{Sink, WriteFault};
-use mc_text::{put, put_number};
-
-// Writes a word.
-fn put_word<E: Sink>(err: &mut E, word: &str) -> Result<(), WriteFault>
-    ensures { Puts (sunk_in E.taken E.faults err.old) word.now result (sunk_in E.taken E.faults err.new) }
-{
-    put(err, word.as_bytes())
-}
-
-/// Writes the line that refuses a deck: `line N CAUSE`.
-pub fn put_refusal<E: Sink>(err: &mut E, number: u32, cause: &str) -> Result<(), WriteFault>
-    ensures { Puts (sunk_in E.taken E.faults err.old) (at_line number cause.now) result
-        (sunk_in E.taken E.faults err.new) }
-{
-    put_number(err, b"line ", number)?;
-    put(err, b" ")?;
-    put_word(err, cause)?;
-    put(err, b"\n")
-}
+use mc_text::put;
 
 // Writes a number in decimal.
 fn put_count<E: Sink>(err: &mut E, number: u64) -> Result<(), WriteFault>
@@ -41,11 +22,4 @@ pub fn put_short<E: Sink>(err: &mut E, number: u64) -> Result<(), WriteFault>
     put(err, b"frame ")?;
     put_count(err, number)?;
     put(err, b" Short\n")
-}
-
-/// Writes that a deck is too long.
-pub fn put_too_long<E: Sink>(err: &mut E) -> Result<(), WriteFault>
-    ensures { Puts (sunk_in E.taken E.faults err.old) too_long result (sunk_in E.taken E.faults err.new) }
-{
-    put(err, b"line 0 TooLong\n")
 }

@@ -5,7 +5,6 @@
 mod deck;
 mod lines;
 mod running;
-mod status;
 #[cfg(test)]
 mod tests;
 
@@ -14,6 +13,7 @@ ghost use Rattle.mc_nvm.specs.Sim.{blank_sim};
 
 use crate::running::melreader;
 use mc_base::{NoMemory, Source, StdSink, StdSource, Steps, put_all};
+use mc_filter::{Status, number};
 use mc_nvm::SimNvm;
 use std::alloc::Global;
 use std::fs::File;
@@ -25,12 +25,6 @@ use std::{env, io};
 
 // How many words the program's device has.
 const DEVICE_WORDS: u32 = 8192;
-
-// The status of words that name no deck.
-const NO_FORM: u8 = 2;
-
-// The status of want of memory.
-const NO_MEMORY: u8 = 5;
 
 // The words of the command line without the program's name.
 fn words(rt: &HostRuntime) -> io::Result<Vec<String>> {
@@ -52,7 +46,7 @@ fn blank_device(alloc: Global) -> Result<SimNvm, NoMemory>
 fn usage(rt: &HostRuntime) -> u8 {
     let mut err = StdSink::new(rt.stderr());
     let _written = put_all(&mut err, b"usage: melreader [DECK]\n");
-    NO_FORM
+    number(Status::NoForm)
 }
 
 // A session over the standard streams and a blank device.
@@ -63,7 +57,7 @@ fn over_streams<D: Source, L: Ledger>(
 ) -> u8 {
     let alloc = rt.alloc();
     let Ok(mut device) = blank_device(alloc) else {
-        return NO_MEMORY;
+        return number(Status::NoMemory);
     };
     let mut input = StdSource::new(rt.stdin());
     let mut out = StdSink::new(rt.stdout());
@@ -99,7 +93,7 @@ fn program<L: Ledger>(rt: &HostRuntime, blank: Blank) -> u8
         Ok(words) => words,
         Err(error) => {
             if error.kind() == ErrorKind::OutOfMemory {
-                return NO_MEMORY;
+                return number(Status::NoMemory);
             }
             // Words that cannot be had, as those that are not UTF-8, name no deck.
             return usage(rt);

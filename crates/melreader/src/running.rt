@@ -3,48 +3,27 @@ ghost use Rattle.std.specs.Prelude.{◌≡◌, Err, Option};
 ghost use Rattle.mc_reader.specs.Sessions.{Around};
 ghost use Rattle.mc_script.specs.Players.{IsUnfused};
 ghost use Rattle.mc_text.specs.Texts.{sunk_in};
-ghost use Rattle.melreader.specs.declared.status.Status.{Status};
+ghost use Rattle.mc_filter.specs.declared.status.Status.{Status};
+ghost use Rattle.mc_filter.specs.Statuses.{number_of};
 ghost use Rattle.melreader.specs.Decks.{handed_in, handed_back, HasDeck, Stream};
-ghost use Rattle.melreader.specs.Sessions.{number_of, outside, refused_by, AreKept, Ends, Rejects, Says};
+ghost use Rattle.melreader.specs.Sessions.{outside, AreKept, Ends, Says};
 
-use crate::deck::{NoDeck, blank_deck, deck_from};
-use crate::lines::{put_refusal, put_short, put_too_long};
-use crate::status::{Status, number};
-use mc_base::{Sink, Source, Steps, WriteFault};
+use crate::deck::{blank_deck, deck_from};
+use crate::lines::put_short;
+use mc_base::{Sink, Source, Steps};
 use mc_deck::Deck;
+use mc_filter::{Rejection, Status, ended, number, reject};
 use mc_nvm::Bench;
 use mc_reader::{ServeError, serve};
 use std::alloc::Global;
 use std::sync::ledger::Ledger;
-
-// The status of a refusal.
-fn refused_by(written: Result<(), WriteFault>) -> Status
-    ensures { result ≡ refused_by written }
-{
-    match written {
-        Ok(()) => Status::Refused,
-        Err(WriteFault) => Status::WriteFault,
-    }
-}
-
-// Says why there is no deck.
-fn reject<E: Sink>(err: &mut E, no_deck: NoDeck) -> Status
-    ensures { Rejects no_deck result (sunk_in E.taken E.faults err.old) (sunk_in E.taken E.faults err.new) }
-{
-    match no_deck {
-        NoDeck::At(number, cause) => refused_by(put_refusal(err, number, cause.word())),
-        NoDeck::TooLong => refused_by(put_too_long(err)),
-        NoDeck::ReadFault => Status::ReadFault,
-        NoDeck::NoMemory => Status::NoMemory,
-    }
-}
 
 // Says why a session ended before its input.
 fn fail<E: Sink>(err: &mut E, error: ServeError) -> Status
     ensures { Ends (Err error) result (sunk_in E.taken E.faults err.old) (sunk_in E.taken E.faults err.new) }
 {
     match error {
-        ServeError::Short(number) => refused_by(put_short(err, number)),
+        ServeError::Short(number) => ended(Status::Failed, put_short(err, number)),
         ServeError::ReadFault => Status::ReadFault,
         ServeError::WriteFault => Status::WriteFault,
         ServeError::NoMemory => Status::NoMemory,
@@ -64,7 +43,7 @@ fn end<E: Sink>(err: &mut E, served: Result<(), ServeError>) -> Status
 // Plays the deck that was found and serves the frames of a host, or says why there is no deck.
 fn session<S: Source, T: Sink, E: Sink, N: Bench, L: Ledger>(
     alloc: Global,
-    found: Result<Deck, NoDeck>,
+    found: Result<Deck, Rejection>,
     input: &mut S,
     out: &mut T,
     err: &mut E,
@@ -79,7 +58,7 @@ fn session<S: Source, T: Sink, E: Sink, N: Bench, L: Ledger>(
 {
     match found {
         Ok(deck) => end(err, serve(alloc, &deck, input, out, dev, steps)),
-        Err(no_deck) => reject(err, no_deck),
+        Err(rejection) => reject(err, &rejection),
     }
 }
 

@@ -1,8 +1,9 @@
 use Rattle.std.proofs.Common.{◌≡◌, Option, refl, sym, subst, ◌∙◌}
+use Rattle.mc_filter.proofs.Statuses.{puts_by}
 use Rattle.melcard.specs.declared.job.Job.{Job}
 use Rattle.melcard.specs.Jobs.{job_of, usage}
 use Rattle.melcard.specs.Statuses.{Around, Says}
-use Rattle.melcard.proofs.StatusLemmas.{around, puts_by, says_no_form}
+use Rattle.melcard.proofs.StatusLemmas.{around, says_no_form}
 use Rattle.melcard.proofs.Completeness.{complete_at}
 use Rattle.melcard.proofs.running.melcard.Goals as goal
 

@@ -1,7 +1,7 @@
 use Rattle.std.proofs.Common.{◌≡◌, refl}
 use Rattle.mc_model.specs.Generator.{generated}
 use Rattle.melcard.specs.declared.job.Job.TheVariants as job
-use Rattle.melcard.specs.declared.status.Status.{Status}
+use Rattle.mc_filter.specs.declared.status.Status.{Status}
 use Rattle.melcard.specs.Running.{PlaysInput, WritesInput}
 use Rattle.melcard.specs.Statuses.{bench_of, Around, IsSummed}
 use Rattle.melcard.proofs.StatusLemmas.{around, err_always, memory_only, ok_is, rejected_at, says_at, says_played, says_summed, says_written}

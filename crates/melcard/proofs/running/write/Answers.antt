@@ -1,7 +1,7 @@
 use Rattle.std.proofs.Common.{ℕ, List, inr, subst}
 use Rattle.mc_text.specs.Texts.{sunk_in}
+use Rattle.mc_filter.proofs.Statuses.{puts_by}
 use Rattle.melcard.specs.Verdicts.{IsTextOf, Whole}
-use Rattle.melcard.proofs.StatusLemmas.{puts_by}
 use Rattle.melcard.proofs.running.write.Goals as goal
 
 pub returns-clause-done : goal.returns-clause-done

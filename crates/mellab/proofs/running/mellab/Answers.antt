@@ -1,8 +1,9 @@
 use Rattle.std.proofs.Common.{Option, refl, sym, subst, ◌∙◌}
+use Rattle.mc_filter.proofs.Statuses.{puts_by}
 use Rattle.mellab.specs.declared.job.Job.{Job}
 use Rattle.mellab.specs.Jobs.{job_of, usage}
 use Rattle.mellab.specs.Statuses.{outside, Around, Says}
-use Rattle.mellab.proofs.StatusLemmas.{puts_by, says_no_form}
+use Rattle.mellab.proofs.StatusLemmas.{says_no_form}
 use Rattle.mellab.proofs.Completeness.{complete_at}
 use Rattle.mellab.proofs.running.mellab.Goals as goal
 

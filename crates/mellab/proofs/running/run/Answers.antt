@@ -1,6 +1,6 @@
 use Rattle.std.proofs.Common.{subst}
 use Rattle.mc_text.specs.Texts.{sunk_in, Sunk}
-use Rattle.mellab.specs.Running.{Ends}
+use Rattle.mc_filter.specs.Statuses.{Ends}
 use Rattle.mellab.specs.Statuses.{outside, Around}
 use Rattle.mellab.proofs.StatusLemmas.{says_rejected}
 use Rattle.mellab.proofs.running.run.Goals as goal

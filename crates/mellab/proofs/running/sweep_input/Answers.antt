@@ -4,7 +4,7 @@ use Rattle.mc_model.specs.DeckGrammar.{deck_read}
 use Rattle.mc_lab.specs.Sweeps.{sweep_text}
 use Rattle.mc_lab.specs.SweepEnds.{Tells}
 use Rattle.mc_lab.specs.declared.sweeping.SweepFault.{SweepFault}
-use Rattle.mellab.specs.declared.status.Status.TheVariants.{Done, WriteFault}
+use Rattle.mc_filter.specs.declared.status.Status.TheVariants.{Done, WriteFault}
 use Rattle.mellab.specs.Statuses.{outside, Around}
 use Rattle.mellab.proofs.ToldLemmas.{says_swept}
 use Rattle.mellab.proofs.running.sweep_input.Goals as goal

@@ -6,4 +6,4 @@ pub returns-in-Short : goal.returns-in-Short
 returns-in-Short g c =
     let at = sunk_in g.E.Sink.taken g.E.Sink.faults in
     let put = c.put_short in
-    ends_short (at c.args.err.now) (at put.new.err) put.result c.refused_by.result c.refused_by.ensures c.args.error c.in-Short.number c.in-Short.is put.ensures
+    ends_short (at c.args.err.now) (at put.new.err) put.result c.ended.result c.args.error c.in-Short.number c.ended.ensures c.in-Short.is put.ensures

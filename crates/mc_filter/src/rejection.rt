@@ -12,7 +12,7 @@ pub enum Rejection {
 
 impl From<NoMemory> for Rejection {
     ghost use Rattle.std.specs.Prelude.{◌≡◌};
-    ghost use Rattle.mellab.specs.declared.rejection.Rejection.TheVariants.{NoMemory};
+    ghost use Rattle.mc_filter.specs.declared.rejection.Rejection.TheVariants.{NoMemory};
 
     ghost from_gives = { λ f e. e ≡ NoMemory };
 
@@ -23,7 +23,7 @@ impl From<NoMemory> for Rejection {
 
 impl From<AllocError> for Rejection {
     ghost use Rattle.std.specs.Prelude.{◌≡◌};
-    ghost use Rattle.mellab.specs.declared.rejection.Rejection.TheVariants.{NoMemory};
+    ghost use Rattle.mc_filter.specs.declared.rejection.Rejection.TheVariants.{NoMemory};
 
     ghost from_gives = { λ f e. e ≡ NoMemory };
 

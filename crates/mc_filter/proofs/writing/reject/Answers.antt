@@ -1,9 +1,9 @@
 use Rattle.std.proofs.Common.{subst, sym}
 use Rattle.mc_text.specs.Texts.{sunk_in}
-use Rattle.melcard.specs.declared.rejection.Rejection.{Rejection}
-use Rattle.melcard.specs.Running.{Ends}
-use Rattle.melcard.proofs.StatusLemmas.{puts_by}
-use Rattle.melcard.proofs.running.reject.Goals as goal
+use Rattle.mc_filter.specs.declared.rejection.Rejection.{Rejection}
+use Rattle.mc_filter.specs.Statuses.{Ends}
+use Rattle.mc_filter.proofs.Statuses.{puts_by}
+use Rattle.mc_filter.proofs.writing.reject.Goals as goal
 
 pub returns-in-Refusal : goal.returns-in-Refusal
 returns-in-Refusal g c =

@@ -1,0 +1,29 @@
+-- The statuses of a filter, and how one comes of what is written.
+use Rattle.std.specs.Prelude.{◌≡◌, ℕ, Result, Ok, Err}
+use Rattle.mc_base.specs.declared.refusals.WriteFault.{WriteFault as Fault}
+use Rattle.mc_text.specs.Texts.{Sunk, Puts}
+use Rattle.mc_filter.specs.declared.rejection.Rejection.{Rejection}
+use Rattle.mc_filter.specs.declared.rejection.Rejection.TheVariants as rejection
+use Rattle.mc_filter.specs.declared.status.Status.{Status}
+use Rattle.mc_filter.specs.declared.status.Status.TheVariants.{Done, Failed, NoForm, ReadFault, WriteFault, NoMemory}
+
+-- the number of a status
+abbrev pub number_of : Status → ℕ
+number_of Done = 0
+number_of Failed = 1
+number_of NoForm = 2
+number_of ReadFault = 3
+number_of WriteFault = 4
+number_of NoMemory = 5
+
+-- a status by how the writing ended
+abbrev pub ended : Status → Result (Unit {0}) Fault → Status
+ended good (Ok u) = good
+ended good (Err f) = WriteFault
+
+-- how a job ends that is not done: its line was written, or nothing
+abbrev pub Ends : Rejection → Sunk → Status → Sunk → Type 0
+Ends (rejection.Refusal line) before s after =
+    (result : Result (Unit {0}) Fault) × (s ≡ ended Failed result) × Puts before line.items result after
+Ends rejection.ReadFault before s after = (s ≡ ReadFault) × (after ≡ before)
+Ends rejection.NoMemory before s after = (s ≡ NoMemory) × (after ≡ before)

@@ -1,0 +1,26 @@
+// The input, read whole.
+ghost use Rattle.std.specs.Prelude.{IfErr, IfOk};
+ghost use Rattle.mc_filter.specs.Inputs.{ReadWhole, RejectsRead};
+
+use crate::lines::too_long;
+use crate::rejection::Rejection;
+use mc_base::{ReadAll, Source, read_all};
+use std::alloc::Global;
+
+/// The most bytes of an input.
+pub const INPUT_LIMIT: usize = 1_048_576;
+
+/// Reads an input to its end. One of more than `INPUT_LIMIT` bytes is refused by the line `line 0 TooLong`, as soon as one byte more
+/// has come.
+pub fn read_input<S: Source>(alloc: Global, input: &mut S) -> Result<Vec<u8>, Rejection>
+    ensures read { IfOk result (λ t. ReadWhole (S.left input.old) (S.left input.new) t.items) }
+    ensures rejected { IfErr result
+        (RejectsRead (S.left input.old) (S.left input.new) (S.faults input.old) (S.faults input.new)) }
+{
+    match read_all(alloc, input, INPUT_LIMIT) {
+        Ok(text) => Ok(text),
+        Err(ReadAll::TooLong) => Err(too_long(alloc)),
+        Err(ReadAll::ReadFault) => Err(Rejection::ReadFault),
+        Err(ReadAll::NoMemory) => Err(Rejection::NoMemory),
+    }
+}

@@ -1,0 +1,29 @@
+// What is written of a job at its end.
+ghost use Rattle.std.specs.Prelude.{◌≡◌};
+ghost use Rattle.mc_text.specs.Texts.{sunk_in};
+ghost use Rattle.mc_filter.specs.Statuses.{ended, Ends};
+
+use crate::rejection::Rejection;
+use crate::status::Status;
+use mc_base::{Sink, WriteFault, put_all};
+
+/// The status of a text that was to be written: a good one, or a fault of the sink.
+pub fn ended(good: Status, written: Result<(), WriteFault>) -> Status
+    ensures { result ≡ ended good written }
+{
+    match written {
+        Ok(()) => good,
+        Err(WriteFault) => Status::WriteFault,
+    }
+}
+
+/// Ends a job that is not done: writes the line that refuses its input, and nothing for another cause.
+pub fn reject<T: Sink>(out: &mut T, rejection: &Rejection) -> Status
+    ensures { Ends rejection.now (sunk_in T.taken T.faults out.old) result (sunk_in T.taken T.faults out.new) }
+{
+    match rejection {
+        Rejection::Refusal(line) => ended(Status::Failed, put_all(out, line.as_slice())),
+        Rejection::ReadFault => Status::ReadFault,
+        Rejection::NoMemory => Status::NoMemory,
+    }
+}
