@@ -4,35 +4,35 @@ use Rattle.mc_model.specs.Bytes.{bytes}
 use Rattle.mc_model.specs.Aes.{aes_encipher, aes_decipher}
 
 -- a known answer
-pub record Row : Type 0 where
+pub record KnownAesAnswer : Type 0 where
   pub key : ℕ
   pub block : ℕ
   pub enciphered : ℕ
 
 -- a known answer from its three numbers
-abbrev pub row : ℕ → ℕ → ℕ → Row
+abbrev pub row : ℕ → ℕ → ℕ → KnownAesAnswer
 row key block enciphered = record { key = key; block = block; enciphered = enciphered }
 
 -- whether the definition enciphers each block of a list as the row says
-unfoldable pub all_encipher : List Row → Bool
+unfoldable pub all_encipher : List KnownAesAnswer → Bool
 unfolding aes_encipher
 all_encipher [] = true
 all_encipher (r ∷ rs) = bytes_eq (aes_encipher (bytes 16 r.key) (bytes 16 r.block)) (bytes 16 r.enciphered) && all_encipher rs
 
 -- and deciphers it
-unfoldable pub all_decipher : List Row → Bool
+unfoldable pub all_decipher : List KnownAesAnswer → Bool
 unfolding aes_decipher
 all_decipher [] = true
 all_decipher (r ∷ rs) = bytes_eq (aes_decipher (bytes 16 r.key) (bytes 16 r.enciphered)) (bytes 16 r.block) && all_decipher rs
 
 -- FIPS 197, appendix C.1 and appendix B.
-abbrev pub cipher_examples : List Row
+abbrev pub cipher_examples : List KnownAesAnswer
 cipher_examples =
     row 0x000102030405060708090A0B0C0D0E0F 0x00112233445566778899AABBCCDDEEFF 0x69C4E0D86A7B0430D8CDB78070B4C55A ∷
     row 0x2B7E151628AED2A6ABF7158809CF4F3C 0x3243F6A8885A308D313198A2E0370734 0x3925841D02DC09FBDC118597196A0B32 ∷ []
 
 -- NIST SP 800-38A, F.1.1 (ECB with AES-128).
-abbrev pub ecb_examples : List Row
+abbrev pub ecb_examples : List KnownAesAnswer
 ecb_examples =
     row 0x2B7E151628AED2A6ABF7158809CF4F3C 0x6BC1BEE22E409F96E93D7E117393172A 0x3AD77BB40D7A3660A89ECAF32466EF97 ∷
     row 0x2B7E151628AED2A6ABF7158809CF4F3C 0xAE2D8A571E03AC9C9EB76FAC45AF8E51 0xF5D3D58503B9699DE785895A96FDBAAF ∷
@@ -40,7 +40,7 @@ ecb_examples =
     row 0x2B7E151628AED2A6ABF7158809CF4F3C 0xF69F2445DF4F9B17AD2B417BE66C3710 0x7B0C785E27E8AD3F8223207104725DD4 ∷ []
 
 -- NIST AESAVS, appendices B.1 (GFSbox) and D.1 (variable text): blocks under the key of zeros.
-abbrev pub blocks : List Row
+abbrev pub blocks : List KnownAesAnswer
 blocks =
     row 0x00000000000000000000000000000000 0xF34481EC3CC627BACD5DC3FB08F273E6 0x0336763E966D92595A567CC9CE537F5E ∷
     row 0x00000000000000000000000000000000 0x9798C4640BAD75C7C3227DB910174E72 0xA9A1631BF4996954EBC093957B234589 ∷
@@ -55,7 +55,7 @@ blocks =
     row 0x00000000000000000000000000000000 0xF0000000000000000000000000000000 0x96D9FD5CC4F07441727DF0F33E401A36 ∷ []
 
 -- NIST AESAVS, appendices C.1 (KeySbox) and E.1 (variable key): zeros under a key.
-abbrev pub keys : List Row
+abbrev pub keys : List KnownAesAnswer
 keys =
     row 0x10A58869D74BE5A374CF867CFB473859 0x00000000000000000000000000000000 0x6D251E6944B051E04EAA6FB4DBF78465 ∷
     row 0xCAEA65CDBB75E9169ECD22EBE6E54675 0x00000000000000000000000000000000 0x6E29201190152DF4EE058139DEF610BB ∷

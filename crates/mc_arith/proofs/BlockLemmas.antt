@@ -3,13 +3,10 @@ use Rattle.std.proofs.Common.{◌≡◌, ℕ, zero, suc, ◌+◌, ◌*◌, ◌/�
 use Rattle.std.specs.List.{AllByRecursion}
 use Rattle.std.proofs.Math.Arith.{digits_div, digits_mod}
 use Rattle.std.proofs.Math.Nat.{pow-succ'}
-use Rattle.mc_model.specs.Bytes.{num, bytes}
+use Rattle.mc_model.specs.Bytes.{num, bytes, AreBytes}
 use Rattle.mc_model.specs.Blocks.{Worked, worked, is_zero}
 
-abbrev pub AllBytes : List ℕ → Type 0
-AllBytes l = AllByRecursion (λ b. b < 256) l
-
-pub all_bytes : (l : List ℕ) → ((i : ℕ) → Fits w8 (get_or l i 0)) → AllBytes l
+pub all_bytes : (l : List ℕ) → ((i : ℕ) → Fits w8 (get_or l i 0)) → AreBytes l
 all_bytes [] h = tt
 all_bytes (b ∷ l) h = (omega (arith, h 0), all_bytes l (λ i. h (suc i)))
 
@@ -24,7 +21,7 @@ pub times_at_most : (p b c : ℕ) → b ≤ c → b * p ≤ c * p
 times_at_most p b c h = grind (arith, h)
 
 -- a block is below 256 to the power of its length
-pub num_below : (l : List ℕ) → AllBytes l → num l < 256 ^ length l
+pub num_below : (l : List ℕ) → AreBytes l → num l < 256 ^ length l
 num_below [] h = omega arith
 num_below (b ∷ l) h =
     let below = num_below l h.1 in
@@ -32,7 +29,7 @@ num_below (b ∷ l) h =
     rw (pow_more (length l)) (omega (arith, below, top))
 
 -- the block of a number that is a block's, whatever stands before it
-pub bytes_of : (l : List ℕ) (k : ℕ) → AllBytes l → bytes (length l) (num l + k * 256 ^ length l) ≡ l
+pub bytes_of : (l : List ℕ) (k : ℕ) → AreBytes l → bytes (length l) (num l + k * 256 ^ length l) ≡ l
 bytes_of [] k h = refl
 bytes_of (b ∷ l) k h =
     let below = num_below l h.1 in
@@ -62,7 +59,7 @@ num_bytes (suc n) v =
     rw (length_bytes n v, num_bytes n v, pow_more n) (sym reduced)
 
 -- a block with its flags is the result of v where v is its number with k in front
-pub worked_is : (v : ℕ) (l : List ℕ) (k : ℕ) (c z c' : Bool) → AllBytes l → v ≡ num l + k * 256 ^ length l → c ≡ c' → z ≡ is_zero l → ◌≡◌ {A = Worked} (record { value = l; c = c; z = z }) (worked (length l) v c')
+pub worked_is : (v : ℕ) (l : List ℕ) (k : ℕ) (c z c' : Bool) → AreBytes l → v ≡ num l + k * 256 ^ length l → c ≡ c' → z ≡ is_zero l → ◌≡◌ {A = Worked} (record { value = l; c = c; z = z }) (worked (length l) v c')
 worked_is v l k c z c' h e ec ez =
     let same : bytes (length l) v ≡ l = rw e (bytes_of l k h) in
     rw (same, ez, ec) refl

@@ -2,10 +2,10 @@
 use Rattle.std.proofs.Common.{◌≡◌, ℕ, zero, suc, ◌+◌, ◌-◌, ◌*◌, ◌%◌, ◌^◌, ◌<◌, ◌≢◌, Bool, true, false, List, [], ◌∷◌, length, get_or, drop, refl, sym, ◌∙◌, ap, subst, arith, length-drop, ◌⊎◌, inl, inr}
 use Rattle.std.specs.Prelude.{nat_le, nat_lt, nat_eq, cond}
 use Rattle.std.proofs.Math.Arith.{digits_mod}
-use Rattle.mc_model.specs.Bytes.{num}
+use Rattle.mc_model.specs.Bytes.{num, AreBytes}
 use Rattle.mc_model.specs.Blocks.{Worked, worked, is_zero, add_blocks, sub_blocks, inc_block, dec_block}
 use Rattle.mc_arith.specs.Carry.{carry_of}
-use Rattle.mc_arith.proofs.BlockLemmas.{AllBytes, num_below, num_bytes, pow_positive, times_at_most, worked_is}
+use Rattle.mc_arith.proofs.BlockLemmas.{num_below, num_bytes, pow_positive, times_at_most, worked_is}
 use Rattle.mc_arith.proofs.StepLemmas.{num_drop}
 
 lt_or_at : (x y : ℕ) → x ≢ y → (b : Bool) → nat_lt x y ≡ b → (x < y) ⊎ (y < x)
@@ -20,7 +20,7 @@ carried : (p r v : ℕ) (c : Bool) → r < p → r + carry_of c * p ≡ v → c 
 carried p r v true h e = grind (arith, h, e)
 carried p r v false h e = grind (arith, h, e)
 
-pub sum_is : (a b r : List ℕ) (c z : Bool) → length r ≡ length a → AllBytes r → num r + carry_of c * 256 ^ length a ≡ num a + num b → z ≡ is_zero r → ◌≡◌ {A = Worked} (record { value = r; c = c; z = z }) (add_blocks a b)
+pub sum_is : (a b r : List ℕ) (c z : Bool) → length r ≡ length a → AreBytes r → num r + carry_of c * 256 ^ length a ≡ num a + num b → z ≡ is_zero r → ◌≡◌ {A = Worked} (record { value = r; c = c; z = z }) (add_blocks a b)
 sum_is a b r c z l h e ez =
     let s : num a + num b ≡ num r + carry_of c * 256 ^ length r = rw l (sym e) in
     let f : c ≡ nat_le (256 ^ length a) (num a + num b) = carried (256 ^ length a) (num r) (num a + num b) c (subst (λ n. num r < 256 ^ n) l (num_below r h)) e in
@@ -31,7 +31,7 @@ carried_one : (p r a : ℕ) (c : Bool) → r < p → a < p → r + carry_of c * 
 carried_one p r a true h k e = grind (arith, h, k, e)
 carried_one p r a false h k e = grind (arith, h, k, e)
 
-pub inc_is : (a r : List ℕ) (c z : Bool) → length r ≡ length a → AllBytes a → AllBytes r → num r + carry_of c * 256 ^ length a ≡ num a + 1 → z ≡ is_zero r → ◌≡◌ {A = Worked} (record { value = r; c = c; z = z }) (inc_block a)
+pub inc_is : (a r : List ℕ) (c z : Bool) → length r ≡ length a → AreBytes a → AreBytes r → num r + carry_of c * 256 ^ length a ≡ num a + 1 → z ≡ is_zero r → ◌≡◌ {A = Worked} (record { value = r; c = c; z = z }) (inc_block a)
 inc_is a r c z l g h e ez =
     let s : num a + 1 ≡ num r + carry_of c * 256 ^ length r = rw l (sym e) in
     let f : c ≡ nat_eq (num a + 1) (256 ^ length a) = carried_one (256 ^ length a) (num r) (num a) c (subst (λ n. num r < 256 ^ n) l (num_below r h)) (num_below a g) e in
@@ -50,7 +50,7 @@ without : (p r a b : ℕ) (c : Bool) → r + b ≡ a + carry_of c * p → p + a 
 without p r a b true e = omega (arith, e)
 without p r a b false e = omega (arith, e)
 
-pub difference_is : (a b r : List ℕ) (c z : Bool) → length r ≡ length a → AllBytes r → num r + num b ≡ num a + carry_of c * 256 ^ length a → z ≡ is_zero r → ◌≡◌ {A = Worked} (record { value = r; c = c; z = z }) (sub_blocks a b)
+pub difference_is : (a b r : List ℕ) (c z : Bool) → length r ≡ length a → AreBytes r → num r + num b ≡ num a + carry_of c * 256 ^ length a → z ≡ is_zero r → ◌≡◌ {A = Worked} (record { value = r; c = c; z = z }) (sub_blocks a b)
 difference_is a b r c z l h e ez =
     let p = 256 ^ length a in
     let s : p + num a - num b ≡ num r + left_of c * 256 ^ length r = rw l (without p (num r) (num a) (num b) c e) in
@@ -62,7 +62,7 @@ borrowed_one : (p r a : ℕ) (c : Bool) → r < p → r + 1 ≡ a + carry_of c *
 borrowed_one p r a true h e = grind (arith, h, e)
 borrowed_one p r a false h e = grind (arith, h, e)
 
-pub dec_is : (a r : List ℕ) (c z : Bool) → length r ≡ length a → AllBytes r → num r + 1 ≡ num a + carry_of c * 256 ^ length a → z ≡ is_zero r → ◌≡◌ {A = Worked} (record { value = r; c = c; z = z }) (dec_block a)
+pub dec_is : (a r : List ℕ) (c z : Bool) → length r ≡ length a → AreBytes r → num r + 1 ≡ num a + carry_of c * 256 ^ length a → z ≡ is_zero r → ◌≡◌ {A = Worked} (record { value = r; c = c; z = z }) (dec_block a)
 dec_is a r c z l h e ez =
     let p = 256 ^ length a in
     let s : p + num a - 1 ≡ num r + left_of c * 256 ^ length r = rw l (without p (num r) (num a) 1 c e) in
@@ -80,12 +80,12 @@ nonzero x p r h k =
 pub not_zero : (l : List ℕ) (i : ℕ) → i < length l → get_or l i 0 ≢ 0 → is_zero (drop i l) ≡ false
 not_zero l i h k = ap (λ n. nat_eq n 0) (num_drop l (i + 1) i refl h) ∙ nonzero (get_or l i 0) (256 ^ (length l - (i + 1))) (num (drop (i + 1) l)) (pow_positive (length l - (i + 1))) k
 
-bytes_from : (l : List ℕ) (i : ℕ) → AllBytes l → AllBytes (drop i l)
+bytes_from : (l : List ℕ) (i : ℕ) → AreBytes l → AreBytes (drop i l)
 bytes_from l zero h = h
 bytes_from [] (suc i) h = tt
 bytes_from (b ∷ l) (suc i) h = bytes_from l i h.1
 
-rest_below : (l : List ℕ) (i : ℕ) → AllBytes l → num (drop i l) < 256 ^ (length l - i)
+rest_below : (l : List ℕ) (i : ℕ) → AreBytes l → num (drop i l) < 256 ^ (length l - i)
 rest_below l i h = subst (λ n. num (drop i l) < 256 ^ n) (length-drop i l) (num_below (drop i l) (bytes_from l i h))
 
 -- the first byte that differs decides
@@ -100,7 +100,7 @@ less_digit p x y r s a b h e lt =
 decided : (x y a b : ℕ) → (x < y → a < b) → (y < x → b < a) → x ≢ y → Decided x y a b
 decided x y a b f g ne = elim (lt_or x y ne) [ inl h ↦ (grind (arith, h, f h), omega (arith, f h)) | inr h ↦ (grind (arith, h, g h), omega (arith, g h)) ]
 
-pub compare_at : (a b : List ℕ) (i : ℕ) → i < length a → length a ≡ length b → AllBytes a → AllBytes b → get_or a i 0 ≢ get_or b i 0 → num a + num (drop i b) ≡ num b + num (drop i a) → Decided (get_or a i 0) (get_or b i 0) (num a) (num b)
+pub compare_at : (a b : List ℕ) (i : ℕ) → i < length a → length a ≡ length b → AreBytes a → AreBytes b → get_or a i 0 ≢ get_or b i 0 → num a + num (drop i b) ≡ num b + num (drop i a) → Decided (get_or a i 0) (get_or b i 0) (num a) (num b)
 compare_at a b i h l ha hb ne e =
     let p = 256 ^ (length a - (i + 1)) in
     let q : length b - (i + 1) ≡ length a - (i + 1) = omega arith in
@@ -126,7 +126,7 @@ difference_modulo p a b ha hb ne = elim (lt_or a b ne) [
   | inr h ↦ ap (λ k. nat_eq k 0) (ap (λ k. k % p) (omega arith) ∙ modulo_more p (a - b) (omega arith)) ∙ grind (arith, h)
 ]
 
-pub different : (a b : List ℕ) → length a ≡ length b → AllBytes a → AllBytes b → num a ≢ num b → (sub_blocks a b).z ≡ false
+pub different : (a b : List ℕ) → length a ≡ length b → AreBytes a → AreBytes b → num a ≢ num b → (sub_blocks a b).z ≡ false
 different a b l ha hb ne =
     let nb : num b < 256 ^ length a = rw l (num_below b hb) in
     ap (λ k. nat_eq k 0) (num_bytes (length a) (256 ^ length a + num a - num b)) ∙ difference_modulo (256 ^ length a) (num a) (num b) (num_below a ha) nb ne

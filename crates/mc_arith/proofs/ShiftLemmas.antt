@@ -4,10 +4,10 @@ use Rattle.std.specs.Prelude.{nat_eq}
 use Rattle.std.proofs.lemmas.Nat.{pow_pos}
 use Rattle.std.proofs.Math.Arith.{digits_div, digits_mod}
 use Rattle.std.proofs.Math.Nat.{pow-succ', div-div-eq-div-mul, mul-div_cancel_left}
-use Rattle.mc_model.specs.Bytes.{num}
+use Rattle.mc_model.specs.Bytes.{num, AreBytes}
 use Rattle.mc_model.specs.Blocks.{Worked, worked, is_zero, bit, shift_left_block, shift_right_block}
 use Rattle.mc_arith.specs.Carry.{carry_of}
-use Rattle.mc_arith.proofs.BlockLemmas.{AllBytes, pow_more, pow_positive, worked_is}
+use Rattle.mc_arith.proofs.BlockLemmas.{pow_more, pow_positive, worked_is}
 
 -- a byte has eight bits
 bits_of : (n : ℕ) → 256 ^ n ≡ 2 ^ (8 * n)
@@ -68,7 +68,7 @@ halved v j w r c ew e =
       left = carry_bit r c ∙ ap (λ k. nat_eq (k % 2) 1) (e ∙ ew);
     }
 
-pub left_is : (a r : List ℕ) (k : ℕ) (c z : Bool) → length r ≡ length a → AllBytes r → num r ≡ num a * 2 ^ k % 256 ^ length a → c ≡ bit (8 * length a - k) (num a) → z ≡ is_zero r → ◌≡◌ {A = Worked} (record { value = r; c = c; z = z }) (shift_left_block a k)
+pub left_is : (a r : List ℕ) (k : ℕ) (c z : Bool) → length r ≡ length a → AreBytes r → num r ≡ num a * 2 ^ k % 256 ^ length a → c ≡ bit (8 * length a - k) (num a) → z ≡ is_zero r → ◌≡◌ {A = Worked} (record { value = r; c = c; z = z }) (shift_left_block a k)
 left_is a r k c z l h e ec ez =
     let p = 256 ^ length a in
     let v = num a * 2 ^ k in
@@ -78,7 +78,7 @@ left_is a r k c z l h e ec ez =
     let w = worked_is v r (v / p) c z (bit (8 * length a - k) (num a)) h s ec ez in
     subst (λ n. ◌≡◌ {A = Worked} (record { value = r; c = c; z = z }) (worked n v (bit (8 * length a - k) (num a)))) l w
 
-pub right_is : (a r : List ℕ) (k : ℕ) (c z : Bool) → length r ≡ length a → AllBytes r → num r ≡ num a / 2 ^ k → c ≡ bit (k - 1) (num a) → z ≡ is_zero r → ◌≡◌ {A = Worked} (record { value = r; c = c; z = z }) (shift_right_block a k)
+pub right_is : (a r : List ℕ) (k : ℕ) (c z : Bool) → length r ≡ length a → AreBytes r → num r ≡ num a / 2 ^ k → c ≡ bit (k - 1) (num a) → z ≡ is_zero r → ◌≡◌ {A = Worked} (record { value = r; c = c; z = z }) (shift_right_block a k)
 right_is a r k c z l h e ec ez =
     let v = num a / 2 ^ k in
     let s : v ≡ num r + 0 * 256 ^ length r = sym e ∙ omega arith in

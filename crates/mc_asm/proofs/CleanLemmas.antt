@@ -3,7 +3,7 @@ use Rattle.std.proofs.Common.{◌≡◌, ℕ, Bool, true, false, List, [], ◌�
 use Rattle.std.specs.Prelude.{◌==◌, ◌&&◌, not, nat_lt, nat_le}
 use Rattle.mc_model.specs.Bytes.{lookup}
 use Rattle.mc_model.specs.Text.{first_cut, pieces, is_blank, is_empty, trim, trim_front, trim_end, before_trimmed, every}
-use Rattle.mc_model.specs.Assembly.{Form, Item, words, worded, operands, word_and_operands, line_read}
+use Rattle.mc_model.specs.Assembly.{WordForm, CodeItem, words, worded, operands, word_and_operands, line_read}
 use Rattle.mc_model.proofs.ListLemmas.{and-true as and_both}
 
 -- a character of an operand: no blank or less, no comma, no colon, no semicolon
@@ -185,11 +185,11 @@ unfolding operand_text
 operands_of [] s = refl
 operands_of (a ∷ ts) s = joined_pieces a ts s
 
-found_word : (name : List ℕ) (ts : List (List ℕ)) (f : Form) → Solid name → AllSolid ts → lookup words name ≡ Some f → word_and_operands (name, operand_text ts) ≡ worded f ts
+found_word : (name : List ℕ) (ts : List (List ℕ)) (f : WordForm) → Solid name → AllSolid ts → lookup words name ≡ Some f → word_and_operands (name, operand_text ts) ≡ worded f ts
 found_word name ts f n s e = rw (n.some, e, operands_of ts s) refl
 
 -- a line of a word and its operands is read as they are
-pub line_is_read : (name : List ℕ) (ts : List (List ℕ)) (f : Form) (i : Item) → Solid name → AllSolid ts → lookup words name ≡ Some f → worded f ts ≡ Ok i
+pub line_is_read : (name : List ℕ) (ts : List (List ℕ)) (f : WordForm) (i : CodeItem) → Solid name → AllSolid ts → lookup words name ≡ Some f → worded f ts ≡ Ok i
     → line_read (name ++ behind_word ts) ≡ Ok (record { label = None; item = i })
 unfolding line_read
 line_is_read name ts f i n s e h =

@@ -2,14 +2,14 @@
 use Rattle.std.proofs.Common.{◌≡◌, ℕ, zero, suc, Bool, true, false, cond, List, [], ◌∷◌, take, drop, Option, Some, refl, ap, ◌∙◌}
 use Rattle.std.specs.Prelude.{bytes_eq}
 use Rattle.mc_model.specs.Bytes.{lookup, or_else}
-use Rattle.mc_model.specs.Assembly.{words, Form}
+use Rattle.mc_model.specs.Assembly.{words, WordForm}
 use Rattle.mc_asm.specs.Forms.{register_words, stack_words, call_words, memory_words, number_words, block_words}
 
-found_first : (b : Bool) (f : Form) (o p : Option Form) → cond b (Some f) (or_else o p) ≡ or_else (cond b (Some f) o) p
+found_first : (b : Bool) (f : WordForm) (o p : Option WordForm) → cond b (Some f) (or_else o p) ≡ or_else (cond b (Some f) o) p
 found_first true f o p = refl
 found_first false f o p = refl
 
-two_parts_of : (n : ℕ) (ws : List (List ℕ × Form)) (w : List ℕ) → lookup ws w ≡ or_else (lookup (take n ws) w) (lookup (drop n ws) w)
+two_parts_of : (n : ℕ) (ws : List (List ℕ × WordForm)) (w : List ℕ) → lookup ws w ≡ or_else (lookup (take n ws) w) (lookup (drop n ws) w)
 two_parts_of zero ws w = refl
 two_parts_of (suc n) [] w = refl
 two_parts_of (suc n) (e ∷ ws) w = rw (two_parts_of n ws w) (found_first (bytes_eq e.0 w) e.1 (lookup (take n ws) w) (lookup (drop n ws) w))

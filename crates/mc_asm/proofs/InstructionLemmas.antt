@@ -10,7 +10,7 @@ use Rattle.mc_model.specs.declared.instruction.Ins.{Ins}
 use Rattle.mc_model.specs.declared.instruction.Ins.TheVariants.{Nop, Setsw, Setla, Setswla, Exit, Exitsw, Exitla, Exitswla, Branch, Jump, Call, Pushz, Pushb, Pushw, Popn, Popb, Popw, Prim, Ret, Reti, Reto, Retio, Load, Store, Loadi, Storei, Loada, Index, Setb, Cmpb, Addb, Subb, Setw, Cmpw, Addw, Subw, Clearn, Testn, Incn, Decn, Notn, Cmpn, Addn, Subn, Andn, Orn, Xorn}
 use Rattle.mc_model.specs.Code.{Shaped, IsTarget, IsAddress, IsPrimitive}
 use Rattle.mc_model.specs.Listing.{hex_word, condition_name, address_text, arguments_text, byte_line, word_line, words_line, target_line, address_line, operand_line, text_of}
-use Rattle.mc_model.specs.Assembly.{Form, Bare, OfByte, OfBytes, OfWord, OfWords, ByDistance, ByPlace, Primitive, Addressed, AddressedByte, AddressedWord, Plain, words, worded, line_read, all_bytes}
+use Rattle.mc_model.specs.Assembly.{WordForm, Bare, OfByte, OfBytes, OfWord, OfWords, ByDistance, ByPlace, Primitive, Addressed, AddressedByte, AddressedWord, Plain, words, worded, line_read, all_bytes}
 use Rattle.mc_asm.proofs.CleanLemmas.{Solid, AllSolid, written, joined, behind_word, line_is_read, word_written}
 use Rattle.mc_asm.proofs.NumeralLemmas.{byte_read, byte_solid, word_read, word_solid, signed_read, signed_solid, signed_no_label, half_8, condition_read, condition_solid, address_read, address_solid}
 
@@ -20,11 +20,11 @@ pub record ReadsAs (t : List ℕ) (i : Ins) : Type 0 where
   pub all : every written t ≡ true
 
 -- a name of the table with its form
-record Named (name : List ℕ) (f : Form) : Type 0 where
+record NamedForm (name : List ℕ) (f : WordForm) : Type 0 where
   solid : Solid name
   found : lookup words name ≡ Some f
 
-of_operands : (name t : List ℕ) (ts : List (List ℕ)) (f : Form) (i : Ins) → Named name f → AllSolid ts → worded f ts ≡ Ok (Plain i) → t ≡ name ++ behind_word ts → ReadsAs t i
+of_operands : (name t : List ℕ) (ts : List (List ℕ)) (f : WordForm) (i : Ins) → NamedForm name f → AllSolid ts → worded f ts ≡ Ok (Plain i) → t ≡ name ++ behind_word ts → ReadsAs t i
 of_operands name t ts f i n s h e = subst (λ (x : List ℕ). ReadsAs x i) (sym e) (record { read = line_is_read name ts f (Plain i) n.solid s n.found h; all = word_written name ts n.solid s })
 
 bare_line : (name : List ℕ) → name ≡ name ++ behind_word []
@@ -47,30 +47,30 @@ with_address_line : (name a b : List ℕ) → name ++ codes " " ++ (a ++ codes "
 unfolding behind_word joined
 with_address_line name a b = append_assoc (name ++ codes " ") (a ++ codes ",") b ∙ ap (λ l. (name ++ codes " ") ++ l) (append_assoc a (codes ",") b) ∙ append_assoc name (codes " ") (a ++ (codes "," ++ b))
 
-no_operand : (name : List ℕ) (f : Form) (i : Ins) → Named name f → worded f [] ≡ Ok (Plain i) → ReadsAs name i
+no_operand : (name : List ℕ) (f : WordForm) (i : Ins) → NamedForm name f → worded f [] ≡ Ok (Plain i) → ReadsAs name i
 no_operand name f i n h = of_operands name name [] f i n tt h (bare_line name)
 
-one_operand : (name a : List ℕ) (f : Form) (i : Ins) → Named name f → Solid a → worded f (a ∷ []) ≡ Ok (Plain i) → ReadsAs (name ++ codes " " ++ a) i
+one_operand : (name a : List ℕ) (f : WordForm) (i : Ins) → NamedForm name f → Solid a → worded f (a ∷ []) ≡ Ok (Plain i) → ReadsAs (name ++ codes " " ++ a) i
 one_operand name a f i n s h = of_operands name (name ++ codes " " ++ a) (a ∷ []) f i n (s, tt) h (one_line name a)
 
-two_operands : (name a b : List ℕ) (f : Form) (i : Ins) → Named name f → Solid a → Solid b → worded f (a ∷ b ∷ []) ≡ Ok (Plain i) → ReadsAs (name ++ codes " " ++ a ++ codes "," ++ b) i
+two_operands : (name a b : List ℕ) (f : WordForm) (i : Ins) → NamedForm name f → Solid a → Solid b → worded f (a ∷ b ∷ []) ≡ Ok (Plain i) → ReadsAs (name ++ codes " " ++ a ++ codes "," ++ b) i
 two_operands name a b f i n s k h = of_operands name (name ++ codes " " ++ a ++ codes "," ++ b) (a ∷ b ∷ []) f i n (s, (k, tt)) h (two_line name a b)
 
 -- ---- by the shape of the operands
 
-with_byte : (name : List ℕ) (f : ℕ → Ins) (v : ℕ) → Named name (OfByte f) → v < 256 → ReadsAs (byte_line name v) (f v)
+with_byte : (name : List ℕ) (f : ℕ → Ins) (v : ℕ) → NamedForm name (OfByte f) → v < 256 → ReadsAs (byte_line name v) (f v)
 with_byte name f v n h = one_operand name (decimal v) (OfByte f) (f v) n (byte_solid v h) (rw (byte_read v h) refl)
 
-with_word : (name : List ℕ) (f : ℕ → Ins) (v : ℕ) → Named name (OfWord f) → v < 65536 → ReadsAs (word_line name v) (f v)
+with_word : (name : List ℕ) (f : ℕ → Ins) (v : ℕ) → NamedForm name (OfWord f) → v < 65536 → ReadsAs (word_line name v) (f v)
 with_word name f v n h = one_operand name (hex_word v) (OfWord f) (f v) n (word_solid v) (rw (word_read v h) refl)
 
-with_words : (name : List ℕ) (f : ℕ → ℕ → Ins) (v w : ℕ) → Named name (OfWords f) → v < 65536 → w < 65536 → ReadsAs (words_line name v w) (f v w)
+with_words : (name : List ℕ) (f : ℕ → ℕ → Ins) (v w : ℕ) → NamedForm name (OfWords f) → v < 65536 → w < 65536 → ReadsAs (words_line name v w) (f v w)
 with_words name f v w n h k = two_operands name (hex_word v) (hex_word w) (OfWords f) (f v w) n (word_solid v) (word_solid w) (rw (word_read v h, word_read w k) refl)
 
-with_bytes : (name : List ℕ) (f : ℕ → ℕ → Ins) (v w : ℕ) → Named name (OfBytes f) → v < 256 → w < 256 → ReadsAs (byte_line name v ++ codes "," ++ decimal w) (f v w)
+with_bytes : (name : List ℕ) (f : ℕ → ℕ → Ins) (v w : ℕ) → NamedForm name (OfBytes f) → v < 256 → w < 256 → ReadsAs (byte_line name v ++ codes "," ++ decimal w) (f v w)
 with_bytes name f v w n h k = two_operands name (decimal v) (decimal w) (OfBytes f) (f v w) n (byte_solid v h) (byte_solid w k) (rw (byte_read v h, byte_read w k) refl)
 
-with_distance : (name : List ℕ) (f : ℕ → ℤ → Ins) (c : ℕ) (d : ℤ) → Named name (ByDistance f) → 0 < c → c < 8 → FitsSigned w8 d → ReadsAs (name ++ codes " " ++ condition_name c ++ codes "," ++ signed_decimal d) (f c d)
+with_distance : (name : List ℕ) (f : ℕ → ℤ → Ins) (c : ℕ) (d : ℤ) → NamedForm name (ByDistance f) → 0 < c → c < 8 → FitsSigned w8 d → ReadsAs (name ++ codes " " ++ condition_name c ++ codes "," ++ signed_decimal d) (f c d)
 with_distance name f c d n l h k =
     two_operands name (condition_name c) (signed_decimal d) (ByDistance f) (f c d) n (condition_solid c l h) (signed_solid 128 d (half_8 d k))
     (rw (condition_read c l h, signed_no_label 128 d (half_8 d k), signed_read 128 d (half_8 d k)) refl)
@@ -81,7 +81,7 @@ zero_is n h = grind (arith, h)
 zero_not : (n : ℕ) → (n == 0) ≡ false → 0 < n
 zero_not n h = grind (arith, h)
 
-with_place_by : (b : Bool) (name : List ℕ) (f : ℕ → ℕ → Ins) (c to : ℕ) → (c == 0) ≡ b → Named name (ByPlace f) → IsTarget c to → ReadsAs (target_line name c to) (f c to)
+with_place_by : (b : Bool) (name : List ℕ) (f : ℕ → ℕ → Ins) (c to : ℕ) → (c == 0) ≡ b → NamedForm name (ByPlace f) → IsTarget c to → ReadsAs (target_line name c to) (f c to)
 with_place_by true name f c to e n t =
     let z = zero_is c e in
     rw e (no_operand name (ByPlace f) (f c to) n (rw (z, t.stack z) refl))
@@ -89,10 +89,10 @@ with_place_by false name f c to e n t =
     let l = zero_not c e in
     rw e (two_operands name (condition_name c) (hex_word to) (ByPlace f) (f c to) n (condition_solid c l t.condition) (word_solid to) (rw (condition_read c l t.condition, word_read to t.address) refl))
 
-with_place : (name : List ℕ) (f : ℕ → ℕ → Ins) (c to : ℕ) → Named name (ByPlace f) → IsTarget c to → ReadsAs (target_line name c to) (f c to)
+with_place : (name : List ℕ) (f : ℕ → ℕ → Ins) (c to : ℕ) → NamedForm name (ByPlace f) → IsTarget c to → ReadsAs (target_line name c to) (f c to)
 with_place name f c to n t = with_place_by (c == 0) name f c to refl n t
 
-with_address_by : (b : Bool) (name : List ℕ) (f : ℕ → ℤ → Ins) (tag : ℕ) (off : ℤ) → (tag == 0) ≡ b → Named name (Addressed f) → IsAddress tag off → ReadsAs (address_line name tag off) (f tag off)
+with_address_by : (b : Bool) (name : List ℕ) (f : ℕ → ℤ → Ins) (tag : ℕ) (off : ℤ) → (tag == 0) ≡ b → NamedForm name (Addressed f) → IsAddress tag off → ReadsAs (address_line name tag off) (f tag off)
 with_address_by true name f tag off e n a =
     let z = zero_is tag e in
     rw e (no_operand name (Addressed f) (f tag off) n (rw (z, a.top z) refl))
@@ -100,10 +100,10 @@ with_address_by false name f tag off e n a =
     let l = zero_not tag e in
     rw e (one_operand name (address_text tag off) (Addressed f) (f tag off) n (address_solid tag off l a.register a.offset) (rw (address_read tag off l a.register a.offset) refl))
 
-with_address : (name : List ℕ) (f : ℕ → ℤ → Ins) (tag : ℕ) (off : ℤ) → Named name (Addressed f) → IsAddress tag off → ReadsAs (address_line name tag off) (f tag off)
+with_address : (name : List ℕ) (f : ℕ → ℤ → Ins) (tag : ℕ) (off : ℤ) → NamedForm name (Addressed f) → IsAddress tag off → ReadsAs (address_line name tag off) (f tag off)
 with_address name f tag off n a = with_address_by (tag == 0) name f tag off refl n a
 
-address_byte_by : (b : Bool) (name : List ℕ) (f : ℕ → ℤ → ℕ → Ins) (tag : ℕ) (off : ℤ) (v : ℕ) → (tag == 0) ≡ b → Named name (AddressedByte f) → IsAddress tag off → v < 256 → ReadsAs (operand_line name tag off (decimal v)) (f tag off v)
+address_byte_by : (b : Bool) (name : List ℕ) (f : ℕ → ℤ → ℕ → Ins) (tag : ℕ) (off : ℤ) (v : ℕ) → (tag == 0) ≡ b → NamedForm name (AddressedByte f) → IsAddress tag off → v < 256 → ReadsAs (operand_line name tag off (decimal v)) (f tag off v)
 address_byte_by true name f tag off v e n a h =
     let z = zero_is tag e in
     rw e (of_operands name (name ++ codes " " ++ [] ++ decimal v) (decimal v ∷ []) (AddressedByte f) (f tag off v) n (byte_solid v h, tt) (rw (z, a.top z, byte_read v h) refl) (no_address_line name (decimal v)))
@@ -112,10 +112,10 @@ address_byte_by false name f tag off v e n a h =
     rw e (of_operands name (name ++ codes " " ++ (address_text tag off ++ codes ",") ++ decimal v) (address_text tag off ∷ decimal v ∷ []) (AddressedByte f) (f tag off v) n
     (address_solid tag off l a.register a.offset, (byte_solid v h, tt)) (rw (address_read tag off l a.register a.offset, byte_read v h) refl) (with_address_line name (address_text tag off) (decimal v)))
 
-address_byte : (name : List ℕ) (f : ℕ → ℤ → ℕ → Ins) (tag : ℕ) (off : ℤ) (v : ℕ) → Named name (AddressedByte f) → IsAddress tag off × (v < 256) → ReadsAs (operand_line name tag off (decimal v)) (f tag off v)
+address_byte : (name : List ℕ) (f : ℕ → ℤ → ℕ → Ins) (tag : ℕ) (off : ℤ) (v : ℕ) → NamedForm name (AddressedByte f) → IsAddress tag off × (v < 256) → ReadsAs (operand_line name tag off (decimal v)) (f tag off v)
 address_byte name f tag off v n s = address_byte_by (tag == 0) name f tag off v refl n s.0 s.1
 
-address_word_by : (b : Bool) (name : List ℕ) (f : ℕ → ℤ → ℕ → Ins) (tag : ℕ) (off : ℤ) (v : ℕ) → (tag == 0) ≡ b → Named name (AddressedWord f) → IsAddress tag off → v < 65536 → ReadsAs (operand_line name tag off (hex_word v)) (f tag off v)
+address_word_by : (b : Bool) (name : List ℕ) (f : ℕ → ℤ → ℕ → Ins) (tag : ℕ) (off : ℤ) (v : ℕ) → (tag == 0) ≡ b → NamedForm name (AddressedWord f) → IsAddress tag off → v < 65536 → ReadsAs (operand_line name tag off (hex_word v)) (f tag off v)
 address_word_by true name f tag off v e n a h =
     let z = zero_is tag e in
     rw e (of_operands name (name ++ codes " " ++ [] ++ hex_word v) (hex_word v ∷ []) (AddressedWord f) (f tag off v) n (word_solid v, tt) (rw (z, a.top z, word_read v h) refl) (no_address_line name (hex_word v)))
@@ -124,7 +124,7 @@ address_word_by false name f tag off v e n a h =
     rw e (of_operands name (name ++ codes " " ++ (address_text tag off ++ codes ",") ++ hex_word v) (address_text tag off ∷ hex_word v ∷ []) (AddressedWord f) (f tag off v) n
     (address_solid tag off l a.register a.offset, (word_solid v, tt)) (rw (address_read tag off l a.register a.offset, word_read v h) refl) (with_address_line name (address_text tag off) (hex_word v)))
 
-address_word : (name : List ℕ) (f : ℕ → ℤ → ℕ → Ins) (tag : ℕ) (off : ℤ) (v : ℕ) → Named name (AddressedWord f) → IsAddress tag off × (v < 65536) → ReadsAs (operand_line name tag off (hex_word v)) (f tag off v)
+address_word : (name : List ℕ) (f : ℕ → ℤ → ℕ → Ins) (tag : ℕ) (off : ℤ) (v : ℕ) → NamedForm name (AddressedWord f) → IsAddress tag off × (v < 65536) → ReadsAs (operand_line name tag off (hex_word v)) (f tag off v)
 address_word name f tag off v n s = address_word_by (tag == 0) name f tag off v refl n s.0 s.1
 
 -- ---- primitives
@@ -153,14 +153,14 @@ length_decimals (b ∷ bs) = ap suc (length_decimals bs)
 up_to_three : (n : ℕ) → n ≤ 3 → nat_le n 3 ≡ true
 up_to_three n h = grind (arith, h)
 
-primitive_line : (name : List ℕ) (number : ℕ) (bs : List ℕ) → Named name Primitive → number < 256 → AllByRecursion (λ b. b < 256) bs → length bs ≤ 3
+primitive_line : (name : List ℕ) (number : ℕ) (bs : List ℕ) → NamedForm name Primitive → number < 256 → AllByRecursion (λ b. b < 256) bs → length bs ≤ 3
     → ReadsAs (byte_line name number ++ arguments_text bs) (Prim (length bs) number (take 3 (bs ++ zeros 3)))
 primitive_line name number bs n h a l =
     let few : nat_le (length (map decimal bs)) 3 ≡ true = rw (length_decimals bs) (up_to_three (length bs) l) in
     of_operands name (byte_line name number ++ arguments_text bs) (decimal number ∷ map decimal bs) Primitive (Prim (length bs) number (take 3 (bs ++ zeros 3))) n
     (byte_solid number h, arguments_solid bs a) (rw (few, byte_read number h, arguments_read bs a) refl) (arguments_line name (decimal number) bs)
 
-prim_named : Named (codes "PRIM") Primitive
+prim_named : NamedForm (codes "PRIM") Primitive
 prim_named = record { solid = record { some = refl; all = refl }; found = refl }
 
 prim_line : (set number : ℕ) (args : List ℕ) → IsPrimitive set number args → ReadsAs (text_of (Prim set number args)) (Prim set number args)

@@ -8,7 +8,7 @@ use Rattle.mc_model.specs.declared.assembler.AsmCause.TheVariants.{BadOperands}
 use Rattle.mc_model.specs.declared.instruction.Ins.{Ins}
 use Rattle.mc_model.specs.declared.instruction.Ins.TheVariants.{Prim}
 use Rattle.mc_model.specs.Text.{ok_as}
-use Rattle.mc_model.specs.Assembly.{Form, Item, byte, both, all_bytes, primitive, Plain, worded, ByDistance, ByPlace, AddressedByte, AddressedWord, Primitive}
+use Rattle.mc_model.specs.Assembly.{WordForm, CodeItem, byte, both, all_bytes, primitive, Plain, worded, ByDistance, ByPlace, AddressedByte, AddressedWord, Primitive}
 
 one_more : {A : Type 0} (r : Result ℕ AsmCause) (f : A → List ℕ) (s : Result A AsmCause) → ok_as (λ p. p.0 ∷ p.1) (both r (ok_as f s)) ≡ ok_as (λ p. p.0 ∷ f p.1) (both r s)
 one_more (Ok a) f (Ok b) = refl
@@ -47,7 +47,7 @@ primitive_four n a b c = ap (ok_as primitive) (four_bytes n a b c) ∙ made (λ 
 
 -- ---- other numbers of operands
 
-abbrev pub by_pair : Form → Option (List ℕ × List ℕ) → Result Item AsmCause
+abbrev pub by_pair : WordForm → Option (List ℕ × List ℕ) → Result CodeItem AsmCause
 by_pair form None = Err BadOperands
 by_pair form (Some p) = worded form (p.0 ∷ p.1 ∷ [])
 

@@ -58,12 +58,12 @@ pub listed_end : (code : List ℕ) (at : ℕ) → length code ≤ at → left_li
 listed_end code at h = ap (λ l. listed_from (length code) l at) (drop_all code at h) ∙ no_bytes (length code) at
 
 -- what decoding at a place says of the bytes there
-record Found (at : ℕ) (r : Result (Ins × ℕ) DecodeFault) (i : Ins) (next : ℕ) : Type 0 where
+record InstructionFound (at : ℕ) (r : Result (Ins × ℕ) DecodeFault) (i : Ins) (next : ℕ) : Type 0 where
   size : ℕ
   is : r ≡ Ok (i, size)
   place : next ≡ at + size
 
-decoded_in : (at : ℕ) (r : Result (Ins × ℕ) DecodeFault) (i : Ins) (next : ℕ) → from_place at r ≡ Ok (i, next) → Found at r i next
+decoded_in : (at : ℕ) (r : Result (Ins × ℕ) DecodeFault) (i : Ins) (next : ℕ) → from_place at r ≡ Ok (i, next) → InstructionFound at r i next
 decoded_in at (Ok p) i next h =
     let e : (p.0, at + p.1) ≡ (i, next) = cc h in
     record { size = p.1; is = ap (λ j. Ok (j, p.1)) (ap (λ (q : Ins × ℕ). q.0) e); place = sym (ap (λ (q : Ins × ℕ). q.1) e) }

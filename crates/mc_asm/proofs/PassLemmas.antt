@@ -10,7 +10,7 @@ use Rattle.mc_model.specs.declared.assembler.AsmCause.{AsmCause}
 use Rattle.mc_model.specs.declared.assembler.AsmCause.TheVariants.{TooLong, LabelTwice}
 use Rattle.mc_model.specs.Assembly.{Line, Laid, Placed, is_new, with_label, line_read, line_laid, laid_lines, size, emitted, joined_code, assembled_lines}
 use Rattle.mc_text.specs.Reading.{next_line}
-use Rattle.mc_asm.specs.Refusals.{Refuses}
+use Rattle.mc_asm.specs.Refusals.{AssemblyRefuses}
 use Rattle.mc_asm.specs.declared.line.NumberedLine.{NumberedLine}
 use Rattle.mc_asm.specs.declared.refusal.AsmRefusal.{AsmRefusal}
 use Rattle.mc_asm.specs.declared.refusal.AsmRefusal.TheVariants.{At, NoMemory}
@@ -161,7 +161,7 @@ unfolding assembled_lines
 two_passes ts = passes_by ts (laid_lines [] 0 ts) refl ∙ ap (λ r. r >>= λ L. coded L 0 ts) (sym (places_laid ts [] 0))
 
 -- a refusal of the first pass is one of the text
-pub refuses_first : (ts : List (ℕ × List ℕ)) (e : AsmRefusal) → Refuses (places [] 0 ts) e → Refuses (assembled_lines ts) e
+pub refuses_first : (ts : List (ℕ × List ℕ)) (e : AsmRefusal) → AssemblyRefuses (places [] 0 ts) e → AssemblyRefuses (assembled_lines ts) e
 refuses_first ts (At n c) h = two_passes ts ∙ ap (λ r. r >>= λ L. coded L 0 ts) h
 refuses_first ts NoMemory h = tt
 
@@ -169,7 +169,7 @@ refuses_first ts NoMemory h = tt
 coded_is : (ts : List (ℕ × List ℕ)) (L : List (List ℕ × ℕ)) → places [] 0 ts ≡ Ok L → assembled_lines ts ≡ coded L 0 ts
 coded_is ts L h = two_passes ts ∙ ap (λ r. r >>= λ L. coded L 0 ts) h
 
-refuses_second : (ts : List (ℕ × List ℕ)) (L : List (List ℕ × ℕ)) (e : AsmRefusal) → places [] 0 ts ≡ Ok L → Refuses (coded L 0 ts) e → Refuses (assembled_lines ts) e
+refuses_second : (ts : List (ℕ × List ℕ)) (L : List (List ℕ × ℕ)) (e : AsmRefusal) → places [] 0 ts ≡ Ok L → AssemblyRefuses (coded L 0 ts) e → AssemblyRefuses (assembled_lines ts) e
 refuses_second ts L (At n c) h k = coded_is ts L h ∙ k
 refuses_second ts L NoMemory h k = tt
 
@@ -179,12 +179,12 @@ coded_behind code more (Ok rest) = ap Ok (append_assoc code more rest)
 coded_behind code more (Err e) = refl
 
 pub code_found : {V : Type 0} (items : V → List ℕ) (ts : List (ℕ × List ℕ)) (L : List (List ℕ × ℕ)) (r : Result V AsmRefusal) → places [] 0 ts ≡ Ok L
-    → MatchResult r (λ v. coded L 0 ts ≡ Ok (items v)) (λ e. Refuses (coded L 0 ts) e) → IfOk r (λ v. assembled_lines ts ≡ Ok (items v))
+    → MatchResult r (λ v. coded L 0 ts ≡ Ok (items v)) (λ e. AssemblyRefuses (coded L 0 ts) e) → IfOk r (λ v. assembled_lines ts ≡ Ok (items v))
 code_found items ts L (Ok v) h m = coded_is ts L h ∙ m
 code_found items ts L (Err e) h m = tt
 
 pub code_refused : {V : Type 0} (items : V → List ℕ) (ts : List (ℕ × List ℕ)) (L : List (List ℕ × ℕ)) (r : Result V AsmRefusal) → places [] 0 ts ≡ Ok L
-    → MatchResult r (λ v. coded L 0 ts ≡ Ok (items v)) (λ e. Refuses (coded L 0 ts) e) → IfErr r (λ e. Refuses (assembled_lines ts) e)
+    → MatchResult r (λ v. coded L 0 ts ≡ Ok (items v)) (λ e. AssemblyRefuses (coded L 0 ts) e) → IfErr r (λ e. AssemblyRefuses (assembled_lines ts) e)
 code_refused items ts L (Ok v) h m = tt
 code_refused items ts L (Err e) h m = refuses_second ts L e h m
 

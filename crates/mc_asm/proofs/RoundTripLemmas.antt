@@ -6,9 +6,10 @@ use Rattle.std.proofs.lemmas.List.{take-append-drop}
 use Rattle.mc_model.specs.Text.{◌>>=◌, ok_as, every, lines, numbered}
 use Rattle.mc_model.specs.declared.instruction.DecodeFault.{DecodeFault}
 use Rattle.mc_model.specs.declared.instruction.Ins.{Ins}
-use Rattle.mc_model.specs.Code.{Shaped, Stands, spell, front, from_place}
+use Rattle.mc_model.specs.Code.{Shaped, DecodesTo, spell, front, from_place}
 use Rattle.mc_model.specs.Listing.{text_of, line_before, listed_one, length_of, listed_from, listed}
 use Rattle.mc_model.specs.Assembly.{assembled, line_laid}
+use Rattle.mc_model.specs.Bytes.{AreBytes}
 use Rattle.mc_isa.proofs.PlaceLemmas.{decoded_stands}
 use Rattle.mc_text.specs.Reading.{next_line, without_return}
 use Rattle.mc_asm.specs.Passes.{places, coded, label_and_end, code_and_end}
@@ -47,14 +48,14 @@ first_line l rest e =
 -- ---- a line of a listing, assembled
 
 -- what a line adds to the code
-record Adds (place : ℕ) (t : List ℕ) (i : Ins) : Type 0 where
+record AddsCode (place : ℕ) (t : List ℕ) (i : Ins) : Type 0 where
   label : label_and_end [] place t ≡ Ok (None, place + length (spell i))
   code : code_and_end [] place t ≡ Ok (spell i, place + length (spell i))
 
 within_limit : (n : ℕ) → n ≤ 8192 → nat_le n 8192 ≡ true
 within_limit n h = grind (arith, h)
 
-adds : (place : ℕ) (t : List ℕ) (i : Ins) → ReadsAs t i → place + length (spell i) ≤ 8192 → Adds place t i
+adds : (place : ℕ) (t : List ℕ) (i : Ins) → ReadsAs t i → place + length (spell i) ≤ 8192 → AddsCode place t i
 unfolding line_laid
 adds place t i r h =
     let short : nat_le (place + length (spell i)) 8192 ≡ true = within_limit (place + length (spell i)) h in
@@ -80,10 +81,7 @@ assembles_more place n i rest code r h a =
 
 -- ---- a whole listing
 
-abbrev AllBytes : List ℕ → Type 0
-AllBytes code = AllByRecursion (λ b. b < 256) code
-
-bytes_behind : (n : ℕ) (l : List ℕ) → AllBytes l → AllBytes (drop n l)
+bytes_behind : (n : ℕ) (l : List ℕ) → AreBytes l → AreBytes (drop n l)
 bytes_behind zero l all = all
 bytes_behind (suc n) [] all = tt
 bytes_behind (suc n) (b ∷ l) all = bytes_behind n l all.1
@@ -95,9 +93,9 @@ record Front (l : List ℕ) (i : Ins) (n : ℕ) : Type 0 where
   inside : n ≤ length l
   whole : spell i ++ drop n l ≡ l
 
-front_is : (l : List ℕ) (i : Ins) (n : ℕ) → AllBytes l → front l ≡ Ok (i, n) → Front l i n
+front_is : (l : List ℕ) (i : Ins) (n : ℕ) → AreBytes l → front l ≡ Ok (i, n) → Front l i n
 front_is l i n all e =
-    let d : Stands l 0 (Ok (i, 0 + n)) = subst (λ (r : Result (Ins × ℕ) DecodeFault). Stands l 0 (from_place 0 r)) e (decoded_stands l 0 all) in
+    let d : DecodesTo l 0 (Ok (i, 0 + n)) = subst (λ (r : Result (Ins × ℕ) DecodeFault). DecodesTo l 0 (from_place 0 r)) e (decoded_stands l 0 all) in
     let size : n ≡ length (spell i) = omega (arith, d.place) in
     record {
       shaped = d.shaped;
@@ -106,7 +104,7 @@ front_is l i n all e =
       whole = ap (λ k. spell i ++ drop k l) size ∙ ap (λ s. s ++ drop (length (spell i)) l) (sym d.bytes) ∙ take-append-drop (length (spell i)) l;
     }
 
-rest_assembled : (fuel at n : ℕ) (l : List ℕ) (i : Ins) (k : ℕ) (text : List ℕ) (s : Result (List ℕ) (ℕ × DecodeFault)) → AllBytes l → at + length l ≤ 8192 → Front l i k
+rest_assembled : (fuel at n : ℕ) (l : List ℕ) (i : Ins) (k : ℕ) (text : List ℕ) (s : Result (List ℕ) (ℕ × DecodeFault)) → AreBytes l → at + length l ≤ 8192 → Front l i k
     → line_before (text_of i) s ≡ Ok text → ((rest : List ℕ) → s ≡ Ok rest → Assembles (at + k) (n + 1) rest (drop k l)) → Assembles at n text l
 rest_assembled fuel at n l i k text (Err e) all h f q go = absurd (cc q)
 rest_assembled fuel at n l i k text (Ok rest) all h f q go =
@@ -116,9 +114,9 @@ rest_assembled fuel at n l i k text (Ok rest) all h f q go =
     let made = assembles_more at n i rest (drop k l) (instruction_read i f.shaped) low behind in
     subst (λ (t : List ℕ). Assembles at n t l) is (subst (λ (c : List ℕ). Assembles at n (text_of i ++ codes "\n" ++ rest) c) f.whole made)
 
-one_assembled : (fuel at n : ℕ) (b : ℕ) (bs text : List ℕ) (r : Result (Ins × ℕ) DecodeFault) → front (b ∷ bs) ≡ r → AllBytes (b ∷ bs) → at + length (b ∷ bs) ≤ 8192 → length (b ∷ bs) ≤ suc fuel
+one_assembled : (fuel at n : ℕ) (b : ℕ) (bs text : List ℕ) (r : Result (Ins × ℕ) DecodeFault) → front (b ∷ bs) ≡ r → AreBytes (b ∷ bs) → at + length (b ∷ bs) ≤ 8192 → length (b ∷ bs) ≤ suc fuel
     → listed_from (suc fuel) (b ∷ bs) at ≡ Ok text
-    → ((l : List ℕ) (at n : ℕ) (text : List ℕ) → AllBytes l → length l ≤ fuel → at + length l ≤ 8192 → listed_from fuel l at ≡ Ok text → Assembles at n text l)
+    → ((l : List ℕ) (at n : ℕ) (text : List ℕ) → AreBytes l → length l ≤ fuel → at + length l ≤ 8192 → listed_from fuel l at ≡ Ok text → Assembles at n text l)
     → Assembles at n text (b ∷ bs)
 unfolding listed_from
 one_assembled fuel at n b bs text (Err e) q all h m k go =
@@ -132,7 +130,7 @@ one_assembled fuel at n b bs text (Ok p) q all h m k go =
     rest_assembled fuel at n (b ∷ bs) p.0 p.1 text (listed_from fuel (drop p.1 (b ∷ bs)) (at + p.1)) all h fr f
     (λ rest e. go (drop p.1 (b ∷ bs)) (at + p.1) (n + 1) rest (bytes_behind p.1 (b ∷ bs) all) (omega (arith, d, some, m)) (omega (arith, d, h, fr.inside)) e)
 
-bytes_assembled : (fuel : ℕ) (l : List ℕ) (at n : ℕ) (text : List ℕ) → AllBytes l → length l ≤ fuel → at + length l ≤ 8192 → listed_from fuel l at ≡ Ok text → Assembles at n text l
+bytes_assembled : (fuel : ℕ) (l : List ℕ) (at n : ℕ) (text : List ℕ) → AreBytes l → length l ≤ fuel → at + length l ≤ 8192 → listed_from fuel l at ≡ Ok text → Assembles at n text l
 bytes_assembled fuel [] at n text all m h e =
     let is : [] ≡ text = cc (sym (no_bytes fuel at) ∙ e) in
     subst (λ (t : List ℕ). Assembles at n t []) is (assembles_none at n)

@@ -70,7 +70,7 @@ addressed_word AddressedWordWord.Addw = Addw
 addressed_word AddressedWordWord.Subw = Subw
 
 -- the operands of a word as the definition of assembly has them
-abbrev pub form_of : Form → Assembly.Form
+abbrev pub form_of : Form → Assembly.WordForm
 form_of (Form.Bare i) = Assembly.Bare i
 form_of (Form.OfByte w) = Assembly.OfByte (of_byte w)
 form_of Form.Retio = Assembly.OfBytes Retio
@@ -92,25 +92,25 @@ BareShaped form = Unit {0}
 -- ---- the table of words by families
 
 -- the words of registers and exits
-abbrev pub register_words : List (List ℕ × Assembly.Form)
+abbrev pub register_words : List (List ℕ × Assembly.WordForm)
 register_words = take 8 (drop 0 words)
 
 -- the words of branches, and of pushes and pops
-abbrev pub stack_words : List (List ℕ × Assembly.Form)
+abbrev pub stack_words : List (List ℕ × Assembly.WordForm)
 stack_words = take 9 (drop 8 words)
 
 -- the words of primitives and returns, and the raw byte
-abbrev pub call_words : List (List ℕ × Assembly.Form)
+abbrev pub call_words : List (List ℕ × Assembly.WordForm)
 call_words = take 6 (drop 17 words)
 
 -- the words of loads and stores
-abbrev pub memory_words : List (List ℕ × Assembly.Form)
+abbrev pub memory_words : List (List ℕ × Assembly.WordForm)
 memory_words = take 6 (drop 23 words)
 
 -- the words of bytes and words
-abbrev pub number_words : List (List ℕ × Assembly.Form)
+abbrev pub number_words : List (List ℕ × Assembly.WordForm)
 number_words = take 8 (drop 29 words)
 
 -- the words of blocks
-abbrev pub block_words : List (List ℕ × Assembly.Form)
+abbrev pub block_words : List (List ℕ × Assembly.WordForm)
 block_words = take 11 (drop 37 words)

@@ -13,7 +13,7 @@ abbrev pub texts : List (Bor (List ℕ)) → List (List ℕ)
 texts ts = map (λ t. t.now) ts
 
 -- an item as the definition of assembly has it
-abbrev pub item_of : Item → Assembly.Item
+abbrev pub item_of : Item → Assembly.CodeItem
 item_of Item.Nothing = Assembly.Nothing
 item_of (Item.Raw b) = Assembly.Raw b
 item_of (Item.Plain i) = Assembly.Plain i

@@ -5,21 +5,22 @@ use Rattle.std.specs.Cmp.Lexicographic.{slice_cmp}
 use Rattle.std.specs.BTreeMap
 use Rattle.std.specs.BTreeMap.{BTreeMap}
 use denote.Ref.{Bor}
+use Rattle.mc_model.specs.Limits.{most_code}
 use Rattle.mc_model.specs.Bytes.{lookup}
 use Rattle.mc_model.specs.Text.{◌>>=◌, ok_as, err_as, only_if}
 use Rattle.mc_model.specs.declared.assembler.AsmCause.{AsmCause}
 use Rattle.mc_model.specs.declared.assembler.AsmCause.TheVariants.{TooLong}
-use Rattle.mc_model.specs.Assembly.{Item, with_label, line_read, line_laid, size, emitted, fits_signed}
+use Rattle.mc_model.specs.Assembly.{CodeItem, with_label, line_read, line_laid, size, emitted, fits_signed}
 use Rattle.mc_asm.specs.declared.line.NumberedLine.{NumberedLine}
-pub use Rattle.mc_asm.specs.Refusals.{Refuses}
+pub use Rattle.mc_asm.specs.Refusals.{AssemblyRefuses}
 
 -- the map has each label's place
 abbrev pub AreLabels : BTreeMap (Bor (List ℕ)) ℕ → List (List ℕ × ℕ) → Type 0
 AreLabels m l = (q : Bor (List ℕ)) → BTreeMap.get (λ x y. slice_cmp nat_cmp x.now y.now) m q ≡ lookup l q.now
 
 -- the place behind an item
-abbrev pub end_of : Item → ℕ → Result ℕ AsmCause
-end_of i place = only_if (nat_le (place + size i) 8192) TooLong (place + size i)
+abbrev pub end_of : CodeItem → ℕ → Result ℕ AsmCause
+end_of i place = only_if (nat_le (place + size i) most_code) TooLong (place + size i)
 
 -- a line's label, and the place behind the line
 abbrev pub label_and_end : List (List ℕ × ℕ) → ℕ → List ℕ → Result (Option (List ℕ) × ℕ) AsmCause

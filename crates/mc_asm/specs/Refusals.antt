@@ -8,9 +8,9 @@ use Rattle.mc_asm.specs.declared.refusal.ListRefusal.{ListRefusal}
 use Rattle.mc_asm.specs.declared.refusal.ListRefusal
 
 -- the refusal is the one of the definition, or for want of memory
-abbrev pub Refuses : {A : Type 0} → Result A (ℕ × AsmCause) → AsmRefusal → Type 0
-Refuses r (At n c) = r ≡ Err (n, c)
-Refuses r NoMemory = ⊤
+abbrev pub AssemblyRefuses : {A : Type 0} → Result A (ℕ × AsmCause) → AsmRefusal → Type 0
+AssemblyRefuses r (At n c) = r ≡ Err (n, c)
+AssemblyRefuses r NoMemory = ⊤
 
 -- the same of a listing
 abbrev pub RefusesListing : Result (List ℕ) (ℕ × DecodeFault) → ListRefusal → Type 0

@@ -1,9 +1,10 @@
 -- From code to its listing and back.
 use Rattle.std.specs.Prelude.{◌≡◌, ℕ, ◌<◌, ◌≤◌, List, length, Ok}
 use Rattle.std.specs.List.{AllByRecursion}
+use Rattle.mc_model.specs.Limits.{most_code}
 use Rattle.mc_model.specs.Assembly.{assembled}
 use Rattle.mc_model.specs.Listing.{listed}
 
 -- whatever code has a listing, the listing assembles to it
 abbrev pub ListedIsAssembled : Type 0
-ListedIsAssembled = (code text : List ℕ) → AllByRecursion (λ b. b < 256) code → length code ≤ 8192 → listed code ≡ Ok text → assembled text ≡ Ok code
+ListedIsAssembled = (code text : List ℕ) → AllByRecursion (λ b. b < 256) code → length code ≤ most_code → listed code ≡ Ok text → assembled text ≡ Ok code

@@ -1,9 +1,10 @@
 // The code of a text.
 ghost use Rattle.std.specs.Prelude.{◌≡◌, ◌+◌, ◌≤◌, ℕ, pos, ◌-ℤ◌, List, [], ◌∷◌, ◌++◌, length, Some, None, Ok, Err, IfOk, IfErr, MatchResult, OnOk, vec_len};
+ghost use Rattle.mc_model.specs.Limits.{most_code};
 ghost use Rattle.mc_model.specs.Text.{lines, numbered};
 ghost use Rattle.mc_model.specs.Assembly.{emitted, size, assembled, assembled_lines};
 ghost use Rattle.mc_asm.specs.Items.{item_of, Ready};
-ghost use Rattle.mc_asm.specs.Passes.{AreLabels, Refuses, code_and_end, coded, near, numbered_lines};
+ghost use Rattle.mc_asm.specs.Passes.{AreLabels, AssemblyRefuses, code_and_end, coded, near, numbered_lines};
 ghost use Rattle.mc_asm.specs.declared.refusal.AsmRefusal.TheVariants.{NoMemory};
 ghost use Rattle.arrayvec.specs.ArrayVec.{array_vec_len};
 
@@ -19,7 +20,7 @@ use std::alloc::Global;
 
 // The displacement of a branch at a place: the distance from the place behind the branch.
 fn distance(to: u16, place: u16) -> Option<i8>
-    requires { place ≤ 8192 }
+    requires { place ≤ most_code }
     ensures { result ≡ near (pos to -ℤ pos (place + 2)) }
 {
     let d = to as i32 - (place as i32 + 2);
@@ -36,7 +37,7 @@ fn emitted<'a>(
     labels: &Labels<'a>,
 ) -> Result<ArrayVec<u8, 6>, AsmCause>
     requires ready { Ready item.now }
-    requires place { place ≤ 8192 }
+    requires place { place ≤ most_code }
     ensures size { IfOk result (λ v. array_vec_len v ≡ size (item_of item.now)) }
     ensures code { (l : List (List ℕ × ℕ)) → AreLabels labels.now l
         → MatchResult result (λ v. emitted l place (item_of item.now) ≡ Ok v.items)
@@ -74,12 +75,12 @@ fn code_and_end<'a>(
     place: u16,
     labels: &Labels<'a>,
 ) -> Result<(ArrayVec<u8, 6>, u16), AsmCause>
-    requires { place ≤ 8192 }
+    requires { place ≤ most_code }
     ensures value { (l : List (List ℕ × ℕ)) → AreLabels labels.now l
         → MatchResult result (λ p. code_and_end l place line.now ≡ Ok (p.0.items, p.1))
         (λ e. code_and_end l place line.now ≡ Err e) }
     ensures size { IfOk result (λ p. p.1 ≡ place + array_vec_len p.0) }
-    ensures bound { IfOk result (λ p. p.1 ≤ 8192) }
+    ensures bound { IfOk result (λ p. p.1 ≤ most_code) }
 {
     let line = read_line(line)?;
     let end = end_of(&line.item, place)?;
@@ -94,8 +95,8 @@ fn code_of<'a>(
 ) -> Result<Vec<u8>, AsmRefusal>
     ensures code { (l : List (List ℕ × ℕ)) → AreLabels labels.now l
         → MatchResult result (λ v. coded l 0 (numbered_lines lines.now) ≡ Ok v.items)
-        (λ e. Refuses (coded l 0 (numbered_lines lines.now)) e) }
-    ensures short { IfOk result (λ v. vec_len v ≤ 8192) }
+        (λ e. AssemblyRefuses (coded l 0 (numbered_lines lines.now)) e) }
+    ensures short { IfOk result (λ v. vec_len v ≤ most_code) }
 {
     let mut code = Vec::new(alloc);
     let mut place = 0;
@@ -115,8 +116,8 @@ fn code_of<'a>(
 #[tactic(auto, using(crate::proofs::PassLemmas::refuses_first))]
 pub fn assemble_lines(alloc: Global, lines: &[NumberedLine<'_>]) -> Result<Vec<u8>, AsmRefusal>
     ensures code { IfOk result (λ v. assembled_lines (numbered_lines lines.now) ≡ Ok v.items) }
-    ensures refused { IfErr result (λ e. Refuses (assembled_lines (numbered_lines lines.now)) e) }
-    ensures short { IfOk result (λ v. vec_len v ≤ 8192) }
+    ensures refused { IfErr result (λ e. AssemblyRefuses (assembled_lines (numbered_lines lines.now)) e) }
+    ensures short { IfOk result (λ v. vec_len v ≤ most_code) }
 {
     let labels = labels_of(alloc, lines)?;
     code_of(alloc, lines, &labels)
@@ -163,8 +164,8 @@ fn lines_of(alloc: Global, text: &[u8]) -> Result<Vec<NumberedLine<'_>>, AsmRefu
 #[tactic(auto, unfolding(mc_model::specs::Assembly::assembled))]
 pub fn assemble(alloc: Global, text: &[u8]) -> Result<Vec<u8>, AsmRefusal>
     ensures code { IfOk result (λ v. assembled text.now ≡ Ok v.items) }
-    ensures refused { IfErr result (λ e. Refuses (assembled text.now) e) }
-    ensures short { IfOk result (λ v. vec_len v ≤ 8192) }
+    ensures refused { IfErr result (λ e. AssemblyRefuses (assembled text.now) e) }
+    ensures short { IfOk result (λ v. vec_len v ≤ most_code) }
 {
     let lines = lines_of(alloc, text)?;
     assemble_lines(alloc, lines.as_slice())

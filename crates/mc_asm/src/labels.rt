@@ -1,12 +1,13 @@
 // Labels and their places.
 ghost use Rattle.std.specs.Prelude.{◌≡◌, ◌+◌, ◌≤◌, ℕ, List, [], length, option_map, Some, None, Ok, Err, IfOk, IfErr, OnOk, MatchResult};
+ghost use Rattle.mc_model.specs.Limits.{most_code};
 ghost use Rattle.mc_model.specs.Bytes.{lookup};
 ghost use Rattle.mc_model.specs.Text.{ok_as, only_if};
 ghost use Rattle.mc_model.specs.Assembly.{is_new, line_laid, size, with_label};
 ghost use Rattle.mc_model.specs.declared.assembler.AsmCause.TheVariants.{TooLong};
 ghost use Rattle.mc_asm.specs.Items.{item_of, Ready};
 ghost use Rattle.mc_asm.specs.declared.refusal.AsmRefusal.TheVariants.{NoMemory};
-ghost use Rattle.mc_asm.specs.Passes.{AreLabels, Refuses, label_and_end, end_of, numbered_lines, places};
+ghost use Rattle.mc_asm.specs.Passes.{AreLabels, AssemblyRefuses, label_and_end, end_of, numbered_lines, places};
 
 use crate::item::Item;
 use crate::line::{NumberedLine, read_line};
@@ -74,9 +75,9 @@ fn size(item: &Item<'_>) -> u16
 /// The place behind an item at a place; the code has at most 8,192 bytes.
 pub fn end_of(item: &Item<'_>, place: u16) -> Result<u16, AsmCause>
     requires ready { Ready item.now }
-    requires place { place ≤ 8192 }
+    requires place { place ≤ most_code }
     ensures value { result ≡ end_of (item_of item.now) place }
-    ensures bound { IfOk result (λ end. end ≤ 8192) }
+    ensures bound { IfOk result (λ end. end ≤ most_code) }
 {
     let end = place + size(item);
     if end > 8192 {
@@ -92,10 +93,10 @@ fn label_and_end<'a>(
     place: u16,
     labels: &Labels<'a>,
 ) -> Result<(Option<&'a [u8]>, u16), AsmCause>
-    requires { place ≤ 8192 }
+    requires { place ≤ most_code }
     ensures value { (l : List (List ℕ × ℕ)) → AreLabels labels.now l
         → ok_as (λ p. (option_map (λ t. t.now) p.0, p.1)) result ≡ label_and_end l place line.now }
-    ensures bound { IfOk result (λ p. p.1 ≤ 8192) }
+    ensures bound { IfOk result (λ p. p.1 ≤ most_code) }
 {
     let line = read_line(line)?;
     if !is_new(labels, line.label) {
@@ -109,7 +110,7 @@ fn label_and_end<'a>(
 pub fn labels_of<'a>(alloc: Global, lines: &[NumberedLine<'a>]) -> Result<Labels<'a>, AsmRefusal>
     ensures found { IfOk result (λ m. (l : List (List ℕ × ℕ)) × (places [] 0 (numbered_lines lines.now) ≡ Ok l)
         × AreLabels m l) }
-    ensures refused { IfErr result (λ e. Refuses (places [] 0 (numbered_lines lines.now)) e) }
+    ensures refused { IfErr result (λ e. AssemblyRefuses (places [] 0 (numbered_lines lines.now)) e) }
 {
     let mut labels = BTreeMap::new(alloc);
     let mut place = 0;

@@ -1,5 +1,6 @@
 // The listing of code.
 ghost use Rattle.std.specs.Prelude.{◌≡◌, ◌≤◌, ◌++◌, length, codes, Ok, IfOk, IfErr, OnOk};
+ghost use Rattle.mc_model.specs.Limits.{most_code};
 ghost use Rattle.mc_model.specs.Listing.{listed, text_of};
 ghost use Rattle.mc_model.specs.Code.{Shaped};
 ghost use Rattle.mc_model.specs.Assembly.{assembled};
@@ -21,7 +22,7 @@ fn put_line(text: &mut Vec<u8>, ins: &Ins) -> Result<(), AllocError>
 
 // The listing of code.
 fn listing_of(alloc: Global, code: &[u8]) -> Result<Vec<u8>, ListRefusal>
-    requires { length code.now ≤ 8192 }
+    requires { length code.now ≤ most_code }
     ensures text { IfOk result (λ v. listed code.now ≡ Ok v.items) }
     ensures refused { IfErr result (λ e. RefusesListing (listed code.now) e) }
 {
@@ -45,7 +46,7 @@ fn listing_of(alloc: Global, code: &[u8]) -> Result<Vec<u8>, ListRefusal>
 ///
 /// `At` names the first place where no instruction stands, and why.
 pub fn list(alloc: Global, code: &[u8]) -> Result<Vec<u8>, ListRefusal>
-    requires { length code.now ≤ 8192 }
+    requires { length code.now ≤ most_code }
     ensures text { IfOk result (λ v. listed code.now ≡ Ok v.items) }
     ensures refused { IfErr result (λ e. RefusesListing (listed code.now) e) }
     // Assembled, the listing is the code again.

@@ -4,7 +4,7 @@ use Rattle.mc_model.specs.declared.card.Part.{Part}
 use Rattle.mc_model.specs.declared.card.Sizes.{Sizes}
 use Rattle.mc_model.specs.Orders.{Answer, InOrder}
 use Rattle.mc_model.specs.Items.{Site, BankItem, Commit}
-use Rattle.mc_bank.specs.Bank.{BankState, IsGood, StayGood, BytesStay, Spares, Changes, item_done, committed}
+use Rattle.mc_bank.specs.Bank.{BankState, IsGoodSite, StayGood, BytesStay, Spares, Changes, item_done, committed}
 
 -- words of the static bytes of a name
 pub record Words : Type 0 where
@@ -43,9 +43,9 @@ module _ {B : Type 0} (did : B → BankItem → Answer → B → Type 0) where
   pub sites-in_order : (state : B → BankState) (room : B → Sizes → Option ℕ) (standing : B → Site → Part → List ℕ)
       → ((b : B) (n : List ℕ) (ws : List (ℕ × List ℕ)) (a : Answer) (e : B) → did b (Commit n ws) a e → StayGood (state b).apps (room b) (state e).apps (room e))
       → ((b : B) (n : List ℕ) (ws : List (ℕ × List ℕ)) (a : Answer) (e : B) → did b (Commit n ws) a e → BytesStay (state b).apps (room b) (standing b) (standing e))
-      → (cs : List Words) (b : B) (a : Answer) (e : B) → InOrder did b (commits cs) a e → (s : Site) → IsGood (state b).apps (room b) s → IsGood (state e).apps (room e) s × ((p : Part) → standing e s p ≡ standing b s p)
+      → (cs : List Words) (b : B) (a : Answer) (e : B) → InOrder did b (commits cs) a e → (s : Site) → IsGoodSite (state b).apps (room b) s → IsGoodSite (state e).apps (room e) s × ((p : Part) → standing e s p ≡ standing b s p)
   sites-in_order state room standing spares leaves =
-      kept-in_order (λ b e. (s : Site) → IsGood (state b).apps (room b) s → IsGood (state e).apps (room e) s × ((p : Part) → standing e s p ≡ standing b s p))
+      kept-in_order (λ b e. (s : Site) → IsGoodSite (state b).apps (room b) s → IsGoodSite (state e).apps (room e) s × ((p : Part) → standing e s p ≡ standing b s p))
       (λ b s good. (good, λ p. refl))
       (λ b m e first second s good.
       let one = first s good in

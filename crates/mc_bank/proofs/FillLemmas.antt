@@ -14,8 +14,8 @@ use Rattle.mc_model.specs.Items.{Site, Piece}
 use Rattle.mc_model.specs.Manager.{in_words}
 use Rattle.mc_bank.specs.declared.bank.Facts.{Facts}
 use Rattle.mc_bank.specs.declared.entries.Entry.{Entry}
-use Rattle.mc_bank.specs.Bank.{app_of, sizes_of, part_len, FitsLimits, IsGood}
-use Rattle.mc_bank.specs.Memory.{facts_in, first_free, IsWhole, IsMemory, apps_from, memory_room, entry_at, part_of, with_piece, MemoryDid}
+use Rattle.mc_bank.specs.Bank.{app_of, sizes_of, part_len, FitsLimits, IsGoodSite}
+use Rattle.mc_bank.specs.Memory.{facts_in, first_free, IsWholeEntry, IsMemory, apps_from, memory_room, entry_at, part_of, with_piece, MemoryDid}
 use Rattle.mc_bank.specs.EntryLaws.{facts_kept, whole_at, apps_free}
 use Rattle.mc_bank.specs.MemoryLaws.{set_self, entry_set}
 use Rattle.mc_bank.specs.Left.{FillLeft}
@@ -54,13 +54,13 @@ keeps_facts Dir at b x = refl
 keeps_facts Fci at b x = refl
 
 -- a section of a site has memory
-pub part_small : (p : Part) (s : Sizes) (x : Entry) → FitsLimits s → IsWhole x → part_len p s ≤ length (part_of p x)
+pub part_small : (p : Part) (s : Sizes) (x : Entry) → FitsLimits s → IsWholeEntry x → part_len p s ≤ length (part_of p x)
 part_small Code s x h w = let a = h.code in let b = w.code in omega (arith, a, b)
 part_small Data s x h w = let a = h.fixed in let c = h.init in let b = w.fixed in omega (arith, a, b, c)
 part_small Dir s x h w = let a = h.dir in let b = w.dir in omega (arith, a, b)
 part_small Fci s x h w = let a = h.fci in let b = w.fci in omega (arith, a, b)
 
-whole_with : (p : Part) (at : ℕ) (b : List ℕ) (x : Entry) → at + length b ≤ length (part_of p x) → IsWhole x → IsWhole (with_piece p at b x)
+whole_with : (p : Part) (at : ℕ) (b : List ℕ) (x : Entry) → at + length b ≤ length (part_of p x) → IsWholeEntry x → IsWholeEntry (with_piece p at b x)
 whole_with Code at b x le w = record { facts = w.facts; code = length-spliced x.code at b le ∙ w.code; fixed = w.fixed; dir = w.dir; fci = w.fci }
 whole_with Data at b x le w = record { facts = w.facts; code = w.code; fixed = length-spliced x.fixed at b le ∙ w.fixed; dir = w.dir; fci = w.fci }
 whole_with Dir at b x le w = record { facts = w.facts; code = w.code; fixed = w.fixed; dir = length-spliced x.dir at b le ∙ w.dir; fci = w.fci }
@@ -137,10 +137,10 @@ did_words (suc n) m s p at (y ∷ b) few lt free room =
 
 -- ---- the call
 
-pub fill_fits : (m : List Entry) (s : Site) (p : Part) → IsMemory m → IsGood (apps_from 0 m) (memory_room m) s → part_len p s.sizes ≤ length (part_of p (entry_at m s.place))
+pub fill_fits : (m : List Entry) (s : Site) (p : Part) → IsMemory m → IsGoodSite (apps_from 0 m) (memory_room m) s → part_len p s.sizes ≤ length (part_of p (entry_at m s.place))
 fill_fits m s p h good = part_small p s.sizes (entry_at m s.place) good.limits (whole_at m s.place (free_place m s h good).0 h.whole)
 
-pub fill_left : (m : List Entry) (s : Site) (p : Part) (at : ℕ) (b : List ℕ) (x : Entry) → IsMemory m → IsGood (apps_from 0 m) (memory_room m) s → at + length b ≤ part_len p s.sizes → x ≡ with_piece p at b (entry_at m s.place) → FillLeft m s p at b (slice_set m s.place x)
+pub fill_left : (m : List Entry) (s : Site) (p : Part) (at : ℕ) (b : List ℕ) (x : Entry) → IsMemory m → IsGoodSite (apps_from 0 m) (memory_room m) s → at + length b ≤ part_len p s.sizes → x ≡ with_piece p at b (entry_at m s.place) → FillLeft m s p at b (slice_set m s.place x)
 fill_left m s p at b x h good range is =
     let free = free_place m s h good in
     let y = entry_at m s.place in

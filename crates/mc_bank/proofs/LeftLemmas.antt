@@ -14,8 +14,8 @@ use Rattle.mc_model.specs.Manager.{word_parts}
 use Rattle.mc_base.specs.Name.{IsName}
 use Rattle.mc_bank.specs.declared.bank.Facts.{Facts}
 use Rattle.mc_bank.specs.declared.entries.Entry.{Entry}
-use Rattle.mc_bank.specs.Bank.{name_or, app_of, sizes_of, FitsLimits, CanCommit, IsGood}
-use Rattle.mc_bank.specs.Memory.{facts_in, named_at, memory_named, first_free, is_named, AreFacts, IsWhole, IsMemory, AreApart, app_in, apps_from, memory_room, entry_at, with_app, with_list, freed, new_facts, fixed_len, MemoryDid}
+use Rattle.mc_bank.specs.Bank.{name_or, app_of, sizes_of, FitsLimits, CanCommit, IsGoodSite}
+use Rattle.mc_bank.specs.Memory.{facts_in, named_at, memory_named, first_free, is_named, AreFacts, IsWholeEntry, IsMemory, AreApart, app_in, apps_from, memory_room, entry_at, with_app, with_list, freed, new_facts, fixed_len, MemoryDid}
 use Rattle.mc_bank.specs.EntryLaws.{facts_set, facts_kept, length-facts, free_has_no_name, free_is_there, no_name, apart_freed, apart_set, lookup_is, whole_set, whole_at, length-apps}
 use Rattle.mc_bank.specs.MemoryLaws.{split, app_is, memory_obeys, memory_keeps, memory_spares, memory_leaves}
 use Rattle.mc_bank.specs.Shown.{app_at}
@@ -82,7 +82,7 @@ same_named m e j facts sizes =
 
 -- ---- entries
 
-pub memory_kept : (m : List Entry) (k : ℕ) (x : Entry) → IsMemory m → x.facts ≡ (entry_at m k).facts → IsWhole x → IsMemory (slice_set m k x)
+pub memory_kept : (m : List Entry) (k : ℕ) (x : Entry) → IsMemory m → x.facts ≡ (entry_at m k).facts → IsWholeEntry x → IsMemory (slice_set m k x)
 memory_kept m k x h same whole =
     record {
       room = sym (length-facts (slice_set m k x)) ∙ ap length (facts_kept m k x same) ∙ length-facts m ∙ h.room;
@@ -121,7 +121,7 @@ commit_left m j ws x h there can is =
     let size = fixed_size m j h there in
     let n = name_or (memory_named m j) in
     let w = whole_at m k (slot_within m j there) h.whole in
-    let whole : IsWhole (with_list ws (entry_at m k)) =
+    let whole : IsWholeEntry (with_list ws (entry_at m k)) =
     record { facts = w.facts; code = w.code; fixed = length-laid (entry_at m k).fixed ws can.pending.whole (commit_fits m j ws h there can) ∙ w.fixed; dir = w.dir; fci = w.fci } in
     let e = slice_set m k x in
     let did : MemoryDid m (Commit n ws) (Ok tt) e =
@@ -138,7 +138,7 @@ commit_left m j ws x h there can is =
     } in
     let facts : x.facts ≡ (entry_at m k).facts = ap (λ (y : Entry). y.facts) is in
     record {
-      memory = memory_kept m k x h facts (subst IsWhole (sym is) whole);
+      memory = memory_kept m k x h facts (subst IsWholeEntry (sym is) whole);
       items = inl (e, did, refl);
       apps = memory_obeys m (Commit n ws) (Ok tt) e did;
       slots = λ i. same_named m e i (facts_kept m k x facts)
@@ -154,7 +154,7 @@ delete_left m j x h there is =
     let k = slot_place j in
     let n = name_or (memory_named m j) in
     let w = whole_at m k (slot_within m j there) h.whole in
-    let whole : IsWhole (freed (entry_at m k)) = record { facts = tt; code = w.code; fixed = w.fixed; dir = w.dir; fci = w.fci } in
+    let whole : IsWholeEntry (freed (entry_at m k)) = record { facts = tt; code = w.code; fixed = w.fixed; dir = w.dir; fci = w.fci } in
     let e = slice_set m k x in
     let did : MemoryDid m (Remove n) (Ok tt) e =
     record { answer = refl; done = record { slot = k; named = place_name m j there; apart = h.apart; after = ap (slice_set m k) is } } in
@@ -162,7 +162,7 @@ delete_left m j x h there is =
     record {
       memory = record {
         room = sym (length-facts e) ∙ ap length facts ∙ length-set (facts_in m) k None ∙ length-facts m ∙ h.room;
-        whole = whole_set m k x h.whole (subst IsWhole (sym is) whole);
+        whole = whole_set m k x h.whole (subst IsWholeEntry (sym is) whole);
         apart = subst AreApart (sym facts) (apart_freed (facts_in m) k h.apart);
       };
       items = inl (e, did, refl);
@@ -172,7 +172,7 @@ delete_left m j x h there is =
 
 -- ---- good sites
 
-pub free_place : (m : List Entry) (s : Site) → IsMemory m → IsGood (apps_from 0 m) (memory_room m) s → (s.place < length m) × ((entry_at m s.place).facts ≡ None)
+pub free_place : (m : List Entry) (s : Site) → IsMemory m → IsGoodSite (apps_from 0 m) (memory_room m) s → (s.place < length m) × ((entry_at m s.place).facts ≡ None)
 free_place m s h good =
     let place : first_free (facts_in m) ≡ s.place = cc good.place in
     let few = good.few in
@@ -188,7 +188,7 @@ did_blanks : (m : List Entry) (s : Site) (cs : List (ℕ × List ℕ)) (is : Lis
 did_blanks m s [] is a e h = h
 did_blanks m s (c ∷ cs) is a e h = inl (m, record { answer = refl; done = refl }, did_blanks m s cs is a e h)
 
-pub create_left : (m : List Entry) (s : Site) (n : List ℕ) (x : Entry) → IsMemory m → IsGood (apps_from 0 m) (memory_room m) s → lookup (apps_from 0 m) n ≡ None → IsName n → x ≡ with_app s.sizes n (entry_at m s.place) → CreateLeft m s n (slice_set m s.place x)
+pub create_left : (m : List Entry) (s : Site) (n : List ℕ) (x : Entry) → IsMemory m → IsGoodSite (apps_from 0 m) (memory_room m) s → lookup (apps_from 0 m) n ≡ None → IsName n → x ≡ with_app s.sizes n (entry_at m s.place) → CreateLeft m s n (slice_set m s.place x)
 create_left m s n x h good fresh name is =
     let free = free_place m s h good in
     let w = whole_at m s.place free.0 h.whole in
@@ -205,7 +205,7 @@ create_left m s n x h good fresh name is =
     let len : length zs ≡ s.sizes.fixed - s.sizes.init = length-replicate (s.sizes.fixed - s.sizes.init) 0 in
     let new : FitsLimits (new_facts s.sizes n).sizes =
     record { some_code = limits.some_code; code = limits.code; fixed = limits.fixed; init = omega arith; session = limits.session; dir = limits.dir; fci = limits.fci; deny = limits.deny } in
-    let whole : IsWhole (with_app s.sizes n (entry_at m s.place)) =
+    let whole : IsWholeEntry (with_app s.sizes n (entry_at m s.place)) =
     record {
       facts = (name, new, refl);
       code = w.code;
@@ -217,7 +217,7 @@ create_left m s n x h good fresh name is =
     record {
       memory = record {
         room = sym (length-facts e) ∙ ap length facts ∙ length-set (facts_in m) s.place (Some (new_facts s.sizes n)) ∙ length-facts m ∙ h.room;
-        whole = whole_set m s.place x h.whole (subst IsWhole (sym is) whole);
+        whole = whole_set m s.place x h.whole (subst IsWholeEntry (sym is) whole);
         apart = subst AreApart (sym facts) (apart_set (facts_in m) s.place (new_facts s.sizes n) none h.apart);
       };
       items = did_blanks m s (word_parts s.sizes.init (zeros (s.sizes.fixed - s.sizes.init))) (Note s n 0 ∷ Note s n 1 ∷ Note s n 2 ∷ Note s n 3 ∷ Enter s n ∷ []) (Ok tt) e

@@ -7,7 +7,7 @@ use Rattle.mc_model.specs.declared.card.Sizes.{Sizes}
 use Rattle.mc_model.specs.declared.card.OpenRefusal.TheVariants.{Apps}
 use Rattle.mc_model.specs.Items.{Site}
 use Rattle.mc_bank.specs.declared.entries.Entry.{Entry}
-use Rattle.mc_bank.specs.Bank.{FitsLimits, opened, IsGood, HasParts, part_len}
+use Rattle.mc_bank.specs.Bank.{FitsLimits, opened, IsGoodSite, HasParts, part_len}
 use Rattle.mc_bank.specs.Memory.{facts_in, first_free, used, apps_from, memory_room, memory_standing, part_of, entry_at, IsMemory}
 use Rattle.mc_bank.specs.EntryLaws.{length-apps}
 use Rattle.mc_bank.proofs.FillLemmas.{fill_fits}
@@ -29,9 +29,9 @@ site_is m d s p same place few =
     let here : p ≡ first_free (facts_in m) = place ∙ ap (λ (l : List Entry). first_free (facts_in l)) same in
     ap (λ (q : ℕ). opened s false (Some q)) here ∙ sym (ap (λ (b : Bool). opened s b (memory_room m s)) (lt-leb 32 (length (apps_from 0 m)) few))
 
-pub site_good : (m d : List Entry) (s : Sizes) (p : ℕ) → FitsLimits s → d ≡ m → p ≡ first_free (facts_in d) → length (apps_from 0 m) < 32 → IsGood (apps_from 0 m) (memory_room m) (record { sizes = s; place = p })
+pub site_good : (m d : List Entry) (s : Sizes) (p : ℕ) → FitsLimits s → d ≡ m → p ≡ first_free (facts_in d) → length (apps_from 0 m) < 32 → IsGoodSite (apps_from 0 m) (memory_room m) (record { sizes = s; place = p })
 site_good m d s p limits same place few =
     record { limits = limits; few = few; place = ap (λ (q : ℕ). Some q) (sym (place ∙ ap (λ (l : List Entry). first_free (facts_in l)) same)) }
 
-pub site_parts : (m : List Entry) (t : Site) → IsMemory m → IsGood (apps_from 0 m) (memory_room m) t → HasParts t (memory_standing m t)
+pub site_parts : (m : List Entry) (t : Site) → IsMemory m → IsGoodSite (apps_from 0 m) (memory_room m) t → HasParts t (memory_standing m t)
 site_parts m t h good p = length-take-le (part_len p t.sizes) (part_of p (entry_at m t.place)) (fill_fits m t p h good)

@@ -12,7 +12,7 @@ use Rattle.mc_bank.specs.EntryLaws.{named_here, named_is, lookup_is, sizes_are, 
 use Rattle.mc_bank.specs.MemoryLaws.{split, app_is}
 use Rattle.mc_bank.specs.Slots.{slot_number, slot_place, AreDigits}
 use Rattle.mc_bank.specs.SlotLaws.{place_back, sizes_back, slot_named, name_there as slot_name_there}
-use Rattle.mc_bank.specs.Shown.{app_at, IsFront, Tells, Shows}
+use Rattle.mc_bank.specs.Shown.{app_at, IsFront, AreFactsOf, EntryShows}
 
 -- an element is what a list has at its place, whatever stands in for a missing one
 pub entry_is : (m : List Entry) (k : ℕ) (e : Entry) → k < length m → e ≡ slice_index_or m k e → e ≡ entry_at m k
@@ -52,7 +52,7 @@ front n ys le at k h =
     let fits : at + k ≤ n = omega (arith, len, h) in
     (omega (arith, fits, le), sym (drop-take at k ys) ∙ ap (drop at) (sym (take-take (at + k) n ys fits)) ∙ drop-take at k (take n ys))
 
-tells : (m : List Entry) (j k : ℕ) (f : Facts) → k < length m → IsMemory m → (entry_at m k).facts ≡ Some f → named_at (facts_in m) k ≡ Some f.aid → memory_named m j ≡ Some f.aid → app_at m j ≡ app_in k (entry_at m k) f.sizes → Tells m j f
+tells : (m : List Entry) (j k : ℕ) (f : Facts) → k < length m → IsMemory m → (entry_at m k).facts ≡ Some f → named_at (facts_in m) k ≡ Some f.aid → memory_named m j ≡ Some f.aid → app_at m j ≡ app_in k (entry_at m k) f.sizes → AreFactsOf m j f
 tells m j k f lt h stands named own app =
     let w = whole_at m k lt h.whole in
     let facts = subst AreFacts stands w.facts in
@@ -63,7 +63,7 @@ tells m j k f lt h stands named own app =
       limits = facts.1;
     }
 
-shows_by : (m : List Entry) (j : ℕ) (n : List ℕ) → IsMemory m → named_at (facts_in m) (slot_place j) ≡ Some n → memory_named m j ≡ Some n → Shows m j (entry_at m (slot_place j))
+shows_by : (m : List Entry) (j : ℕ) (n : List ℕ) → IsMemory m → named_at (facts_in m) (slot_place j) ≡ Some n → memory_named m j ≡ Some n → EntryShows m j (entry_at m (slot_place j))
 shows_by m j n h named own =
     let k = slot_place j in
     let here = named_here m k n named in
@@ -77,13 +77,13 @@ shows_by m j n h named own =
     let aid : Some n ≡ Some s.facts.aid = ap (λ (l : List ℕ). Some l) (sym here.name ∙ ap (λ (f : Facts). f.aid) (sym one)) in
     record {
       some = ap is_some s.stands;
-      facts = λ f e. subst (Tells m j) (cc (sym s.stands ∙ e)) (tells m j k s.facts here.within h s.stands (named ∙ aid) (own ∙ aid) app);
+      facts = λ f e. subst (AreFactsOf m j) (cc (sym s.stands ∙ e)) (tells m j k s.facts here.within h s.stands (named ∙ aid) (own ∙ aid) app);
       code = subst (λ (a : App). IsFront a.code x.code) (sym app) (front s.facts.sizes.code x.code (let c = limits.code in let l = w.code in omega (arith, c, l)));
       fixed = subst (λ (a : App). IsFront a.fixed x.fixed) (sym app) (front s.facts.sizes.fixed x.fixed (let c = limits.fixed in let l = w.fixed in omega (arith, c, l)));
       fci = subst (λ (a : App). IsFront a.fci x.fci) (sym app) (front s.facts.sizes.fci x.fci (let c = limits.fci in let l = w.fci in omega (arith, c, l)));
     }
 
-pub shows : (m : List Entry) (j : ℕ) → IsMemory m → IsSome (memory_named m j) → Shows m j (entry_at m (slot_place j))
+pub shows : (m : List Entry) (j : ℕ) → IsMemory m → IsSome (memory_named m j) → EntryShows m j (entry_at m (slot_place j))
 shows m j h there = let n = name_at m j there in shows_by m j n.0 h n.1 n.2
 
 pub place_within : (m : List Entry) (k : ℕ) → IsSome (named_at (facts_in m) k) → k < length m

@@ -8,6 +8,7 @@ use Rattle.mc_model.specs.declared.card.OpenRefusal.{OpenRefusal}
 use Rattle.mc_model.specs.declared.card.OpenRefusal.TheVariants.{Apps, NoRoom}
 use Rattle.mc_model.specs.declared.device.Stop.{Stop}
 use Rattle.mc_model.specs.declared.device.Stop.TheVariants.{Off, Worn}
+use Rattle.mc_model.specs.Limits.{most_code}
 use Rattle.mc_model.specs.Orders.{Answer}
 use Rattle.mc_model.specs.Counts.{Rose}
 use Rattle.mc_model.specs.Bytes.{zeros, lookup, insert, remove, name_before}
@@ -54,7 +55,7 @@ sizes_of a =
 -- sizes within the limits of an application
 pub record FitsLimits (s : Sizes) : Type 0 where
   pub some_code : 1 ≤ s.code
-  pub code : s.code ≤ 8192
+  pub code : s.code ≤ most_code
   pub fixed : s.fixed ≤ 4096
   pub init : s.init ≤ s.fixed
   pub session : s.session ≤ 256
@@ -63,7 +64,7 @@ pub record FitsLimits (s : Sizes) : Type 0 where
   pub deny : s.deny < 16
 
 -- an application with its name, as a card may have it
-pub record IsEntry (e : List ℕ × App) : Type 0 where
+pub record IsApplication (e : List ℕ × App) : Type 0 where
   pub name : IsName e.0
   pub limits : FitsLimits (sizes_of e.1)
 
@@ -75,7 +76,7 @@ AscendByName (e ∷ es) = AllByRecursion (λ f. name_before e.0 f.0 ≡ true) es
 -- the applications of a card: at most 32, each within the limits, ascending by name
 pub record AreApps (apps : List (List ℕ × App)) : Type 0 where
   pub few : length apps ≤ 32
-  pub each : AllByRecursion IsEntry apps
+  pub each : AllByRecursion IsApplication apps
   pub ascending : AscendByName apps
 
 -- ---- sites
@@ -94,7 +95,7 @@ opened s false None = Err NoRoom
 opened s false (Some p) = Ok (record { sizes = s; place = p })
 
 -- a search for room could answer this site
-pub record IsGood (apps : List (List ℕ × App)) (room : Sizes → Option ℕ) (s : Site) : Type 0 where
+pub record IsGoodSite (apps : List (List ℕ × App)) (room : Sizes → Option ℕ) (s : Site) : Type 0 where
   pub limits : FitsLimits s.sizes
   pub few : length apps < 32
   pub place : room s.sizes ≡ Some s.place
@@ -105,11 +106,11 @@ HasParts s standing = (p : Part) → length (standing p) ≡ part_len p s.sizes
 
 -- good sites stay good
 abbrev pub StayGood : List (List ℕ × App) → (Sizes → Option ℕ) → List (List ℕ × App) → (Sizes → Option ℕ) → Type 0
-StayGood apps room apps' room' = (s : Site) → IsGood apps room s → IsGood apps' room' s
+StayGood apps room apps' room' = (s : Site) → IsGoodSite apps room s → IsGoodSite apps' room' s
 
 -- the bytes of good sites stay
 abbrev pub BytesStay : List (List ℕ × App) → (Sizes → Option ℕ) → (Site → Part → List ℕ) → (Site → Part → List ℕ) → Type 0
-BytesStay apps room standing standing' = (s : Site) → IsGood apps room s → (p : Part) → standing' s p ≡ standing s p
+BytesStay apps room standing standing' = (s : Site) → IsGoodSite apps room s → (p : Part) → standing' s p ≡ standing s p
 
 -- ---- commits
 

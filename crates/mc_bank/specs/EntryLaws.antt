@@ -9,9 +9,9 @@ use Rattle.mc_model.specs.Bytes.{lookup, insert}
 use Rattle.mc_model.specs.Card.{App}
 use Rattle.mc_bank.specs.declared.bank.Facts.{Facts}
 use Rattle.mc_bank.specs.declared.entries.Entry.{Entry}
-use Rattle.mc_bank.specs.Bank.{AscendByName, IsEntry, AreApps, FitsLimits, sizes_of}
+use Rattle.mc_bank.specs.Bank.{AscendByName, IsApplication, AreApps, FitsLimits, sizes_of}
 use Rattle.mc_bank.specs.NameLaws.{same_name, name_is_itself, other_way, lookup-inserted, lookup-beside, insert-swap, each-inserted, ascend-inserted, length-inserted}
-use Rattle.mc_bank.specs.Memory.{facts_in, name_in, named_at, first_free, used, has, is_named, IsApart, AreApart, app_in, with_entry, apps_from, entry_at, AreFacts, IsWhole, IsMemory}
+use Rattle.mc_bank.specs.Memory.{facts_in, name_in, named_at, first_free, used, has, is_named, IsApart, AreApart, app_in, with_entry, apps_from, entry_at, AreFacts, IsWholeEntry, IsMemory}
 
 -- ---- facts
 
@@ -33,17 +33,17 @@ length-facts (x ∷ m) = ap suc (length-facts m)
 -- ---- names
 
 -- the entry of a name
-pub record Here (m : List Entry) (k : ℕ) (n : List ℕ) : Type 0 where
+pub record EntryOfName (m : List Entry) (k : ℕ) (n : List ℕ) : Type 0 where
   pub facts : Facts
   pub stands : (entry_at m k).facts ≡ Some facts
   pub name : facts.aid ≡ n
   pub within : k < length m
 
-here_is : (x : Entry) (m : List Entry) (n : List ℕ) (f : Option Facts) → x.facts ≡ f → name_in f ≡ Some n → Here (x ∷ m) 0 n
+here_is : (x : Entry) (m : List Entry) (n : List ℕ) (f : Option Facts) → x.facts ≡ f → name_in f ≡ Some n → EntryOfName (x ∷ m) 0 n
 here_is x m n None e h = absurd (cc h)
 here_is x m n (Some f) e h = record { facts = f; stands = e; name = cc h; within = omega arith }
 
-pub named_here : (m : List Entry) (k : ℕ) (n : List ℕ) → named_at (facts_in m) k ≡ Some n → Here m k n
+pub named_here : (m : List Entry) (k : ℕ) (n : List ℕ) → named_at (facts_in m) k ≡ Some n → EntryOfName m k n
 named_here [] k n h = absurd (cc h)
 named_here (x ∷ m) zero n h = here_is x m n x.facts refl h
 named_here (x ∷ m) (suc k) n h = let r = named_here m k n h in let w = r.within in record { facts = r.facts; stands = r.stands; name = r.name; within = omega arith }
@@ -193,12 +193,12 @@ apps_set j (x ∷ m) (suc k) e u f lt h p q =
 -- ---- the whole map
 
 -- all entries keep what one that changes keeps
-pub whole_set : (m : List Entry) (k : ℕ) (e : Entry) → AllByRecursion IsWhole m → IsWhole e → AllByRecursion IsWhole (slice_set m k e)
+pub whole_set : (m : List Entry) (k : ℕ) (e : Entry) → AllByRecursion IsWholeEntry m → IsWholeEntry e → AllByRecursion IsWholeEntry (slice_set m k e)
 whole_set [] k e h p = tt
 whole_set (x ∷ m) zero e h p = (p, h.1)
 whole_set (x ∷ m) (suc k) e h p = (h.0, whole_set m k e h.1 p)
 
-pub whole_at : (m : List Entry) (k : ℕ) → k < length m → AllByRecursion IsWhole m → IsWhole (entry_at m k)
+pub whole_at : (m : List Entry) (k : ℕ) → k < length m → AllByRecursion IsWholeEntry m → IsWholeEntry (entry_at m k)
 whole_at [] k lt h = absurd (omega arith)
 whole_at (x ∷ m) zero lt h = h.0
 whole_at (x ∷ m) (suc k) lt h = whole_at m k (omega arith) h.1
@@ -226,7 +226,7 @@ apps_ascend j [] = tt
 apps_ascend j (x ∷ m) = in_order j x x.facts (apps_from (suc j) m) (apps_ascend (suc j) m)
 
 -- the sizes of an application are those of its facts
-pub sizes_are : (j : ℕ) (x : Entry) (s : Sizes) → FitsLimits s → s.init ≡ s.fixed → IsWhole x → sizes_of (app_in j x s) ≡ s
+pub sizes_are : (j : ℕ) (x : Entry) (s : Sizes) → FitsLimits s → s.init ≡ s.fixed → IsWholeEntry x → sizes_of (app_in j x s) ≡ s
 sizes_are j x s h p w =
     let code : length (take s.code x.code) ≡ s.code = length-take s.code x.code ∙ min-eq_left {n = s.code} {m = length x.code} (let c = h.code in let l = w.code in omega (arith, c, l)) in
     let fixed : length (take s.fixed x.fixed) ≡ s.fixed = length-take s.fixed x.fixed ∙ min-eq_left {n = s.fixed} {m = length x.fixed} (let c = h.fixed in let l = w.fixed in omega (arith, c, l)) in
@@ -234,12 +234,12 @@ sizes_are j x s h p w =
     let fci : length (take s.fci x.fci) ≡ s.fci = length-take s.fci x.fci ∙ min-eq_left {n = s.fci} {m = length x.fci} (let c = h.fci in let l = w.fci in omega (arith, c, l)) in
     rw (code, fixed, dir, fci) (ap (λ (i : ℕ). record s { init = i }) (sym p))
 
-entry_holds : (j : ℕ) (x : Entry) (f : Option Facts) (apps : List (List ℕ × App)) → AreFacts f → IsWhole x → AllByRecursion IsEntry apps → AllByRecursion IsEntry (with_entry j x f apps)
+entry_holds : (j : ℕ) (x : Entry) (f : Option Facts) (apps : List (List ℕ × App)) → AreFacts f → IsWholeEntry x → AllByRecursion IsApplication apps → AllByRecursion IsApplication (with_entry j x f apps)
 entry_holds j x None apps h w r = r
 entry_holds j x (Some f) apps h w r =
-    each-inserted IsEntry apps f.aid (app_in j x f.sizes) (record { name = h.0; limits = subst FitsLimits (sym (sizes_are j x f.sizes h.1 h.2 w)) h.1 }) r
+    each-inserted IsApplication apps f.aid (app_in j x f.sizes) (record { name = h.0; limits = subst FitsLimits (sym (sizes_are j x f.sizes h.1 h.2 w)) h.1 }) r
 
-pub each_holds : (j : ℕ) (m : List Entry) → AllByRecursion IsWhole m → AllByRecursion IsEntry (apps_from j m)
+pub each_holds : (j : ℕ) (m : List Entry) → AllByRecursion IsWholeEntry m → AllByRecursion IsApplication (apps_from j m)
 each_holds j [] h = tt
 each_holds j (x ∷ m) h = entry_holds j x x.facts (apps_from (suc j) m) h.0.facts h.0 (each_holds (suc j) m h.1)
 

@@ -4,6 +4,7 @@ use Rattle.std.specs.List.{AllByRecursion}
 use Rattle.mc_model.specs.declared.card.Part.{Part}
 use Rattle.mc_model.specs.declared.card.Part.TheVariants.{Code, Data, Dir, Fci}
 use Rattle.mc_model.specs.declared.card.Sizes.{Sizes}
+use Rattle.mc_model.specs.Limits.{most_code}
 use Rattle.mc_model.specs.Orders.{Answer}
 use Rattle.mc_model.specs.Bytes.{zeros, splice, insert}
 use Rattle.mc_model.specs.Pieces.{laid_pieces, word_pieces}
@@ -158,9 +159,9 @@ AreFacts None = Unit {0}
 AreFacts (Some f) = IsName f.aid × FitsLimits f.sizes × (f.sizes.init ≡ f.sizes.fixed)
 
 -- an entry has memory for a largest application
-pub record IsWhole (e : Entry) : Type 0 where
+pub record IsWholeEntry (e : Entry) : Type 0 where
   pub facts : AreFacts e.facts
-  pub code : length e.code ≡ 8192
+  pub code : length e.code ≡ most_code
   pub fixed : length e.fixed ≡ 4096
   pub dir : length e.dir ≡ 128
   pub fci : length e.fci ≡ 128
@@ -168,7 +169,7 @@ pub record IsWhole (e : Entry) : Type 0 where
 -- 32 entries, with names that are apart
 pub record IsMemory (m : List Entry) : Type 0 where
   pub room : length m ≡ 32
-  pub whole : AllByRecursion IsWhole m
+  pub whole : AllByRecursion IsWholeEntry m
   pub apart : AreApart (facts_in m)
 
 -- ---- items

@@ -16,16 +16,16 @@ abbrev pub IsFront : List ℕ → List ℕ → Type 0
 IsFront xs ys = (at n : ℕ) → at + n ≤ length xs → (at + n ≤ length ys) × (take n (drop at ys) ≡ take n (drop at xs))
 
 -- facts are those of an application
-pub record Tells (m : List Entry) (k : ℕ) (f : Facts) : Type 0 where
+pub record AreFactsOf (m : List Entry) (k : ℕ) (f : Facts) : Type 0 where
   pub name : memory_named m k ≡ Some f.aid
   pub app : IsSome (lookup (apps_from 0 m) f.aid)
   pub sizes : f.sizes ≡ sizes_of (app_at m k)
   pub limits : FitsLimits f.sizes
 
 -- an entry shows an application
-pub record Shows (m : List Entry) (k : ℕ) (e : Entry) : Type 0 where
+pub record EntryShows (m : List Entry) (k : ℕ) (e : Entry) : Type 0 where
   pub some : IsSome e.facts
-  pub facts : (f : Facts) → e.facts ≡ Some f → Tells m k f
+  pub facts : (f : Facts) → e.facts ≡ Some f → AreFactsOf m k f
   pub code : IsFront (app_at m k).code e.code
   pub fixed : IsFront (app_at m k).fixed e.fixed
   pub fci : IsFront (app_at m k).fci e.fci

@@ -6,7 +6,9 @@ ghost use Rattle.mc_model.specs.Bytes.{lookup, insert, remove, splice};
 ghost use Rattle.mc_model.specs.Items.{Site as SiteValue, BankItem, Piece, Commit, Remove};
 ghost use Rattle.mc_model.specs.Manager.{word_parts, create_items};
 ghost use Rattle.mc_bank.specs.Slots.{slot_number, slot_place, slot_sizes};
-ghost use Rattle.mc_bank.specs.Bank.{BankState, app_of, name_or, sizes_of, FitsLimits, AreApps, part_len, opened, IsGood, HasParts, StayGood, BytesStay, CanCommit, committed, entered, item_done, Spares, Changes};
+ghost use Rattle.mc_bank.specs.Bank.{BankState, app_of, name_or, sizes_of, FitsLimits, AreApps, part_len, opened};
+ghost use Rattle.mc_bank.specs.Bank.{IsGoodSite, HasParts, StayGood, BytesStay, CanCommit, committed, entered};
+ghost use Rattle.mc_bank.specs.Bank.{item_done, Spares, Changes};
 
 use mc_base::{Aid, Steps, Stop, Word};
 use mc_model::{OpenRefusal, Part, Sizes};
@@ -195,7 +197,7 @@ pub trait Bank {
         requires limits { FitsLimits sizes.now }
         ensures answer { result ≡ opened sizes.now (nat_le 32 (length (state self.now).apps))
             (room self.now sizes.now) }
-        ensures good { IfOk result (λ site. IsGood (state self.now).apps (room self.now) site) }
+        ensures good { IfOk result (λ site. IsGoodSite (state self.now).apps (room self.now) site) }
         ensures parts { IfOk result (λ site. HasParts site (standing self.now site)) }
         ensures rises { steps.old ≤ steps.new }
         ensures ticks { steps.new ≤ steps.old + (state self.now).ticks }
@@ -204,7 +206,7 @@ pub trait Bank {
     /// Sets bytes of a section of a good site, and no other bytes of it. The bytes of other sites may change.
     fn fill(&mut self, site: &Site, part: Part, at: u16, piece: &[u8]) -> Result<(), Stop>
         requires going { (state self.old).stopped ≡ false }
-        requires good { IsGood (state self.old).apps (room self.old) site.now }
+        requires good { IsGoodSite (state self.old).apps (room self.old) site.now }
         requires range { at + length piece.now ≤ part_len part site.now.sizes }
         ensures items { InOrder did self.old (map
             (λ c. Piece site.now part c.0 c.1) (word_parts at piece.now)) result self.new }
@@ -220,7 +222,7 @@ pub trait Bank {
     /// data, followed by zeros.
     fn create(&mut self, site: &Site, aid: &Aid) -> Result<(), Stop>
         requires going { (state self.old).stopped ≡ false }
-        requires good { IsGood (state self.old).apps (room self.old) site.now }
+        requires good { IsGoodSite (state self.old).apps (room self.old) site.now }
         requires fresh { lookup (state self.old).apps aid.now ≡ None }
         ensures items { InOrder did self.old (create_items site.now aid.now) result self.new }
         ensures apps { Changes (state self.old)

@@ -1,7 +1,7 @@
 ghost use Rattle.std.specs.Prelude.{◌≡◌, ◌+◌, ◌≤◌, length, vec_len, IsSome, None};
 ghost use Rattle.mc_model.specs.Bytes.{lookup};
 ghost use Rattle.mc_base.specs.Name.{IsName};
-ghost use Rattle.mc_bank.specs.Bank.{CanCommit, IsGood, part_len};
+ghost use Rattle.mc_bank.specs.Bank.{CanCommit, IsGoodSite, part_len};
 ghost use Rattle.mc_bank.specs.Memory.{memory_named, apps_from, memory_room, IsMemory};
 ghost use Rattle.mc_bank.specs.Shown.{app_at};
 ghost use Rattle.mc_bank.specs.Left.{CommitLeft, FillLeft, CreateLeft, DeleteLeft};
@@ -25,7 +25,7 @@ pub fn commit(entries: &mut Vec<Entry>, slot: Slot, list: &[(u16, Word)])
 /// Sets bytes of a section of a good site.
 pub fn fill(entries: &mut Vec<Entry>, site: &Site, part: Part, at: u16, piece: &[u8])
     requires memory { IsMemory entries.old.items }
-    requires good { IsGood (apps_from 0 entries.old.items) (memory_room entries.old.items) site.now }
+    requires good { IsGoodSite (apps_from 0 entries.old.items) (memory_room entries.old.items) site.now }
     requires range { at + length piece.now ≤ part_len part site.now.sizes }
     ensures left { FillLeft entries.old.items site.now part at piece.now entries.new.items }
 {
@@ -36,7 +36,7 @@ pub fn fill(entries: &mut Vec<Entry>, site: &Site, part: Part, at: u16, piece: &
 /// Makes an application of what stands at a good site.
 pub fn create(entries: &mut Vec<Entry>, site: &Site, aid: &Aid)
     requires memory { IsMemory entries.old.items }
-    requires good { IsGood (apps_from 0 entries.old.items) (memory_room entries.old.items) site.now }
+    requires good { IsGoodSite (apps_from 0 entries.old.items) (memory_room entries.old.items) site.now }
     requires fresh { lookup (apps_from 0 entries.old.items) aid.now ≡ None }
     ensures left { CreateLeft entries.old.items site.now aid.now entries.new.items }
 {

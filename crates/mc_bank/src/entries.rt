@@ -3,7 +3,7 @@ ghost use Rattle.std.specs.List.{AllByRecursion};
 ghost use Rattle.mc_model.specs.Bytes.{splice, zeros};
 ghost use Rattle.mc_model.specs.Pieces.{laid_pieces, word_pieces};
 ghost use Rattle.mc_bank.specs.Memory.{facts_in, named_at, memory_named, first_free, used, has, is_named, part_of, with_piece, with_list, with_app, IsMemory};
-ghost use Rattle.mc_bank.specs.Shown.{Shows};
+ghost use Rattle.mc_bank.specs.Shown.{EntryShows};
 
 use crate::bank::{Facts, Slot};
 use mc_base::{Aid, Word};
@@ -156,7 +156,7 @@ pub fn slot_of(entries: &[Entry], index: u16) -> Slot
 pub fn used_entry(entries: &[Entry], slot: Slot) -> &Entry
     requires memory { IsMemory entries.now }
     requires there { IsSome (memory_named entries.now slot) }
-    ensures { Shows entries.now slot result.now }
+    ensures { EntryShows entries.now slot result.now }
 {
     &entries[slot.index() as usize]
 }

@@ -5,14 +5,14 @@ use Rattle.mc_model.specs.Counts.{last_count}
 use Rattle.mc_base.specs.declared.refusals.Failed.{Failed}
 
 -- a source over bytes: what is left, the numbers of the calls that fail, and how many calls and faults there were
-pub record Left : Type 0 where
+pub record SourceLeft : Type 0 where
   pub bytes : List ℕ
   pub fail_at : List ℕ
   pub calls : ℕ
   pub faults : ℕ
 
 -- a sink into memory: what it took, the bytes that still fit, and the same numbers
-pub record Taken : Type 0 where
+pub record SinkTaken : Type 0 where
   pub bytes : List ℕ
   pub room : ℕ
   pub fail_at : List ℕ
@@ -24,20 +24,20 @@ abbrev pub one_more : ℕ → ℕ
 one_more n = min (n + 1) last_count
 
 -- whether the next call of this source fails
-abbrev pub take_fails : Left → Bool
+abbrev pub take_fails : SourceLeft → Bool
 take_fails s = list_any (λ number. number == one_more s.calls) s.fail_at
 
 -- the source after a call that failed, or gave so many bytes
-abbrev pub left_after : Left → Bool → ℕ → Left
+abbrev pub left_after : SourceLeft → Bool → ℕ → SourceLeft
 left_after s true n = record s { calls = one_more s.calls; faults = one_more s.faults }
 left_after s false n = record s { bytes = drop n s.bytes; calls = one_more s.calls }
 
 -- whether a put of this piece fails
-abbrev pub put_fails : Taken → List ℕ → Bool
+abbrev pub put_fails : SinkTaken → List ℕ → Bool
 put_fails t piece = list_any (λ number. number == one_more t.calls) t.fail_at || ((t.room == 0) && not (length piece == 0))
 
 -- the sink after a put that failed, or took as much of the piece as fits
-abbrev pub taken_after : Taken → Bool → List ℕ → Taken
+abbrev pub taken_after : SinkTaken → Bool → List ℕ → SinkTaken
 taken_after t true piece = record t { calls = one_more t.calls; faults = one_more t.faults }
 taken_after t false piece =
     record t { bytes = t.bytes ++ take (min (length piece) t.room) piece; room = t.room - length piece; calls = one_more t.calls }

@@ -19,9 +19,9 @@ pub struct MemSource {
 
 impl Model for MemSource {
     ghost use Rattle.std.specs.Prelude.{◌≤◌, drop, vec_len};
-    ghost use Rattle.mc_base.specs.MemoryStreams.{Left};
+    ghost use Rattle.mc_base.specs.MemoryStreams.{SourceLeft};
 
-    ghost Value = { Left };
+    ghost Value = { SourceLeft };
 
     ghost view = { λ s. record {
       bytes = drop s.at s.bytes.items;
@@ -113,9 +113,9 @@ pub struct MemSink {
 
 impl Model for MemSink {
     ghost use Rattle.std.specs.Prelude.{◌+◌, ◌≤◌, vec_len, vec_capacity};
-    ghost use Rattle.mc_base.specs.MemoryStreams.{Taken};
+    ghost use Rattle.mc_base.specs.MemoryStreams.{SinkTaken};
 
-    ghost Value = { Taken };
+    ghost Value = { SinkTaken };
 
     ghost view = { λ t. record {
       bytes = t.bytes.items;

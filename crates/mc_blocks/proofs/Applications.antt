@@ -12,7 +12,7 @@ use Rattle.mc_blocks.specs.Blocks.{used_spans, admitted}
 use Rattle.mc_blocks.specs.Plans.{has_span}
 use Rattle.mc_blocks.proofs.Tiles.{Tiled}
 use Rattle.mc_blocks.proofs.Maps.{Free, OneAt, one-insert, has-self}
-use Rattle.mc_blocks.proofs.Bridge.{Laid, well-laid, means-closed, with-block, some-apps, no-apps, AreNamed, named, free-all, Faultless, faultless, fault-closed}
+use Rattle.mc_blocks.proofs.Bridge.{WellLaid, well-laid, means-closed, with-block, some-apps, no-apps, AreNamed, named, free-all, Faultless, faultless, fault-closed}
 
 -- ---- at most 32
 
@@ -38,7 +38,7 @@ few-blocks m f = let few : 0 + length (used_spans (blocks m)) ≤ 32 = few-all m
 pub few-applications : (m : List (List ℕ)) → IsSized m → look m ≡ Closed → IsWellLaid m → length (means m).apps ≤ 32
 few-applications m image closed h =
     let f : Faultless m = faultless m (sym (fault-closed m closed) ∙ h) in
-    let l : Laid m = well-laid m image closed h in
+    let l : WellLaid m = well-laid m image closed h in
     let same : length (means m).apps ≡ length (used_spans (blocks m)) = ap (λ (k : Card). length k.apps) (means-closed m closed) ∙ l.apps in
     omega (arith, same, few-blocks m f)
 
@@ -73,7 +73,7 @@ free-one n p [] f = tt
 free-one n p (e ∷ es) f = (f.0 ∙ sym (ne_eqb (e.1).place p f.1), free-one n p es f.2)
 
 -- an application that is found lies where a span begins, from p on, and it alone
-pub record Found (m : List (List ℕ)) (n : List ℕ) (bs : List Block) (p : ℕ) (a : App) : Type 0 where
+pub record ApplicationFound (m : List (List ℕ)) (n : List ℕ) (bs : List Block) (p : ℕ) (a : App) : Type 0 where
   pub low : p ≤ a.place
   pub span : has_span a.place (used_spans bs) ≡ true
   pub one : OneAt n a.place (apps_of m bs)
@@ -81,7 +81,7 @@ pub record Found (m : List (List ℕ)) (n : List ℕ) (bs : List Block) (p : ℕ
 
 found-kind : (m : List (List ℕ)) (n : List ℕ) (a : App) (b : Block) (bs : List Block) (names : List (List ℕ)) (u t : Bool) → 1 ≤ b.words → bytes_eq (name_at m b.place) n ≡ t
     → MatchBool u ((is_record (record_at m b.place) b.words ≡ true) × (has_name (name_at m b.place) names ≡ false) × AreNamed m (name_at m b.place ∷ names) bs) (AreNamed m names bs)
-    → ((ns : List (List ℕ)) → AreNamed m ns bs → lookup (apps_of m bs) n ≡ Some a → Found m n bs (b.place + b.words) a)
+    → ((ns : List (List ℕ)) → AreNamed m ns bs → lookup (apps_of m bs) n ≡ Some a → ApplicationFound m n bs (b.place + b.words) a)
     → ((ns : List (List ℕ)) (k : List ℕ) → has_name k ns ≡ true → AreNamed m ns bs → Free k b.place (apps_of m bs))
     → lookup (cond u (with-block m b bs) (apps_of m bs)) n ≡ Some a
     → (b.place ≤ a.place) × (has_span a.place (cond u ((b.place, b.words) ∷ used_spans bs) (used_spans bs)) ≡ true) × OneAt n a.place (cond u (with-block m b bs) (apps_of m bs)) × (name_at m a.place ≡ n)
@@ -108,13 +108,13 @@ found-kind m n a b bs names true false long e nm rest free l =
     let ne : b.place ≢ a.place = λ h. absurd (omega (arith, h)) in
     (omega arith, or_right (b.place == a.place) (has_span a.place (used_spans bs)) f.span, one-insert (apps_of m bs) n k a.place (app_at m b.place) (e ∙ sym (ne_eqb b.place a.place ne)) f.one, f.name)
 
-found-all : (m : List (List ℕ)) (n : List ℕ) (a : App) (bs : List Block) (p : ℕ) (x : Bool) (end : ℕ) (names : List (List ℕ)) → Tiled p x bs end → AreNamed m names bs → lookup (apps_of m bs) n ≡ Some a → Found m n bs p a
+found-all : (m : List (List ℕ)) (n : List ℕ) (a : App) (bs : List Block) (p : ℕ) (x : Bool) (end : ℕ) (names : List (List ℕ)) → Tiled p x bs end → AreNamed m names bs → lookup (apps_of m bs) n ≡ Some a → ApplicationFound m n bs p a
 found-all m n a [] p x end names t nm l = absurd (cc (sym (ap (λ (es : List (List ℕ × App)). lookup es n) (no-apps m)) ∙ l))
 found-all m n a (b ∷ bs) p x end names t nm l =
     let place : b.place ≡ p = t.0 in
     let long : 1 ≤ b.words = t.1 in
     let f = found-kind m n a b bs names b.used (bytes_eq (name_at m b.place) n) long refl nm
-    (λ ns ok h. subst (λ (q : ℕ). Found m n bs (q + b.words) a) (sym place) (found-all m n a bs (p + b.words) (not b.used) end ns t.3 ok h))
+    (λ ns ok h. subst (λ (q : ℕ). ApplicationFound m n bs (q + b.words) a) (sym place) (found-all m n a bs (p + b.words) (not b.used) end ns t.3 ok h))
     (λ ns k is ok. free-all m bs (p + b.words) (not b.used) end ns k b.place t.3 (omega arith) is ok)
     (sym (ap (λ (es : List (List ℕ × App)). lookup es n) (some-apps m b bs)) ∙ l) in
     record { low = omega (arith, f.0, place); span = f.1; one = subst (λ (es : List (List ℕ × App)). OneAt n a.place es) (sym (some-apps m b bs)) f.2; name = f.3 }
@@ -128,8 +128,8 @@ pub record FoundIn (m : List (List ℕ)) (n : List ℕ) (a : App) : Type 0 where
 pub found-application : (m : List (List ℕ)) (n : List ℕ) (a : App) → IsSized m → look m ≡ Closed → IsWellLaid m → lookup (means m).apps n ≡ Some a → FoundIn m n a
 found-application m n a image closed h l =
     let f : Faultless m = faultless m (sym (fault-closed m closed) ∙ h) in
-    let laid : Laid m = well-laid m image closed h in
-    let found : Found m n (blocks m) 131 a = found-all m n a (blocks m) 131 false (length m) [] laid.tiled (named m (blocks m) [] 0 f.records) (sym (ap (λ (k : Card). lookup k.apps n) (means-closed m closed)) ∙ l) in
+    let laid : WellLaid m = well-laid m image closed h in
+    let found : ApplicationFound m n (blocks m) 131 a = found-all m n a (blocks m) 131 false (length m) [] laid.tiled (named m (blocks m) [] 0 f.records) (sym (ap (λ (k : Card). lookup k.apps n) (means-closed m closed)) ∙ l) in
     record {
       span = subst (λ (ss : List (ℕ × ℕ)). has_span a.place ss ≡ true) (sym (ap (λ (k : Card). spans k) (means-closed m closed) ∙ laid.spans)) found.span;
       one = subst (λ (k : Card). OneAt n a.place k.apps) (sym (means-closed m closed)) found.one;

@@ -10,11 +10,11 @@ use Rattle.mc_model.specs.Device.{IsSized}
 use Rattle.mc_model.specs.Card.{App, Block, word, blocks, cells, section, record_at, name_in, name_at, app_at, apps_of, card_of, words_after, means, needed, needed_of, heap_start}
 use Rattle.mc_model.specs.Layout.{spans, spans_of, gaps, gaps_from, put_at, no_root, is_record, bad_block, bad_record, bad_chain, by_cause, words_fault, fault_of, fault, IsWellLaid}
 use Rattle.mc_model.specs.declared.card.Cause.{Cause}
-use Rattle.mc_blocks.specs.Chains.{Above}
+use Rattle.mc_blocks.specs.Chains.{SpansAbove}
 use Rattle.mc_blocks.specs.Blocks.{used_spans, hole_spans, admitted}
 use Rattle.mc_blocks.proofs.Steps.{blocks_all}
 use Rattle.mc_blocks.proofs.Headers.{bad_all}
-use Rattle.mc_blocks.proofs.Tiles.{Tiled, AreRead, Walked, all-walked, gaps_are_holes}
+use Rattle.mc_blocks.proofs.Tiles.{Tiled, HeadersRead, BlocksWalked, all-walked, gaps_are_holes}
 use Rattle.mc_blocks.proofs.Maps.{put-front, above-weaker, Free, spans-insert, free-insert, length-spans, names-apart, has-self, has-more}
 
 -- ---- the parts of a fault
@@ -143,15 +143,15 @@ free-all m (b ∷ bs) p a end names k q t low there n =
     subst (λ (l : List (List ℕ × App)). Free k q l) (sym (some-apps m b bs))
     (free-step m names k q b bs b.used there (omega arith) n (λ ns is ok. free-all m bs (p + b.words) (not b.used) end ns k q t.3 (omega arith) is ok))
 
-above-step : (p : ℕ) (b : Block) (bs : List Block) (t : Bool) → b.place ≡ p → Above p (used_spans bs) → Above p (cond t ((b.place, b.words) ∷ used_spans bs) (used_spans bs))
+above-step : (p : ℕ) (b : Block) (bs : List Block) (t : Bool) → b.place ≡ p → SpansAbove p (used_spans bs) → SpansAbove p (cond t ((b.place, b.words) ∷ used_spans bs) (used_spans bs))
 above-step p b bs true place rest = (omega (arith, place), rest)
 above-step p b bs false place rest = rest
 
-pub used-above : (p : ℕ) (a : Bool) (bs : List Block) (end : ℕ) → Tiled p a bs end → Above p (used_spans bs)
+pub used-above : (p : ℕ) (a : Bool) (bs : List Block) (end : ℕ) → Tiled p a bs end → SpansAbove p (used_spans bs)
 used-above p a [] end t = tt
 used-above p a (b ∷ bs) end t = above-step p b bs b.used t.0 (above-weaker (p + b.words) p (used_spans bs) (omega arith) (used-above (p + b.words) (not b.used) bs end t.3))
 
-spans-step : (m : List (List ℕ)) (names : List (List ℕ)) (b : Block) (bs : List Block) (t : Bool) → IsSized m → b.place + b.words ≤ length m → Above (b.place + 1) (used_spans bs)
+spans-step : (m : List (List ℕ)) (names : List (List ℕ)) (b : Block) (bs : List Block) (t : Bool) → IsSized m → b.place + b.words ≤ length m → SpansAbove (b.place + 1) (used_spans bs)
     → MatchBool t ((is_record (record_at m b.place) b.words ≡ true) × (has_name (name_at m b.place) names ≡ false) × AreNamed m (name_at m b.place ∷ names) bs) (AreNamed m names bs)
     → ((ns : List (List ℕ)) → AreNamed m ns bs → spans_of (apps_of m bs) ≡ used_spans bs) → ((ns : List (List ℕ)) (k : List ℕ) → has_name k ns ≡ true → AreNamed m ns bs → Free k b.place (apps_of m bs))
     → spans_of (cond t (with-block m b bs) (apps_of m bs)) ≡ cond t ((b.place, b.words) ∷ used_spans bs) (used_spans bs)
@@ -163,7 +163,7 @@ spans-step m names b bs true image h above n rest free =
     ∙ ap (λ (w : ℕ). put_at b.place w (used_spans bs)) (needed-is m b.place b.words image n.0 h)
     ∙ put-front b.place b.words (used_spans bs) above
 
-spans-all : (m : List (List ℕ)) (bs : List Block) (p : ℕ) (a : Bool) (names : List (List ℕ)) → IsSized m → Tiled p a bs (length m) → AreRead m bs → AreNamed m names bs → spans_of (apps_of m bs) ≡ used_spans bs
+spans-all : (m : List (List ℕ)) (bs : List Block) (p : ℕ) (a : Bool) (names : List (List ℕ)) → IsSized m → Tiled p a bs (length m) → HeadersRead m bs → AreNamed m names bs → spans_of (apps_of m bs) ≡ used_spans bs
 spans-all m [] p a names image t r n = ap spans_of (no-apps m)
 spans-all m (b ∷ bs) p a names image t r n =
     let place : b.place ≡ p = t.0 in
@@ -176,21 +176,21 @@ spans-all m (b ∷ bs) p a names image t r n =
 -- ---- the bridge
 
 -- what well laid words hold
-pub record Laid (m : List (List ℕ)) : Type 0 where
+pub record WellLaid (m : List (List ℕ)) : Type 0 where
   pub root : no_root m ≡ None
   pub tiled : Tiled 131 false (blocks m) (length m)
-  pub read : AreRead m (blocks m)
+  pub read : HeadersRead m (blocks m)
   pub chain : bad_chain m (blocks m) ≡ None
   pub spans : spans (card_of m) ≡ used_spans (blocks m)
   pub gaps : gaps (card_of m) ≡ hole_spans (blocks m)
   pub apps : length (apps_of m (blocks m)) ≡ length (used_spans (blocks m))
 
-pub laid : (m : List (List ℕ)) → IsSized m → words_fault m ≡ None → Laid m
+pub laid : (m : List (List ℕ)) → IsSized m → words_fault m ≡ None → WellLaid m
 laid m image h =
     let f : Faultless m = faultless m h in
     let low : 256 ≤ length m = image.low in
     let bs = blocks m in
-    let w : Walked m 131 false bs = subst (λ (l : List Block). Walked m 131 false l) (sym (blocks_all m)) (all-walked m (omega arith) (sym (bad_all m (omega arith)) ∙ f.headers)) in
+    let w : BlocksWalked m 131 false bs = subst (λ (l : List Block). BlocksWalked m 131 false l) (sym (blocks_all m)) (all-walked m (omega arith) (sym (bad_all m (omega arith)) ∙ f.headers)) in
     let same : spans_of (apps_of m bs) ≡ used_spans bs = spans-all m bs 131 false [] image w.tiled w.read (named m bs [] 0 f.records) in
     record {
       root = f.root;
@@ -203,5 +203,5 @@ laid m image h =
     }
 
 -- the same of an image with a closed journal
-pub well-laid : (m : List (List ℕ)) → IsSized m → look m ≡ Closed → IsWellLaid m → Laid m
+pub well-laid : (m : List (List ℕ)) → IsSized m → look m ≡ Closed → IsWellLaid m → WellLaid m
 well-laid m image closed h = laid m image (sym (fault-closed m closed) ∙ h)

@@ -9,13 +9,13 @@ use Rattle.mc_model.specs.Device.{IsSized}
 use Rattle.mc_model.specs.Card.{App, Block, word, header, blocks, heap_start, cells, section, record_at, name_in, name_at, app_at, app_of, apps_of, card_of, needed_of}
 use Rattle.mc_model.specs.Layout.{no_root, is_record, bad_header, bad_block, bad_record, bad_link, bad_chain, first_hole, by_cause, words_fault}
 use Rattle.mc_model.specs.declared.card.Cause.TheVariants.{NoRoot, BadBlock, BadRecord, BadChain}
-use Rattle.mc_blocks.specs.Blocks.{fitting, blocks_at, bad_from, admitted, used_spans, is_root_word, Follows, Agree}
+use Rattle.mc_blocks.specs.Blocks.{fitting, blocks_at, bad_from, admitted, used_spans, is_root_word, FollowsBlock, WordsAgree}
 use Rattle.mc_blocks.proofs.Steps.{blocks_step, blocks_stop, blocks_all}
 use Rattle.mc_blocks.proofs.Headers.{bad_all, bad_behind, bad_end}
-use Rattle.mc_blocks.proofs.Tiles.{Tiled, AreRead}
+use Rattle.mc_blocks.proofs.Tiles.{Tiled, HeadersRead}
 use Rattle.mc_blocks.proofs.Taking.{tiled-end}
 use Rattle.mc_blocks.proofs.Applications.{few-blocks}
-use Rattle.mc_blocks.proofs.Bridge.{AreNamed, Faultless, faultless, Laid, laid, named, some-apps, no-apps}
+use Rattle.mc_blocks.proofs.Bridge.{AreNamed, Faultless, faultless, WellLaid, laid, named, some-apps, no-apps}
 
 -- ---- the walk finds the blocks
 
@@ -24,13 +24,13 @@ record Walks (m : List (List ℕ)) (p : ℕ) (a : Bool) (bs : List Block) : Type
   good : bad_from m p a ≡ None
   blocks : blocks_at m p ≡ bs
 
-follows : (size : ℕ) (a : Bool) (o : Option Block) (b : Block) → o ≡ Some b → b.place + b.words ≤ size → (a && not b.used) ≡ false → Follows size a o b
+follows : (size : ℕ) (a : Bool) (o : Option Block) (b : Block) → o ≡ Some b → b.place + b.words ≤ size → (a && not b.used) ≡ false → FollowsBlock size a o b
 follows size a o b is ends flag = (is, ap (λ (q : Option Block). bad_header size a q) is ∙ ap (λ (t : Bool). t || (a && not b.used)) (le-ltb size (b.place + b.words) ends) ∙ flag)
 
 fitting-some : (size : ℕ) (o : Option Block) (b : Block) → o ≡ Some b → b.place + b.words ≤ size → Some b ≡ fitting size o
 fitting-some size o b is ends = sym (ap (λ (q : Option Block). fitting size q) is ∙ ap (λ (t : Bool). cond t (Some b) None) (le-leb (b.place + b.words) size ends))
 
-walks : (m : List (List ℕ)) (p : ℕ) (a : Bool) (bs : List Block) → Tiled p a bs (length m) → AreRead m bs → Walks m p a bs
+walks : (m : List (List ℕ)) (p : ℕ) (a : Bool) (bs : List Block) → Tiled p a bs (length m) → HeadersRead m bs → Walks m p a bs
 walks m p a [] t r =
     record { good = bad_end m p a (omega (arith, t)); blocks = blocks_stop m p (sym (ap (λ (x : List ℕ). fitting (length m) (header p x)) (get_or_past m p [] (omega (arith, t))))) }
 walks m p a (b ∷ bs) t r =
@@ -38,7 +38,7 @@ walks m p a (b ∷ bs) t r =
     let long : 1 ≤ b.words = t.1 in
     let is : header p (word m p) ≡ Some b = subst (λ (q : ℕ). header q (word m q) ≡ Some b) place r.0 in
     let w : Walks m (p + b.words) (not b.used) bs = walks m (p + b.words) (not b.used) bs t.3 r.2 in
-    let on : Follows (length m) a (header p (word m p)) b = follows (length m) a (header p (word m p)) b is r.1 t.2 in
+    let on : FollowsBlock (length m) a (header p (word m p)) b = follows (length m) a (header p (word m p)) b is r.1 t.2 in
     let within : p < length m = omega (arith, r.1) in
     record {
       good = bad_behind m p a b within on ∙ ap (λ (q : ℕ). bad_from m (q + b.words) (not b.used)) place ∙ w.good;
@@ -73,17 +73,17 @@ pub record Built (m : List (List ℕ)) (bs : List Block) : Type 0 where
   pub root : is_root_word (word m 0) (length m) ≡ true
   pub first : be2 (word m 0) 6 ≡ first_hole bs
   pub tiled : Tiled 131 false bs (length m)
-  pub read : AreRead m bs
+  pub read : HeadersRead m bs
   pub links : bad_link bs ≡ None
   pub named : AreNamed m [] bs
   pub few : length (used_spans bs) ≤ 32
 
 -- they are well laid, and the walk finds the blocks
-pub record Stands (m : List (List ℕ)) (bs : List Block) : Type 0 where
+pub record HoldsBlocks (m : List (List ℕ)) (bs : List Block) : Type 0 where
   pub good : words_fault m ≡ None
   pub blocks : blocks m ≡ bs
 
-pub built : (m : List (List ℕ)) (bs : List Block) → Built m bs → Stands m bs
+pub built : (m : List (List ℕ)) (bs : List Block) → Built m bs → HoldsBlocks m bs
 built m bs b =
     let w : Walks m 131 false bs = walks m 131 false bs b.tiled b.read in
     let found : blocks m ≡ bs = blocks_all m ∙ w.blocks in
@@ -121,8 +121,8 @@ same-section m n p words q x size h same low high =
     ap (λ (l : List ℕ). take x l) (same-cells m n (up x 8) q size (omega arith) (λ i above below. same i (omega arith) (omega arith)))
 
 -- an application by its sections
-abbrev App-of : ℕ → List ℕ → List ℕ → List ℕ → List ℕ → List ℕ → App
-App-of p r code fixed dir fci = record { code = code; fixed = fixed; session = be2 r 24; deny = be2 r 26; dir = dir; fci = fci; place = p }
+abbrev app_by_sections : ℕ → List ℕ → List ℕ → List ℕ → List ℕ → List ℕ → App
+app_by_sections p r code fixed dir fci = record { code = code; fixed = fixed; session = be2 r 24; deny = be2 r 26; dir = dir; fci = fci; place = p }
 
 -- what a used block holds
 pub record SameBlock (m n : List (List ℕ)) (p : ℕ) : Type 0 where
@@ -145,15 +145,15 @@ same-block m n p words size h good same =
     record {
       entry = entry;
       app = ap (λ (t : List ℕ). app_of n p t) entry
-          ∙ ap (λ (w : List ℕ). App-of p r w (section n (p + 5 + up code 8) fixed) (section n (p + 5 + up code 8 + up fixed 8) dir) (section n (p + 5 + up code 8 + up fixed 8 + up dir 8) fci)) a
-          ∙ ap (λ (w : List ℕ). App-of p r (section m (p + 5) code) w (section n (p + 5 + up code 8 + up fixed 8) dir) (section n (p + 5 + up code 8 + up fixed 8 + up dir 8) fci)) b
-          ∙ ap (λ (w : List ℕ). App-of p r (section m (p + 5) code) (section m (p + 5 + up code 8) fixed) w (section n (p + 5 + up code 8 + up fixed 8 + up dir 8) fci)) c
-          ∙ ap (λ (w : List ℕ). App-of p r (section m (p + 5) code) (section m (p + 5 + up code 8) fixed) (section m (p + 5 + up code 8 + up fixed 8) dir) w) d;
+          ∙ ap (λ (w : List ℕ). app_by_sections p r w (section n (p + 5 + up code 8) fixed) (section n (p + 5 + up code 8 + up fixed 8) dir) (section n (p + 5 + up code 8 + up fixed 8 + up dir 8) fci)) a
+          ∙ ap (λ (w : List ℕ). app_by_sections p r (section m (p + 5) code) w (section n (p + 5 + up code 8 + up fixed 8) dir) (section n (p + 5 + up code 8 + up fixed 8 + up dir 8) fci)) b
+          ∙ ap (λ (w : List ℕ). app_by_sections p r (section m (p + 5) code) (section m (p + 5 + up code 8) fixed) w (section n (p + 5 + up code 8 + up fixed 8 + up dir 8) fci)) c
+          ∙ ap (λ (w : List ℕ). app_by_sections p r (section m (p + 5) code) (section m (p + 5 + up code 8) fixed) (section m (p + 5 + up code 8 + up fixed 8) dir) w) d;
     }
 
 -- all that is read of the blocks
 record SameAll (m n : List (List ℕ)) (names : List (List ℕ)) (bs : List Block) : Type 0 where
-  read : AreRead n bs
+  read : HeadersRead n bs
   named : AreNamed n names bs
   apps : apps_of n bs ≡ apps_of m bs
 
@@ -162,7 +162,7 @@ all-kind : (m n : List (List ℕ)) (names : List (List ℕ)) (b : Block) (bs : L
     → MatchBool u ((is_record (record_at m b.place) b.words ≡ true) × (has_name (name_at m b.place) names ≡ false) × AreNamed m (name_at m b.place ∷ names) bs) (AreNamed m names bs)
     → ((ns : List (List ℕ)) → AreNamed m ns bs → SameAll m n ns bs)
     → MatchBool u ((is_record (record_at n b.place) b.words ≡ true) × (has_name (name_at n b.place) names ≡ false) × AreNamed n (name_at n b.place ∷ names) bs) (AreNamed n names bs)
-    × (AreRead n bs) × (cond u (insert (apps_of n bs) (name_at n b.place) (app_at n b.place)) (apps_of n bs) ≡ cond u (insert (apps_of m bs) (name_at m b.place) (app_at m b.place)) (apps_of m bs))
+    × (HeadersRead n bs) × (cond u (insert (apps_of n bs) (name_at n b.place) (app_at n b.place)) (apps_of n bs) ≡ cond u (insert (apps_of m bs) (name_at m b.place) (app_at m b.place)) (apps_of m bs))
 all-kind m n names b bs false size h same nm rest = let s = rest names nm in (s.named, s.read, s.apps)
 all-kind m n names b bs true size h same nm rest =
     let k = name_at m b.place in
@@ -178,7 +178,7 @@ all-kind m n names b bs true size h same nm rest =
       ap (λ (x : List ℕ). insert (apps_of n bs) x (app_at n b.place)) name ∙ ap (λ (x : App). insert (apps_of n bs) k x) block.app ∙ ap (λ (es : List (List ℕ × App)). insert es k (app_at m b.place)) s.apps,
     )
 
-same-all : (m n : List (List ℕ)) (names : List (List ℕ)) (bs : List Block) → length n ≡ length m → AreRead m bs → AreNamed m names bs → Agree m n bs → SameAll m n names bs
+same-all : (m n : List (List ℕ)) (names : List (List ℕ)) (bs : List Block) → length n ≡ length m → HeadersRead m bs → AreNamed m names bs → WordsAgree m n bs → SameAll m n names bs
 same-all m n names [] size r nm a = record { read = tt; named = tt; apps = no-apps n ∙ sym (no-apps m) }
 same-all m n names (b ∷ bs) size r nm a =
     let all = all-kind m n names b bs b.used size r.1 a.1 nm (λ ns ok. same-all m n ns bs size r.2 ok a.2) in
@@ -214,15 +214,15 @@ pub record SameBlocks (m n : List (List ℕ)) : Type 0 where
   pub apps : apps_of n (blocks n) ≡ apps_of m (blocks m)
   pub blocks : blocks n ≡ blocks m
 
-pub same-blocks : (m n : List (List ℕ)) → IsSized m → words_fault m ≡ None → length n ≡ length m → is_root_word (word n 0) (length n) ≡ true → be2 (word n 0) 6 ≡ be2 (word m 0) 6 → Agree m n (blocks m) → SameBlocks m n
+pub same-blocks : (m n : List (List ℕ)) → IsSized m → words_fault m ≡ None → length n ≡ length m → is_root_word (word n 0) (length n) ≡ true → be2 (word n 0) 6 ≡ be2 (word m 0) 6 → WordsAgree m n (blocks m) → SameBlocks m n
 same-blocks m n image h size root first agree =
     let f : Faultless m = faultless m h in
-    let l : Laid m = laid m image h in
+    let l : WellLaid m = laid m image h in
     let bs = blocks m in
     let names = named m bs [] 0 f.records in
     let s : SameAll m n [] bs = same-all m n [] bs size l.read names agree in
     let links = chain-parts (be2 (word m 0) 6) (first_hole bs) (bad_link bs) (be2 (word m 0) 6 == first_hole bs) refl f.chain in
-    let stands : Stands n bs = built n bs (record {
+    let stands : HoldsBlocks n bs = built n bs (record {
       root = root;
       first = first ∙ links.0;
       tiled = subst (λ (e : ℕ). Tiled 131 false bs e) (sym size) l.tiled;
@@ -234,14 +234,14 @@ same-blocks m n image h size root first agree =
     record { good = stands.good; blocks = stands.blocks; apps = ap (λ (l : List Block). apps_of n l) stands.blocks ∙ s.apps }
 
 -- the same words 0: the same card
-pub same-card : (m n : List (List ℕ)) → IsSized m → words_fault m ≡ None → length n ≡ length m → word n 0 ≡ word m 0 → Agree m n (blocks m) → SameCard m n
+pub same-card : (m n : List (List ℕ)) → IsSized m → words_fault m ≡ None → length n ≡ length m → word n 0 ≡ word m 0 → WordsAgree m n (blocks m) → SameCard m n
 same-card m n image h size same agree =
     let root : is_root_word (word m 0) (length m) ≡ true = root-good m (is_root_word (word m 0) (length m)) (faultless m h).root in
     let b : SameBlocks m n = same-blocks m n image h size (ap (λ (x : List ℕ). is_root_word x (length n)) same ∙ ap (λ (x : ℕ). is_root_word (word m 0) x) size ∙ root) (ap (λ (x : List ℕ). be2 x 6) same) agree in
     record { good = b.good; blocks = b.blocks; card = card-parts n m size (ap (λ (x : List ℕ). slice_index x 3) same) b.apps }
 
 -- another version in the root: the same card in that layout
-pub other-layout : (m n : List (List ℕ)) → IsSized m → words_fault m ≡ None → length n ≡ length m → is_root_word (word n 0) (length n) ≡ true → be2 (word n 0) 6 ≡ be2 (word m 0) 6 → Agree m n (blocks m)
+pub other-layout : (m n : List (List ℕ)) → IsSized m → words_fault m ≡ None → length n ≡ length m → is_root_word (word n 0) (length n) ≡ true → be2 (word n 0) 6 ≡ be2 (word m 0) 6 → WordsAgree m n (blocks m)
     → (words_fault n ≡ None) × (card_of n ≡ record (card_of m) { layout = slice_index (word n 0) 3 })
 other-layout m n image h size root first agree =
     let b : SameBlocks m n = same-blocks m n image h size root first agree in (

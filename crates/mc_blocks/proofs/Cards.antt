@@ -10,7 +10,7 @@ use Rattle.mc_model.specs.Layout.{first_hole, hole_header, used_header, same_pai
 use Rattle.mc_model.proofs.ListLemmas.{or-swap, other-name as turned}
 use Rattle.mc_blocks.specs.Blocks.{used_spans, hole_spans}
 use Rattle.mc_blocks.specs.Plans.{changes, has_room, has_span}
-use Rattle.mc_blocks.specs.Chains.{Above}
+use Rattle.mc_blocks.specs.Chains.{SpansAbove}
 use Rattle.mc_blocks.proofs.Tiles.{Tiled}
 use Rattle.mc_blocks.proofs.Bridge.{AreNamed, with-block, some-apps, no-apps, used-above}
 use Rattle.mc_blocks.proofs.Changes.{From}
@@ -30,7 +30,7 @@ abbrev pub In : ℕ × ℕ → List (ℕ × ℕ) → Type 0
 In s [] = ⊥
 In s (t ∷ ts) = (t ≡ s) ⊎ In s ts
 
-pub in-above : (p : ℕ) (s : ℕ × ℕ) (l : List (ℕ × ℕ)) → Above p l → In s l → p ≤ s.0
+pub in-above : (p : ℕ) (s : ℕ × ℕ) (l : List (ℕ × ℕ)) → SpansAbove p l → In s l → p ≤ s.0
 in-above p s [] a i = absurd i
 in-above p s (t ∷ ts) a i = elim i [ inl here ↦ subst (λ (x : ℕ × ℕ). p ≤ x.0) here a.0 | inr later ↦ in-above p s ts a.1 later ]
 
@@ -159,13 +159,13 @@ named-less m k names more [] one nm = tt
 named-less m k names more (b ∷ bs) one nm = less-kind m k names more b bs b.used one nm (λ xs ys h ok. named-less m k xs ys bs h ok)
 
 -- the blocks behind p, in both words
-pub record Same (m n : List (List ℕ)) (names : List (List ℕ)) (bs : List Block) : Type 0 where
+pub record SameApplications (m n : List (List ℕ)) (names : List (List ℕ)) (bs : List Block) : Type 0 where
   pub named : AreNamed n names bs
   pub apps : apps_of n bs ≡ apps_of m bs
 
 same-kind : (m n : List (List ℕ)) (names : List (List ℕ)) (b : Block) (bs : List Block) (u : Bool) → (u ≡ true → SameBlock m n b.place)
     → MatchBool u ((is_record (record_at m b.place) b.words ≡ true) × (has_name (name_at m b.place) names ≡ false) × AreNamed m (name_at m b.place ∷ names) bs) (AreNamed m names bs)
-    → ((ns : List (List ℕ)) → AreNamed m ns bs → Same m n ns bs)
+    → ((ns : List (List ℕ)) → AreNamed m ns bs → SameApplications m n ns bs)
     → MatchBool u ((is_record (record_at n b.place) b.words ≡ true) × (has_name (name_at n b.place) names ≡ false) × AreNamed n (name_at n b.place ∷ names) bs) (AreNamed n names bs)
     × (cond u (with-block n b bs) (apps_of n bs) ≡ cond u (with-block m b bs) (apps_of m bs))
 same-kind m n names b bs false block nm rest = let s = rest names nm in (s.named, s.apps)
@@ -178,7 +178,7 @@ same-kind m n names b bs true block nm rest =
       ap (λ (x : List ℕ). insert (apps_of n bs) x (app_at n b.place)) name ∙ ap (λ (x : App). insert (apps_of n bs) k x) (block refl).app ∙ ap (λ (es : List (List ℕ × App)). insert es k (app_at m b.place)) s.apps,
     )
 
-pub same-named : (m n : List (List ℕ)) (p q : ℕ) (a : Bool) (names : List (List ℕ)) (bs : List Block) (end : ℕ) → p < q → Tiled q a bs end → SameUsed m n p bs → AreNamed m names bs → Same m n names bs
+pub same-named : (m n : List (List ℕ)) (p q : ℕ) (a : Bool) (names : List (List ℕ)) (bs : List Block) (end : ℕ) → p < q → Tiled q a bs end → SameUsed m n p bs → AreNamed m names bs → SameApplications m n names bs
 same-named m n p q a names [] end lt t s nm = record { named = tt; apps = no-apps n ∙ sym (no-apps m) }
 same-named m n p q a names (b ∷ bs) end lt t s nm =
     let place : b.place ≡ q = t.0 in
@@ -196,13 +196,13 @@ rest-apps n p need b bs false = refl
 
 -- ---- a block created
 
-pub record Created (m n : List (List ℕ)) (names : List (List ℕ)) (k : List ℕ) (a : App) (bs new : List Block) : Type 0 where
+pub record ApplicationInserted (m n : List (List ℕ)) (names : List (List ℕ)) (k : List ℕ) (a : App) (bs new : List Block) : Type 0 where
   pub named : AreNamed n names new
   pub apps : apps_of n new ≡ insert (apps_of m bs) k a
 
 created-kind : (m n : List (List ℕ)) (names : List (List ℕ)) (k : List ℕ) (a : App) (b : Block) (bs new : List Block) (u : Bool) → has_name k names ≡ false → (u ≡ true → bytes_eq (name_at m b.place) k ≡ false) → (u ≡ true → SameBlock m n b.place)
     → MatchBool u ((is_record (record_at m b.place) b.words ≡ true) × (has_name (name_at m b.place) names ≡ false) × AreNamed m (name_at m b.place ∷ names) bs) (AreNamed m names bs)
-    → ((ns : List (List ℕ)) → has_name k ns ≡ false → AreNamed m ns bs → Created m n ns k a bs new)
+    → ((ns : List (List ℕ)) → has_name k ns ≡ false → AreNamed m ns bs → ApplicationInserted m n ns k a bs new)
     → MatchBool u ((is_record (record_at n b.place) b.words ≡ true) × (has_name (name_at n b.place) names ≡ false) × AreNamed n (name_at n b.place ∷ names) new) (AreNamed n names new)
     × (cond u (insert (apps_of n new) (name_at n b.place) (app_at n b.place)) (apps_of n new) ≡ insert (cond u (with-block m b bs) (apps_of m bs)) k a)
 created-kind m n names k a b bs new false fresh apart block nm rest = let c = rest names fresh nm in (c.named, c.apps)
@@ -219,7 +219,7 @@ created-kind m n names k a b bs new true fresh apart block nm rest =
     )
 
 pub created : (m n : List (List ℕ)) (p need q : ℕ) (a : Bool) (names : List (List ℕ)) (bs : List Block) (end : ℕ) → Tiled q a bs end → AreNamed m names bs → SameUsed m n p bs → NotNamed m (name_at n p) bs → has_room p need (hole_spans bs) ≡ true
-    → has_name (name_at n p) names ≡ false → is_record (record_at n p) need ≡ true → Created m n names (name_at n p) (app_at n p) bs (take_in p need bs)
+    → has_name (name_at n p) names ≡ false → is_record (record_at n p) need ≡ true → ApplicationInserted m n names (name_at n p) (app_at n p) bs (take_in p need bs)
 unfolding RoomAt OneMore
 created m n p need q a names [] end t nm s free room fresh good = absurd (cc room)
 created m n p need q a names (b ∷ bs) end t nm s free room fresh good =
@@ -229,18 +229,18 @@ created m n p need q a names (b ∷ bs) end t nm s free room fresh good =
     elim (room-at p need q a b bs end t room) [
       | inl here ↦
           let behind : AreNamed m names bs = subst (λ (u : Bool). MatchBool u ((is_record (record_at m b.place) b.words ≡ true) × (has_name (name_at m b.place) names ≡ false) × AreNamed m (name_at m b.place ∷ names) bs) (AreNamed m names bs)) here.0 nm in
-          let same : Same m n (k ∷ names) bs = same-named m n p (q + b.words) (not b.used) (k ∷ names) bs end (omega (arith, here.1, place)) t.3 s.1 (named-more m k names (k ∷ names) bs (λ x. refl) free.1 behind) in
+          let same : SameApplications m n (k ∷ names) bs = same-named m n p (q + b.words) (not b.used) (k ∷ names) bs end (omega (arith, here.1, place)) t.3 s.1 (named-more m k names (k ∷ names) bs (λ x. refl) free.1 behind) in
           let new : List Block = used_block p need ∷ rest_of p need b bs in
           let apps : apps_of n new ≡ insert (apps_of m (b ∷ bs)) k (app_at n p) =
           some-apps n (used_block p need) (rest_of p need b bs)
           ∙ ap (λ (es : List (List ℕ × App)). insert es k (app_at n p)) (rest-apps n p need b bs (nat_lt need b.words) ∙ same.apps ∙ sym (some-apps m b bs ∙ ap (λ (u : Bool). cond u (with-block m b bs) (apps_of m bs)) here.0)) in
-          subst (λ (l : List Block). Created m n names k (app_at n p) (b ∷ bs) l) (sym (taken-here p need b bs here.1))
+          subst (λ (l : List Block). ApplicationInserted m n names k (app_at n p) (b ∷ bs) l) (sym (taken-here p need b bs here.1))
           (record { named = (good, fresh, rest-named n p need (k ∷ names) b bs (nat_lt need b.words) same.named); apps = apps })
       | inr later ↦
           let ne : b.place ≢ p = λ e. absurd (omega (arith, e, later.2)) in
           let c = created-kind m n names k (app_at n p) b bs (take_in p need bs) b.used fresh free.0 (λ u. s.0 u ne) nm
           (λ ns no ok. created m n p need (q + b.words) (not b.used) ns bs end t.3 ok s.1 free.1 later.1 no good) in
-          subst (λ (l : List Block). Created m n names k (app_at n p) (b ∷ bs) l) (sym (taken-later p need b bs later.0))
+          subst (λ (l : List Block). ApplicationInserted m n names k (app_at n p) (b ∷ bs) l) (sym (taken-later p need b bs later.0))
           (record { named = c.0; apps = some-apps n b (take_in p need bs) ∙ c.1 ∙ ap (λ (es : List (List ℕ × App)). insert es k (app_at n p)) (sym (some-apps m b bs)) })
     ]
 
@@ -306,7 +306,7 @@ deleted-here m n p q h w a names b bs end used place lt t s nm =
     let k = name_at m p in
     let parts = subst (λ (u : Bool). MatchBool u ((is_record (record_at m b.place) b.words ≡ true) × (has_name (name_at m b.place) names ≡ false) × AreNamed m (name_at m b.place ∷ names) bs) (AreNamed m names bs)) used nm in
     let behind : AreNamed m (k ∷ names) bs = subst (λ (x : ℕ). AreNamed m (name_at m x ∷ names) bs) place parts.2 in
-    let same : Same m n names bs = same-named m n p q a names bs end lt t s (named-less m k names (k ∷ names) bs (λ x. refl) behind) in
+    let same : SameApplications m n names bs = same-named m n p q a names bs end lt t s (named-less m k names (k ∷ names) bs (λ x. refl) behind) in
     let apps : apps_of n (with_hole h w bs) ≡ apps_of m bs = with-apps n h w bs ∙ same.apps in
     record {
       named = with-named n names h w bs same.named;

@@ -35,12 +35,12 @@ name-append k x [] = refl
 name-append k x (n ∷ ns) = ap (λ (t : Bool). bytes_eq n k || t) (name-append k x ns) ∙ swapped (bytes_eq n k) (bytes_eq x k) (has_name k ns)
 
 -- the records so far have these names, and the blocks that are left decide
-pub record Entered (m : List (List ℕ)) (whole : Option ℕ) (p : ℕ) (seen : List (List ℕ)) : Type 0 where
+pub record RecordsEntered (m : List (List ℕ)) (whole : Option ℕ) (p : ℕ) (seen : List (List ℕ)) : Type 0 where
   pub names : List (List ℕ)
   pub same : (k : List ℕ) → has_name k names ≡ has_name k (map name_in seen)
   pub left : whole ≡ bad_record m (blocks_at m p) names (length seen)
 
-pub begun : (m : List (List ℕ)) → Entered m (bad_record m (blocks m) [] 0) 131 []
+pub begun : (m : List (List ℕ)) → RecordsEntered m (bad_record m (blocks m) [] 0) 131 []
 begun m = record { names = []; same = λ k. refl; left = ap (λ (bs : List Block). bad_record m bs [] 0) (blocks_all m) }
 
 none-bad : (m : List (List ℕ)) (names : List (List ℕ)) (used : ℕ) → bad_record m [] names used ≡ None
@@ -52,11 +52,11 @@ some-bad : (m : List (List ℕ)) (b : Block) (bs : List Block) (names : List (Li
 unfolding bad_record
 some-bad m b bs names used = refl
 
-pub ended : (m : List (List ℕ)) (whole : Option ℕ) (p : ℕ) (seen : List (List ℕ)) → Entered m whole p seen → None ≡ fitting (length m) (header p (word m p)) → whole ≡ None
+pub ended : (m : List (List ℕ)) (whole : Option ℕ) (p : ℕ) (seen : List (List ℕ)) → RecordsEntered m whole p seen → None ≡ fitting (length m) (header p (word m p)) → whole ≡ None
 ended m whole p seen e h = e.left ∙ ap (λ (bs : List Block). bad_record m bs e.names (length seen)) (blocks_stop m p h) ∙ none-bad m e.names (length seen)
 
 -- one block more
-step : (m : List (List ℕ)) (whole : Option ℕ) (p : ℕ) (seen : List (List ℕ)) (b : Block) (e : Entered m whole p seen) → Some b ≡ fitting (length m) (header p (word m p))
+step : (m : List (List ℕ)) (whole : Option ℕ) (p : ℕ) (seen : List (List ℕ)) (b : Block) (e : RecordsEntered m whole p seen) → Some b ≡ fitting (length m) (header p (word m p))
     → whole ≡ cond b.used (cond (admitted m b (map name_in seen) (length seen)) (bad_record m (blocks_at m (b.place + b.words)) (name_in (record_at m b.place) ∷ e.names) (length seen + 1)) (Some b.place)) (bad_record m (blocks_at m (b.place + b.words)) e.names (length seen))
 step m whole p seen b e h =
     let rest = blocks_at m (b.place + b.words) in
@@ -66,7 +66,7 @@ step m whole p seen b e h =
     ∙ some-bad m b rest e.names (length seen)
     ∙ ap (λ (t : Bool). cond b.used (cond (is_record r b.words && not t && nat_lt (length seen) 32) (bad_record m rest (name_in r ∷ e.names) (length seen + 1)) (Some b.place)) (bad_record m rest e.names (length seen))) (e.same (name_in r))
 
-pub refused : (m : List (List ℕ)) (whole : Option ℕ) (p : ℕ) (seen new : List (List ℕ)) (b : Block) (r : Bool) → Entered m whole p seen → Some b ≡ fitting (length m) (header p (word m p)) → r ≡ false → Admits m b seen r new → whole ≡ Some b.place
+pub refused : (m : List (List ℕ)) (whole : Option ℕ) (p : ℕ) (seen new : List (List ℕ)) (b : Block) (r : Bool) → RecordsEntered m whole p seen → Some b ≡ fitting (length m) (header p (word m p)) → r ≡ false → Admits m b seen r new → whole ≡ Some b.place
 refused m whole p seen new b true e h failed a = absurd (cc failed)
 refused m whole p seen new b false e h failed a =
     let rest = blocks_at m (b.place + b.words) in
@@ -76,13 +76,13 @@ refused m whole p seen new b false e h failed a =
     ∙ ap (λ (t : Bool). cond t (cond (admitted m b (map name_in seen) (length seen)) x (Some b.place)) y) a.0
     ∙ ap (λ (t : Bool). cond t x (Some b.place)) a.1
 
-taken : (m : List (List ℕ)) (whole : Option ℕ) (p : ℕ) (seen new : List (List ℕ)) (b : Block) (t : Bool) → Entered m whole p seen → Some b ≡ fitting (length m) (header p (word m p)) → b.used ≡ t
-    → MatchBool t ((admitted m b (map name_in seen) (length seen) ≡ true) × (new ≡ seen ++ record_at m b.place ∷ [])) (new ≡ seen) → Entered m whole (b.place + b.words) new
+taken : (m : List (List ℕ)) (whole : Option ℕ) (p : ℕ) (seen new : List (List ℕ)) (b : Block) (t : Bool) → RecordsEntered m whole p seen → Some b ≡ fitting (length m) (header p (word m p)) → b.used ≡ t
+    → MatchBool t ((admitted m b (map name_in seen) (length seen) ≡ true) × (new ≡ seen ++ record_at m b.place ∷ [])) (new ≡ seen) → RecordsEntered m whole (b.place + b.words) new
 taken m whole p seen new b false e h used a =
     let rest = blocks_at m (b.place + b.words) in
     let x = bad_record m rest (name_in (record_at m b.place) ∷ e.names) (length seen + 1) in
     let y = bad_record m rest e.names (length seen) in
-    subst (λ (l : List (List ℕ)). Entered m whole (b.place + b.words) l) (sym a)
+    subst (λ (l : List (List ℕ)). RecordsEntered m whole (b.place + b.words) l) (sym a)
     (record { names = e.names; same = e.same; left = step m whole p seen b e h ∙ ap (λ (t : Bool). cond t (cond (admitted m b (map name_in seen) (length seen)) x (Some b.place)) y) used })
 taken m whole p seen new b true e h used a =
     let rest = blocks_at m (b.place + b.words) in
@@ -90,7 +90,7 @@ taken m whole p seen new b true e h used a =
     let x = bad_record m rest (name_in r ∷ e.names) (length seen + 1) in
     let y = bad_record m rest e.names (length seen) in
     let more : length seen + 1 ≡ length (seen ++ r ∷ []) = omega (arith, length-append seen (r ∷ [])) in
-    subst (λ (l : List (List ℕ)). Entered m whole (b.place + b.words) l) (sym a.1)
+    subst (λ (l : List (List ℕ)). RecordsEntered m whole (b.place + b.words) l) (sym a.1)
     (record {
       names = name_in r ∷ e.names;
       same = λ k. ap (λ (t : Bool). bytes_eq (name_in r) k || t) (e.same k) ∙ sym (name-append k (name_in r) (map name_in seen)) ∙ sym (ap (λ (ns : List (List ℕ)). has_name k ns) (map-append name_in seen (r ∷ [])));
@@ -100,6 +100,6 @@ taken m whole p seen new b true e h used a =
           ∙ ap (λ (n : ℕ). bad_record m rest (name_in r ∷ e.names) n) more;
     })
 
-pub admits : (m : List (List ℕ)) (whole : Option ℕ) (p : ℕ) (seen new : List (List ℕ)) (b : Block) (r : Bool) → Entered m whole p seen → Some b ≡ fitting (length m) (header p (word m p)) → r ≡ true → Admits m b seen r new → Entered m whole (b.place + b.words) new
+pub admits : (m : List (List ℕ)) (whole : Option ℕ) (p : ℕ) (seen new : List (List ℕ)) (b : Block) (r : Bool) → RecordsEntered m whole p seen → Some b ≡ fitting (length m) (header p (word m p)) → r ≡ true → Admits m b seen r new → RecordsEntered m whole (b.place + b.words) new
 admits m whole p seen new b false e h passed a = absurd (cc passed)
 admits m whole p seen new b true e h passed a = taken m whole p seen new b b.used e h refl a

@@ -4,7 +4,7 @@ use Rattle.std.specs.Prelude.{◌==◌}
 use Rattle.std.proofs.lemmas.Bool.{lt-ltb, le-ltb, eq-eqb, ne_eqb, eqb-true, eqb-false, or_cases, and_from, and_right, not-false, not-true, cases_eq, false_from_ne_true}
 use Rattle.mc_model.specs.Card.{Block, heap_start}
 use Rattle.mc_model.specs.Layout.{first_hole, first_place, hole_header, used_header}
-use Rattle.mc_blocks.specs.Chains.{Above}
+use Rattle.mc_blocks.specs.Chains.{SpansAbove}
 use Rattle.mc_blocks.specs.Blocks.{used_spans, hole_spans}
 use Rattle.mc_blocks.specs.Plans.{changes, layout_of, link_word, has_span, without, gap_before, gaps_behind, joined_words, joined_next, touches, free_list}
 use Rattle.mc_blocks.proofs.Tiles.{Tiled, first-is}
@@ -58,14 +58,14 @@ with-first : (q k : ℕ) (bs : List Block) → first_hole (with_hole q k bs) ≡
 with-first q k [] = refl
 with-first q k (c ∷ cs) = elim c.used as (λ u. first_hole (cond u (free_block q k ∷ c ∷ cs) (free_block q (k + c.words) ∷ cs)) ≡ q) [ true ↦ refl | false ↦ refl ]
 
-not-joined : (q k r : ℕ) (hs : List (ℕ × ℕ)) → r ≡ q + k → Above (r + 1) hs → (joined_words q k hs ≡ k) × (joined_next q k hs ≡ first_place hs)
+not-joined : (q k r : ℕ) (hs : List (ℕ × ℕ)) → r ≡ q + k → SpansAbove (r + 1) hs → (joined_words q k hs ≡ k) × (joined_next q k hs ≡ first_place hs)
 not-joined q k r [] e a = (refl, refl)
 not-joined q k r (g ∷ gs) e a =
     let low : r + 1 ≤ g.0 = a.0 in
     let ne : g.0 ≢ q + k = λ h. absurd (omega (arith, h)) in
     (ap (λ (t : Bool). cond t (k + g.1) k) (ne_eqb g.0 (q + k) ne), ap (λ (t : Bool). cond t (first_place gs) g.0) (ne_eqb g.0 (q + k) ne))
 
-with-kind : (q k : ℕ) (c : Block) (cs : List Block) (u : Bool) → c.used ≡ u → c.place ≡ q + k → Above (q + k + 1) (hole_spans cs)
+with-kind : (q k : ℕ) (c : Block) (cs : List Block) (u : Bool) → c.used ≡ u → c.place ≡ q + k → SpansAbove (q + k + 1) (hole_spans cs)
     → heads (cond u (free_block q k ∷ c ∷ cs) (free_block q (k + c.words) ∷ cs))
     ≡ (q, hole_header (joined_words q k (cond u (hole_spans cs) ((c.place, c.words) ∷ hole_spans cs))) (joined_next q k (cond u (hole_spans cs) ((c.place, c.words) ∷ hole_spans cs)))) ∷ heads (cond u (c ∷ cs) cs)
 with-kind q k c cs true used place above =
@@ -149,7 +149,7 @@ used-apart : (p : ℕ) (b : Block) (bs : List Block) → b.used ≡ true → tou
 used-apart p b [] e = refl
 used-apart p b (c ∷ cs) e = ap (λ (u : Bool). not u && c.place == p) e
 
-pub span-from : (q p : ℕ) (ss : List (ℕ × ℕ)) → Above q ss → has_span p ss ≡ true → q ≤ p
+pub span-from : (q p : ℕ) (ss : List (ℕ × ℕ)) → SpansAbove q ss → has_span p ss ≡ true → q ≤ p
 span-from q p [] a h = absurd (cc h)
 span-from q p (s ∷ ss) a h =
     let low : q ≤ s.0 = a.0 in
@@ -241,16 +241,16 @@ free-touching-tiled p q a b c cs bs end is t free other here =
     (with-tiled q (b.words + c.words) (not c.used) cs end (omega arith) (subst (λ (r : ℕ). Tiled r (not c.used) cs end) same tail.3)))))
 
 -- where a hole is before, the block at p does not stand first
-abbrev Apart : Bool → ℕ → ℕ → Type 0
-Apart a q p = a ≡ true → q ≢ p
+abbrev HoleApart : Bool → ℕ → ℕ → Type 0
+HoleApart a q p = a ≡ true → q ≢ p
 
-apart-false : (a : Bool) (q p : ℕ) → Apart a q p → q ≡ p → a ≡ false
+apart-false : (a : Bool) (q p : ℕ) → HoleApart a q p → q ≡ p → a ≡ false
 apart-false a q p h e = false_from_ne_true a (λ t. h t e)
 
-later-apart : (p q : ℕ) (b : Block) → b.place ≡ q → (b.used ≡ false → b.place + b.words ≢ p) → Apart (not b.used) (q + b.words) p
+later-apart : (p q : ℕ) (b : Block) → b.place ≡ q → (b.used ≡ false → b.place + b.words ≢ p) → HoleApart (not b.used) (q + b.words) p
 later-apart p q b place h free same = h (not-true b.used free) (omega (arith, place, same))
 
-pub free-tiled : (p q : ℕ) (a : Bool) (bs : List Block) (end : ℕ) → Apart a q p → Tiled q a bs end → has_span p (used_spans bs) ≡ true → Tiled q a (free_in p bs) end
+pub free-tiled : (p q : ℕ) (a : Bool) (bs : List Block) (end : ℕ) → HoleApart a q p → Tiled q a bs end → has_span p (used_spans bs) ≡ true → Tiled q a (free_in p bs) end
 unfolding SpanAt
 free-tiled p q a [] end h t span = absurd (cc span)
 free-tiled p q a (b ∷ bs) end h t span =
@@ -269,14 +269,14 @@ free-tiled p q a (b ∷ bs) end h t span =
 
 -- ---- their spans
 
-without-above : (p : ℕ) (ss : List (ℕ × ℕ)) → Above (p + 1) ss → without p ss ≡ ss
+without-above : (p : ℕ) (ss : List (ℕ × ℕ)) → SpansAbove (p + 1) ss → without p ss ≡ ss
 without-above p [] a = refl
 without-above p (s ∷ ss) a =
     let low : p + 1 ≤ s.0 = a.0 in
     let ne : s.0 ≢ p = λ e. absurd (omega (arith, e)) in
     ap (λ (t : Bool). cond t (without p ss) (s ∷ without p ss)) (ne_eqb s.0 p ne) ∙ ap (λ (l : List (ℕ × ℕ)). s ∷ l) (without-above p ss a.1)
 
-without-first : (p n : ℕ) (ss : List (ℕ × ℕ)) (r : ℕ) → r ≡ p → Above (p + 1) ss → without p ((r, n) ∷ ss) ≡ ss
+without-first : (p n : ℕ) (ss : List (ℕ × ℕ)) (r : ℕ) → r ≡ p → SpansAbove (p + 1) ss → without p ((r, n) ∷ ss) ≡ ss
 without-first p n ss r e a = ap (λ (t : Bool). cond t (without p ss) ((r, n) ∷ without p ss)) (eq-eqb r p e) ∙ without-above p ss a
 
 later-without : (p : ℕ) (b : Block) (us vs : List (ℕ × ℕ)) (u : Bool) → (b.place == p) ≡ false → vs ≡ without p us → cond u ((b.place, b.words) ∷ vs) vs ≡ without p (cond u ((b.place, b.words) ∷ us) us)
@@ -327,11 +327,11 @@ abbrev freed_at : ℕ → ℕ → ℕ → ℕ → ℕ × ℕ → List (ℕ × �
 freed_at v s p n g gs = free_list v s g gs p n
 
 -- the gaps behind p are not before it
-gap-none : (p : ℕ) (g : ℕ × ℕ) (gs : List (ℕ × ℕ)) → Above p gs → gap_before p g gs ≡ g
+gap-none : (p : ℕ) (g : ℕ × ℕ) (gs : List (ℕ × ℕ)) → SpansAbove p gs → gap_before p g gs ≡ g
 gap-none p g [] a = refl
 gap-none p g (h ∷ hs) a = let low : p ≤ h.0 = a.0 in ap (λ (t : Bool). cond t (gap_before p h hs) g) (le-ltb h.0 p low)
 
-behind-all : (p : ℕ) (gs : List (ℕ × ℕ)) → Above p gs → gaps_behind p gs ≡ gs
+behind-all : (p : ℕ) (gs : List (ℕ × ℕ)) → SpansAbove p gs → gaps_behind p gs ≡ gs
 behind-all p [] a = refl
 behind-all p (h ∷ hs) a = let low : p ≤ h.0 = a.0 in ap (λ (t : Bool). cond t (gaps_behind p hs) (h ∷ hs)) (le-ltb h.0 p low)
 
@@ -358,12 +358,12 @@ claim-here : (v s end : ℕ) (g : ℕ × ℕ) (a : Bool) (b : Block) (bs : List 
     → Claim v s b.place (freed_at v s b.place b.words) g (record b { used = true } ∷ bs) (with_hole b.place b.words bs)
 unfolding Claim
 claim-here v s end g a b bs low some few gap apart t =
-    let above : Above b.place (hole_spans bs) = above-weaker (b.place + b.words) b.place (hole_spans bs) (omega arith) (holes-above (b.place + b.words) a bs end t) in
+    let above : SpansAbove b.place (hole_spans bs) = above-weaker (b.place + b.words) b.place (hole_spans bs) (omega arith) (holes-above (b.place + b.words) a bs end t) in
     free-here v s b.words b.place end g a bs low some few gap apart t
     ∙ sym (ap (λ (h : ℕ × ℕ). free_list v s h (gaps_behind b.place (hole_spans bs)) b.place b.words) (gap-none b.place g (hole_spans bs) above) ∙ ap (λ (l : List (ℕ × ℕ)). free_list v s g l b.place b.words) (behind-all b.place (hole_spans bs) above))
 
 -- a hole that the next joins is no shorter, and ends in time
-joined-kind : (q k : ℕ) (c : Block) (cs : List Block) (end : ℕ) (u : Bool) → c.place ≡ q + k → Above (q + k + 1) (hole_spans cs) → q + k + c.words ≤ end
+joined-kind : (q k : ℕ) (c : Block) (cs : List Block) (end : ℕ) (u : Bool) → c.place ≡ q + k → SpansAbove (q + k + 1) (hole_spans cs) → q + k + c.words ≤ end
     → (k ≤ joined_words q k (cond u (hole_spans cs) ((c.place, c.words) ∷ hole_spans cs))) × (q + joined_words q k (cond u (hole_spans cs) ((c.place, c.words) ∷ hole_spans cs)) ≤ end)
 joined-kind q k c cs end true place above ends =
     let is : joined_words q k (hole_spans cs) ≡ k = (not-joined q k (q + k) (hole_spans cs) refl above).0 in
@@ -405,7 +405,7 @@ touch-list v s h k n end g a cs gap long some few t =
     ∙ ap (λ (w : ℕ). (h, hole_header w (joined_next h (k + n) (hole_spans cs))) ∷ []) shifted.0
     ∙ ap (λ (x : ℕ). (h, hole_header (k + joined_words (h + k) n (hole_spans cs)) x) ∷ []) shifted.1
 
-touch-due : (v s h k n : ℕ) (g : ℕ × ℕ) (hs : List (ℕ × ℕ)) → 1 ≤ h → 1 ≤ k → Above (h + k) hs
+touch-due : (v s h k n : ℕ) (g : ℕ × ℕ) (hs : List (ℕ × ℕ)) → 1 ≤ h → 1 ≤ k → SpansAbove (h + k) hs
     → freed_at v s (h + k) n (gap_before (h + k) g ((h, k) ∷ hs)) (gaps_behind (h + k) ((h, k) ∷ hs)) ≡ (h, hole_header (k + joined_words (h + k) n hs) (joined_next (h + k) n hs)) ∷ []
 touch-due v s h k n g hs low long above =
     let p = h + k in

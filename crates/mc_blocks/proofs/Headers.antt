@@ -4,8 +4,8 @@ use Rattle.std.specs.Prelude.{nat_le, nat_lt, ◌==◌}
 use Rattle.std.proofs.lemmas.Bool.{eq-eqb, ne_eqb, le-ltb, lt-ltb, leb-false, ltb-false, or_parts, or_right}
 use Rattle.mc_model.specs.Card.{Block, word, header}
 use Rattle.mc_model.specs.Layout.{bad_header, next_block, is_hole, bad_block}
-use Rattle.mc_blocks.specs.Blocks.{fitting, bad_from, Follows}
-use Rattle.mc_blocks.proofs.Steps.{HeaderIs, header-is, Fits, fits}
+use Rattle.mc_blocks.specs.Blocks.{fitting, bad_from, FollowsBlock}
+use Rattle.mc_blocks.proofs.Steps.{HeaderIs, header-is, BlockFits, fits}
 
 -- ---- a header that was read
 
@@ -25,9 +25,9 @@ second_is_bad size p x b h hole =
     ∙ or_right (nat_lt size (b.place + b.words)) (not b.used) (ap not hole)
 
 -- else it is good
-pub next_is_good : (size p : ℕ) (x : List ℕ) (after_hole : Bool) (b : Block) → Some b ≡ fitting size (header p x) → (after_hole && not b.used) ≡ false → Follows size after_hole (header p x) b
+pub next_is_good : (size p : ℕ) (x : List ℕ) (after_hole : Bool) (b : Block) → Some b ≡ fitting size (header p x) → (after_hole && not b.used) ≡ false → FollowsBlock size after_hole (header p x) b
 next_is_good size p x after_hole b h other =
-    let f : Fits size p x b = fits size p x b (sym h) in
+    let f : BlockFits size p x b = fits size p x b (sym h) in
     let place : b.place ≡ p = f.place in
     let high : p + b.words ≤ size = f.high in
     let ends : b.place + b.words ≤ size = omega arith in
@@ -85,7 +85,7 @@ bad_here m p after_hole lt h =
     ∙ ap (λ (t : Bool). cond t (Some p) (bad_block (length m - p - 1) m (next_block (length m) (header p (word m p))) (is_hole (header p (word m p))))) h
 
 -- one that is good, and those behind it
-pub bad_behind : (m : List (List ℕ)) (p : ℕ) (after_hole : Bool) (b : Block) → p < length m → Follows (length m) after_hole (header p (word m p)) b
+pub bad_behind : (m : List (List ℕ)) (p : ℕ) (after_hole : Bool) (b : Block) → p < length m → FollowsBlock (length m) after_hole (header p (word m p)) b
     → bad_from m p after_hole ≡ bad_from m (b.place + b.words) (not b.used)
 bad_behind m p after_hole b lt h =
     let ends : b.place + b.words ≤ length m = good-ends (length m) after_hole b (subst (λ (o : Option Block). bad_header (length m) after_hole o ≡ false) h.0 h.1) in
@@ -99,7 +99,7 @@ bad_behind m p after_hole b lt h =
     ∙ ap (λ (o : Option Block). bad_block n m (next_block (length m) o) (is_hole o)) h.0
     ∙ same-fuel n (length m - (b.place + b.words)) m (b.place + b.words) (not b.used) ends (omega arith) (omega arith)
 
-pub good_end : (m : List (List ℕ)) (p : ℕ) (after_hole : Bool) (b : Block) → Follows (length m) after_hole (header p (word m p)) b → (b.place + b.words ≤ length m) × (p < b.place + b.words)
+pub good_end : (m : List (List ℕ)) (p : ℕ) (after_hole : Bool) (b : Block) → FollowsBlock (length m) after_hole (header p (word m p)) b → (b.place + b.words ≤ length m) × (p < b.place + b.words)
 good_end m p after_hole b h =
     let ends : b.place + b.words ≤ length m = good-ends (length m) after_hole b (subst (λ (o : Option Block). bad_header (length m) after_hole o ≡ false) h.0 h.1) in
     let is : HeaderIs p (word m p) b = header-is p (word m p) b h.0 in

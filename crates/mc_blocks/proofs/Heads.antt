@@ -3,7 +3,7 @@ use Rattle.std.proofs.Common.{◌≡◌, ℕ, ◌+◌, ◌≤◌, Bool, true, fa
 use Rattle.std.proofs.lemmas.Bool.{lt-ltb, le-ltb}
 use Rattle.mc_model.specs.Card.{Card, Block, heap_start}
 use Rattle.mc_model.specs.Layout.{first_hole, first_place, hole_header, used_header, root, chained, with_used, put_at, spans, layout}
-use Rattle.mc_blocks.specs.Chains.{Above}
+use Rattle.mc_blocks.specs.Chains.{SpansAbove}
 use Rattle.mc_blocks.specs.Blocks.{used_spans, hole_spans}
 use Rattle.mc_blocks.specs.Plans.{changes, layout_of, link_word}
 use Rattle.mc_blocks.proofs.Tiles.{Tiled, gaps_are_holes, first-is}
@@ -41,14 +41,14 @@ put-first p x [] f = refl
 put-first p x (e ∷ es) f = let low : p + 1 ≤ e.0 = f.0 in ap (λ (t : Bool). cond t ((p, x) ∷ e ∷ es) (e ∷ put_at p x es)) (lt-ltb p e.0 (omega arith))
 
 -- spans behind a header leave it in front
-used-behind : (e : ℕ × List ℕ) (us : List (ℕ × ℕ)) (l : List (ℕ × List ℕ)) → Above (e.0 + 1) us → with_used us (e ∷ l) ≡ e ∷ with_used us l
+used-behind : (e : ℕ × List ℕ) (us : List (ℕ × ℕ)) (l : List (ℕ × List ℕ)) → SpansAbove (e.0 + 1) us → with_used us (e ∷ l) ≡ e ∷ with_used us l
 used-behind e [] l a = refl
 used-behind e (s ∷ ss) l a =
     let low : e.0 + 1 ≤ s.0 = a.0 in
     ap (λ (k : List (ℕ × List ℕ)). put_at s.0 (used_header s.1) k) (used-behind e ss l a.1)
     ∙ ap (λ (t : Bool). cond t ((s.0, used_header s.1) ∷ e ∷ with_used ss l) (e ∷ put_at s.0 (used_header s.1) (with_used ss l))) (le-ltb s.0 e.0 (omega arith))
 
-layout-step : (b : Block) (bs : List Block) (t : Bool) → Above (b.place + 1) (used_spans bs) → From (b.place + 1) (heads bs) → with_used (used_spans bs) (chained (hole_spans bs)) ≡ heads bs
+layout-step : (b : Block) (bs : List Block) (t : Bool) → SpansAbove (b.place + 1) (used_spans bs) → From (b.place + 1) (heads bs) → with_used (used_spans bs) (chained (hole_spans bs)) ≡ heads bs
     → with_used (cond t ((b.place, b.words) ∷ used_spans bs) (used_spans bs)) (chained (cond t (hole_spans bs) ((b.place, b.words) ∷ hole_spans bs)))
     ≡ (b.place, cond t (used_header b.words) (hole_header b.words (first_hole bs))) ∷ heads bs
 layout-step b bs true a f rest =

@@ -13,8 +13,8 @@ use Rattle.mc_model.proofs.LookLemmas.{IsFull}
 use Rattle.mc_model.proofs.ImageBytes.{image-settled}
 use Rattle.mc_blocks.specs.Blocks.{used_spans, hole_spans}
 use Rattle.mc_blocks.proofs.Steps.{header-is}
-use Rattle.mc_blocks.proofs.Tiles.{AreRead, first-is}
-use Rattle.mc_blocks.proofs.Bridge.{Laid, laid}
+use Rattle.mc_blocks.proofs.Tiles.{HeadersRead, first-is}
+use Rattle.mc_blocks.proofs.Bridge.{WellLaid, laid}
 
 -- ---- words of eight bytes
 
@@ -123,7 +123,7 @@ link-step : (b : Block) (l : ℕ) (rest : Option ℕ) (t : Bool) → (b.link == 
 link-step b l rest true e h = (eqb-true b.link l e, h)
 link-step b l rest false e h = absurd (cc h)
 
-blocks-stand : (m : List (List ℕ)) (bs : List Block) → IsImage m → AreRead m bs → bad_link bs ≡ None → Used m (used_spans bs) × Stand m (chained (hole_spans bs))
+blocks-stand : (m : List (List ℕ)) (bs : List Block) → IsImage m → HeadersRead m bs → bad_link bs ≡ None → Used m (used_spans bs) × Stand m (chained (hole_spans bs))
 blocks-stand m [] image r h = (tt, tt)
 blocks-stand m (b ∷ bs) image r h =
     let link = link-step b (cond b.used 0 (first_hole bs)) (bad_link bs) (b.link == cond b.used 0 (first_hole bs)) refl h in
@@ -171,7 +171,7 @@ chain-parts a f o false e h = absurd (cc h)
 layout-stands : (m : List (List ℕ)) → IsImage m → words_fault m ≡ None → Stand m (layout (card_of m))
 unfolding layout
 layout-stands m image good =
-    let l : Laid m = laid m (sized image) good in
+    let l : WellLaid m = laid m (sized image) good in
     let bs = blocks m in
     let chain = chain-parts (be2 (word m 0) 6) (first_hole bs) (bad_link bs) (be2 (word m 0) 6 == first_hole bs) refl l.chain in
     let all = blocks-stand m bs image l.read chain.1 in

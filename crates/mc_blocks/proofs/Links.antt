@@ -7,10 +7,10 @@ use Rattle.mc_model.specs.Image.{Closed, look}
 use Rattle.mc_model.specs.Device.{IsSized}
 use Rattle.mc_model.specs.Card.{means, word, blocks}
 use Rattle.mc_model.specs.Layout.{first_place, gaps, IsWellLaid}
-use Rattle.mc_blocks.specs.Chains.{Above, IsChain}
+use Rattle.mc_blocks.specs.Chains.{SpansAbove, IsChain}
 use Rattle.mc_blocks.specs.Blocks.{hole_spans}
 use Rattle.mc_blocks.specs.Plans.{names_before, gap_before, gaps_behind, joined_words, joined_next, has_room}
-use Rattle.mc_blocks.proofs.Search.{Chain, chain-of, left_of, next-nearer}
+use Rattle.mc_blocks.proofs.Search.{GapChain, chain-of, left_of, next-nearer}
 
 chain-cut : (m : List (List ℕ)) (p : ℕ) (g : ℕ × ℕ) (gs : List (ℕ × ℕ)) (t : Bool) → IsChain m (g ∷ gs) → IsChain m (gaps_behind p gs) → IsChain m (cond t (gaps_behind p gs) (g ∷ gs))
 chain-cut m p g gs true c rest = rest
@@ -22,7 +22,7 @@ chain-behind m p [] c = tt
 chain-behind m p (g ∷ gs) c = chain-cut m p g gs (nat_lt g.0 p) c (chain-behind m p gs c.6)
 
 pub gaps-chain : (m : List (List ℕ)) → IsSized m → look m ≡ Closed → IsWellLaid m → IsChain m (gaps (means m))
-gaps-chain m image closed h = let c : Chain m = chain-of m image closed h in subst (λ (l : List (ℕ × ℕ)). IsChain m l) (sym c.gaps) c.chain
+gaps-chain m image closed h = let c : GapChain m = chain-of m image closed h in subst (λ (l : List (ℕ × ℕ)). IsChain m l) (sym c.gaps) c.chain
 
 -- ---- towards a place
 
@@ -36,7 +36,7 @@ pub record Trail (m : List (List ℕ)) (p : ℕ) (whole : List (ℕ × ℕ)) (pl
 
 pub trail-begins : (m : List (List ℕ)) (p next : ℕ) (x : List ℕ) → IsSized m → look m ≡ Closed → IsWellLaid m → x ≡ word m 0 → next ≡ be2 x 6 → Trail m p (gaps (means m)) 0 0 next
 trail-begins m p next x image closed h is here =
-    let c : Chain m = chain-of m image closed h in
+    let c : GapChain m = chain-of m image closed h in
     record {
       rest = hole_spans (blocks m);
       chain = c.chain;
@@ -157,7 +157,7 @@ hole-first m need g gs c fits =
       next = c.4;
     }
 
-room-above : (q p need : ℕ) (gs : List (ℕ × ℕ)) → Above q gs → has_room p need gs ≡ true → q ≤ p
+room-above : (q p need : ℕ) (gs : List (ℕ × ℕ)) → SpansAbove q gs → has_room p need gs ≡ true → q ≤ p
 room-above q p need [] a h = absurd (cc h)
 room-above q p need (g ∷ gs) a h =
     let low : q ≤ g.0 = a.0 in
@@ -190,11 +190,11 @@ unfolding BeforeAt
 before-kind m p g h more true e at low high rest = rest (inr (low, high, ltb-true h.0 p e))
 before-kind m p g h more false e at low high rest = at
 
-before-all : (m : List (List ℕ)) (p : ℕ) (g : ℕ × ℕ) (gs : List (ℕ × ℕ)) → BeforeAt m p g → Above 131 gs → IsChain m gs → BeforeAt m p (gap_before p g gs)
+before-all : (m : List (List ℕ)) (p : ℕ) (g : ℕ × ℕ) (gs : List (ℕ × ℕ)) → BeforeAt m p g → SpansAbove 131 gs → IsChain m gs → BeforeAt m p (gap_before p g gs)
 before-all m p g [] at a c = at
 before-all m p g (h ∷ hs) at a c = before-kind m p g h (gap_before p h hs) (nat_lt h.0 p) refl at a.0 c.1 (λ b. before-all m p h hs b a.1 c.6)
 
-pub before-at : (m : List (List ℕ)) (p : ℕ) (gs : List (ℕ × ℕ)) → Above 131 gs → IsChain m gs → BeforeAt m p (gap_before p (0, 0) gs)
+pub before-at : (m : List (List ℕ)) (p : ℕ) (gs : List (ℕ × ℕ)) → SpansAbove 131 gs → IsChain m gs → BeforeAt m p (gap_before p (0, 0) gs)
 unfolding BeforeAt
 before-at m p gs a c = before-all m p (0, 0) gs (inl (refl, refl)) a c
 

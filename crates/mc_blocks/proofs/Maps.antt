@@ -8,7 +8,7 @@ use Rattle.mc_model.specs.Bytes.{insert, remove, lookup, name_before, has_name}
 use Rattle.mc_model.specs.Card.{App, needed}
 use Rattle.mc_model.specs.Layout.{put_at, spans_of}
 use Rattle.mc_model.proofs.ListLemmas.{or-swap}
-use Rattle.mc_blocks.specs.Chains.{Above}
+use Rattle.mc_blocks.specs.Chains.{SpansAbove}
 use Rattle.mc_blocks.specs.Plans.{has_span, without}
 
 -- ---- spans put in order
@@ -56,11 +56,11 @@ length-put p x [] = refl
 length-put p x (e ∷ es) = let h = length-test (nat_lt p e.0) p x e es (put_at p x es) (length-put p x es) in omega (arith, h)
 
 -- before all others
-pub put-front : (p n : ℕ) (l : List (ℕ × ℕ)) → Above (p + 1) l → put_at p n l ≡ (p, n) ∷ l
+pub put-front : (p n : ℕ) (l : List (ℕ × ℕ)) → SpansAbove (p + 1) l → put_at p n l ≡ (p, n) ∷ l
 put-front p n [] a = refl
 put-front p n (e ∷ es) a = let low : p + 1 ≤ e.0 = a.0 in ap (λ (t : Bool). cond t ((p, n) ∷ e ∷ es) (e ∷ put_at p n es)) (lt-ltb p e.0 (omega arith))
 
-pub above-weaker : (p q : ℕ) (l : List (ℕ × ℕ)) → q ≤ p → Above p l → Above q l
+pub above-weaker : (p q : ℕ) (l : List (ℕ × ℕ)) → q ≤ p → SpansAbove p l → SpansAbove q l
 above-weaker p q [] h a = tt
 above-weaker p q (e ∷ es) h a = let low : p ≤ e.0 = a.0 in (omega arith, above-weaker p q es h a.1)
 
@@ -149,13 +149,13 @@ free-from n p (e ∷ es) l s = free-kind n p e es (bytes_eq e.0 n) refl l s (fre
 -- spans that ascend
 abbrev pub Sorted : List (ℕ × ℕ) → Type 0
 Sorted [] = Unit {0}
-Sorted (e ∷ es) = Above e.0 es × Sorted es
+Sorted (e ∷ es) = SpansAbove e.0 es × Sorted es
 
-above-test : (r p n : ℕ) (e : ℕ × ℕ) (es more : List (ℕ × ℕ)) (t : Bool) → r ≤ p → Above r (e ∷ es) → Above r more → Above r (cond t ((p, n) ∷ e ∷ es) (e ∷ more))
+above-test : (r p n : ℕ) (e : ℕ × ℕ) (es more : List (ℕ × ℕ)) (t : Bool) → r ≤ p → SpansAbove r (e ∷ es) → SpansAbove r more → SpansAbove r (cond t ((p, n) ∷ e ∷ es) (e ∷ more))
 above-test r p n e es more true h a rest = (h, a)
 above-test r p n e es more false h a rest = (a.0, rest)
 
-above-put : (r p n : ℕ) (l : List (ℕ × ℕ)) → r ≤ p → Above r l → Above r (put_at p n l)
+above-put : (r p n : ℕ) (l : List (ℕ × ℕ)) → r ≤ p → SpansAbove r l → SpansAbove r (put_at p n l)
 above-put r p n [] h a = (h, tt)
 above-put r p n (e ∷ es) h a = above-test r p n e es (put_at p n es) (nat_lt p e.0) h a (above-put r p n es h a.1)
 
@@ -171,11 +171,11 @@ sorted-spans : (es : List (List ℕ × App)) → Sorted (spans_of es)
 sorted-spans [] = tt
 sorted-spans (e ∷ es) = sorted-put (e.1).place (needed e.1) (spans_of es) (sorted-spans es)
 
-above-kept : (r p : ℕ) (e : ℕ × ℕ) (es : List (ℕ × ℕ)) (t : Bool) → r ≤ e.0 → Above r (without p es) → Above r (cond t (without p es) (e ∷ without p es))
+above-kept : (r p : ℕ) (e : ℕ × ℕ) (es : List (ℕ × ℕ)) (t : Bool) → r ≤ e.0 → SpansAbove r (without p es) → SpansAbove r (cond t (without p es) (e ∷ without p es))
 above-kept r p e es true h a = a
 above-kept r p e es false h a = (h, a)
 
-above-without : (r p : ℕ) (l : List (ℕ × ℕ)) → Above r l → Above r (without p l)
+above-without : (r p : ℕ) (l : List (ℕ × ℕ)) → SpansAbove r l → SpansAbove r (without p l)
 above-without r p [] a = tt
 above-without r p (e ∷ es) a = above-kept r p e es (e.0 == p) a.0 (above-without r p es a.1)
 
@@ -184,11 +184,11 @@ kept-test : (p q n : ℕ) (e : ℕ × ℕ) (es : List (ℕ × ℕ)) (t : Bool) �
 kept-test p q n e es true past h = h
 kept-test p q n e es false past h = ap (λ (l : List (ℕ × ℕ)). e ∷ l) h ∙ sym (ap (λ (b : Bool). cond b ((q, n) ∷ e ∷ without p es) (e ∷ put_at q n (without p es))) past)
 
-without-test : (p q n : ℕ) (e : ℕ × ℕ) (es : List (ℕ × ℕ)) (t : Bool) → nat_lt q e.0 ≡ t → (q == p) ≡ false → Above e.0 es → without p (put_at q n es) ≡ put_at q n (without p es)
+without-test : (p q n : ℕ) (e : ℕ × ℕ) (es : List (ℕ × ℕ)) (t : Bool) → nat_lt q e.0 ≡ t → (q == p) ≡ false → SpansAbove e.0 es → without p (put_at q n es) ≡ put_at q n (without p es)
     → without p (cond t ((q, n) ∷ e ∷ es) (e ∷ put_at q n es)) ≡ put_at q n (without p (e ∷ es))
 without-test p q n e es true lt ne a h =
     let less : q < e.0 = ltb-true q e.0 lt in
-    let above : Above (q + 1) (e ∷ es) = (omega arith, above-weaker e.0 (q + 1) es (omega arith) a) in
+    let above : SpansAbove (q + 1) (e ∷ es) = (omega arith, above-weaker e.0 (q + 1) es (omega arith) a) in
     ap (λ (b : Bool). cond b (without p (e ∷ es)) ((q, n) ∷ without p (e ∷ es))) ne
     ∙ sym (put-front q n (without p (e ∷ es)) (above-without (q + 1) p (e ∷ es) above))
 without-test p q n e es false lt ne a h = kept-test p q n e es (e.0 == p) lt h

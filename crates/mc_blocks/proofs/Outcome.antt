@@ -9,14 +9,14 @@ use Rattle.mc_model.specs.Device.{IsSized}
 use Rattle.mc_model.specs.Card.{App, Card, Block, word, blocks, means, record_at, name_at, app_at, apps_of}
 use Rattle.mc_model.specs.Layout.{first_hole, gaps, spans, put_at, root, same_pair, is_record, IsWellLaid}
 use Rattle.mc_model.specs.Image.{Two}
-use Rattle.mc_model.specs.Stopped.{Inside, Stands as WrittenBy}
-use Rattle.mc_model.proofs.ImageLemmas.{Holds, all-append, laid-other, length-laid}
+use Rattle.mc_model.specs.Stopped.{InJournal, LaidWhole as WrittenBy}
+use Rattle.mc_model.proofs.ImageLemmas.{HoldsWords, all-append, laid-other, length-laid}
 use Rattle.mc_blocks.specs.Blocks.{used_spans, hole_spans}
-use Rattle.mc_blocks.specs.Outcomes.{Kept, Planned, Leaves}
+use Rattle.mc_blocks.specs.Outcomes.{OthersKept, Planned, HoldsApplications}
 use Rattle.mc_blocks.specs.Plans.{changes, layout_of, plan, link_word, without, has_room, has_span}
-use Rattle.mc_blocks.proofs.Tiles.{Tiled, AreRead}
+use Rattle.mc_blocks.proofs.Tiles.{Tiled, HeadersRead}
 use Rattle.mc_blocks.proofs.Maps.{length-put}
-use Rattle.mc_blocks.proofs.Bridge.{Laid, well-laid, means-closed, used-above, AreNamed, named, Faultless, faultless, fault-closed}
+use Rattle.mc_blocks.proofs.Bridge.{WellLaid, well-laid, means-closed, used-above, AreNamed, named, Faultless, faultless, fault-closed}
 use Rattle.mc_blocks.proofs.Applications.{few-blocks, found-application}
 use Rattle.mc_blocks.proofs.Names.{remove-inserted}
 use Rattle.mc_blocks.proofs.Changes.{from-weaker, split}
@@ -24,18 +24,18 @@ use Rattle.mc_blocks.proofs.Heads.{heads, heads-from, layout-is}
 use Rattle.mc_blocks.proofs.Plans.{plan-is, gaps-are, spans-are}
 use Rattle.mc_blocks.proofs.Taking.{take_in, take-tiled, take-spans}
 use Rattle.mc_blocks.proofs.Freeing.{free_in, free-tiled, free-spans}
-use Rattle.mc_blocks.proofs.Built.{Stands, built, same-block, chain-parts, root-good}
+use Rattle.mc_blocks.proofs.Built.{HoldsBlocks, built, same-block, chain-parts, root-good}
 use Rattle.mc_blocks.proofs.Written.{relink, relink-used, Relaid, written, root-apart}
-use Rattle.mc_blocks.proofs.Cards.{In, in-above, in-old, changes-apart, SameUsed, NotNamed, not-named, relink-named, relink-apps, Created, created, Deleted, deleted}
+use Rattle.mc_blocks.proofs.Cards.{In, in-above, in-old, changes-apart, SameUsed, NotNamed, not-named, relink-named, relink-apps, ApplicationInserted, created, Deleted, deleted}
 
 -- what stands after a plan for the spans of these blocks
-record After (m n : List (List ℕ)) (new : List Block) : Type 0 where
+record AfterPlan (m n : List (List ℕ)) (new : List Block) : Type 0 where
   relaid : Relaid m n new
   same : (s : ℕ × ℕ) → In s (used_spans (blocks m)) → In s (used_spans new) → (i : ℕ) → s.0 ≤ i → i < s.0 + s.1 → word n i ≡ word m i
 
-after-plan : (m n : List (List ℕ)) (f : List (ℕ × ℕ) → List (ℕ × ℕ)) (new : List Block) → IsSized m → look m ≡ Closed → IsWellLaid m → Planned m n (f (spans (means m))) → Tiled 131 false new (length m) → f (used_spans (blocks m)) ≡ used_spans new → After m n new
+after-plan : (m n : List (List ℕ)) (f : List (ℕ × ℕ) → List (ℕ × ℕ)) (new : List Block) → IsSized m → look m ≡ Closed → IsWellLaid m → Planned m n (f (spans (means m))) → Tiled 131 false new (length m) → f (used_spans (blocks m)) ≡ used_spans new → AfterPlan m n new
 after-plan m n f new image closed h planned tiled spans-new =
-    let l : Laid m = well-laid m image closed h in
+    let l : WellLaid m = well-laid m image closed h in
     let v = slice_index (word m 0) 3 in
     let bs = blocks m in
     let high : length m ≤ 16384 = image.high in
@@ -45,14 +45,14 @@ after-plan m n f new image closed h planned tiled spans-new =
     plan-is m f image closed h
     ∙ ap (λ (x : List (ℕ × List ℕ)). changes x (layout_of v (length m) (f (used_spans bs)))) (layout-is v (length m) bs (used_spans bs) l.tiled refl)
     ∙ ap (λ (x : List (ℕ × List ℕ)). changes old-list x) (layout-is v (length m) new (f (used_spans bs)) tiled spans-new) in
-    let kept : Kept m n 131 (changes old-list new-list) = subst (λ (x : List (ℕ × List ℕ)). Kept m n 131 x) listed planned.heap in
+    let kept : OthersKept m n 131 (changes old-list new-list) = subst (λ (x : List (ℕ × List ℕ)). OthersKept m n 131 x) listed planned.heap in
     let links = chain-parts (be2 (word m 0) 6) (first_hole bs) _ (be2 (word m 0) 6 == first_hole bs) refl l.chain in
     let one : 0 < 1 = omega arith in
     let parts : changes old-list new-list ≡ changes ((0, root v (length m) (first_hole bs)) ∷ []) ((0, root v (length m) (first_hole new)) ∷ []) ++ changes (heads bs) (heads new) =
     split 1 ((0, root v (length m) (first_hole bs)) ∷ []) (heads bs) ((0, root v (length m) (first_hole new)) ∷ []) (heads new) (one, tt) (from-weaker 131 1 (heads bs) (omega arith) (heads-from 131 false bs (length m) l.tiled)) (one, tt) (from-weaker 131 1 (heads new) (omega arith) (heads-from 131 false new (length m) tiled)) in
     record {
       relaid = written m n bs new (omega arith) planned.size (root-good m _ l.root) links.0 l.tiled l.read links.1 tiled
-          (subst (λ (x : List (ℕ × List ℕ)). Holds n x) listed planned.stand)
+          (subst (λ (x : List (ℕ × List ℕ)). HoldsWords n x) listed planned.stand)
           (subst (λ (x : List (ℕ × List ℕ)). AllByRecursion (λ (e : ℕ × List ℕ). e.0 ≢ 0) x → word n 0 ≡ word m 0) listed planned.root)
           kept;
       same = λ s here there i low below.
@@ -83,7 +83,7 @@ in-later : (s : ℕ × ℕ) (b : Block) (us : List (ℕ × ℕ)) (u : Bool) → 
 in-later s b us true i = inr i
 in-later s b us false i = i
 
-same-used : (m n : List (List ℕ)) (p : ℕ) (names : List (List ℕ)) (bs : List Block) → length n ≡ length m → AreRead m bs → AreNamed m names bs
+same-used : (m n : List (List ℕ)) (p : ℕ) (names : List (List ℕ)) (bs : List Block) → length n ≡ length m → HeadersRead m bs → AreNamed m names bs
     → ((s : ℕ × ℕ) → In s (used_spans bs) → s.0 ≢ p → (i : ℕ) → s.0 ≤ i → i < s.0 + s.1 → word n i ≡ word m i) → SameUsed m n p bs
 same-used m n p names [] size r nm same = tt
 same-used m n p names (b ∷ bs) size r nm same = (
@@ -117,9 +117,9 @@ length-without p (e ∷ es) = let h = less-kind p e es (without p es) (e.0 == p)
 
 -- ---- the cards
 
-leaves : (m n : List (List ℕ)) (new : List Block) (apps : List (List ℕ × App)) → look m ≡ Closed → length n ≡ length m → Relaid m n new → AreNamed n [] new → length (used_spans new) ≤ 32 → apps_of n new ≡ apps → Leaves m n apps
+leaves : (m n : List (List ℕ)) (new : List Block) (apps : List (List ℕ × App)) → look m ≡ Closed → length n ≡ length m → Relaid m n new → AreNamed n [] new → length (used_spans new) ≤ 32 → apps_of n new ≡ apps → HoldsApplications m n apps
 leaves m n new apps closed size r nm few is =
-    let s : Stands n (relink new) = built n (relink new) (record { root = r.root; first = r.first; tiled = r.tiled; read = r.read; links = r.links; named = relink-named n [] new nm; few = subst (λ (l : List (ℕ × ℕ)). length l ≤ 32) (sym (relink-used new)) few }) in
+    let s : HoldsBlocks n (relink new) = built n (relink new) (record { root = r.root; first = r.first; tiled = r.tiled; read = r.read; links = r.links; named = relink-named n [] new nm; few = subst (λ (l : List (ℕ × ℕ)). length l ≤ 32) (sym (relink-used new)) few }) in
     record {
       laid = s.good;
       card = ap (λ (x : ℕ). record { size = x; layout = slice_index (word n 0) 3; apps = apps_of n (blocks n) }) size
@@ -130,29 +130,29 @@ leaves m n new apps closed size r nm few is =
 
 -- words taken for an application whose record stands there
 pub creates : (m n : List (List ℕ)) (p need : ℕ) → IsSized m → look m ≡ Closed → IsWellLaid m → 1 ≤ need → has_room p need (gaps (means m)) ≡ true → Planned m n (put_at p need (spans (means m)))
-    → is_record (record_at n p) need ≡ true → lookup (means m).apps (name_at n p) ≡ None → length (means m).apps < 32 → Leaves m n (insert (means m).apps (name_at n p) (app_at n p))
+    → is_record (record_at n p) need ≡ true → lookup (means m).apps (name_at n p) ≡ None → length (means m).apps < 32 → HoldsApplications m n (insert (means m).apps (name_at n p) (app_at n p))
 creates m n p need image closed h some room planned good fresh few =
-    let l : Laid m = well-laid m image closed h in
+    let l : WellLaid m = well-laid m image closed h in
     let f : Faultless m = faultless m (sym (fault-closed m closed) ∙ h) in
     let bs = blocks m in
     let free : has_room p need (hole_spans bs) ≡ true = subst (λ (x : List (ℕ × ℕ)). has_room p need x ≡ true) (gaps-are m image closed h) room in
     let new = take_in p need bs in
     let tiled : Tiled 131 false new (length m) = take-tiled p need 131 false bs (length m) some l.tiled free in
     let same-spans : used_spans new ≡ put_at p need (used_spans bs) = take-spans p need 131 false bs (length m) l.tiled free in
-    let after : After m n new = after-plan m n (put_at p need) new image closed h planned tiled (sym same-spans) in
+    let after : AfterPlan m n new = after-plan m n (put_at p need) new image closed h planned tiled (sym same-spans) in
     let names : AreNamed m [] bs = named m bs [] 0 f.records in
     let means-apps : (means m).apps ≡ apps_of m bs = ap (λ (k : Card). k.apps) (means-closed m closed) in
     let used : SameUsed m n p bs = same-used m n p [] bs planned.size l.read names (λ s i ne. after.same s i (subst (λ (x : List (ℕ × ℕ)). In s x) (sym same-spans) (in-put s p need (used_spans bs) i))) in
     let unnamed : NotNamed m (name_at n p) bs = not-named m (name_at n p) bs (sym (ap (λ (es : List (List ℕ × App)). lookup es (name_at n p)) means-apps) ∙ fresh) in
-    let c : Created m n [] (name_at n p) (app_at n p) bs new = created m n p need 131 false [] bs (length m) l.tiled names used unnamed free refl good in
+    let c : ApplicationInserted m n [] (name_at n p) (app_at n p) bs new = created m n p need 131 false [] bs (length m) l.tiled names used unnamed free refl good in
     let count : length (used_spans bs) < 32 = subst (λ (k : ℕ). k < 32) (ap (λ (es : List (List ℕ × App)). length es) means-apps ∙ l.apps) few in
     let more : length (used_spans new) ≤ 32 = omega (arith, ap length same-spans, length-put p need (used_spans bs), count) in
     leaves m n new (insert (means m).apps (name_at n p) (app_at n p)) closed planned.size after.relaid c.named more (c.apps ∙ ap (λ (es : List (List ℕ × App)). insert es (name_at n p) (app_at n p)) (sym means-apps))
 
 -- a block freed: the card loses its application
-pub deletes : (m n : List (List ℕ)) (k : List ℕ) (a : App) → IsSized m → look m ≡ Closed → IsWellLaid m → lookup (means m).apps k ≡ Some a → Planned m n (without a.place (spans (means m))) → Leaves m n (remove (means m).apps k)
+pub deletes : (m n : List (List ℕ)) (k : List ℕ) (a : App) → IsSized m → look m ≡ Closed → IsWellLaid m → lookup (means m).apps k ≡ Some a → Planned m n (without a.place (spans (means m))) → HoldsApplications m n (remove (means m).apps k)
 deletes m n k a image closed h found planned =
-    let l : Laid m = well-laid m image closed h in
+    let l : WellLaid m = well-laid m image closed h in
     let f : Faultless m = faultless m (sym (fault-closed m closed) ∙ h) in
     let bs = blocks m in
     let p = a.place in
@@ -161,7 +161,7 @@ deletes m n k a image closed h found planned =
     let new = free_in p bs in
     let tiled : Tiled 131 false new (length m) = free-tiled p 131 false bs (length m) (λ e. absurd (cc e)) l.tiled there in
     let same-spans : used_spans new ≡ without p (used_spans bs) = free-spans p 131 false bs (length m) l.tiled there in
-    let after : After m n new = after-plan m n (without p) new image closed h planned tiled (sym same-spans) in
+    let after : AfterPlan m n new = after-plan m n (without p) new image closed h planned tiled (sym same-spans) in
     let names : AreNamed m [] bs = named m bs [] 0 f.records in
     let means-apps : (means m).apps ≡ apps_of m bs = ap (λ (k : Card). k.apps) (means-closed m closed) in
     let used : SameUsed m n p bs = same-used m n p [] bs planned.size l.read names (λ s i ne. after.same s i (subst (λ (x : List (ℕ × ℕ)). In s x) (sym same-spans) (in-without s p (used_spans bs) ne i))) in
@@ -175,7 +175,7 @@ deletes m n k a image closed h found planned =
 
 -- ---- an atomic write of the plan
 
-outside : (q : ℕ) → (q ≡ 0) ⊎ (131 ≤ q) → Inside Two q → ⊥
+outside : (q : ℕ) → (q ≡ 0) ⊎ (131 ≤ q) → InJournal Two q → ⊥
 outside q (inl z) (inl i) = absurd (omega (arith, z, i.0))
 outside q (inl z) (inr e) = absurd (omega (arith, z, e))
 outside q (inr h) (inl i) = absurd (omega (arith, h, i.1))

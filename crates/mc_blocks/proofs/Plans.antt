@@ -8,12 +8,12 @@ use Rattle.mc_model.specs.Device.{IsSized}
 use Rattle.mc_model.specs.Stopped.{IsAtomic}
 use Rattle.mc_model.specs.Card.{Card, Block, means, card_of, word, header, blocks}
 use Rattle.mc_model.specs.Layout.{gaps, spans, put_at, hole_header, used_header, IsWellLaid}
-use Rattle.mc_blocks.specs.Chains.{Above}
+use Rattle.mc_blocks.specs.Chains.{SpansAbove}
 use Rattle.mc_blocks.specs.Blocks.{used_spans, hole_spans}
 use Rattle.mc_blocks.specs.Plans.{changes, layout_of, plan, without, has_room, has_span, link_word, gap_before, gaps_behind, touches, take_front, take_list, joined_words, joined_next, put_hole, free_list}
 use Rattle.mc_blocks.proofs.Steps.{HeaderIs, header-is}
-use Rattle.mc_blocks.proofs.Tiles.{Tiled, AreRead}
-use Rattle.mc_blocks.proofs.Bridge.{Laid, well-laid, means-closed, used-above}
+use Rattle.mc_blocks.proofs.Tiles.{Tiled, HeadersRead}
+use Rattle.mc_blocks.proofs.Bridge.{WellLaid, well-laid, means-closed, used-above}
 use Rattle.mc_blocks.proofs.Search.{holes-above}
 use Rattle.mc_blocks.proofs.Heads.{layout-spans}
 use Rattle.mc_blocks.proofs.Taking as taking
@@ -24,7 +24,7 @@ use Rattle.mc_blocks.proofs.Links.{chain-behind, gaps-chain, joined-within, Hole
 pub plan-is : (m : List (List ℕ)) (f : List (ℕ × ℕ) → List (ℕ × ℕ)) → IsSized m → look m ≡ Closed → IsWellLaid m
     → plan (means m) (f (spans (means m))) ≡ changes (layout_of (slice_index (word m 0) 3) (length m) (used_spans (blocks m))) (layout_of (slice_index (word m 0) 3) (length m) (f (used_spans (blocks m))))
 plan-is m f image closed h =
-    let l : Laid m = well-laid m image closed h in
+    let l : WellLaid m = well-laid m image closed h in
     let v = slice_index (word m 0) 3 in
     ap (λ (k : Card). plan k (f (spans k))) (means-closed m closed)
     ∙ ap (λ (x : List (ℕ × List ℕ)). changes x (layout_of v (length m) (f (spans (card_of m))))) (layout-spans (card_of m))
@@ -36,39 +36,39 @@ gaps-are m image closed h = ap (λ (k : Card). gaps k) (means-closed m closed) �
 pub spans-are : (m : List (List ℕ)) → IsSized m → look m ≡ Closed → IsWellLaid m → spans (means m) ≡ used_spans (blocks m)
 spans-are m image closed h = ap (λ (k : Card). spans k) (means-closed m closed) ∙ (well-laid m image closed h).spans
 
-gaps-above : (m : List (List ℕ)) → IsSized m → look m ≡ Closed → IsWellLaid m → Above 131 (gaps (means m))
-gaps-above m image closed h = subst (λ (l : List (ℕ × ℕ)). Above 131 l) (sym (gaps-are m image closed h)) (holes-above 131 false (blocks m) (length m) (well-laid m image closed h).tiled)
+gaps-above : (m : List (List ℕ)) → IsSized m → look m ≡ Closed → IsWellLaid m → SpansAbove 131 (gaps (means m))
+gaps-above m image closed h = subst (λ (l : List (ℕ × ℕ)). SpansAbove 131 l) (sym (gaps-are m image closed h)) (holes-above 131 false (blocks m) (length m) (well-laid m image closed h).tiled)
 
 -- ---- places for an atomic write
 
 -- word 0 or a word of the heap
-IsTarget : ℕ → ℕ → Type 0
-IsTarget size t = (t ≡ 0) ⊎ ((131 ≤ t) × (t < size))
+IsRootOrHeap : ℕ → ℕ → Type 0
+IsRootOrHeap size t = (t ≡ 0) ⊎ ((131 ≤ t) × (t < size))
 
-is-within : (size t : ℕ) → IsTarget size t → within size t ≡ true
-unfolding IsTarget
+is-within : (size t : ℕ) → IsRootOrHeap size t → within size t ≡ true
+unfolding IsRootOrHeap
 is-within size t (inl z) = or_left (t == 0) (nat_le 131 t && nat_lt t size) (eq-eqb t 0 z)
 is-within size t (inr h) = or_right (t == 0) (nat_le 131 t && nat_lt t size) (and_from (nat_le 131 t) (nat_lt t size) (le-leb 131 t h.0) (lt-ltb t size h.1))
 
-one-target : (size least t : ℕ) (ts : List ℕ) → least ≤ t → IsTarget size t → ascend size (t + 1) ts ≡ true → ascend size least (t ∷ ts) ≡ true
+one-target : (size least t : ℕ) (ts : List ℕ) → least ≤ t → IsRootOrHeap size t → ascend size (t + 1) ts ≡ true → ascend size least (t ∷ ts) ≡ true
 one-target size least t ts low is rest = and_from (nat_le least t) (within size t && ascend size (t + 1) ts) (le-leb least t low) (and_from (within size t) (ascend size (t + 1) ts) (is-within size t is) rest)
 
 -- a list of one to three pairs at such places
-pub record Few (size : ℕ) (list : List (ℕ × List ℕ)) : Type 0 where
+pub record FewPairs (size : ℕ) (list : List (ℕ × List ℕ)) : Type 0 where
   pub atomic : IsAtomic size list
   pub few : length list ≤ 3
 
-one : (size : ℕ) (a : ℕ × List ℕ) → IsTarget size a.0 → Few size (a ∷ [])
+one : (size : ℕ) (a : ℕ × List ℕ) → IsRootOrHeap size a.0 → FewPairs size (a ∷ [])
 one size a ta = record { atomic = record { low = omega arith; high = omega arith; targets = one-target size 0 a.0 [] (omega arith) ta refl }; few = omega arith }
 
-two : (size : ℕ) (a b : ℕ × List ℕ) → IsTarget size a.0 → IsTarget size b.0 → a.0 < b.0 → Few size (a ∷ b ∷ [])
+two : (size : ℕ) (a b : ℕ × List ℕ) → IsRootOrHeap size a.0 → IsRootOrHeap size b.0 → a.0 < b.0 → FewPairs size (a ∷ b ∷ [])
 two size a b ta tb lt =
     record {
       atomic = record { low = omega arith; high = omega arith; targets = one-target size 0 a.0 (b.0 ∷ []) (omega arith) ta (one-target size (a.0 + 1) b.0 [] (omega arith) tb refl) };
       few = omega arith;
     }
 
-three : (size : ℕ) (a b c : ℕ × List ℕ) → IsTarget size a.0 → IsTarget size b.0 → IsTarget size c.0 → a.0 < b.0 → b.0 < c.0 → Few size (a ∷ b ∷ c ∷ [])
+three : (size : ℕ) (a b c : ℕ × List ℕ) → IsRootOrHeap size a.0 → IsRootOrHeap size b.0 → IsRootOrHeap size c.0 → a.0 < b.0 → b.0 < c.0 → FewPairs size (a ∷ b ∷ c ∷ [])
 three size a b c ta tb tc lt less =
     record {
       atomic = record {
@@ -80,13 +80,13 @@ three size a b c ta tb tc lt less =
     }
 
 -- the gap before a place as a target
-gap-target : (m : List (List ℕ)) (p : ℕ) (g : ℕ × ℕ) → 131 ≤ p → p ≤ length m → BeforeAt m p g → IsTarget (length m) g.0 × (g.0 < p)
-unfolding IsTarget
+gap-target : (m : List (List ℕ)) (p : ℕ) (g : ℕ × ℕ) → 131 ≤ p → p ≤ length m → BeforeAt m p g → IsRootOrHeap (length m) g.0 × (g.0 < p)
+unfolding IsRootOrHeap
 gap-target m p g low high at = elim (before-cases m p g at) [ inl root ↦ (inl root.0, omega (arith, root.0)) | inr hole ↦ (inr (hole.0, omega (arith, hole.2)), hole.2) ]
 
 take-few : (m : List (List ℕ)) (v p words next need : ℕ) (g : ℕ × ℕ) (t : Bool) → nat_lt need words ≡ t → 131 ≤ p → 1 ≤ need → need ≤ words → p + words ≤ length m → BeforeAt m p g
-    → Few (length m) (cond t (link_word v (length m) g (p + need) ∷ (p, used_header need) ∷ (p + need, hole_header (words - need) next) ∷ []) (link_word v (length m) g next ∷ (p, used_header need) ∷ []))
-unfolding IsTarget
+    → FewPairs (length m) (cond t (link_word v (length m) g (p + need) ∷ (p, used_header need) ∷ (p + need, hole_header (words - need) next) ∷ []) (link_word v (length m) g next ∷ (p, used_header need) ∷ []))
+unfolding IsRootOrHeap
 take-few m v p words next need g true e low some fits ends at =
     let less : need < words = ltb-true need words e in
     let target = gap-target m p g low (omega arith) at in
@@ -96,8 +96,8 @@ take-few m v p words next need g false e low some fits ends at =
     two (length m) (link_word v (length m) g next) (p, used_header need) target.0 (inr (low, omega arith)) target.1
 
 put-few : (m : List (List ℕ)) (v p words next : ℕ) (g : ℕ × ℕ) (t : Bool) → 131 ≤ p → p < length m → BeforeAt m p g
-    → Few (length m) (cond t ((g.0, hole_header (g.1 + words) next) ∷ []) (link_word v (length m) g p ∷ (p, hole_header words next) ∷ []))
-unfolding IsTarget
+    → FewPairs (length m) (cond t ((g.0, hole_header (g.1 + words) next) ∷ []) (link_word v (length m) g p ∷ (p, hole_header words next) ∷ []))
+unfolding IsRootOrHeap
 put-few m v p words next g true low high at = one (length m) (g.0, hole_header (g.1 + words) next) (gap-target m p g low (omega arith) at).0
 put-few m v p words next g false low high at =
     let target = gap-target m p g low (omega arith) at in
@@ -112,14 +112,14 @@ pub record TakeIs (m : List (List ℕ)) (p need : ℕ) : Type 0 where
   pub list : List (ℕ × List ℕ)
   pub is : list ≡ take_front (slice_index (word m 0) 3) (length m) (gap_before p (0, 0) (gaps (means m))) p (be2 (word m p) 2) (be2 (word m p) 4) need
   pub plan : list ≡ plan (means m) (put_at p need (spans (means m)))
-  pub few : Few (length m) list
+  pub few : FewPairs (length m) list
 
-room-low : (p need : ℕ) (gs : List (ℕ × ℕ)) → Above 131 gs → has_room p need gs ≡ true → 131 ≤ p
+room-low : (p need : ℕ) (gs : List (ℕ × ℕ)) → SpansAbove 131 gs → has_room p need gs ≡ true → 131 ≤ p
 room-low p need gs a h = taking.room-from 131 p need gs a h
 
 pub take-is : (m : List (List ℕ)) (p need : ℕ) → IsSized m → look m ≡ Closed → IsWellLaid m → 1 ≤ need → has_room p need (gaps (means m)) ≡ true → TakeIs m p need
 take-is m p need image closed h some room =
-    let l : Laid m = well-laid m image closed h in
+    let l : WellLaid m = well-laid m image closed h in
     let gs = gaps (means m) in
     let v = slice_index (word m 0) 3 in
     let hole : HoleAt m p need gs = hole-at m p need gs (gaps-chain m image closed h) room in
@@ -144,7 +144,7 @@ take-is m p need image closed h some room =
 
 -- what the code lists from the links that it read
 pub take-listed : (m : List (List ℕ)) (p need : ℕ) (before : ℕ × ℕ) (at words next : ℕ) (items : List (ℕ × List ℕ)) → TakeIs m p need → before ≡ gap_before p (0, 0) (gaps (means m)) → at ≡ p → words ≡ be2 (word m p) 2 → next ≡ be2 (word m p) 4
-    → items ≡ take_front (slice_index (word m 0) 3) (length m) before at words next need → (items ≡ plan (means m) (put_at p need (spans (means m)))) × Few (length m) items
+    → items ≡ take_front (slice_index (word m 0) 3) (length m) before at words next need → (items ≡ plan (means m) (put_at p need (spans (means m)))) × FewPairs (length m) items
 take-listed m p need before at words next items t a b c d e =
     let v = slice_index (word m 0) 3 in
     let same : items ≡ t.list =
@@ -154,7 +154,7 @@ take-listed m p need before at words next items t a b c d e =
     ∙ ap (λ (x : ℕ). take_front v (length m) (gap_before p (0, 0) (gaps (means m))) p x next need) c
     ∙ ap (λ (x : ℕ). take_front v (length m) (gap_before p (0, 0) (gaps (means m))) p (be2 (word m p) 2) x need) d
     ∙ sym t.is in
-    (same ∙ t.plan, subst (λ (l : List (ℕ × List ℕ)). Few (length m) l) (sym same) t.few)
+    (same ∙ t.plan, subst (λ (l : List (ℕ × List ℕ)). FewPairs (length m) l) (sym same) t.few)
 
 -- ---- freeing
 
@@ -166,7 +166,7 @@ pub record BlockAt (m : List (List ℕ)) (p : ℕ) (bs : List Block) : Type 0 wh
   pub words : be2 (word m p) 2 ≡ freeing.words_at p (used_spans bs)
 
 block-kind : (m : List (List ℕ)) (p q : ℕ) (b : Block) (bs : List Block) (u : Bool) → 131 ≤ q → b.place ≡ q → 1 ≤ b.words → header b.place (word m b.place) ≡ Some b → b.place + b.words ≤ length m
-    → (has_span p (used_spans bs) ≡ true → BlockAt m p bs) → Above (q + b.words) (used_spans bs) → has_span p (cond u ((b.place, b.words) ∷ used_spans bs) (used_spans bs)) ≡ true
+    → (has_span p (used_spans bs) ≡ true → BlockAt m p bs) → SpansAbove (q + b.words) (used_spans bs) → has_span p (cond u ((b.place, b.words) ∷ used_spans bs) (used_spans bs)) ≡ true
     → (1 ≤ be2 (word m p) 2) × (131 ≤ p) × (p + be2 (word m p) 2 ≤ length m) × (be2 (word m p) 2 ≡ freeing.words_at p (cond u ((b.place, b.words) ∷ used_spans bs) (used_spans bs)))
 block-kind m p q b bs false low place long is ends rest above h = let there = rest h in (there.some, there.low, there.ends, there.words)
 block-kind m p q b bs true low place long is ends rest above h =
@@ -183,7 +183,7 @@ block-kind m p q b bs true low place long is ends rest above h =
           (there.some, there.low, there.ends, there.words ∙ sym (ap (λ (t : Bool). cond t b.words (freeing.words_at p (used_spans bs))) (ne_eqb b.place p ne)))
     ]
 
-block-at : (m : List (List ℕ)) (p q : ℕ) (a : Bool) (bs : List Block) (end : ℕ) → 131 ≤ q → Tiled q a bs end → AreRead m bs → has_span p (used_spans bs) ≡ true → BlockAt m p bs
+block-at : (m : List (List ℕ)) (p q : ℕ) (a : Bool) (bs : List Block) (end : ℕ) → 131 ≤ q → Tiled q a bs end → HeadersRead m bs → has_span p (used_spans bs) ≡ true → BlockAt m p bs
 block-at m p q a [] end low t r h = absurd (cc h)
 block-at m p q a (b ∷ bs) end low t r h =
     let k = block-kind m p q b bs b.used low t.0 t.1 r.0 r.1 (λ later. block-at m p (q + b.words) (not b.used) bs end (omega arith) t.3 r.2 later) (used-above (q + b.words) (not b.used) bs end t.3) h in
@@ -197,11 +197,11 @@ pub record FreeIs (m : List (List ℕ)) (p : ℕ) : Type 0 where
   pub list : List (ℕ × List ℕ)
   pub is : list ≡ put_hole (slice_index (word m 0) 3) (length m) (gap_before p (0, 0) (gaps (means m))) p (joined_words p (be2 (word m p) 2) (gaps_behind p (gaps (means m)))) (joined_next p (be2 (word m p) 2) (gaps_behind p (gaps (means m))))
   pub plan : list ≡ plan (means m) (without p (spans (means m)))
-  pub few : Few (length m) list
+  pub few : FewPairs (length m) list
 
 pub free-is : (m : List (List ℕ)) (p : ℕ) → IsSized m → look m ≡ Closed → IsWellLaid m → has_span p (spans (means m)) ≡ true → FreeIs m p
 free-is m p image closed h span =
-    let l : Laid m = well-laid m image closed h in
+    let l : WellLaid m = well-laid m image closed h in
     let gs = gaps (means m) in
     let v = slice_index (word m 0) 3 in
     let n = be2 (word m p) 2 in
@@ -236,7 +236,7 @@ before-ends m p image closed h =
 -- what the code lists from the links that it read
 pub free-listed : (m : List (List ℕ)) (p : ℕ) (before : ℕ × ℕ) (at words next n : ℕ) (items : List (ℕ × List ℕ)) → FreeIs m p → before ≡ gap_before p (0, 0) (gaps (means m)) → at ≡ p → n ≡ be2 (word m p) 2
     → words ≡ joined_words p n (gaps_behind p (gaps (means m))) → next ≡ joined_next p n (gaps_behind p (gaps (means m)))
-    → items ≡ put_hole (slice_index (word m 0) 3) (length m) before at words next → (items ≡ plan (means m) (without p (spans (means m)))) × Few (length m) items
+    → items ≡ put_hole (slice_index (word m 0) 3) (length m) before at words next → (items ≡ plan (means m) (without p (spans (means m)))) × FewPairs (length m) items
 free-listed m p before at words next n items f a b k c d e =
     let v = slice_index (word m 0) 3 in
     let hs = gaps_behind p (gaps (means m)) in
@@ -248,4 +248,4 @@ free-listed m p before at words next n items f a b k c d e =
     ∙ ap (λ (x : ℕ). put_hole v (length m) (gap_before p (0, 0) (gaps (means m))) p (joined_words p n hs) x) d
     ∙ ap (λ (x : ℕ). put_hole v (length m) (gap_before p (0, 0) (gaps (means m))) p (joined_words p x hs) (joined_next p x hs)) k
     ∙ sym f.is in
-    (same ∙ f.plan, subst (λ (l : List (ℕ × List ℕ)). Few (length m) l) (sym same) f.few)
+    (same ∙ f.plan, subst (λ (l : List (ℕ × List ℕ)). FewPairs (length m) l) (sym same) f.few)

@@ -7,12 +7,12 @@ use Rattle.mc_model.specs.Image.{Closed, look}
 use Rattle.mc_model.specs.Device.{IsSized}
 use Rattle.mc_model.specs.Card.{Card, Block, word, header, blocks, means}
 use Rattle.mc_model.specs.Layout.{first_hole, first_place, first_fitting, gaps, bad_link, IsWellLaid}
-use Rattle.mc_blocks.specs.Chains.{Above, IsChain, looked_at}
+use Rattle.mc_blocks.specs.Chains.{SpansAbove, IsChain, looked_at}
 use Rattle.mc_blocks.specs.Blocks.{hole_spans}
 use Rattle.mc_blocks.proofs.Steps.{HeaderIs, header-is}
-use Rattle.mc_blocks.proofs.Tiles.{Tiled, AreRead, first-is}
+use Rattle.mc_blocks.proofs.Tiles.{Tiled, HeadersRead, first-is}
 use Rattle.mc_blocks.proofs.Maps.{above-weaker}
-use Rattle.mc_blocks.proofs.Bridge.{Laid, well-laid, means-closed}
+use Rattle.mc_blocks.proofs.Bridge.{WellLaid, well-laid, means-closed}
 
 -- ---- the chain of a well laid image
 
@@ -20,22 +20,22 @@ link-none : (b : Block) (due : ℕ) (rest : Option ℕ) (t : Bool) → (b.link =
 link-none b due rest true e h = (eqb-true b.link due e, h)
 link-none b due rest false e h = absurd (cc h)
 
-holes-step : (p : ℕ) (b : Block) (bs : List Block) (t : Bool) → b.place ≡ p → Above p (hole_spans bs) → Above p (cond t (hole_spans bs) ((b.place, b.words) ∷ hole_spans bs))
+holes-step : (p : ℕ) (b : Block) (bs : List Block) (t : Bool) → b.place ≡ p → SpansAbove p (hole_spans bs) → SpansAbove p (cond t (hole_spans bs) ((b.place, b.words) ∷ hole_spans bs))
 holes-step p b bs true place rest = rest
 holes-step p b bs false place rest = (omega (arith, place), rest)
 
-pub holes-above : (p : ℕ) (a : Bool) (bs : List Block) (end : ℕ) → Tiled p a bs end → Above p (hole_spans bs)
+pub holes-above : (p : ℕ) (a : Bool) (bs : List Block) (end : ℕ) → Tiled p a bs end → SpansAbove p (hole_spans bs)
 holes-above p a [] end t = tt
 holes-above p a (b ∷ bs) end t = holes-step p b bs b.used t.0 (above-weaker (p + b.words) p (hole_spans bs) (omega arith) (holes-above (p + b.words) (not b.used) bs end t.3))
 
 chain-step : (m : List (List ℕ)) (b : Block) (bs : List Block) (t : Bool) → b.used ≡ t → 1 ≤ b.place → b.place + b.words ≤ length m → 1 ≤ b.words → header b.place (word m b.place) ≡ Some b
-    → b.link ≡ cond b.used 0 (first_hole bs) → Above (b.place + 1) (hole_spans bs) → IsChain m (hole_spans bs) → IsChain m (cond t (hole_spans bs) ((b.place, b.words) ∷ hole_spans bs))
+    → b.link ≡ cond b.used 0 (first_hole bs) → SpansAbove (b.place + 1) (hole_spans bs) → IsChain m (hole_spans bs) → IsChain m (cond t (hole_spans bs) ((b.place, b.words) ∷ hole_spans bs))
 chain-step m b bs true e low high long is link above rest = rest
 chain-step m b bs false e low high long is link above rest =
     let known : HeaderIs b.place (word m b.place) b = header-is b.place (word m b.place) b is in
     (low, high, long, sym known.words, sym known.link ∙ link ∙ ap (λ (u : Bool). cond u 0 (first_hole bs)) e ∙ first-is bs, above, rest)
 
-pub chain-all : (m : List (List ℕ)) (bs : List Block) (p : ℕ) (a : Bool) (end : ℕ) → 1 ≤ p → Tiled p a bs end → AreRead m bs → bad_link bs ≡ None → IsChain m (hole_spans bs)
+pub chain-all : (m : List (List ℕ)) (bs : List Block) (p : ℕ) (a : Bool) (end : ℕ) → 1 ≤ p → Tiled p a bs end → HeadersRead m bs → bad_link bs ≡ None → IsChain m (hole_spans bs)
 chain-all m [] p a end low t r h = tt
 chain-all m (b ∷ bs) p a end low t r h =
     let place : b.place ≡ p = t.0 in
@@ -50,14 +50,14 @@ root-none x first rest true e h = (eqb-true x first e, h)
 root-none x first rest false e h = absurd (cc h)
 
 -- the gaps of the card that an image means, as its chain
-pub record Chain (m : List (List ℕ)) : Type 0 where
+pub record GapChain (m : List (List ℕ)) : Type 0 where
   pub gaps : gaps (means m) ≡ hole_spans (blocks m)
   pub chain : IsChain m (hole_spans (blocks m))
   pub first : be2 (word m 0) 6 ≡ first_place (hole_spans (blocks m))
 
-pub chain-of : (m : List (List ℕ)) → IsSized m → look m ≡ Closed → IsWellLaid m → Chain m
+pub chain-of : (m : List (List ℕ)) → IsSized m → look m ≡ Closed → IsWellLaid m → GapChain m
 chain-of m image closed h =
-    let l : Laid m = well-laid m image closed h in
+    let l : WellLaid m = well-laid m image closed h in
     let root = root-none (be2 (word m 0) 6) (first_hole (blocks m)) (bad_link (blocks m)) (be2 (word m 0) 6 == first_hole (blocks m)) refl l.chain in
     record {
       gaps = ap (λ (k : Card). gaps k) (means-closed m closed) ∙ l.gaps;
@@ -86,7 +86,7 @@ pub record OnTheWay (m : List (List ℕ)) (need : ℕ) (whole : List (ℕ × ℕ
   pub next : be2 (word m place) 2 < need → Search m need whole (be2 (word m place) 4) start (steps + 1)
   pub nearer : left_of (length m) (be2 (word m place) 4) < left_of (length m) place
 
-pub next-nearer : (size place : ℕ) (gs : List (ℕ × ℕ)) → 1 ≤ place → place < size → Above (place + 1) gs → left_of size (first_place gs) < left_of size place
+pub next-nearer : (size place : ℕ) (gs : List (ℕ × ℕ)) → 1 ≤ place → place < size → SpansAbove (place + 1) gs → left_of size (first_place gs) < left_of size place
 next-nearer size place [] low high a =
     let ne : place ≢ 0 = λ e. absurd (omega (arith, e)) in
     subst (λ (t : Bool). 0 < cond t 0 (size - place)) (sym (ne_eqb place 0 ne)) (omega arith)
@@ -146,7 +146,7 @@ search-ends m need whole place start steps s h =
 
 pub search-begins : (m : List (List ℕ)) (need place start steps : ℕ) (x : List ℕ) → IsSized m → look m ≡ Closed → IsWellLaid m → x ≡ word m 0 → place ≡ be2 x 6 → steps ≡ start + 1 → Search m need (gaps (means m)) place start steps
 search-begins m need place start steps x image closed h is here one =
-    let c : Chain m = chain-of m image closed h in
+    let c : GapChain m = chain-of m image closed h in
     let count : looked_at need (gaps (means m)) ≡ looked_at need (hole_spans (blocks m)) = ap (λ (l : List (ℕ × ℕ)). looked_at need l) c.gaps in
     record {
       rest = hole_spans (blocks m);

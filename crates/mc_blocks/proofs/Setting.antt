@@ -9,32 +9,32 @@ use Rattle.mc_model.specs.Card.{App, Card, Block, word, header, blocks, means, r
 use Rattle.mc_model.specs.Layout.{first_hole, spans, bad_link, is_record, IsWellLaid}
 use Rattle.mc_model.proofs.ListLemmas.{other-name as turned}
 use Rattle.mc_blocks.specs.Blocks.{used_spans, is_root_word}
-use Rattle.mc_blocks.specs.Chains.{Above}
-use Rattle.mc_blocks.specs.Outcomes.{Leaves, AgreeBut}
+use Rattle.mc_blocks.specs.Chains.{SpansAbove}
+use Rattle.mc_blocks.specs.Outcomes.{HoldsApplications, AgreeBut}
 use Rattle.mc_blocks.specs.Plans.{has_span}
-use Rattle.mc_blocks.proofs.Tiles.{Tiled, AreRead}
+use Rattle.mc_blocks.proofs.Tiles.{Tiled, HeadersRead}
 use Rattle.mc_blocks.proofs.Maps.{has-self}
 use Rattle.mc_blocks.proofs.Names.{insert-swap, insert-twice}
-use Rattle.mc_blocks.proofs.Bridge.{Laid, well-laid, means-closed, AreNamed, named, with-block, some-apps, used-above, Faultless, faultless, fault-closed}
+use Rattle.mc_blocks.proofs.Bridge.{WellLaid, well-laid, means-closed, AreNamed, named, with-block, some-apps, used-above, Faultless, faultless, fault-closed}
 use Rattle.mc_blocks.proofs.Applications.{few-blocks}
 use Rattle.mc_blocks.proofs.Plans.{spans-are}
 use Rattle.mc_blocks.proofs.Freeing.{span-from}
-use Rattle.mc_blocks.proofs.Built.{Stands, built, SameBlock, same-block, chain-parts, root-good}
-use Rattle.mc_blocks.proofs.Cards.{SameUsed, Same, same-named, Created, name-behind, first-name}
+use Rattle.mc_blocks.proofs.Built.{HoldsBlocks, built, SameBlock, same-block, chain-parts, root-good}
+use Rattle.mc_blocks.proofs.Cards.{SameUsed, SameApplications, same-named, ApplicationInserted, name-behind, first-name}
 use Rattle.mc_blocks.proofs.Outcome.{good-of, tail-of}
 
-agree-read : (m n : List (List ℕ)) (p : ℕ) (bs : List Block) → length n ≡ length m → AreRead m bs → AgreeBut m n p bs → AreRead n bs
+agree-read : (m n : List (List ℕ)) (p : ℕ) (bs : List Block) → length n ≡ length m → HeadersRead m bs → AgreeBut m n p bs → HeadersRead n bs
 agree-read m n p [] size r a = tt
 agree-read m n p (b ∷ bs) size r a = (ap (λ (w : List ℕ). header b.place w) a.0 ∙ r.0, subst (λ (e : ℕ). b.place + b.words ≤ e) (sym size) r.1, agree-read m n p bs size r.2 a.2)
 
-agree-used : (m n : List (List ℕ)) (p : ℕ) (names : List (List ℕ)) (bs : List Block) → length n ≡ length m → AreRead m bs → AreNamed m names bs → AgreeBut m n p bs → SameUsed m n p bs
+agree-used : (m n : List (List ℕ)) (p : ℕ) (names : List (List ℕ)) (bs : List Block) → length n ≡ length m → HeadersRead m bs → AreNamed m names bs → AgreeBut m n p bs → SameUsed m n p bs
 agree-used m n p names [] size r nm a = tt
 agree-used m n p names (b ∷ bs) size r nm a =
     ((λ u ne. same-block m n b.place b.words size r.1 (good-of m names b bs b.used u nm) (a.1 u ne)), agree-used m n p (cond b.used (name_at m b.place ∷ names) names) bs size r.2 (tail-of m names b bs b.used nm) a.2)
 
 set-kind : (m n : List (List ℕ)) (names : List (List ℕ)) (k : List ℕ) (a : App) (b : Block) (bs : List Block) (u : Bool) → (u ≡ true → bytes_eq (name_at m b.place) k ≡ false) → (u ≡ true → SameBlock m n b.place)
     → MatchBool u ((is_record (record_at m b.place) b.words ≡ true) × (has_name (name_at m b.place) names ≡ false) × AreNamed m (name_at m b.place ∷ names) bs) (AreNamed m names bs)
-    → ((ns : List (List ℕ)) → AreNamed m ns bs → Created m n ns k a bs bs)
+    → ((ns : List (List ℕ)) → AreNamed m ns bs → ApplicationInserted m n ns k a bs bs)
     → MatchBool u ((is_record (record_at n b.place) b.words ≡ true) × (has_name (name_at n b.place) names ≡ false) × AreNamed n (name_at n b.place ∷ names) bs) (AreNamed n names bs)
     × (cond u (with-block n b bs) (apps_of n bs) ≡ insert (cond u (with-block m b bs) (apps_of m bs)) k a)
 set-kind m n names k a b bs false apart block nm rest = let c = rest names nm in (c.named, c.apps)
@@ -60,7 +60,7 @@ set-here m n p q a names b bs end true place lt t s e is nm =
     let x = name_at m b.place in
     let entry : record_at n b.place ≡ record_at m b.place = ap (λ (r : ℕ). record_at n r) place ∙ e ∙ ap (λ (r : ℕ). record_at m r) (sym place) in
     let name : name_at n b.place ≡ x = ap name_in entry in
-    let same : Same m n (x ∷ names) bs = same-named m n p q a (x ∷ names) bs end lt t s nm.2 in (
+    let same : SameApplications m n (x ∷ names) bs = same-named m n p q a (x ∷ names) bs end lt t s nm.2 in (
       (subst (λ (r : List ℕ). is_record r b.words ≡ true) (sym entry) nm.0, subst (λ (y : List ℕ). has_name y names ≡ false) (sym name) nm.1, subst (λ (y : List ℕ). AreNamed n (y ∷ names) bs) (sym name) same.named),
       ap (λ (y : List ℕ). insert (apps_of n bs) y (app_at n b.place)) name
           ∙ ap (λ (es : List (List ℕ × App)). insert es x (app_at n b.place)) same.apps
@@ -72,12 +72,12 @@ later-span : (p : ℕ) (b : Block) (us : List (ℕ × ℕ)) (u : Bool) → b.pla
 later-span p b us true ne h = sym (ap (λ (t : Bool). t || has_span p us) (ne_eqb b.place p ne)) ∙ h
 later-span p b us false ne h = h
 
-here-used : (p q : ℕ) (b : Block) (us : List (ℕ × ℕ)) (u : Bool) → b.place ≡ p → Above q us → p < q → has_span p (cond u ((b.place, b.words) ∷ us) us) ≡ true → u ≡ true
+here-used : (p q : ℕ) (b : Block) (us : List (ℕ × ℕ)) (u : Bool) → b.place ≡ p → SpansAbove q us → p < q → has_span p (cond u ((b.place, b.words) ∷ us) us) ≡ true → u ≡ true
 here-used p q b us true place a lt h = refl
 here-used p q b us false place a lt h = let far : q ≤ p = span-from q p us a h in absurd (omega arith)
 
 set-all : (m n : List (List ℕ)) (p q : ℕ) (a : Bool) (names : List (List ℕ)) (bs : List Block) (end : ℕ) → Tiled q a bs end → AreNamed m names bs → SameUsed m n p bs → has_span p (used_spans bs) ≡ true → record_at n p ≡ record_at m p
-    → Created m n names (name_at m p) (app_at n p) bs bs
+    → ApplicationInserted m n names (name_at m p) (app_at n p) bs bs
 set-all m n p q a names [] end t nm s span e = absurd (cc span)
 set-all m n p q a names (b ∷ bs) end t nm s span e =
     let place : b.place ≡ q = t.0 in
@@ -98,17 +98,17 @@ set-all m n p q a names (b ∷ bs) end t nm s span e =
 
 -- words of one used block set behind its record: the card has its application as it stands then
 pub sets : (m n : List (List ℕ)) (p : ℕ) → IsSized m → look m ≡ Closed → IsWellLaid m → has_span p (spans (means m)) ≡ true → length n ≡ length m → word n 0 ≡ word m 0 → AgreeBut m n p (blocks m) → record_at n p ≡ record_at m p
-    → Leaves m n (insert (means m).apps (name_at m p) (app_at n p))
+    → HoldsApplications m n (insert (means m).apps (name_at m p) (app_at n p))
 sets m n p image closed h span size same agree entry =
-    let l : Laid m = well-laid m image closed h in
+    let l : WellLaid m = well-laid m image closed h in
     let f : Faultless m = faultless m (sym (fault-closed m closed) ∙ h) in
     let bs = blocks m in
     let names : AreNamed m [] bs = named m bs [] 0 f.records in
     let there : has_span p (used_spans bs) ≡ true = subst (λ (x : List (ℕ × ℕ)). has_span p x ≡ true) (spans-are m image closed h) span in
-    let c : Created m n [] (name_at m p) (app_at n p) bs bs = set-all m n p 131 false [] bs (length m) l.tiled names (agree-used m n p [] bs size l.read names agree) there entry in
+    let c : ApplicationInserted m n [] (name_at m p) (app_at n p) bs bs = set-all m n p 131 false [] bs (length m) l.tiled names (agree-used m n p [] bs size l.read names agree) there entry in
     let links = chain-parts (be2 (word m 0) 6) (first_hole bs) (bad_link bs) (be2 (word m 0) 6 == first_hole bs) refl l.chain in
     let root : is_root_word (word m 0) (length m) ≡ true = root-good m (is_root_word (word m 0) (length m)) l.root in
-    let s : Stands n bs = built n bs (record {
+    let s : HoldsBlocks n bs = built n bs (record {
       root = ap (λ (x : List ℕ). is_root_word x (length n)) same ∙ ap (λ (x : ℕ). is_root_word (word m 0) x) size ∙ root;
       first = ap (λ (x : List ℕ). be2 x 6) same ∙ links.0;
       tiled = subst (λ (e : ℕ). Tiled 131 false bs e) (sym size) l.tiled;

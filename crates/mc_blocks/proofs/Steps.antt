@@ -34,26 +34,26 @@ pub header-is : (p : ℕ) (x : List ℕ) (b : Block) → header p x ≡ Some b �
 header-is p x b h = header-read p x b (is_header x) refl h
 
 -- a block that fits was read, and ends in time
-pub record Fits (size p : ℕ) (x : List ℕ) (b : Block) : Type 0 where
+pub record BlockFits (size p : ℕ) (x : List ℕ) (b : Block) : Type 0 where
   pub read : header p x ≡ Some b
   pub place : b.place ≡ p
   pub low : 1 ≤ b.words
   pub high : p + b.words ≤ size
 
-fits-read : (size p : ℕ) (x : List ℕ) (b c : Block) (t : Bool) → header p x ≡ Some b → nat_le (b.place + b.words) size ≡ t → cond t (Some b) None ≡ Some c → Fits size p x c
+fits-read : (size p : ℕ) (x : List ℕ) (b c : Block) (t : Bool) → header p x ≡ Some b → nat_le (b.place + b.words) size ≡ t → cond t (Some b) None ≡ Some c → BlockFits size p x c
 fits-read size p x b c false e h f = absurd (cc f)
 fits-read size p x b c true e h f =
     let is : b ≡ c = cc in
     let known : HeaderIs p x b = header-is p x b e in
     let le : b.place + b.words ≤ size = leb-true (b.place + b.words) size h in
     let place : b.place ≡ p = known.place in
-    subst (λ (d : Block). Fits size p x d) is (record { read = e; place = place; low = known.low; high = omega (arith, le, place) })
+    subst (λ (d : Block). BlockFits size p x d) is (record { read = e; place = place; low = known.low; high = omega (arith, le, place) })
 
-fits-from : (size p : ℕ) (x : List ℕ) (o : Option Block) (c : Block) → header p x ≡ o → fitting size o ≡ Some c → Fits size p x c
+fits-from : (size p : ℕ) (x : List ℕ) (o : Option Block) (c : Block) → header p x ≡ o → fitting size o ≡ Some c → BlockFits size p x c
 fits-from size p x None c e h = absurd (cc h)
 fits-from size p x (Some b) c e h = fits-read size p x b c (nat_le (b.place + b.words) size) e refl h
 
-pub fits : (size p : ℕ) (x : List ℕ) (b : Block) → fitting size (header p x) ≡ Some b → Fits size p x b
+pub fits : (size p : ℕ) (x : List ℕ) (b : Block) → fitting size (header p x) ≡ Some b → BlockFits size p x b
 fits size p x b h = fits-from size p x (header p x) b refl h
 
 -- ---- blocks
@@ -84,14 +84,14 @@ past m p h = ap (λ (x : List ℕ). header p x) (get_or_past m p [] h)
 
 -- the same blocks with any number that is enough
 and-either : (m : List (List ℕ)) (p : ℕ) (o : Option Block) (f g : ℕ → List Block) → fitting (length m) (header p (word m p)) ≡ o
-    → ((b : Block) → Fits (length m) p (word m p) b → f (b.place + b.words) ≡ g (b.place + b.words)) → block_and (length m) (header p (word m p)) f ≡ block_and (length m) (header p (word m p)) g
+    → ((b : Block) → BlockFits (length m) p (word m p) b → f (b.place + b.words) ≡ g (b.place + b.words)) → block_and (length m) (header p (word m p)) f ≡ block_and (length m) (header p (word m p)) g
 and-either m p None f g e same = and-none (length m) (header p (word m p)) f e ∙ sym (and-none (length m) (header p (word m p)) g e)
 and-either m p (Some b) f g e same =
     and-some (length m) (header p (word m p)) (header p (word m p)) b f refl e
     ∙ ap (λ (l : List Block). b ∷ l) (same b (fits (length m) p (word m p) b e))
     ∙ sym (and-some (length m) (header p (word m p)) (header p (word m p)) b g refl e)
 
-behind : (size p n : ℕ) (x : List ℕ) (b : Block) → Fits size p x b → size - p ≤ suc n → size - (b.place + b.words) ≤ n
+behind : (size p n : ℕ) (x : List ℕ) (b : Block) → BlockFits size p x b → size - p ≤ suc n → size - (b.place + b.words) ≤ n
 behind size p n x b f h = let place : b.place ≡ p = f.place in let low : 1 ≤ b.words = f.low in let high : p + b.words ≤ size = f.high in omega arith
 
 same-fuel : (n k : ℕ) (m : List (List ℕ)) (p : ℕ) → length m - p ≤ n → length m - p ≤ k → blocks_from n m p ≡ blocks_from k m p
@@ -117,7 +117,7 @@ blocks-fuel n k m p e = ap (λ (t : ℕ). blocks_from t m p) e
 pub blocks_step : (m : List (List ℕ)) (p : ℕ) (b : Block) → Some b ≡ fitting (length m) (header p (word m p)) → blocks_at m p ≡ b ∷ blocks_at m (b.place + b.words)
 blocks_step m p b e =
     let h : fitting (length m) (header p (word m p)) ≡ Some b = sym e in
-    let f : Fits (length m) p (word m p) b = fits (length m) p (word m p) b h in
+    let f : BlockFits (length m) p (word m p) b = fits (length m) p (word m p) b h in
     let place : b.place ≡ p = f.place in
     let low : 1 ≤ b.words = f.low in
     let high : p + b.words ≤ length m = f.high in
@@ -128,7 +128,7 @@ blocks_step m p b e =
 -- its end is nearer to the end of the words
 pub block_ends : (size p : ℕ) (x : List ℕ) (b : Block) → Some b ≡ fitting size (header p x) → (b.place + b.words ≤ size) × (size - (b.place + b.words) < size - p) × (b.place ≡ p) × (p < b.place + b.words)
 block_ends size p x b e =
-    let f : Fits size p x b = fits size p x b (sym e) in
+    let f : BlockFits size p x b = fits size p x b (sym e) in
     let place : b.place ≡ p = f.place in
     let low : 1 ≤ b.words = f.low in
     let high : p + b.words ≤ size = f.high in

@@ -4,7 +4,7 @@ use Rattle.std.specs.Prelude.{nat_lt, nat_le, ◌==◌}
 use Rattle.std.proofs.lemmas.Bool.{le-ltb, ltb-true, ltb-false, eq-eqb, ne_eqb, eqb-true, and_parts, leb-true, or_cases}
 use Rattle.mc_model.specs.Card.{Block, heap_start}
 use Rattle.mc_model.specs.Layout.{first_hole, first_place, hole_header, used_header, put_at}
-use Rattle.mc_blocks.specs.Chains.{Above}
+use Rattle.mc_blocks.specs.Chains.{SpansAbove}
 use Rattle.mc_blocks.specs.Blocks.{used_spans, hole_spans}
 use Rattle.mc_blocks.specs.Plans.{changes, layout_of, link_word, has_room, gap_before, gaps_behind, take_list}
 use Rattle.mc_blocks.proofs.Tiles.{Tiled, first-is}
@@ -34,7 +34,7 @@ take_in p need (b ∷ bs) = cond (b.place == p) (used_block p need ∷ rest_of p
 -- ---- where the room is
 
 -- room lies where the gaps are
-pub room-from : (q p need : ℕ) (gs : List (ℕ × ℕ)) → Above q gs → has_room p need gs ≡ true → q ≤ p
+pub room-from : (q p need : ℕ) (gs : List (ℕ × ℕ)) → SpansAbove q gs → has_room p need gs ≡ true → q ≤ p
 room-from q p need [] a h = absurd (cc h)
 room-from q p need (g ∷ gs) a h =
     let low : q ≤ g.0 = a.0 in
@@ -47,7 +47,7 @@ room-from q p need (g ∷ gs) a h =
 unfoldable pub RoomAt : ℕ → ℕ → Block → List Block → Type 0
 RoomAt p need b bs = ((b.used ≡ false) × (b.place ≡ p) × (need ≤ b.words)) ⊎ (((b.place == p) ≡ false) × (has_room p need (hole_spans bs) ≡ true) × (b.place < p))
 
-room-kind : (p need q : ℕ) (b : Block) (bs : List Block) (u : Bool) → b.used ≡ u → b.place ≡ q → 1 ≤ b.words → Above (q + b.words) (hole_spans bs) → has_room p need (cond u (hole_spans bs) ((b.place, b.words) ∷ hole_spans bs)) ≡ true → RoomAt p need b bs
+room-kind : (p need q : ℕ) (b : Block) (bs : List Block) (u : Bool) → b.used ≡ u → b.place ≡ q → 1 ≤ b.words → SpansAbove (q + b.words) (hole_spans bs) → has_room p need (cond u (hole_spans bs) ((b.place, b.words) ∷ hole_spans bs)) ≡ true → RoomAt p need b bs
 unfolding RoomAt
 room-kind p need q b bs true used place low above room =
     let far : q + b.words ≤ p = room-from (q + b.words) p need (hole_spans bs) above room in

@@ -15,9 +15,9 @@ Tiled p after_hole [] end = p ≡ end
 Tiled p after_hole (b ∷ bs) end = (b.place ≡ p) × (1 ≤ b.words) × ((after_hole && not b.used) ≡ false) × Tiled (p + b.words) (not b.used) bs end
 
 -- their headers stand in their places
-abbrev pub AreRead : List (List ℕ) → List Block → Type 0
-AreRead m [] = Unit {0}
-AreRead m (b ∷ bs) = (header b.place (word m b.place) ≡ Some b) × (b.place + b.words ≤ length m) × AreRead m bs
+abbrev pub HeadersRead : List (List ℕ) → List Block → Type 0
+HeadersRead m [] = Unit {0}
+HeadersRead m (b ∷ bs) = (header b.place (word m b.place) ≡ Some b) × (b.place + b.words ≤ length m) × HeadersRead m bs
 
 -- ---- a walk without a bad header
 
@@ -28,46 +28,46 @@ fits-back : (size : ℕ) (b : Block) (o : Option Block) → o ≡ Some b → b.p
 fits-back size b o e h = sym (ap (λ (q : Option Block). fitting size q) e ∙ ap (λ (t : Bool). cond t (Some b) None) (le-leb (b.place + b.words) size h))
 
 -- what a good walk gives
-pub record Walked (m : List (List ℕ)) (p : ℕ) (after_hole : Bool) (bs : List Block) : Type 0 where
+pub record BlocksWalked (m : List (List ℕ)) (p : ℕ) (after_hole : Bool) (bs : List Block) : Type 0 where
   pub tiled : Tiled p after_hole bs (length m)
-  pub read : AreRead m bs
+  pub read : HeadersRead m bs
 
 after-is : (size : ℕ) (after_hole : Bool) (b : Block) → bad_header size after_hole (Some b) ≡ false → (after_hole && not b.used) ≡ false
 after-is size after_hole b h = (or_parts (nat_lt size (b.place + b.words)) (after_hole && not b.used) h).1
 
 module _ (m : List (List ℕ)) where
   one-more : (p : ℕ) (after_hole : Bool) (b : Block) → p < length m → header p (word m p) ≡ Some b → bad_header (length m) after_hole (header p (word m p)) ≡ false
-      → (bad_from m (b.place + b.words) (not b.used) ≡ None → Walked m (b.place + b.words) (not b.used) (blocks_at m (b.place + b.words))) → bad_from m p after_hole ≡ None → Walked m p after_hole (blocks_at m p)
+      → (bad_from m (b.place + b.words) (not b.used) ≡ None → BlocksWalked m (b.place + b.words) (not b.used) (blocks_at m (b.place + b.words))) → bad_from m p after_hole ≡ None → BlocksWalked m p after_hole (blocks_at m p)
   one-more p after_hole b lt is good rest none =
       let known : HeaderIs p (word m p) b = header-is p (word m p) b is in
       let place : b.place ≡ p = known.place in
       let ends = good_end m p after_hole b (is, good) in
-      let w : Walked m (b.place + b.words) (not b.used) (blocks_at m (b.place + b.words)) = rest (sym (bad_behind m p after_hole b lt (is, good)) ∙ none) in
-      subst (λ (l : List Block). Walked m p after_hole l) (sym (blocks_step m p b (fits-back (length m) b (header p (word m p)) is ends.0)))
+      let w : BlocksWalked m (b.place + b.words) (not b.used) (blocks_at m (b.place + b.words)) = rest (sym (bad_behind m p after_hole b lt (is, good)) ∙ none) in
+      subst (λ (l : List Block). BlocksWalked m p after_hole l) (sym (blocks_step m p b (fits-back (length m) b (header p (word m p)) is ends.0)))
       (record {
         tiled = (place, known.low, after-is (length m) after_hole b (subst (λ (o : Option Block). bad_header (length m) after_hole o ≡ false) is good), subst (λ (q : ℕ). Tiled (q + b.words) (not b.used) (blocks_at m (b.place + b.words)) (length m)) place w.tiled);
         read = (subst (λ (q : ℕ). header q (word m q) ≡ Some b) (sym place) is, ends.0, w.read);
       })
 
   by-header : (p : ℕ) (after_hole : Bool) (o : Option Block) (t : Bool) → p < length m → header p (word m p) ≡ o → bad_header (length m) after_hole (header p (word m p)) ≡ t
-      → ((b : Block) → p < b.place + b.words → b.place + b.words ≤ length m → bad_from m (b.place + b.words) (not b.used) ≡ None → Walked m (b.place + b.words) (not b.used) (blocks_at m (b.place + b.words))) → bad_from m p after_hole ≡ None → Walked m p after_hole (blocks_at m p)
+      → ((b : Block) → p < b.place + b.words → b.place + b.words ≤ length m → bad_from m (b.place + b.words) (not b.used) ≡ None → BlocksWalked m (b.place + b.words) (not b.used) (blocks_at m (b.place + b.words))) → bad_from m p after_hole ≡ None → BlocksWalked m p after_hole (blocks_at m p)
   by-header p after_hole o true lt is bad rest none = absurd (cc (sym (bad_here m p after_hole lt bad) ∙ none))
   by-header p after_hole None false lt is bad rest none = absurd (cc (sym (ap (λ (o : Option Block). bad_header (length m) after_hole o) is) ∙ bad))
   by-header p after_hole (Some b) false lt is bad rest none =
       let ends = good_end m p after_hole b (is, bad) in
       one-more p after_hole b lt is bad (rest b ends.1 ends.0) none
 
-  walked : (n p : ℕ) (after_hole : Bool) → length m - p ≤ n → p ≤ length m → bad_from m p after_hole ≡ None → Walked m p after_hole (blocks_at m p)
+  walked : (n p : ℕ) (after_hole : Bool) → length m - p ≤ n → p ≤ length m → bad_from m p after_hole ≡ None → BlocksWalked m p after_hole (blocks_at m p)
   walked zero p after_hole few h none =
       let end : p ≡ length m = omega arith in
-      subst (λ (l : List Block). Walked m p after_hole l) (sym (nothing-past m p (omega arith))) (record { tiled = end; read = tt })
+      subst (λ (l : List Block). BlocksWalked m p after_hole l) (sym (nothing-past m p (omega arith))) (record { tiled = end; read = tt })
   walked (suc n) p after_hole few h none =
       elim (cases_lt p (length m)) [
         | inl lt ↦ by-header p after_hole (header p (word m p)) (bad_header (length m) after_hole (header p (word m p))) lt refl refl (λ b later ends good. walked n (b.place + b.words) (not b.used) (omega arith) ends good) none
-        | inr past ↦ let end : p ≡ length m = omega arith in subst (λ (l : List Block). Walked m p after_hole l) (sym (nothing-past m p past)) (record { tiled = end; read = tt })
+        | inr past ↦ let end : p ≡ length m = omega arith in subst (λ (l : List Block). BlocksWalked m p after_hole l) (sym (nothing-past m p past)) (record { tiled = end; read = tt })
       ]
 
-pub all-walked : (m : List (List ℕ)) → 131 ≤ length m → bad_from m 131 false ≡ None → Walked m 131 false (blocks_at m 131)
+pub all-walked : (m : List (List ℕ)) → 131 ≤ length m → bad_from m 131 false ≡ None → BlocksWalked m 131 false (blocks_at m 131)
 all-walked m h none = walked m (length m) 131 false (omega arith) h none
 
 -- ---- gaps are holes
@@ -80,22 +80,22 @@ one-gap p n h =
     ap (λ (t : Bool). cond t ((p, p + n - p) ∷ []) []) (lt-ltb p (p + n) (omega arith)) ∙ ap (λ (k : ℕ). (p, k) ∷ []) (let e : p + n - p ≡ n = omega arith in e)
 
 -- where the gap before p begins: at p itself, or where the hole begins that ends at p
-abbrev Begins : Bool → ℕ → ℕ → Type 0
-Begins true start p = start < p
-Begins false start p = start ≡ p
+abbrev GapBegins : Bool → ℕ → ℕ → Type 0
+GapBegins true start p = start < p
+GapBegins false start p = start ≡ p
 
-gaps-go : (start p : ℕ) (after_hole u : Bool) (b : Block) (us hs : List (ℕ × ℕ)) (end : ℕ) → b.used ≡ u → b.place ≡ p → 1 ≤ b.words → (after_hole && not b.used) ≡ false → Begins after_hole start p
-    → ((s : ℕ) → Begins (not b.used) s (p + b.words) → gaps_from s us end ≡ gap s (p + b.words) ++ hs)
+gaps-go : (start p : ℕ) (after_hole u : Bool) (b : Block) (us hs : List (ℕ × ℕ)) (end : ℕ) → b.used ≡ u → b.place ≡ p → 1 ≤ b.words → (after_hole && not b.used) ≡ false → GapBegins after_hole start p
+    → ((s : ℕ) → GapBegins (not b.used) s (p + b.words) → gaps_from s us end ≡ gap s (p + b.words) ++ hs)
     → gaps_from start (cond b.used ((b.place, b.words) ∷ us) us) end ≡ gap start p ++ cond b.used hs ((b.place, b.words) ∷ hs)
 gaps-go start p after_hole true b us hs end used place low apart begins rest =
-    let first : gaps_from (p + b.words) us end ≡ gap (p + b.words) (p + b.words) ++ hs = rest (p + b.words) (subst (λ (t : Bool). Begins (not t) (p + b.words) (p + b.words)) (sym used) refl) in
+    let first : gaps_from (p + b.words) us end ≡ gap (p + b.words) (p + b.words) ++ hs = rest (p + b.words) (subst (λ (t : Bool). GapBegins (not t) (p + b.words) (p + b.words)) (sym used) refl) in
     ap (λ (t : Bool). gaps_from start (cond t ((b.place, b.words) ∷ us) us) end) used
     ∙ ap (λ (q : ℕ). gap start q ++ gaps_from (q + b.words) us end) place
     ∙ ap (λ (l : List (ℕ × ℕ)). gap start p ++ l) (first ∙ ap (λ (l : List (ℕ × ℕ)). l ++ hs) (no-gap (p + b.words)))
     ∙ sym (ap (λ (t : Bool). gap start p ++ cond t hs ((b.place, b.words) ∷ hs)) used)
 gaps-go start p true false b us hs end used place low apart begins rest = absurd (cc (sym (ap not used) ∙ apart))
 gaps-go start p false false b us hs end used place low apart begins rest =
-    let first : gaps_from p us end ≡ gap p (p + b.words) ++ hs = rest p (subst (λ (t : Bool). Begins (not t) p (p + b.words)) (sym used) (omega arith)) in
+    let first : gaps_from p us end ≡ gap p (p + b.words) ++ hs = rest p (subst (λ (t : Bool). GapBegins (not t) p (p + b.words)) (sym used) (omega arith)) in
     ap (λ (t : Bool). gaps_from start (cond t ((b.place, b.words) ∷ us) us) end) used
     ∙ ap (λ (s : ℕ). gaps_from s us end) begins
     ∙ first
@@ -104,7 +104,7 @@ gaps-go start p false false b us hs end used place low apart begins rest =
     ∙ sym (ap (λ (l : List (ℕ × ℕ)). l ++ (b.place, b.words) ∷ hs) (ap (λ (s : ℕ). gap s p) begins ∙ no-gap p))
     ∙ sym (ap (λ (t : Bool). gap start p ++ cond t hs ((b.place, b.words) ∷ hs)) used)
 
-gaps-all : (start p : ℕ) (after_hole : Bool) (bs : List Block) (end : ℕ) → Tiled p after_hole bs end → Begins after_hole start p → gaps_from start (used_spans bs) end ≡ gap start p ++ hole_spans bs
+gaps-all : (start p : ℕ) (after_hole : Bool) (bs : List Block) (end : ℕ) → Tiled p after_hole bs end → GapBegins after_hole start p → gaps_from start (used_spans bs) end ≡ gap start p ++ hole_spans bs
 gaps-all start p after_hole [] end t begins = ap (λ (e : ℕ). gap start e) (sym t) ∙ sym (append-nil (gap start p))
 gaps-all start p after_hole (b ∷ bs) end t begins =
     gaps-go start p after_hole b.used b (used_spans bs) (hole_spans bs) end refl t.0 t.1 t.2 begins

@@ -7,12 +7,12 @@ use Rattle.std.proofs.lemmas.Slice.Eq.{bytes_eq-Decides}
 use Rattle.mc_model.specs.Bytes.{be2}
 use Rattle.mc_model.specs.Card.{Block, word, header}
 use Rattle.mc_model.specs.Layout.{first_hole, hole_header, used_header, root, same_pair, bad_link}
-use Rattle.mc_model.proofs.ImageLemmas.{Holds, all-append}
+use Rattle.mc_model.proofs.ImageLemmas.{HoldsWords, all-append}
 use Rattle.mc_model.proofs.ListLemmas.{two-bytes}
 use Rattle.mc_blocks.specs.Blocks.{used_spans, is_root_word}
-use Rattle.mc_blocks.specs.Outcomes.{Kept}
+use Rattle.mc_blocks.specs.Outcomes.{OthersKept}
 use Rattle.mc_blocks.specs.Plans.{changes, link_word}
-use Rattle.mc_blocks.proofs.Tiles.{Tiled, AreRead}
+use Rattle.mc_blocks.proofs.Tiles.{Tiled, HeadersRead}
 use Rattle.mc_blocks.proofs.Taking.{tiled-end, first-range}
 use Rattle.mc_blocks.proofs.Changes.{From, from-weaker, split, one-other, one-same, links-differ}
 use Rattle.mc_blocks.proofs.Heads.{heads, heads-from, heads-behind}
@@ -63,18 +63,18 @@ first-small : (p : ℕ) (a : Bool) (bs : List Block) (end : ℕ) → Tiled p a b
 first-small p a bs end t h = elim (first-range p a bs end t) [ inl none ↦ omega (arith, none) | inr some ↦ omega (arith, some.1) ]
 
 -- a word reads as the one that is due
-abbrev Reads : List (List ℕ) → ℕ × List ℕ → Type 0
-Reads m e = header e.0 (word m e.0) ≡ header e.0 e.1
+abbrev ReadsAsDue : List (List ℕ) → ℕ × List ℕ → Type 0
+ReadsAsDue m e = header e.0 (word m e.0) ≡ header e.0 e.1
 
 abbrev AllRead : List (List ℕ) → List (ℕ × List ℕ) → Type 0
 AllRead m [] = Unit {0}
-AllRead m (e ∷ es) = Reads m e × AllRead m es
+AllRead m (e ∷ es) = ReadsAsDue m e × AllRead m es
 
 link-due : (b : Block) (due : ℕ) (rest : Option ℕ) (t : Bool) → (b.link == due) ≡ t → cond t rest (Some b.place) ≡ None → (b.link ≡ due) × (rest ≡ None)
 link-due b due rest true e h = (eqb-true b.link due e, h)
 link-due b due rest false e h = absurd (cc h)
 
-old-read : (m : List (List ℕ)) (p : ℕ) (a : Bool) (bs : List Block) (end : ℕ) → end < 65536 → Tiled p a bs end → AreRead m bs → bad_link bs ≡ None → AllRead m (heads bs)
+old-read : (m : List (List ℕ)) (p : ℕ) (a : Bool) (bs : List Block) (end : ℕ) → end < 65536 → Tiled p a bs end → HeadersRead m bs → bad_link bs ≡ None → AllRead m (heads bs)
 old-read m p a [] end few t r l = tt
 old-read m p a (b ∷ bs) end few t r l =
     let due = cond b.used 0 (first_hole bs) in
@@ -86,7 +86,7 @@ old-read m p a (b ∷ bs) end few t r l =
       old-read m (p + b.words) (not b.used) bs end few t.3 r.2 links.1,
     )
 
-new-read : (n : List (List ℕ)) (p : ℕ) (a : Bool) (bs : List Block) (end : ℕ) → end < 65536 → end ≡ length n → Tiled p a bs end → AllRead n (heads bs) → AreRead n (relink bs)
+new-read : (n : List (List ℕ)) (p : ℕ) (a : Bool) (bs : List Block) (end : ℕ) → end < 65536 → end ≡ length n → Tiled p a bs end → AllRead n (heads bs) → HeadersRead n (relink bs)
 new-read n p a [] end few size t r = tt
 new-read n p a (b ∷ bs) end few size t r =
     let place : b.place ≡ p = t.0 in
@@ -108,7 +108,7 @@ pub changes-from : (p : ℕ) (old new : List (ℕ × List ℕ)) → From p new �
 changes-from p old [] f = tt
 changes-from p old (e ∷ es) f = changes-kind p e (changes old es) (not (list_any (same_pair e) old)) f.0 (changes-from p old es f.1)
 
-any-read : (m : List (List ℕ)) (e : ℕ × List ℕ) (old : List (ℕ × List ℕ)) → AllRead m old → list_any (same_pair e) old ≡ true → Reads m e
+any-read : (m : List (List ℕ)) (e : ℕ × List ℕ) (old : List (ℕ × List ℕ)) → AllRead m old → list_any (same_pair e) old ≡ true → ReadsAsDue m e
 any-read m e [] r h = absurd (cc h)
 any-read m e (x ∷ xs) r h =
     elim (or_cases (same_pair e x) (list_any (same_pair e) xs) h) [
@@ -121,15 +121,15 @@ any-read m e (x ∷ xs) r h =
     ]
 
 head-kind : (m n : List (List ℕ)) (low : ℕ) (e : ℕ × List ℕ) (old es : List (ℕ × List ℕ)) (t : Bool) → list_any (same_pair e) old ≡ t → AllRead m old → low ≤ e.0 → From (e.0 + 1) es
-    → Holds n (cond (not t) (e ∷ changes old es) (changes old es)) → Kept m n low (cond (not t) (e ∷ changes old es) (changes old es))
-    → Reads n e × Holds n (changes old es) × Kept m n (e.0 + 1) (changes old es)
+    → HoldsWords n (cond (not t) (e ∷ changes old es) (changes old es)) → OthersKept m n low (cond (not t) (e ∷ changes old es) (changes old es))
+    → ReadsAsDue n e × HoldsWords n (changes old es) × OthersKept m n (e.0 + 1) (changes old es)
 head-kind m n low e old es false h r le f holds kept =
     (ap (λ (w : List ℕ). header e.0 w) holds.0, holds.1, λ q above apart. kept q (omega arith) ((λ x. absurd (omega (arith, x))), apart))
 head-kind m n low e old es true h r le f holds kept =
     let free : AllByRecursion (λ p. p.0 ≢ e.0) (changes old es) = from-apart e.0 (changes old es) (e.0 + 1) (omega arith) (changes-from (e.0 + 1) old es f) in
     (ap (λ (w : List ℕ). header e.0 w) (kept e.0 le free) ∙ any-read m e old r h, holds, λ q above apart. kept q (omega arith) apart)
 
-heads-read : (m n : List (List ℕ)) (low : ℕ) (old : List (ℕ × List ℕ)) (p : ℕ) (a : Bool) (bs : List Block) (end : ℕ) → AllRead m old → low ≤ p → Tiled p a bs end → Holds n (changes old (heads bs)) → Kept m n low (changes old (heads bs)) → AllRead n (heads bs)
+heads-read : (m n : List (List ℕ)) (low : ℕ) (old : List (ℕ × List ℕ)) (p : ℕ) (a : Bool) (bs : List Block) (end : ℕ) → AllRead m old → low ≤ p → Tiled p a bs end → HoldsWords n (changes old (heads bs)) → OthersKept m n low (changes old (heads bs)) → AllRead n (heads bs)
 heads-read m n low old p a [] end r le t holds kept = tt
 heads-read m n low old p a (b ∷ bs) end r le t holds kept =
     let place : b.place ≡ p = t.0 in
@@ -150,7 +150,7 @@ record RootIs (m n : List (List ℕ)) (s place : ℕ) : Type 0 where
   version : slice_index (word n 0) 3 ≡ slice_index (word m 0) 3
 
 root-is : (m n : List (List ℕ)) (v s f g : ℕ) (rest : List (ℕ × List ℕ)) → v ≡ slice_index (word m 0) 3 → f < 65536 → g < 65536 → is_root_word (word m 0) s ≡ true → be2 (word m 0) 6 ≡ f → From 131 rest
-    → Holds n (changes ((0, root v s f) ∷ []) ((0, root v s g) ∷ []) ++ rest) → (AllByRecursion (λ p. p.0 ≢ 0) (changes ((0, root v s f) ∷ []) ((0, root v s g) ∷ []) ++ rest) → word n 0 ≡ word m 0) → RootIs m n s g
+    → HoldsWords n (changes ((0, root v s f) ∷ []) ((0, root v s g) ∷ []) ++ rest) → (AllByRecursion (λ p. p.0 ≢ 0) (changes ((0, root v s f) ∷ []) ((0, root v s g) ∷ []) ++ rest) → word n 0 ≡ word m 0) → RootIs m n s g
 root-is m n v s f g rest version low high good first far holds kept =
     elim (cases_eq f g) [
       | inl same ↦
@@ -160,7 +160,7 @@ root-is m n v s f g rest version low high good first far holds kept =
           record { root = ap (λ (w : List ℕ). is_root_word w s) stays ∙ good; first = ap (λ (w : List ℕ). be2 w 6) stays ∙ first ∙ same; version = ap (λ (w : List ℕ). slice_index w 3) stays }
       | inr apart ↦
           let other : changes ((0, root v s f) ∷ []) ((0, root v s g) ∷ []) ≡ (0, root v s g) ∷ [] = one-other (0, root v s f) (0, root v s g) (links-differ v s (0, 0) g f high low (λ e. apart (sym e))) in
-          let all : Holds n ((0, root v s g) ∷ rest) = subst (λ (l : List (ℕ × List ℕ)). Holds n (l ++ rest)) other holds in
+          let all : HoldsWords n ((0, root v s g) ∷ rest) = subst (λ (l : List (ℕ × List ℕ)). HoldsWords n (l ++ rest)) other holds in
           let versions : (v == 1 || v == 2) ≡ true = subst (λ (x : ℕ). (x == 1 || x == 2) ≡ true) (sym version) (and_parts (slice_index (word m 0) 3 == 1 || slice_index (word m 0) 3 == 2) (bytes_eq (take 6 (word m 0)) (take 6 (root (slice_index (word m 0) 3) s 0))) good).0 in
           record { root = ap (λ (w : List ℕ). is_root_word w s) all.0 ∙ root-word v s g versions; first = ap (λ (w : List ℕ). be2 w 6) all.0 ∙ two-bytes g high; version = ap (λ (w : List ℕ). slice_index w 3) all.0 ∙ version }
     ]
@@ -173,10 +173,10 @@ pub record Relaid (m n : List (List ℕ)) (bs : List Block) : Type 0 where
   pub root : is_root_word (word n 0) (length n) ≡ true
   pub first : be2 (word n 0) 6 ≡ first_hole (relink bs)
   pub tiled : Tiled 131 false (relink bs) (length n)
-  pub read : AreRead n (relink bs)
+  pub read : HeadersRead n (relink bs)
   pub links : bad_link (relink bs) ≡ None
 
-pub second-part : (n : List (List ℕ)) (xs ys : List (ℕ × List ℕ)) → Holds n (xs ++ ys) → Holds n ys
+pub second-part : (n : List (List ℕ)) (xs ys : List (ℕ × List ℕ)) → HoldsWords n (xs ++ ys) → HoldsWords n ys
 second-part n [] ys h = h
 second-part n (x ∷ xs) ys h = second-part n xs ys h.1
 
@@ -185,10 +185,10 @@ root-apart v s f g q low true = tt
 root-apart v s f g q low false = ((λ e. absurd (omega (arith, e))), tt)
 
 pub written : (m n : List (List ℕ)) (bs new : List Block) → length m < 65536 → length n ≡ length m → is_root_word (word m 0) (length m) ≡ true → be2 (word m 0) 6 ≡ first_hole bs
-    → Tiled 131 false bs (length m) → AreRead m bs → bad_link bs ≡ None → Tiled 131 false new (length m)
-    → Holds n (changes (link_word (slice_index (word m 0) 3) (length m) (0, 0) (first_hole bs) ∷ heads bs) (link_word (slice_index (word m 0) 3) (length m) (0, 0) (first_hole new) ∷ heads new))
+    → Tiled 131 false bs (length m) → HeadersRead m bs → bad_link bs ≡ None → Tiled 131 false new (length m)
+    → HoldsWords n (changes (link_word (slice_index (word m 0) 3) (length m) (0, 0) (first_hole bs) ∷ heads bs) (link_word (slice_index (word m 0) 3) (length m) (0, 0) (first_hole new) ∷ heads new))
     → (AllByRecursion (λ p. p.0 ≢ 0) (changes (link_word (slice_index (word m 0) 3) (length m) (0, 0) (first_hole bs) ∷ heads bs) (link_word (slice_index (word m 0) 3) (length m) (0, 0) (first_hole new) ∷ heads new)) → word n 0 ≡ word m 0)
-    → Kept m n 131 (changes (link_word (slice_index (word m 0) 3) (length m) (0, 0) (first_hole bs) ∷ heads bs) (link_word (slice_index (word m 0) 3) (length m) (0, 0) (first_hole new) ∷ heads new))
+    → OthersKept m n 131 (changes (link_word (slice_index (word m 0) 3) (length m) (0, 0) (first_hole bs) ∷ heads bs) (link_word (slice_index (word m 0) 3) (length m) (0, 0) (first_hole new) ∷ heads new))
     → Relaid m n new
 written m n bs new few size good first tiled read links later holds zero-kept kept =
     let v = slice_index (word m 0) 3 in
@@ -198,11 +198,11 @@ written m n bs new few size good first tiled read links later holds zero-kept ke
     let one : 0 < 1 = omega arith in
     let parts : changes (old-root ∷ heads bs) (new-root ∷ heads new) ≡ changes (old-root ∷ []) (new-root ∷ []) ++ changes (heads bs) (heads new) =
     split 1 (old-root ∷ []) (heads bs) (new-root ∷ []) (heads new) (one, tt) (from-weaker 131 1 (heads bs) (omega arith) (heads-from 131 false bs s tiled)) (one, tt) (from-weaker 131 1 (heads new) (omega arith) (heads-from 131 false new s later)) in
-    let split-holds : Holds n (changes (old-root ∷ []) (new-root ∷ []) ++ changes (heads bs) (heads new)) = subst (λ (l : List (ℕ × List ℕ)). Holds n l) parts holds in
+    let split-holds : HoldsWords n (changes (old-root ∷ []) (new-root ∷ []) ++ changes (heads bs) (heads new)) = subst (λ (l : List (ℕ × List ℕ)). HoldsWords n l) parts holds in
     let split-zero : AllByRecursion (λ (p : ℕ × List ℕ). p.0 ≢ 0) (changes (old-root ∷ []) (new-root ∷ []) ++ changes (heads bs) (heads new)) → word n 0 ≡ word m 0 =
     subst (λ (l : List (ℕ × List ℕ)). AllByRecursion (λ (p : ℕ × List ℕ). p.0 ≢ 0) l → word n 0 ≡ word m 0) parts zero-kept in
-    let split-kept : Kept m n 131 (changes (old-root ∷ []) (new-root ∷ []) ++ changes (heads bs) (heads new)) = subst (λ (l : List (ℕ × List ℕ)). Kept m n 131 l) parts kept in
-    let heads-kept : Kept m n 131 (changes (heads bs) (heads new)) = λ q low apart. split-kept q low (all-append (λ (p : ℕ × List ℕ). p.0 ≢ q) (changes (old-root ∷ []) (new-root ∷ [])) (changes (heads bs) (heads new)) (root-apart v s (first_hole bs) (first_hole new) q low (list_any (same_pair new-root) (old-root ∷ []))) apart) in
+    let split-kept : OthersKept m n 131 (changes (old-root ∷ []) (new-root ∷ []) ++ changes (heads bs) (heads new)) = subst (λ (l : List (ℕ × List ℕ)). OthersKept m n 131 l) parts kept in
+    let heads-kept : OthersKept m n 131 (changes (heads bs) (heads new)) = λ q low apart. split-kept q low (all-append (λ (p : ℕ × List ℕ). p.0 ≢ q) (changes (old-root ∷ []) (new-root ∷ [])) (changes (heads bs) (heads new)) (root-apart v s (first_hole bs) (first_hole new) q low (list_any (same_pair new-root) (old-root ∷ []))) apart) in
     let r : RootIs m n s (first_hole new) = root-is m n v s (first_hole bs) (first_hole new) (changes (heads bs) (heads new)) refl (first-small 131 false bs s tiled few) (first-small 131 false new s later few) good first (changes-from 131 (heads bs) (heads new) (heads-from 131 false new s later)) split-holds split-zero in
     let all : AllRead n (heads new) = heads-read m n 131 (heads bs) 131 false new s (old-read m 131 false bs s few tiled read links) (omega arith) later (second-part n (changes (old-root ∷ []) (new-root ∷ [])) (changes (heads bs) (heads new)) split-holds) heads-kept in
     record {

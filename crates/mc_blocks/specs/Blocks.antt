@@ -39,8 +39,8 @@ Admits m b old true new =
 Admits m b old false new = (b.used ≡ true) × (admitted m b (map name_in old) (length old) ≡ false)
 
 -- a block that was read and is good behind the one before
-abbrev pub Follows : ℕ → Bool → Option Block → Block → Type 0
-Follows size after_hole o b = (o ≡ Some b) × (bad_header size after_hole o ≡ false)
+abbrev pub FollowsBlock : ℕ → Bool → Option Block → Block → Type 0
+FollowsBlock size after_hole o b = (o ≡ Some b) × (bad_header size after_hole o ≡ false)
 
 -- a root of either layout on a device of so many words
 abbrev pub is_root_word : List ℕ → ℕ → Bool
@@ -59,7 +59,7 @@ hole_spans [] = []
 hole_spans (b ∷ bs) = cond b.used (hole_spans bs) ((b.place, b.words) ∷ hole_spans bs)
 
 -- words n with the header of each of these blocks of m, and all words of those that are used
-abbrev pub Agree : List (List ℕ) → List (List ℕ) → List Block → Type 0
-Agree m n [] = Unit {0}
-Agree m n (b ∷ bs) =
-    (word n b.place ≡ word m b.place) × (b.used ≡ true → (i : ℕ) → b.place ≤ i → i < b.place + b.words → word n i ≡ word m i) × Agree m n bs
+abbrev pub WordsAgree : List (List ℕ) → List (List ℕ) → List Block → Type 0
+WordsAgree m n [] = Unit {0}
+WordsAgree m n (b ∷ bs) =
+    (word n b.place ≡ word m b.place) × (b.used ≡ true → (i : ℕ) → b.place ≤ i → i < b.place + b.words → word n i ≡ word m i) × WordsAgree m n bs

@@ -5,15 +5,15 @@ use Rattle.mc_model.specs.Card.{word}
 use Rattle.mc_model.specs.Layout.{first_place}
 
 -- spans that all begin at p or behind it
-abbrev pub Above : ℕ → List (ℕ × ℕ) → Type 0
-Above p [] = Unit {0}
-Above p (e ∷ es) = (p ≤ e.0) × Above p es
+abbrev pub SpansAbove : ℕ → List (ℕ × ℕ) → Type 0
+SpansAbove p [] = Unit {0}
+SpansAbove p (e ∷ es) = (p ≤ e.0) × SpansAbove p es
 
 -- gaps by place and words, ascending, each with a header in its place that has its words and names the next, or 0
 abbrev pub IsChain : List (List ℕ) → List (ℕ × ℕ) → Type 0
 IsChain m [] = Unit {0}
 IsChain m (g ∷ gs) =
-    (1 ≤ g.0) × (g.0 + g.1 ≤ length m) × (1 ≤ g.1) × (be2 (word m g.0) 2 ≡ g.1) × (be2 (word m g.0) 4 ≡ first_place gs) × Above (g.0 + 1) gs × IsChain m gs
+    (1 ≤ g.0) × (g.0 + g.1 ≤ length m) × (1 ≤ g.1) × (be2 (word m g.0) 2 ≡ g.1) × (be2 (word m g.0) 4 ≡ first_place gs) × SpansAbove (g.0 + 1) gs × IsChain m gs
 
 -- how many of these gaps a search for n words looks at: those up to the first of at least n words
 abbrev pub looked_at : ℕ → List (ℕ × ℕ) → ℕ

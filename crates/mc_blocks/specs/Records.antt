@@ -1,5 +1,6 @@
 -- The tests of a record in three parts: its name, the lengths of its sections, its session size and access list.
 use Rattle.std.specs.Prelude.{ℕ, ◌-◌, Bool, ◌&&◌, nat_le, ◌==◌, List, take, drop, slice_index, bytes_eq}
+use Rattle.mc_model.specs.Limits.{most_code}
 use Rattle.mc_model.specs.Bytes.{be2, zeros}
 
 -- a name of 5 to 16 bytes with zeros behind it
@@ -12,7 +13,7 @@ named r =
 abbrev pub sized : List ℕ → Bool
 sized r =
     nat_le (slice_index r 17) 128 && nat_le (slice_index r 18) 128 && slice_index r 19 == 0
-    && nat_le 1 (be2 r 20) && nat_le (be2 r 20) 8192 && nat_le (be2 r 22) 4096
+    && nat_le 1 (be2 r 20) && nat_le (be2 r 20) most_code && nat_le (be2 r 22) 4096
 
 -- a session size and an access list within the limits, and zeros behind them
 abbrev pub allowed : List ℕ → Bool

@@ -3,7 +3,7 @@ ghost use Rattle.std.specs.Prelude.{◌≡◌, ◌+◌, ◌≤◌, [], length, m
 ghost use Rattle.mc_model.specs.Bytes.{has_name};
 ghost use Rattle.mc_model.specs.Card.{heap_start, word, header, blocks, name_in};
 ghost use Rattle.mc_model.specs.Layout.{no_root, bad_header, bad_block, bad_record};
-ghost use Rattle.mc_blocks.specs.Blocks.{block_of, is_root_word, Follows, Admits};
+ghost use Rattle.mc_blocks.specs.Blocks.{block_of, is_root_word, FollowsBlock, Admits};
 
 use crate::block::{Block, block_at};
 use crate::header::{HEAP, root_word};
@@ -55,7 +55,7 @@ pub fn first_bad_header<N: Nvm>(device: &N) -> Option<u16>
 fn good_block<N: Nvm>(device: &N, place: u32, after_hole: bool) -> Option<Block>
     ensures { MatchOption result (bad_header (length (N.state device.now).words) after_hole
         (header place (word (N.state device.now).words place)) ≡ true)
-        (λ b. Follows (length (N.state device.now).words) after_hole
+        (λ b. FollowsBlock (length (N.state device.now).words) after_hole
         (header place (word (N.state device.now).words place)) (block_of b)) }
 {
     let block = block_at(device, place)?;

@@ -3,12 +3,12 @@ ghost use Rattle.std.specs.List.{AllByRecursion};
 ghost use Rattle.mc_model.specs.Bytes.{be2, lookup, insert, remove};
 ghost use Rattle.mc_model.specs.Image.{Closed, Two, look, after, shut};
 ghost use Rattle.mc_model.specs.Device.{IsImage, IsSized};
-ghost use Rattle.mc_model.specs.Stopped.{Stands as WrittenBy};
+ghost use Rattle.mc_model.specs.Stopped.{LaidWhole as WrittenBy};
 ghost use Rattle.mc_model.specs.Card.{App, Card, needed, blocks, card_of, heap_start, means, words_after, word, record_at, name_at, app_at};
 ghost use Rattle.mc_model.specs.Layout.{spans, spans_of, put_at, gaps, hole_header, root, first_place, first_fitting, layout, step_of, is_record, words_fault, IsWellLaid};
-ghost use Rattle.mc_blocks.specs.Blocks.{used_spans, hole_spans, is_root_word, Agree};
+ghost use Rattle.mc_blocks.specs.Blocks.{used_spans, hole_spans, is_root_word, WordsAgree};
 ghost use Rattle.mc_blocks.specs.Chains.{IsChain};
-ghost use Rattle.mc_blocks.specs.Outcomes.{AgreeBut, Planned, Leaves};
+ghost use Rattle.mc_blocks.specs.Outcomes.{AgreeBut, Planned, HoldsApplications};
 ghost use Rattle.mc_blocks.specs.Plans.{changes, layout_of, plan, has_room, has_span, without};
 
 /// On a well laid image with no open journal the holes of the walk by lengths are the gaps of the card, and its used
@@ -44,9 +44,9 @@ pub fn holds_layout()
 /// Words with the same root, and in each block the same header and where it is used the same words, hold the same card.
 pub fn keeps_card()
     ensures laid { (m n : List (List ℕ)) → IsSized m → words_fault m ≡ None → length n ≡ length m
-        → word n 0 ≡ word m 0 → Agree m n (blocks m) → words_fault n ≡ None }
+        → word n 0 ≡ word m 0 → WordsAgree m n (blocks m) → words_fault n ≡ None }
     ensures card { (m n : List (List ℕ)) → IsSized m → words_fault m ≡ None → length n ≡ length m
-        → word n 0 ≡ word m 0 → Agree m n (blocks m) → card_of n ≡ card_of m }
+        → word n 0 ≡ word m 0 → WordsAgree m n (blocks m) → card_of n ≡ card_of m }
 {}
 
 /// Where the first gap of so many words is, there is room for them.
@@ -77,14 +77,14 @@ pub fn creates_application()
         → has_room p need (gaps (means m)) ≡ true → Planned m n (put_at p need (spans (means m)))
         → is_record (record_at n p) need ≡ true → lookup (means m).apps (name_at n p) ≡ None
         → length (means m).apps < 32
-        → Leaves m n (insert (means m).apps (name_at n p) (app_at n p)) }
+        → HoldsApplications m n (insert (means m).apps (name_at n p) (app_at n p)) }
 {}
 
 /// After the plan that frees the block of an application the words hold the card without it.
 pub fn deletes_application()
     ensures { (m n : List (List ℕ)) (name : List ℕ) (app : App) → IsSized m → look m ≡ Closed → IsWellLaid m
         → lookup (means m).apps name ≡ Some app → Planned m n (without app.place (spans (means m)))
-        → Leaves m n (remove (means m).apps name) }
+        → HoldsApplications m n (remove (means m).apps name) }
 {}
 
 /// Where words of one used block were set behind its record, the words hold the card with the application that stands
@@ -93,16 +93,16 @@ pub fn sets_application()
     ensures { (m n : List (List ℕ)) (p : ℕ) → IsSized m → look m ≡ Closed → IsWellLaid m
         → has_span p (spans (means m)) ≡ true → length n ≡ length m → word n 0 ≡ word m 0 → AgreeBut m n p (blocks m)
         → record_at n p ≡ record_at m p
-        → Leaves m n (insert (means m).apps (name_at m p) (app_at n p)) }
+        → HoldsApplications m n (insert (means m).apps (name_at m p) (app_at n p)) }
 {}
 
 /// Another version in a root that names the same hole makes the same card in that layout.
 pub fn changes_layout()
     ensures laid { (m n : List (List ℕ)) → IsSized m → words_fault m ≡ None → length n ≡ length m
-        → is_root_word (word n 0) (length n) ≡ true → be2 (word n 0) 6 ≡ be2 (word m 0) 6 → Agree m n (blocks m)
+        → is_root_word (word n 0) (length n) ≡ true → be2 (word n 0) 6 ≡ be2 (word m 0) 6 → WordsAgree m n (blocks m)
         → words_fault n ≡ None }
     ensures card { (m n : List (List ℕ)) → IsSized m → words_fault m ≡ None → length n ≡ length m
-        → is_root_word (word n 0) (length n) ≡ true → be2 (word n 0) 6 ≡ be2 (word m 0) 6 → Agree m n (blocks m)
+        → is_root_word (word n 0) (length n) ≡ true → be2 (word n 0) 6 ≡ be2 (word m 0) 6 → WordsAgree m n (blocks m)
         → card_of n ≡ record (card_of m) { layout = slice_index (word n 0) 3 } }
 {}
 

@@ -17,19 +17,19 @@ use Rattle.mc_store.specs.StoreItems.{store_did}
 use Rattle.mc_store.specs.GoingLaws.{going_is}
 use Rattle.mc_store.specs.Laws.{store_keeps, store_spares, store_leaves}
 use Rattle.mc_manager.specs.declared.selection.Selection.{Selection}
-use Rattle.mc_manager.specs.ManagerState.{BankView, Held, seat_of}
-use Rattle.mc_manager.proofs.CommitLemmas.{Keeps, fits_kept, seat_kept}
+use Rattle.mc_manager.specs.ManagerState.{BankView, ManagerState, seat_of}
+use Rattle.mc_manager.proofs.CommitLemmas.{KeepsSlotsAndSites, fits_kept, seat_kept}
 use Rattle.mc_card.specs.declared.card.Card.{Card}
-use Rattle.mc_machine.specs.Chains.{Chained, Wrote}
-use Rattle.mc_card.specs.ItemWrites.{Made}
+use Rattle.mc_machine.specs.Chains.{Chained, ChainWrote}
+use Rattle.mc_card.specs.ItemWrites.{ItemsMade}
 use Rattle.mc_card.specs.Parts.{card_in, seat_in, with_session, IsUp}
-use Rattle.mc_machine.proofs.SoundChains.{AreSound, SameSizes, sizes_done}
+use Rattle.mc_machine.proofs.SoundChains.{AreSound, SameLengths, sizes_done}
 use Rattle.mc_card.proofs.MadeLemmas.{card-found}
 use Rattle.mc_card.proofs.WriteLemmas.{AsCommits, as_commits, writes_made}
 use Rattle.mc_card.proofs.ManagerLemmas.{not-false}
 
 -- the seat with other session bytes
-seat_with : (standing : Site → Part → List ℕ) (old new : List ℕ) (m : Held) → seat_of standing new m ≡ with_session new (seat_of standing old m)
+seat_with : (standing : Site → Part → List ℕ) (old new : List ℕ) (m : ManagerState) → seat_of standing new m ≡ with_session new (seat_of standing old m)
 seat_with standing old new m = by_selected m.selected
   where
     by_selected : (o : Option Selection)
@@ -51,7 +51,7 @@ module _ {N : Type 0} (state : N → DeviceState) (wrote : N → ℕ → List �
   view_at s = record { state = bank_state s; named = store_named (state s.device); room = store_room (state s.device); standing = store_standing (state s.device) }
 
   -- the manager's slots and sites stay through the writes of a chain
-  pub view_stays : (ws : List Write) (s e : Store N) (a : Answer) → InOrder (Wrote did bank_state) s ws a e → Keeps (view_at s) (view_at e)
+  pub view_stays : (ws : List Write) (s e : Store N) (a : Answer) → InOrder (ChainWrote did bank_state) s ws a e → KeepsSlotsAndSites (view_at s) (view_at e)
   view_stays ws s e a h =
       let c : AsCommits did bank_state s a e = as_commits did bank_state ws s e a h in
       record {
@@ -63,17 +63,17 @@ module _ {N : Type 0} (state : N → DeviceState) (wrote : N → ℕ → List �
 
   module _ (c : Card N) (up : IsUp state c) (ws : List Write) (sound : AreSound (card_in state c).apps ws) where
     -- the writes, as items
-    pub card_made : (e : Store N) (a : Answer) → InOrder (Wrote did bank_state) c.store ws a e → Made state wrote (card_in state c) (write_items ws) c.store.device a e.device
+    pub card_made : (e : Store N) (a : Answer) → InOrder (ChainWrote did bank_state) c.store ws a e → ItemsMade state wrote (card_in state c) (write_items ws) c.store.device a e.device
     card_made e a h = writes_made state wrote obeys ws c.store e a (going_is (state c.store.device) c.store.count up.going) sound h
 
-    module _ (e : Store N) (h : InOrder (Wrote did bank_state) c.store ws (Ok tt) e) where
+    module _ (e : Store N) (h : InOrder (ChainWrote did bank_state) c.store ws (Ok tt) e) where
       -- the card after them
       pub card_after : card_done (card_in state c) (write_items ws) ≡ means (state e.device).words
       card_after = card-found (card_done (card_in state c) (write_items ws)) 0 (state e.device).words (card_made e (Ok tt) h).done
 
       -- its applications have the sizes of before
-      pub sizes_after : SameSizes (card_in state c).apps (means (state e.device).words).apps
-      sizes_after = subst (λ (m : ModelCard). SameSizes (card_in state c).apps m.apps) card_after (sizes_done ws (card_in state c).apps sound)
+      pub sizes_after : SameLengths (card_in state c).apps (means (state e.device).words).apps
+      sizes_after = subst (λ (m : ModelCard). SameLengths (card_in state c).apps m.apps) card_after (sizes_done ws (card_in state c).apps sound)
 
       -- it runs with session bytes that are as many as the selected application has
       pub still_up : (session : List ℕ) (chain : Option Chained) → (bank_state e).stopped ≡ false

@@ -14,7 +14,7 @@ use Rattle.mc_bank.specs.Bank.{BankState, app_of, name_or}
 use Rattle.mc_manager.specs.declared.selection.Selection.{Selection}
 use Rattle.mc_manager.specs.CommandDue.{most_ticks}
 use Rattle.mc_machine.specs.declared.outcome.Outcome.{Outcome}
-use Rattle.mc_machine.specs.Chains.{Chained, Runs, Wrote}
+use Rattle.mc_machine.specs.Chains.{Chained, RunsAs, ChainWrote}
 use Rattle.mc_machine.specs.Turns.{outcome_value}
 use Rattle.mc_machine.specs.Lone.{RanDone}
 use Rattle.mc_store.specs.declared.store.Store.{Store}
@@ -22,8 +22,8 @@ use Rattle.mc_store.specs.Store.{apps_in, store_state, store_named}
 use Rattle.mc_store.specs.StoreItems.{store_did}
 use Rattle.mc_store.specs.GoingLaws.{going_is}
 use Rattle.mc_card.specs.declared.card.Card.{Card}
-use Rattle.mc_card.specs.Parts.{card_in, seat_in, view_in, due, IsReady}
-use Rattle.mc_card.specs.Ends.{RunSteps, PassedSteps, RouteSteps, is_passed, most_weight, Commanded, Passed, Answered}
+use Rattle.mc_card.specs.Parts.{card_in, seat_in, view_in, due, IsReadyCard}
+use Rattle.mc_card.specs.Ends.{RunSteps, PassedSteps, RouteSteps, is_passed, most_weight, Commanded, PassedToChain, Answered}
 use Rattle.mc_card.specs.ItemWrites.{MadeWithin}
 use Rattle.mc_card.specs.Managing.{IsAnswered, IsPassed}
 use Rattle.mc_card.proofs.StaticLemmas.{going-apps}
@@ -71,12 +71,12 @@ module _ {N : Type 0} (state : N → DeviceState) (wrote : N → ℕ → List �
   did s i a e = store_did state wrote s i a e
 
   -- a command whose length is wrong
-  pub wrong-done : (c : Card N) (bytes : List ℕ) (budget : ℕ) (o : Outcome) → IsReady state c → apdu_read bytes ≡ None → outcome_value o ≡ status 0x6700 → Commanded state wrote c (due state c bytes budget) (Ok o) c
+  pub wrong-done : (c : Card N) (bytes : List ℕ) (budget : ℕ) (o : Outcome) → IsReadyCard state c → apdu_read bytes ≡ None → outcome_value o ≡ status 0x6700 → Commanded state wrote c (due state c bytes budget) (Ok o) c
   wrong-done c bytes budget o ready wrong is =
       subst (λ (r : Command). Commanded state wrote c r (Ok o) c) (sym (due-route (card_in state c) (seat_in state c) bytes budget None wrong))
       (record { made = made-none state wrote obeys (card_in state c) c.store.device (going-base (state c.store.device) c.store.count ready.up.going); outcome = is; seat = refl; ready = ready })
 
-  pub wrong-begun : (c : Card N) (bytes : List ℕ) (budget : ℕ) (o : Outcome) → IsReady state c → apdu_read bytes ≡ None → outcome_value o ≡ status 0x6700 → Answered state wrote c bytes budget (Ok o) c
+  pub wrong-begun : (c : Card N) (bytes : List ℕ) (budget : ℕ) (o : Outcome) → IsReadyCard state c → apdu_read bytes ≡ None → outcome_value o ≡ status 0x6700 → Answered state wrote c bytes budget (Ok o) c
   wrong-begun c bytes budget o ready wrong is =
       record { stays = ap (λ (x : Option ApduParts). is_passed (routed x) (seat_in state c).selected) wrong; commanded = wrong-done c bytes budget o ready wrong is }
 
@@ -89,7 +89,7 @@ module _ {N : Type 0} (state : N → DeviceState) (wrote : N → ℕ → List �
       }
 
   -- each of its items is small
-  pub answered-within : (c d : Card N) (bytes : List ℕ) (budget : ℕ) (result : Result Outcome Stop) → IsReady state c → IsSized (state c.store.device).words → Answered state wrote c bytes budget result d
+  pub answered-within : (c d : Card N) (bytes : List ℕ) (budget : ℕ) (result : Result Outcome Stop) → IsReadyCard state c → IsSized (state c.store.device).words → Answered state wrote c bytes budget result d
       → MadeWithin wrote (most_weight (route bytes)) (due state c bytes budget).items c.store.device (answer_of result) d.store.device
   answered-within c d bytes budget result ready image h =
       let few : length (card_in state c).apps ≤ 32 = going-few (state c.store.device) c.store.count image ready.up.going in
@@ -100,7 +100,7 @@ module _ {N : Type 0} (state : N → DeviceState) (wrote : N → ℕ → List �
 
   -- what a run did to a card, with the run that it is
   pub record RunDid (c : Card N) (r : Ran) (result : Result Outcome Stop) (e : Store N) (bytes : List ℕ) : Type 0 where
-    pub writes : InOrder (Wrote did bank_state) c.store r.writes (answer_of result) e
+    pub writes : InOrder (ChainWrote did bank_state) c.store r.writes (answer_of result) e
     pub outcome : IfOk result (λ o. outcome_value o ≡ r.outcome)
     pub session : OnOk result (bytes ≡ r.session)
     pub going : OnOk result ((bank_state e).stopped ≡ false)
@@ -120,7 +120,7 @@ module _ {N : Type 0} (state : N → DeviceState) (wrote : N → ℕ → List �
   abbrev pub run_of : Card N → ℕ → ApduParts → ℕ → Ran
   run_of c slot a budget = run (apps_in (state c.store.device).words) (name_or (store_named (state c.store.device) slot)) c.session a budget
 
-  module _ (c : Card N) (ready : IsReady state c) (t : Selection) (is : c.manager.selected ≡ Some t) where
+  module _ (c : Card N) (ready : IsReadyCard state c) (t : Selection) (is : c.manager.selected ≡ Some t) where
     named-own : store_named (state c.store.device) t.slot ≡ Some t.aid
     named-own = ready.up.fits.selected t is
 
@@ -197,7 +197,7 @@ module _ {N : Type 0} (state : N → DeviceState) (wrote : N → ℕ → List �
         → MadeWithin wrote (most_weight (route bytes)) (due state c bytes budget).items c.store.device (answer_of result) e.device
     ran-within a budget slot bytes result e session at read to h =
         let r = run (card_in state c).apps t.aid c.session a budget in
-        let writes : InOrder (Wrote did bank_state) c.store r.writes (answer_of result) e = subst (λ (x : Ran). InOrder (Wrote did bank_state) c.store x.writes (answer_of result) e) (run-same a budget slot at) h.writes in
+        let writes : InOrder (ChainWrote did bank_state) c.store r.writes (answer_of result) e = subst (λ (x : Ran). InOrder (ChainWrote did bank_state) c.store x.writes (answer_of result) e) (run-same a budget slot at) h.writes in
         let within : MadeWithin wrote 147 (write_items r.writes) c.store.device (answer_of result) e.device =
         writes-within state wrote obeys r.writes c.store e (answer_of result) (going_is (state c.store.device) c.store.count ready.up.going) (sound a budget).writes writes in
         subst (λ (x : Command). MadeWithin wrote (most_weight (route bytes)) x.items c.store.device (answer_of result) e.device) (sym (due-ran a budget bytes read to))
@@ -220,8 +220,8 @@ module _ {N : Type 0} (state : N → DeviceState) (wrote : N → ℕ → List �
     -- ---- the beginning of such a command
 
     pub begun-done : (a : ApduParts) (budget slot : ℕ) (bytes : List ℕ) (k : Chained) → t.slot ≡ slot → apdu_read bytes ≡ Some a → routed (Some a) ≡ ToApplication a
-        → Runs (view_in state c).state (view_in state c).named k (start (apps_in (state c.store.device).words) (name_or (store_named (state c.store.device) slot)) c.session a) → k.left ≡ budget
-        → Passed state wrote c bytes budget (record c { chain = Some k })
+        → RunsAs (view_in state c).state (view_in state c).named k (start (apps_in (state c.store.device).words) (name_or (store_named (state c.store.device) slot)) c.session a) → k.left ≡ budget
+        → PassedToChain state wrote c bytes budget (record c { chain = Some k })
     begun-done a budget slot bytes k at read to runs left =
         record {
           apdu = a;
@@ -234,7 +234,7 @@ module _ {N : Type 0} (state : N → DeviceState) (wrote : N → ℕ → List �
             up = record { going = ready.up.going; fits = ready.up.fits; session = ready.up.session };
             chained = k;
             is = refl;
-            runs = subst (λ (ch : Chain). Runs (view_in state c).state (view_in state c).named k ch)
+            runs = subst (λ (ch : Chain). RunsAs (view_in state c).state (view_in state c).named k ch)
                 (ap (λ (es : List (List ℕ × App)). start es (name_or (store_named (state c.store.device) slot)) c.session a) apps-own ∙ ap (λ (n : List ℕ). start (card_in state c).apps n c.session a) (name-own slot at)) runs;
             left = left;
             own = ap (λ (o : Option Selection). option_map (λ (s : Selection). s.aid) o) is;
@@ -244,22 +244,22 @@ module _ {N : Type 0} (state : N → DeviceState) (wrote : N → ℕ → List �
 
   -- ---- a command that was passed on
 
-  pub passed-commanded : (c d : Card N) (a : ApduParts) (slot budget : ℕ) (bytes : List ℕ) (result : Result Outcome Stop) (e : Store N) (session : List ℕ) → IsReady state c → IsPassed state wrote c a slot d → apdu_read bytes ≡ Some a
+  pub passed-commanded : (c d : Card N) (a : ApduParts) (slot budget : ℕ) (bytes : List ℕ) (result : Result Outcome Stop) (e : Store N) (session : List ℕ) → IsReadyCard state c → IsPassed state wrote c a slot d → apdu_read bytes ≡ Some a
       → RunDid d (run_of d slot a budget) result e session → Commanded state wrote c (due state c bytes budget) result (record d { store = e; session = session })
   passed-commanded c d a slot budget bytes result e session ready p read did =
       subst (λ (x : Card N). Commanded state wrote c (due state c bytes budget) result (record x { store = e; session = session })) (sym p.unchanged)
       (ran-done c ready p.selected p.is a budget slot bytes result e session p.slot_is read p.route (subst (λ (x : Card N). RunDid x (run_of x slot a budget) result e session) p.unchanged did))
 
-  pub passed-within : (c d : Card N) (a : ApduParts) (slot budget : ℕ) (bytes : List ℕ) (result : Result Outcome Stop) (e : Store N) (session : List ℕ) → IsReady state c → IsPassed state wrote c a slot d → apdu_read bytes ≡ Some a
+  pub passed-within : (c d : Card N) (a : ApduParts) (slot budget : ℕ) (bytes : List ℕ) (result : Result Outcome Stop) (e : Store N) (session : List ℕ) → IsReadyCard state c → IsPassed state wrote c a slot d → apdu_read bytes ≡ Some a
       → RunDid d (run_of d slot a budget) result e session → MadeWithin wrote (most_weight (route bytes)) (due state c bytes budget).items c.store.device (answer_of result) e.device
   passed-within c d a slot budget bytes result e session ready p read did =
       ran-within c ready p.selected p.is a budget slot bytes result e session p.slot_is read p.route (subst (λ (x : Card N). RunDid x (run_of x slot a budget) result e session) p.unchanged did)
 
-  pub passed-session : (c d : Card N) (a : ApduParts) (slot : ℕ) → IsReady state c → IsPassed state wrote c a slot d → length d.session ≡ (app_of (apps_in (state d.store.device).words) (store_named (state d.store.device) slot)).session
+  pub passed-session : (c d : Card N) (a : ApduParts) (slot : ℕ) → IsReadyCard state c → IsPassed state wrote c a slot d → length d.session ≡ (app_of (apps_in (state d.store.device).words) (store_named (state d.store.device) slot)).session
   passed-session c d a slot ready p =
       subst (λ (x : Card N). length x.session ≡ (app_of (apps_in (state x.store.device).words) (store_named (state x.store.device) slot)).session) (sym p.unchanged) (slot-session c ready p.selected p.is slot p.slot_is)
 
-  pub passed-steps : (c d : Card N) (a : ApduParts) (slot budget : ℕ) (bytes : List ℕ) (result : Result Outcome Stop) (old mid new n : ℕ) → IsReady state c → IsPassed state wrote c a slot d → apdu_read bytes ≡ Some a → old ≤ mid → mid ≤ old + most_ticks a n
+  pub passed-steps : (c d : Card N) (a : ApduParts) (slot budget : ℕ) (bytes : List ℕ) (result : Result Outcome Stop) (old mid new n : ℕ) → IsReadyCard state c → IsPassed state wrote c a slot d → apdu_read bytes ≡ Some a → old ≤ mid → mid ≤ old + most_ticks a n
       → OnOk result (new ≡ mid + (run_of d slot a budget).count) → OnErr result (new ≤ mid + (run_of d slot a budget).count) → RouteSteps (card_in state c) (seat_in state c).selected budget (route bytes) (answer_of result) old new
   passed-steps c d a slot budget bytes result old mid new n ready p read low high done most =
       let same : mid ≡ old = passed-quiet a old mid n p.route low high in
@@ -267,9 +267,9 @@ module _ {N : Type 0} (state : N → DeviceState) (wrote : N → ℕ → List �
       (subst (λ (k : ℕ). OnOk result (new ≡ k + (run_of c slot a budget).count)) same (subst (λ (x : Card N). OnOk result (new ≡ mid + (run_of x slot a budget).count)) p.unchanged done))
       (subst (λ (k : ℕ). OnErr result (new ≤ k + (run_of c slot a budget).count)) same (subst (λ (x : Card N). OnErr result (new ≤ mid + (run_of x slot a budget).count)) p.unchanged most))
 
-  pub passed-begun : (c d : Card N) (a : ApduParts) (slot budget : ℕ) (bytes : List ℕ) (k : Chained) → IsReady state c → IsPassed state wrote c a slot d → apdu_read bytes ≡ Some a
-      → Runs (view_in state d).state (view_in state d).named k (start (apps_in (state d.store.device).words) (name_or (store_named (state d.store.device) slot)) d.session a) → k.left ≡ budget → Passed state wrote c bytes budget (record d { chain = Some k })
+  pub passed-begun : (c d : Card N) (a : ApduParts) (slot budget : ℕ) (bytes : List ℕ) (k : Chained) → IsReadyCard state c → IsPassed state wrote c a slot d → apdu_read bytes ≡ Some a
+      → RunsAs (view_in state d).state (view_in state d).named k (start (apps_in (state d.store.device).words) (name_or (store_named (state d.store.device) slot)) d.session a) → k.left ≡ budget → PassedToChain state wrote c bytes budget (record d { chain = Some k })
   passed-begun c d a slot budget bytes k ready p read runs left =
-      subst (λ (x : Card N). Passed state wrote c bytes budget (record x { chain = Some k })) (sym p.unchanged)
+      subst (λ (x : Card N). PassedToChain state wrote c bytes budget (record x { chain = Some k })) (sym p.unchanged)
       (begun-done c ready p.selected p.is a budget slot bytes k p.slot_is read p.route
-      (subst (λ (x : Card N). Runs (view_in state x).state (view_in state x).named k (start (apps_in (state x.store.device).words) (name_or (store_named (state x.store.device) slot)) x.session a)) p.unchanged runs) left)
+      (subst (λ (x : Card N). RunsAs (view_in state x).state (view_in state x).named k (start (apps_in (state x.store.device).words) (name_or (store_named (state x.store.device) slot)) x.session a)) p.unchanged runs) left)

@@ -13,14 +13,14 @@ use Rattle.mc_model.proofs.LoopLemmas.{makes-same}
 use Rattle.mc_machine.specs.declared.outcome.Outcome.{Outcome}
 use Rattle.mc_store.specs.GoingLaws.{going_is}
 use Rattle.mc_card.specs.declared.card.Card.{Card as CardOf}
-use Rattle.mc_card.specs.ItemWrites.{Made}
-use Rattle.mc_card.specs.Parts.{device_in, card_in, seat_in, IsUp, IsReady}
+use Rattle.mc_card.specs.ItemWrites.{ItemsMade}
+use Rattle.mc_card.specs.Parts.{device_in, card_in, seat_in, IsUp, IsReadyCard}
 use Rattle.mc_card.specs.Ends.{Commanded}
 use Rattle.mc_card.specs.Managing.{IsAnswered}
 
 module _ {D : Type 0} (state : D → DeviceState) (wrote : D → ℕ → List ℕ → Answer → D → Type 0) (same : D → D → Type 0)
     (keeps : (d : D) (at : ℕ) (w : List ℕ) (a : Answer) (e : D) → wrote d at w a e → same d e) (itself : (d : D) → same d d) (onward : (d e f : D) → same d e → same e f → same d f) where
-  pub made-same : (c : Card) (is : List Item) (d e : D) (a : Answer) → Made state wrote c is d a e → same d e
+  pub made-same : (c : Card) (is : List Item) (d e : D) (a : Answer) → ItemsMade state wrote c is d a e → same d e
   made-same c is d e a m = makes-same wrote same keeps itself onward m.writes d e a m.makes
 
   pub commanded-same : (r : Command) (c d : CardOf D) (result : Result Outcome Stop) → Commanded state wrote c r result d → same (device_in c) (device_in d)
@@ -32,13 +32,13 @@ module _ {D : Type 0} (state : D → DeviceState) (wrote : D → ℕ → List �
 module _ {D : Type 0} (state : D → DeviceState) (wrote : D → ℕ → List ℕ → Answer → D → Type 0)
     (obeys : (d : D) (at : ℕ) (w : List ℕ) (a : Answer) (e : D) → (state d).on ≡ true → wrote d at w a e → Wrote (state d) at w a (state e)) where
   -- items that were done leave power and counts, and a stop raised its count
-  pub made-ended : (c : Card) (is : List Item) (d e : D) (a : Answer) → (state d).on ≡ true → Made state wrote c is d a e → Ended a (state d) (state e)
+  pub made-ended : (c : Card) (is : List Item) (d e : D) (a : Answer) → (state d).on ≡ true → ItemsMade state wrote c is d a e → Ended a (state d) (state e)
   made-ended c is d e (Ok tt) on m =
       let all : DoneAll (state d) m.writes (state e) = makes-done state wrote obeys m.writes d e on m.makes in
       (all.power, all.cuts, all.faults)
   made-ended c is d e (Err s) on m = (makes-stopped state wrote obeys m.writes d e s on m.makes).ended
 
-  pub commanded-ended : (r : Command) (c d : CardOf D) (result : Result Outcome Stop) → IsReady state c → Commanded state wrote c r result d → Ended (answer_of result) (state (device_in c)) (state (device_in d))
+  pub commanded-ended : (r : Command) (c d : CardOf D) (result : Result Outcome Stop) → IsReadyCard state c → Commanded state wrote c r result d → Ended (answer_of result) (state (device_in c)) (state (device_in d))
   commanded-ended r c d result ready h =
       made-ended (card_in state c) r.items (device_in c) (device_in d) (answer_of result) (going_is (state c.store.device) c.store.count ready.up.going).on h.made
 

@@ -25,9 +25,9 @@ use Rattle.mc_apdu.specs.declared.reply.Reply.{Reply as CardReply}
 use Rattle.mc_manager.specs.declared.selection.Selection.{Selection}
 use Rattle.mc_manager.specs.declared.routed.Routed.{Routed}
 use Rattle.mc_manager.specs.declared.routed.Routed.TheVariants.{Answer as Answers, Fresh, Pass}
-use Rattle.mc_manager.specs.ManagerState.{BankView, Held, seat_of, Fits}
-use Rattle.mc_manager.specs.CommandDue.{Due, Refuses, Selects, Does, Passes, due_select, due_manager, due_application, due_on, due, items_of, apps_after, Leaves}
-use Rattle.mc_manager.specs.Ends.{Ends}
+use Rattle.mc_manager.specs.ManagerState.{BankView, ManagerState, seat_of, ManagerFits}
+use Rattle.mc_manager.specs.CommandDue.{CommandDue, Refuses, Selects, Does, Passes, due_select, due_manager, due_application, due_on, due, items_of, apps_after, CommandLeaves}
+use Rattle.mc_manager.specs.Ends.{CommandEnds}
 use Rattle.mc_machine.specs.declared.outcome.Outcome.TheVariants as outcome
 use Rattle.mc_machine.specs.Turns.{outcome_value}
 use Rattle.mc_store.specs.declared.store.Store.{Store}
@@ -35,7 +35,7 @@ use Rattle.mc_store.specs.Store.{apps_in, is_going, place_named, store_named, st
 use Rattle.mc_store.specs.StoreItems.{store_did, named-there}
 use Rattle.mc_store.proofs.BankLemmas.{running}
 use Rattle.mc_card.specs.declared.card.Card.{Card}
-use Rattle.mc_card.specs.Parts.{card_in, seat_in, view_in, IsReady}
+use Rattle.mc_card.specs.Parts.{card_in, seat_in, view_in, IsReadyCard}
 use Rattle.mc_card.specs.Ends.{is_passed}
 use Rattle.mc_card.specs.Managing.{IsAnswered, IsPassed}
 use Rattle.mc_card.proofs.StaticLemmas.{going-apps, none-is}
@@ -44,7 +44,7 @@ use Rattle.mc_card.proofs.ManagerLemmas.{none-of, due-made}
 -- ---- what a command is due, and what it does
 
 -- the outcome and the seat of a command, by what it is due
-abbrev Matches : Due → Seat → Command → Type 0
+abbrev Matches : CommandDue → Seat → Command → Type 0
 Matches (Refuses sw) seat r = (r.outcome ≡ Reply [] sw) × (r.seat ≡ seat)
 Matches (Selects d) seat r = (r.outcome ≡ Reply d.body 0x9000) × (r.seat ≡ d.seat)
 Matches (Does d) seat r = (r.outcome ≡ Reply d.body 0x9000) × (r.seat ≡ d.seat)
@@ -88,10 +88,10 @@ lookup-kept (e ∷ es) k n other = by-tests (bytes_eq e.0 k) (bytes_eq e.0 n) re
 
 module _ (apps : List (List ℕ × App)) (n : List ℕ) (there : is_some (lookup apps n) ≡ true) where
   -- the application of this name is the same after a command
-  abbrev Spares : Due → Type 0
-  Spares d = lookup (apps_after d apps) n ≡ lookup apps n
+  abbrev CommandSpares : CommandDue → Type 0
+  CommandSpares d = lookup (apps_after d apps) n ≡ lookup apps n
 
-  by-refusal : (o : Option ℕ) (d : Accepted) → (o ≡ None → Spares (Does d)) → Spares (due_manager (answered o d))
+  by-refusal : (o : Option ℕ) (d : Accepted) → (o ≡ None → CommandSpares (Does d)) → CommandSpares (due_manager (answered o d))
   by-refusal None d h = h refl
   by-refusal (Some sw) d h = refl
 
@@ -102,14 +102,14 @@ module _ (apps : List (List ℕ × App)) (n : List ℕ) (there : is_some (lookup
       by-test true e = absurd (cc (ap (λ (t : List ℕ). is_some (lookup apps t)) (sym (same_name k n e)), ap is_some none, there))
       by-test false e = lookup-beside apps k x n e
 
-  load-spares : (p : Part) (seat : Seat) (a : ApduParts) → Spares (due_manager (load_part p seat a))
+  load-spares : (p : Part) (seat : Seat) (a : ApduParts) → CommandSpares (due_manager (load_part p seat a))
   load-spares p seat a = by-refusal (first_status (load_refusals seat.load p a)) (load_done seat seat.load p a) (λ e. by-load seat.load)
     where
-      by-load : (x : Option Open) → Spares (Does (load_done seat x p a))
+      by-load : (x : Option Open) → CommandSpares (Does (load_done seat x p a))
       by-load None = refl
       by-load (Some o) = refl
 
-  create-spares : (seat : Seat) (a : ApduParts) → Spares (due_manager (create apps seat a))
+  create-spares : (seat : Seat) (a : ApduParts) → CommandSpares (due_manager (create apps seat a))
   create-spares seat a =
       by-refusal (first_status (create_refusals apps seat.load a)) (create_done seat seat.load (name_of (dir_in seat.load))) (λ e.
       let one = none-of _ 0x6A86 _ e in
@@ -119,12 +119,12 @@ module _ (apps : List (List ℕ × App)) (n : List ℕ) (there : is_some (lookup
       let five = none-of _ 0x6A89 _ four.1 in
       by-load seat.load (name_of (dir_in seat.load)) five.0)
     where
-      by-load : (x : Option Open) (k : Result (List ℕ) AidFault) → is_taken apps k ≡ false → Spares (Does (create_done seat x k))
+      by-load : (x : Option Open) (k : Result (List ℕ) AidFault) → is_taken apps k ≡ false → CommandSpares (Does (create_done seat x k))
       by-load None k h = refl
       by-load (Some o) (Err f) h = refl
       by-load (Some o) (Ok k) h = inserted-spares k (fresh o) (none-is (lookup apps k) h)
 
-  delete-spares : (seat : Seat) (a : ApduParts) → (is_selected seat.selected a.body ≡ false → bytes_eq a.body n ≡ false) → Spares (due_manager (delete apps seat a))
+  delete-spares : (seat : Seat) (a : ApduParts) → (is_selected seat.selected a.body ≡ false → bytes_eq a.body n ≡ false) → CommandSpares (due_manager (delete apps seat a))
   delete-spares seat a other =
       by-refusal (first_status (delete_refusals apps seat a)) (delete_done seat a) (λ e.
       let one = none-of _ 0x6A86 _ e in
@@ -133,11 +133,11 @@ module _ (apps : List (List ℕ × App)) (n : List ℕ) (there : is_some (lookup
       let four = none-of _ 0x6985 _ three.1 in
       lookup-kept apps a.body n (other four.0))
 
-  by-test : (x y : Managed) → Spares (due_manager x) → Spares (due_manager y) → (b : Bool) → Spares (due_manager (cond b x y))
+  by-test : (x y : Managed) → CommandSpares (due_manager x) → CommandSpares (due_manager y) → (b : Bool) → CommandSpares (due_manager (cond b x y))
   by-test x y h k true = h
   by-test x y h k false = k
 
-  manage-spares : (room : Sizes → Option ℕ) (seat : Seat) (a : ApduParts) → (is_selected seat.selected a.body ≡ false → bytes_eq a.body n ≡ false) → Spares (due_manager (manage room apps seat a))
+  manage-spares : (room : Sizes → Option ℕ) (seat : Seat) (a : ApduParts) → (is_selected seat.selected a.body ≡ false → bytes_eq a.body n ≡ false) → CommandSpares (due_manager (manage room apps seat a))
   unfolding manage
   manage-spares room seat a other =
       by-test _ _ (by-refusal (first_status (open_refusals room apps a)) (open_done room seat a) (λ e. refl)) (by-test _ _ (load-spares part.Code seat a) (by-test _ _ (load-spares part.Data seat a)
@@ -153,7 +153,7 @@ apart n k h = by-test (bytes_eq k n) refl
     by-test false e = e
 
 -- the selected application is the same after a command
-due-spares : (v : BankView) (s : List ℕ) (m : Held) (t : Selection) (r : Route) → m.selected ≡ Some t → is_some (lookup v.state.apps t.aid) ≡ true
+due-spares : (v : BankView) (s : List ℕ) (m : ManagerState) (t : Selection) (r : Route) → m.selected ≡ Some t → is_some (lookup v.state.apps t.aid) ≡ true
     → lookup (apps_after (due_on v (seat_of v.standing s m) r) v.state.apps) t.aid ≡ lookup v.state.apps t.aid
 due-spares v s m t WrongLength is there = refl
 due-spares v s m t WrongClass is there = refl
@@ -177,14 +177,14 @@ due-spares v s m t (ToApplication a) is there = by-selected m.selected
 
 -- ---- the answer
 
-outcome-of : (x : Due) (seat : Seat) (r : Command) (reply : CardReply) (s : List ℕ) (v w : BankView) (m n : Held) → Matches x seat r → Leaves x s v m (Answers reply) w n → outcome_value (outcome.Reply reply) ≡ r.outcome
+outcome-of : (x : CommandDue) (seat : Seat) (r : Command) (reply : CardReply) (s : List ℕ) (v w : BankView) (m n : ManagerState) → Matches x seat r → CommandLeaves x s v m (Answers reply) w n → outcome_value (outcome.Reply reply) ≡ r.outcome
 outcome-of (Refuses sw) seat r reply s v w m n match leaves = ap (λ (b : List ℕ). Reply b reply.sw) leaves.reply.body ∙ ap (λ (k : ℕ). Reply [] k) leaves.reply.sw ∙ sym match.0
 outcome-of (Selects d) seat r reply s v w m n match leaves = absurd leaves
 outcome-of (Does d) seat r reply s v w m n match leaves = ap (λ (b : List ℕ). Reply b reply.sw) leaves.reply.body ∙ ap (λ (k : ℕ). Reply d.body k) leaves.reply.sw ∙ sym match.0
 outcome-of Passes seat r reply s v w m n match leaves = absurd leaves
 
-selected-of : (x : Due) (reply : CardReply) (s : List ℕ) (v w : BankView) (m n : Held) → Leaves x s v m (Answers reply) w n → n.selected ≡ m.selected
-selected-of (Refuses sw) reply s v w m n leaves = ap (λ (h : Held). h.selected) leaves.unchanged
+selected-of : (x : CommandDue) (reply : CardReply) (s : List ℕ) (v w : BankView) (m n : ManagerState) → CommandLeaves x s v m (Answers reply) w n → n.selected ≡ m.selected
+selected-of (Refuses sw) reply s v w m n leaves = ap (λ (h : ManagerState). h.selected) leaves.unchanged
 selected-of (Selects d) reply s v w m n leaves = absurd leaves
 selected-of (Does d) reply s v w m n leaves = leaves.selected
 selected-of Passes reply s v w m n leaves = absurd leaves
@@ -221,24 +221,24 @@ routed-apdu a x h = by-tests (a.cla == 0xFF) (a.cla == 0 && a.ins == 0xA4 && a.p
     by-tests false false true e = absurd (cc e)
     by-tests false false false e = sym (cc e)
 
-passed-route : (v w : BankView) (seat : Seat) (r : Route) (s : List ℕ) (k : ℕ) (m n : Held) → Leaves (due_on v seat r) s v m (Pass k) w n → (x : ApduParts) × (r ≡ ToApplication x)
+passed-route : (v w : BankView) (seat : Seat) (r : Route) (s : List ℕ) (k : ℕ) (m n : ManagerState) → CommandLeaves (due_on v seat r) s v m (Pass k) w n → (x : ApduParts) × (r ≡ ToApplication x)
 passed-route v w seat WrongLength s k m n h = absurd h
 passed-route v w seat WrongClass s k m n h = absurd h
 passed-route v w seat (ToSelect a) s k m n h = by-answer (select v.state.apps seat a) h
   where
-    by-answer : (y : Managed) → Leaves (due_select y) s v m (Pass k) w n → (x : ApduParts) × (ToSelect a ≡ ToApplication x)
+    by-answer : (y : Managed) → CommandLeaves (due_select y) s v m (Pass k) w n → (x : ApduParts) × (ToSelect a ≡ ToApplication x)
     by-answer (Declines sw) e = absurd e
     by-answer (Accepts d) e = absurd e
 passed-route v w seat (ToManager a) s k m n h = by-answer (manage v.room v.state.apps seat a) h
   where
-    by-answer : (y : Managed) → Leaves (due_manager y) s v m (Pass k) w n → (x : ApduParts) × (ToManager a ≡ ToApplication x)
+    by-answer : (y : Managed) → CommandLeaves (due_manager y) s v m (Pass k) w n → (x : ApduParts) × (ToManager a ≡ ToApplication x)
     by-answer (Declines sw) e = absurd e
     by-answer (Accepts d) e = absurd e
 passed-route v w seat (ToApplication a) s k m n h = (a, refl)
 
 card-same : {N : Type 0} (c d : Card N) → d.store ≡ c.store → d.manager ≡ c.manager → d.session ≡ c.session → d.chain ≡ c.chain → d ≡ c
 card-same c d store manager session chain =
-    ap (λ (x : Store _). record d { store = x }) store ∙ ap (λ (x : Held). record d { store = c.store; manager = x }) manager
+    ap (λ (x : Store _). record d { store = x }) store ∙ ap (λ (x : ManagerState). record d { store = c.store; manager = x }) manager
     ∙ ap (λ (x : List ℕ). record c { session = x; chain = d.chain }) session ∙ ap (λ (x : Option _). record c { chain = x }) chain
 
 -- ---- the clauses
@@ -246,7 +246,7 @@ card-same c d store manager session chain =
 -- what the manager did to a command over a card
 abbrev pub DirectEnds : {N : Type 0} → (N → DeviceState) → (N → ℕ → List ℕ → Answer → N → Type 0) → Card N → ApduParts → Result Routed Stop → Card N → Type 0
 DirectEnds state wrote c a result d =
-    Ends (store_did state wrote) (λ s. due (view_in state c) s c.manager a) (view_in state c) c.manager c.store result (view_in state d) d.manager d.store
+    CommandEnds (store_did state wrote) (λ s. due (view_in state c) s c.manager a) (view_in state c) c.manager c.store result (view_in state d) d.manager d.store
 
 module _ {N : Type 0} (state : N → DeviceState) (wrote : N → ℕ → List ℕ → Answer → N → Type 0)
     (obeys : (d : N) (at : ℕ) (w : List ℕ) (a : Answer) (e : N) → (state d).on ≡ true → wrote d at w a e → Wrote (state d) at w a (state e)) where
@@ -263,11 +263,11 @@ module _ {N : Type 0} (state : N → DeviceState) (wrote : N → ℕ → List �
   matches c budget (ToApplication a) going = application-matches (card_in state c) (seat_in state c) (seat_in state c).selected a budget
 
   -- the seat after an answer
-  seat-of-answer : (x : Due) (c d : Card N) (r : Command) (reply : CardReply) → d.session ≡ c.session → Matches x (seat_in state c) r → InOrder (store_did state wrote) c.store (items_of x) (Ok tt) d.store
-      → Leaves x c.session (view_in state c) c.manager (Answers reply) (view_in state d) d.manager → seat_in state d ≡ r.seat
+  seat-of-answer : (x : CommandDue) (c d : Card N) (r : Command) (reply : CardReply) → d.session ≡ c.session → Matches x (seat_in state c) r → InOrder (store_did state wrote) c.store (items_of x) (Ok tt) d.store
+      → CommandLeaves x c.session (view_in state c) c.manager (Answers reply) (view_in state d) d.manager → seat_in state d ≡ r.seat
   seat-of-answer (Refuses sw) c d r reply session match items leaves =
       ap (λ (s : Store N). seat_of (store_standing (state s.device)) d.session d.manager) items
-      ∙ ap (λ (m : Held). seat_of (store_standing (state c.store.device)) d.session m) leaves.unchanged
+      ∙ ap (λ (m : ManagerState). seat_of (store_standing (state c.store.device)) d.session m) leaves.unchanged
       ∙ ap (λ (s : List ℕ). seat_of (store_standing (state c.store.device)) s c.manager) session ∙ sym match.1
   seat-of-answer (Selects q) c d r reply session match items leaves = absurd leaves
   seat-of-answer (Does q) c d r reply session match items leaves = ap (λ (s : List ℕ). seat_of (store_standing (state d.store.device)) s d.manager) session ∙ leaves.seat ∙ sym match.1
@@ -282,21 +282,21 @@ module _ {N : Type 0} (state : N → DeviceState) (wrote : N → ℕ → List �
       ∙ ap (λ (es : List (List ℕ × App)). (app_of es (Some t.aid)).session) (going-apps (state c.store.device) c.store.count before)
 
   -- a selected application is there
-  selected-there : (c : Card N) (t : Selection) → Fits (view_in state c) c.manager → c.manager.selected ≡ Some t → is_some (lookup (apps_in (state c.store.device).words) t.aid) ≡ true
+  selected-there : (c : Card N) (t : Selection) → ManagerFits (view_in state c) c.manager → c.manager.selected ≡ Some t → is_some (lookup (apps_in (state c.store.device).words) t.aid) ≡ true
   selected-there c t fits is =
       let apps = apps_in (state c.store.device).words in
       let sized = has_sizes apps t.slot (place_named (state c.store.device) (slot_place t.slot)) t.aid (fits.selected t is) in
       named-there apps (slot_place t.slot) t.aid sized.name
 
   -- a command that is answered
-  pub answered-done : (a : ApduParts) (c d : Card N) (reply : CardReply) → IsReady state c → d.session ≡ c.session → d.chain ≡ c.chain → DirectEnds state wrote c a (Ok (Answers reply)) d
+  pub answered-done : (a : ApduParts) (c d : Card N) (reply : CardReply) → IsReadyCard state c → d.session ≡ c.session → d.chain ≡ c.chain → DirectEnds state wrote c a (Ok (Answers reply)) d
       → IsAnswered state wrote c a (Ok (outcome.Reply reply)) d
   answered-done a c d reply ready session chain ends =
       let going : is_going (state c.store.device) c.store.count ≡ true = ready.up.going in
       let r = routed (Some a) in
       let x = due_on (view_in state c) (seat_in state c) r in
-      let leaves : Leaves x c.session (view_in state c) c.manager (Answers reply) (view_in state d) d.manager = ends.leaves c.session in
-      let other : x ≡ Passes → ⊥ = λ e. subst (λ (y : Due). Leaves y c.session (view_in state c) c.manager (Answers reply) (view_in state d) d.manager) e leaves in
+      let leaves : CommandLeaves x c.session (view_in state c) c.manager (Answers reply) (view_in state d) d.manager = ends.leaves c.session in
+      let other : x ≡ Passes → ⊥ = λ e. subst (λ (y : CommandDue). CommandLeaves y c.session (view_in state c) c.manager (Answers reply) (view_in state d) d.manager) e leaves in
       let now : is_going (state d.store.device) d.store.count ≡ true = running (state d.store.device) d.store.count ends.going in
       record {
         stays = passed-not (view_in state c) (seat_in state c) r other;
@@ -321,11 +321,11 @@ module _ {N : Type 0} (state : N → DeviceState) (wrote : N → ℕ → List �
 
   -- ---- a stop
 
-  stops-not : (x : Due) (c d : Card N) (t : Stop) → x ≡ Passes → InOrder (store_did state wrote) c.store (items_of x) (Err t) d.store → ⊥
-  stops-not x c d t is h = subst (λ (y : Due). InOrder (store_did state wrote) c.store (items_of y) (Err t) d.store) is h
+  stops-not : (x : CommandDue) (c d : Card N) (t : Stop) → x ≡ Passes → InOrder (store_did state wrote) c.store (items_of x) (Err t) d.store → ⊥
+  stops-not x c d t is h = subst (λ (y : CommandDue). InOrder (store_did state wrote) c.store (items_of y) (Err t) d.store) is h
 
   -- a command in which a device write stopped
-  pub stopped-done : (a : ApduParts) (c d : Card N) (t : Stop) → IsReady state c → DirectEnds state wrote c a (Err t) d → IsAnswered state wrote c a (Err t) d
+  pub stopped-done : (a : ApduParts) (c d : Card N) (t : Stop) → IsReadyCard state c → DirectEnds state wrote c a (Err t) d → IsAnswered state wrote c a (Err t) d
   stopped-done a c d t ready ends =
       let r = routed (Some a) in
       let x = due_on (view_in state c) (seat_in state c) r in
@@ -351,8 +351,8 @@ module _ {N : Type 0} (state : N → DeviceState) (wrote : N → ℕ → List �
     outcome : outcome_value (outcome.Reply reply) ≡ r.outcome
     seat : seat_of (store_standing (state c.store.device)) (zeros (app_of (apps_in (state c.store.device).words) (Some selected.aid)).session) d.manager ≡ r.seat
 
-  newly : (x : Due) (c d : Card N) (a : ApduParts) (r : Command) (slot : ℕ) (reply : CardReply) → due_on (view_in state c) (seat_in state c) (routed (Some a)) ≡ x → Matches x (seat_in state c) r → InOrder (store_did state wrote) c.store (items_of x) (Ok tt) d.store
-      → Leaves x c.session (view_in state c) c.manager (Fresh slot reply) (view_in state d) d.manager → NewlySelected c d r slot reply
+  newly : (x : CommandDue) (c d : Card N) (a : ApduParts) (r : Command) (slot : ℕ) (reply : CardReply) → due_on (view_in state c) (seat_in state c) (routed (Some a)) ≡ x → Matches x (seat_in state c) r → InOrder (store_did state wrote) c.store (items_of x) (Ok tt) d.store
+      → CommandLeaves x c.session (view_in state c) c.manager (Fresh slot reply) (view_in state d) d.manager → NewlySelected c d r slot reply
   newly (Refuses sw) c d a r slot reply is match items leaves = absurd leaves
   newly (Does q) c d a r slot reply is match items leaves = absurd leaves
   newly Passes c d a r slot reply is match items leaves = absurd leaves
@@ -368,14 +368,14 @@ module _ {N : Type 0} (state : N → DeviceState) (wrote : N → ℕ → List �
       }
 
   -- the session bytes of a new selection are zeros
-  pub selected-done : (a : ApduParts) (c d : Card N) (slot : ℕ) (reply : CardReply) → IsReady state c → d.session ≡ zeros (app_of (apps_in (state d.store.device).words) (store_named (state d.store.device) slot)).session → d.chain ≡ c.chain
+  pub selected-done : (a : ApduParts) (c d : Card N) (slot : ℕ) (reply : CardReply) → IsReadyCard state c → d.session ≡ zeros (app_of (apps_in (state d.store.device).words) (store_named (state d.store.device) slot)).session → d.chain ≡ c.chain
       → DirectEnds state wrote c a (Ok (Fresh slot reply)) d → IsAnswered state wrote c a (Ok (outcome.Reply reply)) d
   selected-done a c d slot reply ready session chain ends =
       let going : is_going (state c.store.device) c.store.count ≡ true = ready.up.going in
       let r = routed (Some a) in
       let x = due_on (view_in state c) (seat_in state c) r in
-      let leaves : Leaves x c.session (view_in state c) c.manager (Fresh slot reply) (view_in state d) d.manager = ends.leaves c.session in
-      let other : x ≡ Passes → ⊥ = λ e. subst (λ (y : Due). Leaves y c.session (view_in state c) c.manager (Fresh slot reply) (view_in state d) d.manager) e leaves in
+      let leaves : CommandLeaves x c.session (view_in state c) c.manager (Fresh slot reply) (view_in state d) d.manager = ends.leaves c.session in
+      let other : x ≡ Passes → ⊥ = λ e. subst (λ (y : CommandDue). CommandLeaves y c.session (view_in state c) c.manager (Fresh slot reply) (view_in state d) d.manager) e leaves in
       let now : is_going (state d.store.device) d.store.count ≡ true = running (state d.store.device) d.store.count ends.going in
       record {
         stays = passed-not (view_in state c) (seat_in state c) r other;
@@ -404,7 +404,7 @@ module _ {N : Type 0} (state : N → DeviceState) (wrote : N → ℕ → List �
       }
 
   -- the slot of a new selection has an application
-  pub fresh-slot : (a : ApduParts) (c d : Card N) (slot : ℕ) (reply : CardReply) → IsReady state c → DirectEnds state wrote c a (Ok (Fresh slot reply)) d → IsSome (store_named (state d.store.device) slot)
+  pub fresh-slot : (a : ApduParts) (c d : Card N) (slot : ℕ) (reply : CardReply) → IsReadyCard state c → DirectEnds state wrote c a (Ok (Fresh slot reply)) d → IsSome (store_named (state d.store.device) slot)
   fresh-slot a c d slot reply ready ends =
       let r = routed (Some a) in
       let one : NewlySelected c d (by_route (card_in state c) (seat_in state c) 1 r) slot reply =
@@ -417,7 +417,7 @@ module _ {N : Type 0} (state : N → DeviceState) (wrote : N → ℕ → List �
   slot-of None k h = absurd (cc h)
   slot-of (Some t) k h = (t, refl, cc h)
 
-  pass-is : (m : Held) (s : List ℕ) (v w : BankView) (n : Held) (k : ℕ) (b e : Store N) (x : Option Selected) → InOrder (store_did state wrote) b (items_of (due_application x)) (Ok tt) e → Leaves (due_application x) s v m (Pass k) w n
+  pass-is : (m : ManagerState) (s : List ℕ) (v w : BankView) (n : ManagerState) (k : ℕ) (b e : Store N) (x : Option Selected) → InOrder (store_did state wrote) b (items_of (due_application x)) (Ok tt) e → CommandLeaves (due_application x) s v m (Pass k) w n
       → (e ≡ b) × (n ≡ m) × (option_map (λ (s : Selection). s.slot) m.selected ≡ Some k)
   pass-is m s v w n k b e None items leaves = absurd leaves
   pass-is m s v w n k b e (Some y) items leaves = (items, leaves.unchanged, leaves.slot)
@@ -427,8 +427,8 @@ module _ {N : Type 0} (state : N → DeviceState) (wrote : N → ℕ → List �
       let found = passed-route (view_in state c) (view_in state d) (seat_in state c) (routed (Some a)) c.session slot c.manager d.manager (ends.leaves c.session) in
       let same : found.0 ≡ a = routed-apdu a found.0 found.1 in
       let route : routed (Some a) ≡ ToApplication a = found.1 ∙ ap (λ (x : ApduParts). ToApplication x) same in
-      let leaves : Leaves (due_application (seat_in state c).selected) c.session (view_in state c) c.manager (Pass slot) (view_in state d) d.manager =
-      subst (λ (r : Route). Leaves (due_on (view_in state c) (seat_in state c) r) c.session (view_in state c) c.manager (Pass slot) (view_in state d) d.manager) route (ends.leaves c.session) in
+      let leaves : CommandLeaves (due_application (seat_in state c).selected) c.session (view_in state c) c.manager (Pass slot) (view_in state d) d.manager =
+      subst (λ (r : Route). CommandLeaves (due_on (view_in state c) (seat_in state c) r) c.session (view_in state c) c.manager (Pass slot) (view_in state d) d.manager) route (ends.leaves c.session) in
       let items : InOrder (store_did state wrote) c.store (items_of (due_application (seat_in state c).selected)) (Ok tt) d.store =
       subst (λ (r : Route). InOrder (store_did state wrote) c.store (items_of (due_on (view_in state c) (seat_in state c) r)) (Ok tt) d.store) route (ends.items c.session) in
       let is = pass-is c.manager c.session (view_in state c) (view_in state d) d.manager slot c.store d.store (seat_in state c).selected items leaves in

@@ -27,9 +27,9 @@ use Rattle.mc_store.specs.Store.{apps_in, is_going, store_state}
 use Rattle.mc_store.specs.StoreItems.{store_did}
 use Rattle.mc_store.specs.GoingLaws.{Going}
 use Rattle.mc_store.proofs.ReadLemmas.{all_apps}
-use Rattle.mc_machine.specs.Chains.{Wrote}
+use Rattle.mc_machine.specs.Chains.{ChainWrote}
 use Rattle.mc_machine.proofs.SoundChains.{AreSound}
-use Rattle.mc_card.specs.ItemWrites.{IsAll, Made, begun, MadeWithin}
+use Rattle.mc_card.specs.ItemWrites.{CountsWrites, ItemsMade, begun, MadeWithin}
 use Rattle.mc_card.specs.Ends.{is_passed, most_weight}
 use Rattle.mc_card.proofs.StaticLemmas.{going-apps}
 use Rattle.mc_card.proofs.MadeLemmas.{moves-append, card-found}
@@ -65,7 +65,7 @@ begun-past most (suc n) (suc m) k (i ∷ is) js all e first second = (
 
 module _ {D : Type 0} (state : D → DeviceState) (wrote : D → ℕ → List ℕ → Answer → D → Type 0) where
   -- items that are all small
-  pub within-made : (most : ℕ) (c : Card) (is : List Item) (d : D) (a : Answer) (e : D) → Made state wrote c is d a e → AllWithin most is → MadeWithin wrote most is d a e
+  pub within-made : (most : ℕ) (c : Card) (is : List Item) (d : D) (a : Answer) (e : D) → ItemsMade state wrote c is d a e → AllWithin most is → MadeWithin wrote most is d a e
   within-made most c is d a e m all = record { writes = m.writes; makes = m.makes; number = m.number; few = all-begun most (length m.writes) is all }
 
   -- items that stopped, whatever was to come after them
@@ -80,7 +80,7 @@ module _ {D : Type 0} (state : D → DeviceState) (wrote : D → ℕ → List �
         few = subst (λ (l : List Item). AllWithin most l) (sym (begun-front (length m.writes) is js few)) m.few;
       }
 
-  all-append : (is js : List Item) (n k : ℕ) (a : Answer) → n ≡ moves is → IsAll js a k → IsAll (is ++ js) a (n + k)
+  all-append : (is js : List Item) (n k : ℕ) (a : Answer) → n ≡ moves is → CountsWrites js a k → CountsWrites (is ++ js) a (n + k)
   all-append is js n k (Ok u) first second = let all = moves-append is js in omega (arith, first, second, all)
   all-append is js n k (Err s) first second = let all = moves-append is js in omega (arith, first, second, all)
 
@@ -94,7 +94,7 @@ module _ {D : Type 0} (state : D → DeviceState) (wrote : D → ℕ → List �
       record {
         writes = ws ++ vs;
         makes = InOrder-append (λ d p a e. wrote d p.0 p.1 a e) ws vs d m e a first.makes second.makes;
-        number = subst (λ (n : ℕ). IsAll (is ++ js) a n) (sym size) (all-append is js (length ws) (length vs) a count second.number);
+        number = subst (λ (n : ℕ). CountsWrites (is ++ js) a n) (sym size) (all-append is js (length ws) (length vs) a count second.number);
         few = begun-past most (length (ws ++ vs)) (length ws) (length vs) is js count size first.few second.few;
       }
 
@@ -115,11 +115,11 @@ module _ {N : Type 0} (state : N → DeviceState) (wrote : N → ℕ → List �
   words_of s = (state s.device).words
 
   -- one of them
-  one-within : (s e : Store N) (w : Write) (a : Answer) → Made state wrote (means (words_of s)) (item w ∷ []) s.device a e.device → Wrote did bank_state s w a e → MadeWithin wrote 147 (item w ∷ []) s.device a e.device
+  one-within : (s e : Store N) (w : Write) (a : Answer) → ItemsMade state wrote (means (words_of s)) (item w ∷ []) s.device a e.device → ChainWrote did bank_state s w a e → MadeWithin wrote 147 (item w ∷ []) s.device a e.device
   one-within s e w a made h = within-made state wrote 147 (means (words_of s)) (item w ∷ []) s.device a e.device made (((few_writes_law w.words).1 h.3).two, tt)
 
   -- all that were begun
-  pub writes-within : (ws : List Write) (s e : Store N) (a : Answer) → Going (state s.device) s.count → AreSound (means (words_of s)).apps ws → InOrder (Wrote did bank_state) s ws a e → MadeWithin wrote 147 (write_items ws) s.device a e.device
+  pub writes-within : (ws : List Write) (s e : Store N) (a : Answer) → Going (state s.device) s.count → AreSound (means (words_of s)).apps ws → InOrder (ChainWrote did bank_state) s ws a e → MadeWithin wrote 147 (write_items ws) s.device a e.device
   writes-within [] s e (Ok u) g sound h = record { writes = []; makes = ap (λ (t : Store N). t.device) h; number = refl; few = tt }
   writes-within [] s e (Err x) g sound h = absurd h
   writes-within (w ∷ ws) s e a g sound h =
@@ -128,7 +128,7 @@ module _ {N : Type 0} (state : N → DeviceState) (wrote : N → ℕ → List �
       elim h [
         | inl done ↦
             let m = done.0 in
-            let first : Made state wrote c i s.device (Ok tt) m.device = write_made state wrote obeys s m w (Ok tt) sound.0 done.1 in
+            let first : ItemsMade state wrote c i s.device (Ok tt) m.device = write_made state wrote obeys s m w (Ok tt) sound.0 done.1 in
             let now : card_done c i ≡ means (words_of m) = card-found (card_done c i) 0 (words_of m) first.done in
             within-append state wrote 147 i (write_items ws) s.device m.device e.device a (one-within s m w (Ok tt) first done.1)
             (writes-within ws m e a (goes_on state wrote obeys s m w done.1) (subst (λ (k : Card). AreSound k.apps ws) now sound.1) done.2)

@@ -22,15 +22,15 @@ use Rattle.mc_model.proofs.StoppedLemmas.{torn-within, torn-past}
 use Rattle.mc_model.proofs.CallLemmas.{length-writes}
 use Rattle.mc_bank.specs.Bank.{no_app, app_of, CanCommit, item_done}
 use Rattle.mc_store.specs.Store.{apps_in, part_in, static_writes, card_with, card_without, item_writes, store_standing, Allows, StoreDid}
-use Rattle.mc_store.specs.Power.{IsBase}
+use Rattle.mc_store.specs.Power.{HoldsBase}
 use Rattle.mc_store.specs.GoingLaws.{Going, going_is, closed_means, closed_fault}
 use Rattle.mc_store.specs.Stops.{card_after, IsStoppedAt}
-use Rattle.mc_store.specs.CommitLaws.{Committed, commits}
+use Rattle.mc_store.specs.CommitLaws.{CommittedCard, commits}
 use Rattle.mc_store.specs.CreationLaws.{creates-plan}
 use Rattle.mc_store.specs.DeletionLaws.{deletes-plan}
-use Rattle.mc_store.specs.TurnLaws.{Turned, Standing, standing-of, some-is, turns}
+use Rattle.mc_store.specs.TurnLaws.{CardChanged, Standing, standing-of, some-is, turns}
 use Rattle.mc_store.proofs.StopLemmas.{item_stops}
-use Rattle.mc_card.specs.ItemWrites.{IsStopped, IsAll, IsDone, Made}
+use Rattle.mc_card.specs.ItemWrites.{IsCardAfterStop, CountsWrites, IsCardAfter, ItemsMade}
 
 -- ---- lists of items
 
@@ -79,14 +79,14 @@ stop-past (Atomic w c ∷ is) js n k x low e =
 
 -- ---- words that are a card
 
-pub card-found : (c : Card) (n : ℕ) (m : List (List ℕ)) → IsBase (OnCard c) n Two m → c ≡ means m
+pub card-found : (c : Card) (n : ℕ) (m : List (List ℕ)) → HoldsBase (OnCard c) n Two m → c ≡ means m
 card-found c n m b = by_fault (fault m) b.base
   where
     by_fault : (f : Option (Cause × ℕ)) → base_of f m ≡ OnCard c → c ≡ means m
     by_fault None e = cc (sym e)
     by_fault (Some f) e = absurd (cc e)
 
-pub closed-base : (m : List (List ℕ)) (c : Card) → look m ≡ Closed → words_fault m ≡ None → card_of m ≡ c → IsBase (OnCard c) 0 Two m
+pub closed-base : (m : List (List ℕ)) (c : Card) → look m ≡ Closed → words_fault m ≡ None → card_of m ≡ c → HoldsBase (OnCard c) 0 Two m
 closed-base m c closed good is =
     record {
       base = ap (λ (f : Option (Cause × ℕ)). base_of f m) (closed_fault m closed ∙ good) ∙ ap (λ (k : Card). OnCard k) (closed_means m closed ∙ is);
@@ -99,12 +99,12 @@ closed-base m c closed good is =
 module _ {D : Type 0} (state : D → DeviceState) (wrote : D → ℕ → List ℕ → Answer → D → Type 0)
     (obeys : (d : D) (at : ℕ) (w : List ℕ) (a : Answer) (e : D) → (state d).on ≡ true → wrote d at w a e → Wrote (state d) at w a (state e)) where
   -- no items
-  pub made-none : (c : Card) (d : D) → IsBase (OnCard c) 0 Two (state d).words → Made state wrote c [] d (Ok tt) d
+  pub made-none : (c : Card) (d : D) → HoldsBase (OnCard c) 0 Two (state d).words → ItemsMade state wrote c [] d (Ok tt) d
   made-none c d base =
       record { writes = []; makes = refl; number = refl; stops = λ k x low high size. absurd (omega (arith, low, high)); done = base }
 
   -- items that stopped, whatever was to come after them
-  pub made-stopped : (c : Card) (is js : List Item) (d e : D) (s : Stop) → Made state wrote c is d (Err s) e → Made state wrote c (is ++ js) d (Err s) e
+  pub made-stopped : (c : Card) (is js : List Item) (d e : D) (s : Stop) → ItemsMade state wrote c is d (Err s) e → ItemsMade state wrote c (is ++ js) d (Err s) e
   made-stopped c is js d e s m =
       let few : length m.writes ≤ moves is = m.number in
       let all : moves (is ++ js) ≡ moves is + moves js = moves-append is js in
@@ -113,20 +113,20 @@ module _ {D : Type 0} (state : D → DeviceState) (wrote : D → ℕ → List �
         makes = m.makes;
         number = omega (arith, few, all);
         stops = λ k x low high size.
-            subst (λ (t : Stopped). IsStopped c t (torn (state d).words m.writes k x)) (sym (stop-within is js k x low (omega (arith, few, high)))) (m.stops k x low high size);
+            subst (λ (t : Stopped). IsCardAfterStop c t (torn (state d).words m.writes k x)) (sym (stop-within is js k x low (omega (arith, few, high)))) (m.stops k x low high size);
         done = tt;
       }
 
-  number-append : (is js : List Item) (n k : ℕ) (a : Answer) → n ≡ moves is → IsAll js a k → IsAll (is ++ js) a (n + k)
+  number-append : (is js : List Item) (n k : ℕ) (a : Answer) → n ≡ moves is → CountsWrites js a k → CountsWrites (is ++ js) a (n + k)
   number-append is js n k (Ok u) first second = let all = moves-append is js in omega (arith, first, second, all)
   number-append is js n k (Err s) first second = let all = moves-append is js in omega (arith, first, second, all)
 
-  done-behind : (c : Card) (is js : List Item) (a : Answer) (m : List (List ℕ)) → IsDone (card_done c is) js a m → IsDone c (is ++ js) a m
-  done-behind c is js (Ok u) m h = subst (λ (k : Card). IsBase (OnCard k) 0 Two m) (sym (card-append is js c)) h
+  done-behind : (c : Card) (is js : List Item) (a : Answer) (m : List (List ℕ)) → IsCardAfter (card_done c is) js a m → IsCardAfter c (is ++ js) a m
+  done-behind c is js (Ok u) m h = subst (λ (k : Card). HoldsBase (OnCard k) 0 Two m) (sym (card-append is js c)) h
   done-behind c is js (Err s) m h = tt
 
   -- items that were done, and others after them
-  pub made-append : (c : Card) (is js : List Item) (d m e : D) (a : Answer) → (state d).on ≡ true → Made state wrote c is d (Ok tt) m → Made state wrote (card_done c is) js m a e → Made state wrote c (is ++ js) d a e
+  pub made-append : (c : Card) (is js : List Item) (d m e : D) (a : Answer) → (state d).on ≡ true → ItemsMade state wrote c is d (Ok tt) m → ItemsMade state wrote (card_done c is) js m a e → ItemsMade state wrote c (is ++ js) d a e
   made-append c is js d m e a on first second =
       let ws = first.writes in
       let vs = second.writes in
@@ -136,10 +136,10 @@ module _ {D : Type 0} (state : D → DeviceState) (wrote : D → ℕ → List �
       record {
         writes = ws ++ vs;
         makes = InOrder-append (λ d p a e. wrote d p.0 p.1 a e) ws vs d m e a first.makes second.makes;
-        number = subst (λ (n : ℕ). IsAll (is ++ js) a n) (sym size) (number-append is js (length ws) (length vs) a count second.number);
+        number = subst (λ (n : ℕ). CountsWrites (is ++ js) a n) (sym size) (number-append is js (length ws) (length vs) a count second.number);
         stops = λ k x low high long. elim (cases_lt (length ws) k) [
-          | inr in-first ↦ subst (λ (t : Stopped). IsStopped c t (torn (state d).words (ws ++ vs) k x)) (sym (stop-within is js k x low (omega (arith, in-first, count))))
-              (subst (λ (w : List (List ℕ)). IsStopped c (at_stop is k x) w) (sym (torn-within (state d).words ws vs k x low in-first)) (first.stops k x low in-first long))
+          | inr in-first ↦ subst (λ (t : Stopped). IsCardAfterStop c t (torn (state d).words (ws ++ vs) k x)) (sym (stop-within is js k x low (omega (arith, in-first, count))))
+              (subst (λ (w : List (List ℕ)). IsCardAfterStop c (at_stop is k x) w) (sym (torn-within (state d).words ws vs k x low in-first)) (first.stops k x low in-first long))
           | inl past ↦
               let j = k - length ws in
               let is-k : k ≡ length ws + j = omega (arith, past) in
@@ -147,10 +147,10 @@ module _ {D : Type 0} (state : D → DeviceState) (wrote : D → ℕ → List �
               let words : torn (state d).words (ws ++ vs) k x ≡ torn (state m).words vs j x =
               torn-past (state d).words ws vs k j x some is-k ∙ ap (λ (w : List (List ℕ)). torn w vs j x) (sym all.words) in
               let stop : at_stop (is ++ js) k x ≡ behind is (at_stop js j x) = stop-past is js k j x some (is-k ∙ ap (λ (n : ℕ). n + j) count) in
-              let there : IsStopped (card_done c is) (at_stop js j x) (torn (state m).words vs j x) = second.stops j x some (omega (arith, high, size, is-k)) long in
-              subst (λ (t : Stopped). IsStopped c t (torn (state d).words (ws ++ vs) k x)) (sym stop)
-              (subst (λ (w : List (List ℕ)). IsStopped c (behind is (at_stop js j x)) w) (sym words)
-              (subst (λ (b : Card). IsBase (OnCard b) (at_stop js j x).owed Two (torn (state m).words vs j x)) (sym (card-append is (at_stop js j x).whole c)) there))
+              let there : IsCardAfterStop (card_done c is) (at_stop js j x) (torn (state m).words vs j x) = second.stops j x some (omega (arith, high, size, is-k)) long in
+              subst (λ (t : Stopped). IsCardAfterStop c t (torn (state d).words (ws ++ vs) k x)) (sym stop)
+              (subst (λ (w : List (List ℕ)). IsCardAfterStop c (behind is (at_stop js j x)) w) (sym words)
+              (subst (λ (b : Card). HoldsBase (OnCard b) (at_stop js j x).owed Two (torn (state m).words vs j x)) (sym (card-append is (at_stop js j x).whole c)) there))
         ];
         done = done-behind c is js a (state e).words second.done;
       }
@@ -158,24 +158,24 @@ module _ {D : Type 0} (state : D → DeviceState) (wrote : D → ℕ → List �
   -- steps of any kind of which each makes one item
   module _ {S X : Type 0} (device : S → D) (one : S → X → Answer → S → Type 0) (item : X → Item) (P : X → Type 0)
       (power : (s : S) (x : X) (a : Answer) (e : S) → one s x a e → (state (device s)).on ≡ true)
-      (step : (s : S) (x : X) (a : Answer) (e : S) → P x → one s x a e → Made state wrote (means (state (device s)).words) (item x ∷ []) (device s) a (device e)) where
-    pub made-fold : (xs : List X) (s e : S) (a : Answer) → IsBase (OnCard (means (state (device s)).words)) 0 Two (state (device s)).words → AllByRecursion P xs → InOrder one s xs a e
-        → Made state wrote (means (state (device s)).words) (map item xs) (device s) a (device e)
+      (step : (s : S) (x : X) (a : Answer) (e : S) → P x → one s x a e → ItemsMade state wrote (means (state (device s)).words) (item x ∷ []) (device s) a (device e)) where
+    pub made-fold : (xs : List X) (s e : S) (a : Answer) → HoldsBase (OnCard (means (state (device s)).words)) 0 Two (state (device s)).words → AllByRecursion P xs → InOrder one s xs a e
+        → ItemsMade state wrote (means (state (device s)).words) (map item xs) (device s) a (device e)
     made-fold [] s e (Ok u) base all h =
-        subst (λ (t : S). Made state wrote (means (state (device s)).words) [] (device s) (Ok tt) (device t)) (sym h) (made-none (means (state (device s)).words) (device s) base)
+        subst (λ (t : S). ItemsMade state wrote (means (state (device s)).words) [] (device s) (Ok tt) (device t)) (sym h) (made-none (means (state (device s)).words) (device s) base)
     made-fold [] s e (Err t) base all h = absurd h
     made-fold (x ∷ xs) s e a base all h =
         let c = means (state (device s)).words in
         elim h [
           | inl done ↦
               let m = done.0 in
-              let first : Made state wrote c (item x ∷ []) (device s) (Ok tt) (device m) = step s x (Ok tt) m all.0 done.1 in
+              let first : ItemsMade state wrote c (item x ∷ []) (device s) (Ok tt) (device m) = step s x (Ok tt) m all.0 done.1 in
               let now : card_done c (item x ∷ []) ≡ means (state (device m)).words = card-found (card_done c (item x ∷ [])) 0 (state (device m)).words first.done in
-              let here : IsBase (OnCard (means (state (device m)).words)) 0 Two (state (device m)).words =
-              subst (λ (k : Card). IsBase (OnCard k) 0 Two (state (device m)).words) now first.done in
+              let here : HoldsBase (OnCard (means (state (device m)).words)) 0 Two (state (device m)).words =
+              subst (λ (k : Card). HoldsBase (OnCard k) 0 Two (state (device m)).words) now first.done in
               made-append c (item x ∷ []) (map item xs) (device s) (device m) (device e) a (power s x (Ok tt) m done.1) first
-              (subst (λ (k : Card). Made state wrote k (map item xs) (device m) a (device e)) (sym now) (made-fold xs m e a here all.1 done.2))
-          | inr stop ↦ subst (λ (b : Answer). Made state wrote c (map item (x ∷ xs)) (device s) b (device e)) (sym stop.2)
+              (subst (λ (k : Card). ItemsMade state wrote k (map item xs) (device m) a (device e)) (sym now) (made-fold xs m e a here all.1 done.2))
+          | inr stop ↦ subst (λ (b : Answer). ItemsMade state wrote c (map item (x ∷ xs)) (device s) b (device e)) (sym stop.2)
               (made-stopped c (item x ∷ []) (map item xs) (device s) (device e) stop.0 (step s x (Err stop.0) e all.0 stop.1))
         ]
 
@@ -200,12 +200,12 @@ IsAs m (Remove n) j = IsAtomicAs m (Remove n) (length (step_of (means m) (card_w
 record OneIs (m : List (List ℕ)) (i : BankItem) (j : Item) : Type 0 where
   count : length (item_writes m i) ≡ weight j
   card : card_done (means m) (j ∷ []) ≡ card_after m i
-  stops : (k : ℕ) (x : List ℕ) (n : List (List ℕ)) → 1 ≤ k → k ≤ length (item_writes m i) → IsStoppedAt m i k x n → IsStopped (means m) (at_stop (j ∷ []) k x) n
+  stops : (k : ℕ) (x : List ℕ) (n : List (List ℕ)) → 1 ≤ k → k ≤ length (item_writes m i) → IsStoppedAt m i k x n → IsCardAfterStop (means m) (at_stop (j ∷ []) k x) n
 
-plain-one : (m : List (List ℕ)) (i : BankItem) (j : Item) (n : List (List ℕ)) (k : ℕ) (x : List ℕ) → j ≡ Plain → 1 ≤ k → k ≤ 1 → IsBase (OnCard (means m)) 0 Two n → IsStopped (means m) (at_stop (j ∷ []) k x) n
+plain-one : (m : List (List ℕ)) (i : BankItem) (j : Item) (n : List (List ℕ)) (k : ℕ) (x : List ℕ) → j ≡ Plain → 1 ≤ k → k ≤ 1 → HoldsBase (OnCard (means m)) 0 Two n → IsCardAfterStop (means m) (at_stop (j ∷ []) k x) n
 plain-one m i j n k x is low high h =
     let one : k ≡ 1 = omega (arith, low, high) in
-    subst (λ (t : Item). IsStopped (means m) (at_stop (t ∷ []) k x) n) (sym is) (subst (λ (t : ℕ). IsStopped (means m) (at_stop (Plain ∷ []) t x) n) (sym one) h)
+    subst (λ (t : Item). IsCardAfterStop (means m) (at_stop (t ∷ []) k x) n) (sym is) (subst (λ (t : ℕ). IsCardAfterStop (means m) (at_stop (Plain ∷ []) t x) n) (sym one) h)
 
 card-chosen : (b : Bool) (c : Card) (w : ℕ) (ch : Change) → card_done c (cond b (Atomic w ch ∷ []) []) ≡ cond b (card_done c (Atomic w ch ∷ [])) c
 card-chosen true c w ch = refl
@@ -217,7 +217,7 @@ module _ (m : List (List ℕ)) (image : IsSized m) (closed : look m ≡ Closed) 
 
   -- an atomic write of a list
   atomic-one : (i : BankItem) (j : Item) (list : List (ℕ × List ℕ)) (w : ℕ) → IsAtomic (length m) list → length list ≡ w → IsAtomicAs m i w j → item_writes m i ≡ writes Two list
-      → ((k : ℕ) (x : List ℕ) (n : List (List ℕ)) → IsStoppedAt m i k x n → IsBase (OnCard (cond (stands Two w k x) (card_after m i) (means m))) (owes Two w k x) Two n) → OneIs m i j
+      → ((k : ℕ) (x : List ℕ) (n : List (List ℕ)) → IsStoppedAt m i k x n → HoldsBase (OnCard (cond (stands Two w k x) (card_after m i) (means m))) (owes Two w k x) Two n) → OneIs m i j
   atomic-one i j list w atomic size a is torn-at =
       let count : length (item_writes m i) ≡ cost Two w = ap (λ (l : List (ℕ × List ℕ)). length l) is ∙ length-writes Two (length m) list image.high atomic ∙ ap (λ (n : ℕ). cost Two n) size in
       let card : card_done (means m) (Atomic w a.change ∷ []) ≡ card_after m i = ap (λ (apps : List (List ℕ × App)). record (means m) { apps = apps }) a.apps in
@@ -231,8 +231,8 @@ module _ (m : List (List ℕ)) (image : IsSized m) (closed : look m ≡ Closed) 
             let b = stands Two w k x in
             let same : card_done (means m) (cond b (Atomic w a.change ∷ []) []) ≡ cond b (card_after m i) (means m) =
             card-chosen b (means m) w a.change ∙ ap (λ (c : Card). cond b c (means m)) card in
-            subst (λ (t : Bool). IsStopped (means m) (cond t (in_flight w a.change k x) (with_item (Atomic w a.change) (at_stop [] (k - cost Two w) x))) n) (sym first)
-            (subst (λ (c : Card). IsBase (OnCard c) (owes Two w k x) Two n) (sym same) (torn-at k x n h));
+            subst (λ (t : Bool). IsCardAfterStop (means m) (cond t (in_flight w a.change k x) (with_item (Atomic w a.change) (at_stop [] (k - cost Two w) x))) n) (sym first)
+            (subst (λ (c : Card). HoldsBase (OnCard c) (owes Two w k x) Two n) (sym same) (torn-at k x n h));
       })
 
   one-is : (i : BankItem) (j : Item) → Allows m i → IsAs m i j → OneIs m i j
@@ -259,7 +259,7 @@ module _ (m : List (List ℕ)) (image : IsSized m) (closed : look m ≡ Closed) 
       let a = found.0 in
       let app : app_of (means m).apps (Some n) ≡ a = ap (λ (o : Option App). unwrap_or o no_app) found.1 in
       let there : lookup (card_of m).apps n ≡ Some a = ap (λ (c : Card). lookup c.apps n) (sym (closed_means m closed)) ∙ found.1 in
-      let t : Committed m n a ws = commits m n a ws image good there (subst (λ (y : App). CanCommit y.fixed ws) app allowed.1) in
+      let t : CommittedCard m n a ws = commits m n a ws image good there (subst (λ (y : App). CanCommit y.fixed ws) app allowed.1) in
       let atomic : IsAtomic (length m) (static_writes (app_of (means m).apps (Some n)) ws) = subst (λ (y : App). IsAtomic (length m) (static_writes y ws)) (sym app) t.atomic in
       atomic-one (Commit n ws) j (static_writes (app_of (means m).apps (Some n)) ws) (length ws) atomic (length-map ws _) is refl (λ k x e h. h)
   one-is (Enter s n) j ready is =
@@ -270,17 +270,17 @@ module _ (m : List (List ℕ)) (image : IsSized m) (closed : look m ≡ Closed) 
 
 module _ {D : Type 0} (state : D → DeviceState) (wrote : D → ℕ → List ℕ → Answer → D → Type 0)
     (obeys : (d : D) (at : ℕ) (w : List ℕ) (a : Answer) (e : D) → (state d).on ≡ true → wrote d at w a e → Wrote (state d) at w a (state e)) where
-  count-is : (j : Item) (n : ℕ) (a : Answer) → n ≡ weight j → IsAll (j ∷ []) a n
+  count-is : (j : Item) (n : ℕ) (a : Answer) → n ≡ weight j → CountsWrites (j ∷ []) a n
   count-is j n (Ok u) is = omega (arith, is)
   count-is j n (Err s) is = omega (arith, is)
 
-  done-is : (d e : D) (c k : ℕ) (i : BankItem) (j : Item) (a : Answer) → card_done (means (state d).words) (j ∷ []) ≡ card_after (state d).words i → StoreDid state wrote d c i a e k → IsDone (means (state d).words) (j ∷ []) a (state e).words
+  done-is : (d e : D) (c k : ℕ) (i : BankItem) (j : Item) (a : Answer) → card_done (means (state d).words) (j ∷ []) ≡ card_after (state d).words i → StoreDid state wrote d c i a e k → IsCardAfter (means (state d).words) (j ∷ []) a (state e).words
   done-is d e c k i j (Err s) card did = tt
   done-is d e c k i j (Ok tt) card did =
       let m = (state d).words in
       let g : Going (state d) c = going_is (state d) c did.going in
       let s : Standing m = standing-of (state d) c g in
-      let t : Turned (state d) (item_done (store_standing (state d)) i (apps_in m)) (state e) k = turns state wrote obeys i d e c k (Ok tt) did in
+      let t : CardChanged (state d) (item_done (store_standing (state d)) i (apps_in m)) (state e) k = turns state wrote obeys i d e c k (Ok tt) did in
       let own : item_done (store_standing (state d)) i (apps_in m) ≡ item_done (part_in m) i (means m).apps =
       ap (λ (w : List (List ℕ)). item_done (part_in w) i (apps_in m)) s.self ∙ ap (λ (apps : List (List ℕ × App)). item_done (part_in m) i apps) (s.map ∙ sym s.apps) in
       closed-base (state e).words (card_done (means m) (j ∷ [])) t.closed t.good
@@ -288,7 +288,7 @@ module _ {D : Type 0} (state : D → DeviceState) (wrote : D → ℕ → List �
       ∙ ap (λ (x : Card). record x { apps = item_done (part_in m) i (means m).apps }) (sym (closed_means m g.closed)) ∙ sym card)
 
   -- one item
-  pub made-one : (d e : D) (c k : ℕ) (i : BankItem) (j : Item) (a : Answer) → IsAs (state d).words i j → StoreDid state wrote d c i a e k → Made state wrote (means (state d).words) (j ∷ []) d a e
+  pub made-one : (d e : D) (c k : ℕ) (i : BankItem) (j : Item) (a : Answer) → IsAs (state d).words i j → StoreDid state wrote d c i a e k → ItemsMade state wrote (means (state d).words) (j ∷ []) d a e
   made-one d e c k i j a is did =
       let m = (state d).words in
       let g : Going (state d) c = going_is (state d) c did.going in

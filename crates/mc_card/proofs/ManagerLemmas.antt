@@ -21,18 +21,19 @@ use Rattle.mc_model.specs.Items.{Created, Deleted, Item, Plain, Atomic, card_don
 use Rattle.mc_model.specs.Manager.{Seat, Open, got_of, select_body, Managed, Declines, Accepts, Accepted, Route, WrongLength, WrongClass, ToSelect, ToManager, ToApplication, can_create, first_status, answered, select_refusals, select_done, select, open_refusals, open_done, open_load, load_refusals, load_done, load_part, create_refusals, create_done, create_items, create, dir_in, fresh, delete_refusals, delete_done, delete, manage, word_parts, room_on}
 use Rattle.mc_model.specs.Play.{OnCard, item_of, atomic_of, managed, passed, by_route}
 use Rattle.mc_bank.specs.Bank.{entered}
-use Rattle.mc_manager.specs.ManagerState.{BankView, Loaded, Held, open_of, seat_of, Fits, FitsLoad}
+use Rattle.mc_manager.specs.ManagerState.{BankView, Loaded, ManagerState, open_of, seat_of, ManagerFits, FitsLoad}
 use Rattle.mc_manager.specs.declared.selection.Selection.{Selection}
 use Rattle.mc_manager.specs.Load.{is_full}
 use Rattle.mc_manager.specs.CommandDue.{Passes, due_select, due_manager, due_application, due_on, items_of}
 use Rattle.mc_manager.proofs.LoadLemmas.{complete_full, fresh_entered}
 use Rattle.mc_store.specs.declared.store.Store.{Store}
 use Rattle.mc_store.specs.Store.{part_in, is_going, store_state, store_named, store_room, store_standing}
-use Rattle.mc_store.specs.Power.{IsBase, device_of, count_of}
+use Rattle.mc_store.specs.Power.{HoldsBase, device_of, count_of}
 use Rattle.mc_store.specs.GoingLaws.{Going, going_is, closed_means}
 use Rattle.mc_store.specs.StoreItems.{store_did}
-use Rattle.mc_store.proofs.FoldLemmas.{IsPlain, IsQuiet, Kept, all_kept, all_stand, stands_now, before_enter, creation_is, creation_quiet, quiet_plain as quiet-plain, same_entered as entered-same}
-use Rattle.mc_card.specs.ItemWrites.{Made}
+use Rattle.mc_store.proofs.FoldLemmas.{IsQuiet, CardKept, all_kept, all_stand, stands_now, before_enter, creation_is, creation_quiet, quiet_plain as quiet-plain, same_entered as entered-same}
+use Rattle.mc_store.proofs.ItemLemmas.{IsPlain}
+use Rattle.mc_card.specs.ItemWrites.{ItemsMade}
 use Rattle.mc_card.proofs.StaticLemmas.{going-apps}
 use Rattle.mc_card.proofs.MadeLemmas.{IsAs, card-found, closed-base, made-stopped, made-append, made-fold, made-one}
 
@@ -82,7 +83,7 @@ pieces-plain : (t : Site) (p : Part) (cs : List (ℕ × List ℕ)) → AllByRecu
 pieces-plain t p [] = tt
 pieces-plain t p (c ∷ cs) = (tt, pieces-plain t p cs)
 
-pub going-base : (d : DeviceState) (c : ℕ) → is_going d c ≡ true → IsBase (OnCard (means d.words)) 0 Two d.words
+pub going-base : (d : DeviceState) (c : ℕ) → is_going d c ≡ true → HoldsBase (OnCard (means d.words)) 0 Two d.words
 going-base d c h = let g : Going d c = going_is d c h in closed-base d.words (means d.words) g.closed g.laid (sym (closed_means d.words g.closed))
 
 -- ---- the first refusal
@@ -122,7 +123,7 @@ module _ {N : Type 0} (state : N → DeviceState) (wrote : N → ℕ → List �
 
   -- items that leave the card
   pub plain-made : (whole : Item) (is : List BankItem) (s e : Store N) (a : Answer) → is_going (state s.device) s.count ≡ true → AllByRecursion IsPlain is → InOrder (store_did state wrote) s is a e
-      → Made state wrote (card_of_store s) (map (item_of whole) is) s.device a e.device
+      → ItemsMade state wrote (card_of_store s) (map (item_of whole) is) s.device a e.device
   plain-made whole is s e a going plain h =
       made-fold state wrote obeys (λ (t : Store N). t.device) (store_did state wrote) (item_of whole) IsPlain (λ s x a e did. (going_is (state s.device) s.count did.going).on)
       (λ s x a e plain did. made-one state wrote obeys s.device e.device s.count e.count x (item_of whole x) a (plain-as (state s.device).words x whole plain) did)
@@ -142,7 +143,7 @@ module _ {N : Type 0} (state : N → DeviceState) (wrote : N → ℕ → List �
       }
 
   pub create-made : (s e : Store N) (a : Answer) (t : Site) (n : List ℕ) (o : Open) → is_going (state s.device) s.count ≡ true → entered t (store_standing (state s.device) t) ≡ fresh o → InOrder (store_did state wrote) s (create_items t n) a e
-      → Made state wrote (card_of_store s) (map (item_of (atomic_of (card_of_store s) (Some (Created n (fresh o))))) (create_items t n)) s.device a e.device
+      → ItemsMade state wrote (card_of_store s) (map (item_of (atomic_of (card_of_store s) (Some (Created n (fresh o))))) (create_items t n)) s.device a e.device
   create-made s e a t n o going app h =
       let c = card_of_store s in
       let whole = atomic_of c (Some (Created n (fresh o))) in
@@ -150,27 +151,27 @@ module _ {N : Type 0} (state : N → DeviceState) (wrote : N → ℕ → List �
       let quiet = creation_quiet t n in
       let plain = all-plain t is quiet in
       let parts : InOrder (store_did state wrote) s (is ++ Enter t n ∷ []) a e = subst (λ (l : List BankItem). InOrder (store_did state wrote) s l a e) (creation_is t n) h in
-      subst (λ (l : List Item). Made state wrote c l s.device a e.device) (sym (ap (map (item_of whole)) (creation_is t n) ∙ map-append (item_of whole) is (Enter t n ∷ [])))
+      subst (λ (l : List Item). ItemsMade state wrote c l s.device a e.device) (sym (ap (map (item_of whole)) (creation_is t n) ∙ map-append (item_of whole) is (Enter t n ∷ [])))
       (elim (in-order-parts (store_did state wrote) is (Enter t n ∷ []) s e a parts) [
         | inl all ↦
             let m = all.0 in
-            let first : Made state wrote c (map (item_of whole) is) s.device (Ok tt) m.device = plain-made whole is s m (Ok tt) going plain all.1 in
-            let kept : Kept state wrote obeys s m = all_kept state wrote obeys is s m (Ok tt) plain all.1 in
+            let first : ItemsMade state wrote c (map (item_of whole) is) s.device (Ok tt) m.device = plain-made whole is s m (Ok tt) going plain all.1 in
+            let kept : CardKept state wrote obeys s m = all_kept state wrote obeys is s m (Ok tt) plain all.1 in
             let did : store_did state wrote m (Enter t n) a e = in-order-one (store_did state wrote) (Enter t n) m e a all.2 in
             let standing : (p : Part) → part_in (state m.device).words t p ≡ store_standing (state s.device) t p =
             λ p. sym (stands_now state wrote obeys m t p did.going) ∙ all_stand state wrote obeys is s m t p quiet all.1 in
             let same : entered t (part_in (state m.device).words t) ≡ fresh o = entered-same t (part_in (state m.device).words t) (store_standing (state s.device) t) standing ∙ app in
             let now : card_done c (map (item_of whole) is) ≡ means (state m.device).words = card-found (card_done c (map (item_of whole) is)) 0 (state m.device).words first.done in
-            let last : Made state wrote (means (state m.device).words) (whole ∷ []) m.device a e.device =
+            let last : ItemsMade state wrote (means (state m.device).words) (whole ∷ []) m.device a e.device =
             made-one state wrote obeys m.device e.device m.count e.count (Enter t n) whole a (enter-as s m t n o kept.card same) did in
             made-append state wrote obeys c (map (item_of whole) is) (whole ∷ []) s.device m.device e.device a (going_is (state s.device) s.count going).on first
-            (subst (λ (k : Card). Made state wrote k (whole ∷ []) m.device a e.device) (sym now) last)
-        | inr stop ↦ subst (λ (b : Answer). Made state wrote c (map (item_of whole) is ++ whole ∷ []) s.device b e.device) (sym stop.2)
+            (subst (λ (k : Card). ItemsMade state wrote k (whole ∷ []) m.device a e.device) (sym now) last)
+        | inr stop ↦ subst (λ (b : Answer). ItemsMade state wrote c (map (item_of whole) is ++ whole ∷ []) s.device b e.device) (sym stop.2)
             (made-stopped state wrote obeys c (map (item_of whole) is) (whole ∷ []) s.device e.device stop.0 (plain-made whole is s e (Err stop.0) going plain stop.1))
       ])
 
   pub delete-made : (s e : Store N) (a : Answer) (n : List ℕ) → InOrder (store_did state wrote) s (Remove n ∷ []) a e
-      → Made state wrote (card_of_store s) (atomic_of (card_of_store s) (Some (Deleted n)) ∷ []) s.device a e.device
+      → ItemsMade state wrote (card_of_store s) (atomic_of (card_of_store s) (Some (Deleted n)) ∷ []) s.device a e.device
   delete-made s e a n h =
       made-one state wrote obeys s.device e.device s.count e.count (Remove n) (atomic_of (card_of_store s) (Some (Deleted n))) a
       (record { change = Deleted n; is = refl; apps = refl }) (in-order-one (store_did state wrote) (Remove n) s e a h)
@@ -179,7 +180,7 @@ module _ {N : Type 0} (state : N → DeviceState) (wrote : N → ℕ → List �
 
   -- the items of an answer make its items of the definitions
   abbrev MakesAll : Store N → Seat → Managed → Type 0
-  MakesAll s seat x = (e : Store N) (a : Answer) → InOrder (store_did state wrote) s (items_in x) a e → Made state wrote (card_of_store s) (managed (card_of_store s) seat x).items s.device a e.device
+  MakesAll s seat x = (e : Store N) (a : Answer) → InOrder (store_did state wrote) s (items_in x) a e → ItemsMade state wrote (card_of_store s) (managed (card_of_store s) seat x).items s.device a e.device
 
   module _ (s : Store N) (seat : Seat) (going : is_going (state s.device) s.count ≡ true) where
     no-items : (sw : ℕ) → MakesAll s seat (Declines sw)
@@ -225,7 +226,7 @@ module _ {N : Type 0} (state : N → DeviceState) (wrote : N → ℕ → List �
     by-test x y h k true = h
     by-test x y h k false = k
 
-  module _ (s : Store N) (session : List ℕ) (m : Held) (going : is_going (state s.device) s.count ≡ true) (fits : Fits (view s) m) where
+  module _ (s : Store N) (session : List ℕ) (m : ManagerState) (going : is_going (state s.device) s.count ≡ true) (fits : ManagerFits (view s) m) where
     -- the seat of a manager over a store
     abbrev seat_on : Seat
     seat_on = seat_of (view s).standing session m
@@ -255,7 +256,7 @@ module _ {N : Type 0} (state : N → DeviceState) (wrote : N → ℕ → List �
 
     -- the items of a command that is not passed on
     pub due-made : (budget : ℕ) (r : Route) (e : Store N) (b : Answer) → (due_on (view s) seat_on r ≡ Passes → ⊥) → InOrder (store_did state wrote) s (items_of (due_on (view s) seat_on r)) b e
-        → Made state wrote (card_of_store s) (by_route (card_of_store s) seat_on budget r).items s.device b e.device
+        → ItemsMade state wrote (card_of_store s) (by_route (card_of_store s) seat_on budget r).items s.device b e.device
     due-made budget WrongLength e b other h = no-items s seat_on going 0x6700 e b h
     due-made budget WrongClass e b other h = no-items s seat_on going 0x6E00 e b h
     due-made budget (ToSelect a) e b other h =
@@ -270,6 +271,6 @@ module _ {N : Type 0} (state : N → DeviceState) (wrote : N → ℕ → List �
       where
         by-selected : (x : Option Selection) → (due_application (option_map (λ s. record { name = s.aid; session = session }) x) ≡ Passes → ⊥)
             → InOrder (store_did state wrote) s (items_of (due_application (option_map (λ s. record { name = s.aid; session = session }) x))) b e
-            → Made state wrote (card_of_store s) (passed (card_of_store s) seat_on (option_map (λ s. record { name = s.aid; session = session }) x) a budget).items s.device b e.device
+            → ItemsMade state wrote (card_of_store s) (passed (card_of_store s) seat_on (option_map (λ s. record { name = s.aid; session = session }) x) a budget).items s.device b e.device
         by-selected None other h = no-items s seat_on going 0x6985 e b h
         by-selected (Some x) other h = absurd (other refl)

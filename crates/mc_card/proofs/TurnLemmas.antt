@@ -13,14 +13,14 @@ use Rattle.mc_store.specs.declared.store.Store.{Store}
 use Rattle.mc_store.specs.Store.{store_state, store_named}
 use Rattle.mc_store.specs.StoreItems.{store_did}
 use Rattle.mc_manager.specs.declared.selection.Selection.{Selection}
-use Rattle.mc_manager.specs.ManagerState.{Held}
+use Rattle.mc_manager.specs.ManagerState.{ManagerState}
 use Rattle.mc_card.specs.declared.card.Card.{Card}
 use Rattle.mc_machine.specs.declared.outcome.Outcome.{Outcome}
 use Rattle.mc_machine.specs.declared.outcome.Turn.{Turn}
-use Rattle.mc_machine.specs.Chains.{Chained, Runs, Wrote, session_in}
-use Rattle.mc_machine.specs.Turns.{Follow, Acts, TurnDone, WritesFew, outcome_value}
-use Rattle.mc_card.specs.Ends.{GoesOn, Turned}
-use Rattle.mc_card.specs.ItemWrites.{Made}
+use Rattle.mc_machine.specs.Chains.{Chained, RunsAs, ChainWrote, session_in}
+use Rattle.mc_machine.specs.Turns.{Follow, TurnActs, TurnDone, WritesFew, outcome_value}
+use Rattle.mc_card.specs.Ends.{TurnGoesOn, ChainTurned}
+use Rattle.mc_card.specs.ItemWrites.{ItemsMade}
 use Rattle.mc_card.specs.Parts.{card_in, seat_in, with_session, RunsChain}
 use Rattle.mc_machine.proofs.SoundChains.{AreSound, TurnSound, FollowsSound, first_in, session_size, turn_sound}
 use Rattle.mc_machine.proofs.SoundRuns.{turn_end}
@@ -29,7 +29,7 @@ use Rattle.mc_card.proofs.FewLemmas.{going-entries}
 use Rattle.mc_card.proofs.AfterLemmas.{card_made, still_up, same_seat, seat_after}
 
 -- a card of these parts
-abbrev pub card_of : {N : Type 0} → Store N → Held → List ℕ → Option Chained → Card N
+abbrev pub card_of : {N : Type 0} → Store N → ManagerState → List ℕ → Option Chained → Card N
 card_of store manager session chain = record { store = store; manager = manager; session = session; chain = chain }
 
 some_same : {A : Type 0} → (x y : A) → Some x ≡ Some y → x ≡ y
@@ -64,7 +64,7 @@ module _ {N : Type 0} (state : N → DeviceState) (wrote : N → ℕ → List �
     writes_sound = subst (λ (m : List (List ℕ × App)). AreSound m t.writes) own_map sound.writes
 
     -- the turn's writes, as items
-    pub turn_made : (e : Store N) (a : Answer) → InOrder (Wrote did bank_state) c.store t.writes a e → Made state wrote (card_in state c) (write_items t.writes) c.store.device a e.device
+    pub turn_made : (e : Store N) (a : Answer) → InOrder (ChainWrote did bank_state) c.store t.writes a e → ItemsMade state wrote (card_in state c) (write_items t.writes) c.store.device a e.device
     turn_made = card_made state wrote obeys c r.up t.writes writes_sound
 
     -- the first frame has as many session bytes as the selected application
@@ -73,9 +73,9 @@ module _ {N : Type 0} (state : N → DeviceState) (wrote : N → ℕ → List �
         let name : s.aid ≡ (first_in ch).name = some_same s.aid (first_in ch).name (sym (ap (λ (o : Option Selection). option_map (λ s. s.aid) o) is) ∙ r.own) in
         session_size ch r.sound ∙ ap (λ (m : List (List ℕ × App)). (app_of m (Some (first_in ch).name)).session) own_map ∙ ap (λ (n : List ℕ). (app_of apps (Some n)).session) (sym name)
 
-    module _ (e : Store N) (d : Chained) (acts : Acts did bank_state named c.store e r.chained d ch t) where
+    module _ (e : Store N) (d : Chained) (acts : TurnActs did bank_state named c.store e r.chained d ch t) where
       -- the chain goes on
-      goes : (next : Chain) → t.follows ≡ Continues next → GoesOn state wrote c ch (left - t.count) (Continues next) (record { store = e; manager = c.manager; session = c.session; chain = Some d })
+      goes : (next : Chain) → t.follows ≡ Continues next → TurnGoesOn state wrote c ch (left - t.count) (Continues next) (record { store = e; manager = c.manager; session = c.session; chain = Some d })
       goes next is =
           let s = subst (λ (f : Follows). FollowsSound ch (done ch.map (write_items t.writes)) f) is sound.follows in
           let all = acts.left in
@@ -93,27 +93,27 @@ module _ {N : Type 0} (state : N → DeviceState) (wrote : N → ℕ → List �
           )
 
       -- it ended
-      ends : (o : ModelOutcome) → t.follows ≡ Ends o → GoesOn state wrote c ch (left - t.count) (Ends o) (record { store = e; manager = c.manager; session = session_in d; chain = None })
+      ends : (o : ModelOutcome) → t.follows ≡ Ends o → TurnGoesOn state wrote c ch (left - t.count) (Ends o) (record { store = e; manager = c.manager; session = session_in d; chain = None })
       ends o is =
           let bytes : session_in d ≡ chain_session ch = subst (λ (f : Follows). Follow (bank_state e) (store_named (state e.device)) d ch f) is acts.follows in (
             record { up = still_up state wrote obeys c r.up t.writes writes_sound e acts.writes (session_in d) None acts.going (λ s sel. ap length bytes ∙ first_size s sel); idle = refl },
             seat_after state wrote obeys c r.up t.writes writes_sound e acts.writes (session_in d) ∙ ap (λ (b : List ℕ). with_session b (seat_in state c)) bytes,
           )
 
-      goes_by : (f : Follows) → t.follows ≡ f → end_of f ≡ None → GoesOn state wrote c ch (left - t.count) f (record { store = e; manager = c.manager; session = c.session; chain = Some d })
+      goes_by : (f : Follows) → t.follows ≡ f → end_of f ≡ None → TurnGoesOn state wrote c ch (left - t.count) f (record { store = e; manager = c.manager; session = c.session; chain = Some d })
       goes_by (Continues next) is none = goes next is
       goes_by (Ends o) is none = absurd (cc none)
 
-      ends_by : (f : Follows) (o : ModelOutcome) → t.follows ≡ f → end_of f ≡ Some o → GoesOn state wrote c ch (left - t.count) f (record { store = e; manager = c.manager; session = session_in d; chain = None })
+      ends_by : (f : Follows) (o : ModelOutcome) → t.follows ≡ f → end_of f ≡ Some o → TurnGoesOn state wrote c ch (left - t.count) f (record { store = e; manager = c.manager; session = session_in d; chain = None })
       ends_by (Continues next) o is some = absurd (cc some)
       ends_by (Ends p) o is some = ends p is
 
       -- a turn that tells no end
-      pub turn_goes : t.turn.end ≡ None → GoesOn state wrote c ch (left - t.count) t.follows (record { store = e; manager = c.manager; session = c.session; chain = Some d })
+      pub turn_goes : t.turn.end ≡ None → TurnGoesOn state wrote c ch (left - t.count) t.follows (record { store = e; manager = c.manager; session = c.session; chain = Some d })
       turn_goes none = goes_by t.follows refl (sym (turn_end left ch) ∙ none)
 
       -- a turn that tells one
-      pub turn_ends : (o : ModelOutcome) → t.turn.end ≡ Some o → GoesOn state wrote c ch (left - t.count) t.follows (record { store = e; manager = c.manager; session = session_in d; chain = None })
+      pub turn_ends : (o : ModelOutcome) → t.turn.end ≡ Some o → TurnGoesOn state wrote c ch (left - t.count) t.follows (record { store = e; manager = c.manager; session = session_in d; chain = None })
       turn_ends o some = ends_by t.follows o refl (sym (turn_end left ch) ∙ some)
 
   -- ---- the turn of the code
@@ -128,14 +128,14 @@ module _ {N : Type 0} (state : N → DeviceState) (wrote : N → ℕ → List �
 
     -- what the turn of the machine ensures
     abbrev Does : Result Turn Stop → Type 0
-    Does result = (ch : Chain) → Runs (bank_state c.store) (named c.store) k ch → TurnDone did bank_state named c.store e k d ch (turn_of k.left ch) result
+    Does result = (ch : Chain) → RunsAs (bank_state c.store) (named c.store) k ch → TurnDone did bank_state named c.store e k d ch (turn_of k.left ch) result
 
     own_chain : (ch : Chain) (left : ℕ) (r : RunsChain state c ch left) → r.chained ≡ k
     own_chain ch left r = some_same r.chained k (sym r.is ∙ is)
 
     -- the chain that runs is the code's
-    pub runs_own : (ch : Chain) (left : ℕ) → RunsChain state c ch left → Runs (bank_state c.store) (named c.store) k ch
-    runs_own ch left r = subst (λ (x : Chained). Runs (bank_state c.store) (named c.store) x ch) (own_chain ch left r) r.runs
+    pub runs_own : (ch : Chain) (left : ℕ) → RunsChain state c ch left → RunsAs (bank_state c.store) (named c.store) k ch
+    runs_own ch left r = subst (λ (x : Chained). RunsAs (bank_state c.store) (named c.store) x ch) (own_chain ch left r) r.runs
 
     pub left_own : (ch : Chain) (left : ℕ) → RunsChain state c ch left → k.left ≡ left
     left_own ch left r = ap (λ (x : Chained). x.left) (sym (own_chain ch left r)) ∙ r.left
@@ -146,19 +146,19 @@ module _ {N : Type 0} (state : N → DeviceState) (wrote : N → ℕ → List �
         (subst (λ (n : ℕ). TurnDone did bank_state named c.store e k d ch (turn_of n ch) result) (left_own ch left r) (does ch (runs_own ch left r)))
 
     -- the device writes that were tried, however it ended
-    pub done_made : (result : Result Turn Stop) → Does result → (ch : Chain) (left : ℕ) → RunsChain state c ch left → Made state wrote (card_in state c) (write_items (turn_of left ch).writes) c.store.device (answer_of result) e.device
+    pub done_made : (result : Result Turn Stop) → Does result → (ch : Chain) (left : ℕ) → RunsChain state c ch left → ItemsMade state wrote (card_in state c) (write_items (turn_of left ch).writes) c.store.device (answer_of result) e.device
     done_made result does ch left r = made_by result (done_own result does ch left r)
       where
-        made_by : (result : Result Turn Stop) → TurnDone did bank_state named c.store e r.chained d ch (turn_of left ch) result → Made state wrote (card_in state c) (write_items (turn_of left ch).writes) c.store.device (answer_of result) e.device
+        made_by : (result : Result Turn Stop) → TurnDone did bank_state named c.store e r.chained d ch (turn_of left ch) result → ItemsMade state wrote (card_in state c) (write_items (turn_of left ch).writes) c.store.device (answer_of result) e.device
         made_by (Ok told) own = turn_made c ch left r e (Ok tt) own.0.writes
         made_by (Err s) own = turn_made c ch left r e (Err s) own
 
     -- it stopped
-    pub turned_stop : (s : Stop) → Does (Err s) → (ch : Chain) (left : ℕ) → RunsChain state c ch left → Turned state wrote c ch left (turn_of left ch) (Err s) card_on
+    pub turned_stop : (s : Stop) → Does (Err s) → (ch : Chain) (left : ℕ) → RunsChain state c ch left → ChainTurned state wrote c ch left (turn_of left ch) (Err s) card_on
     turned_stop s does ch left r = record { made = done_made (Err s) does ch left r; turn = tt; follows = tt }
 
     -- it told no end
-    pub turned_on : (told : Turn) → is_some told.end ≡ false → Does (Ok told) → (ch : Chain) (left : ℕ) → RunsChain state c ch left → Turned state wrote c ch left (turn_of left ch) (Ok told) card_on
+    pub turned_on : (told : Turn) → is_some told.end ≡ false → Does (Ok told) → (ch : Chain) (left : ℕ) → RunsChain state c ch left → ChainTurned state wrote c ch left (turn_of left ch) (Ok told) card_on
     turned_on told none does ch left r =
         let own = done_own (Ok told) does ch left r in
         record {
@@ -172,7 +172,7 @@ module _ {N : Type 0} (state : N → DeviceState) (wrote : N → ℕ → List �
         no_end (Some x) h = absurd (cc h)
 
     -- it told one
-    pub turned_off : (told : Turn) → is_some told.end ≡ true → Does (Ok told) → (ch : Chain) (left : ℕ) → RunsChain state c ch left → Turned state wrote c ch left (turn_of left ch) (Ok told) card_off
+    pub turned_off : (told : Turn) → is_some told.end ≡ true → Does (Ok told) → (ch : Chain) (left : ℕ) → RunsChain state c ch left → ChainTurned state wrote c ch left (turn_of left ch) (Ok told) card_off
     turned_off told some does ch left r =
         let own = done_own (Ok told) does ch left r in
         let end = some_end told.end some in
@@ -187,11 +187,11 @@ module _ {N : Type 0} (state : N → DeviceState) (wrote : N → ℕ → List �
         some_end (Some x) h = (outcome_value x, refl)
 
     -- how much it writes
-    pub turned_few : ((ch : Chain) → Runs (bank_state c.store) (named c.store) k ch → AreApps (bank_state c.store).apps → WritesFew (turn_of k.left ch)) → IsSized (state c.store.device).words
+    pub turned_few : ((ch : Chain) → RunsAs (bank_state c.store) (named c.store) k ch → AreApps (bank_state c.store).apps → WritesFew (turn_of k.left ch)) → IsSized (state c.store.device).words
         → (ch : Chain) (left : ℕ) → RunsChain state c ch left → WritesFew (turn_of left ch)
     turned_few few image ch left r =
         subst (λ (n : ℕ). WritesFew (turn_of n ch)) (left_own ch left r) (few ch (runs_own ch left r) (going-entries (state c.store.device) c.store.count image r.up.going))
 
     -- its steps
-    pub turned_steps : (old new : ℕ) → ((ch : Chain) → Runs (bank_state c.store) (named c.store) k ch → new ≡ old + (turn_of k.left ch).count) → (ch : Chain) (left : ℕ) → RunsChain state c ch left → new ≡ old + (turn_of left ch).count
+    pub turned_steps : (old new : ℕ) → ((ch : Chain) → RunsAs (bank_state c.store) (named c.store) k ch → new ≡ old + (turn_of k.left ch).count) → (ch : Chain) (left : ℕ) → RunsChain state c ch left → new ≡ old + (turn_of left ch).count
     turned_steps old new ticks ch left r = ticks ch (runs_own ch left r) ∙ ap (λ (n : ℕ). old + (turn_of n ch).count) (left_own ch left r)

@@ -22,9 +22,9 @@ use Rattle.mc_store.specs.GoingLaws.{Going, going_is, closed_means}
 use Rattle.mc_card.proofs.StaticLemmas.{going-apps}
 use Rattle.mc_card.proofs.ManagerLemmas.{not-false}
 use Rattle.mc_store.specs.TurnLaws.{some-is}
-use Rattle.mc_card.specs.ItemWrites.{Made}
-use Rattle.mc_machine.specs.Sound.{Within}
-use Rattle.mc_machine.specs.Chains.{Wrote}
+use Rattle.mc_card.specs.ItemWrites.{ItemsMade}
+use Rattle.mc_family.specs.FewWords.{PiecesWithin}
+use Rattle.mc_machine.specs.Chains.{ChainWrote}
 use Rattle.mc_machine.proofs.SoundChains.{IsSoundWrite, AreSound}
 use Rattle.mc_card.proofs.MadeLemmas.{card-found, closed-base, made-none, made-stopped, made-append, IsAtomicAs, made-one}
 
@@ -67,11 +67,11 @@ lie_one : (n at : ℕ) (b : List ℕ) (ps : List (ℕ × List ℕ)) → at + len
 lie_one n at [] ps fits lie = lie
 lie_one n at (b ∷ bs) ps fits lie = ((omega arith, fits), lie)
 
-lie_solid : (n : ℕ) (ps : List (ℕ × List ℕ)) → Within n ps → LieIn n (solid ps)
+lie_solid : (n : ℕ) (ps : List (ℕ × List ℕ)) → PiecesWithin n ps → LieIn n (solid ps)
 lie_solid n [] within = tt
 lie_solid n (p ∷ ps) within = lie_one n p.0 p.1 (solid ps) within.0 (lie_solid n ps within.1)
 
-laid_held : (l : List ℕ) (ps ws : List (ℕ × List ℕ)) → Within (length l) ps → HoldPieces l ps ws → laid_words l ws ≡ laid_pieces l ps
+laid_held : (l : List ℕ) (ps ws : List (ℕ × List ℕ)) → PiecesWithin (length l) ps → HoldPieces l ps ws → laid_words l ws ≡ laid_pieces l ps
 laid_held l ps ws within held = words_laid l (solid ps) ws (lie_solid (length l) ps within) (held_same l ps (solid ps) ws (same_touched ps) (sym (laid_solid l ps)) held) ∙ laid_solid l ps
 
 -- words are as many as their pieces touch
@@ -79,7 +79,7 @@ as_many : (l : List ℕ) (ps ws : List (ℕ × List ℕ)) → HoldPieces l ps ws
 as_many l ps ws held = sym (length-map ws (λ w. w.0)) ∙ ap length held.touched_words
 
 -- a commit of them changes the applications as their pieces do
-committed_is : (apps : List (List ℕ × App)) (n : List ℕ) (ps ws : List (ℕ × List ℕ)) (a : App) → lookup apps n ≡ Some a → Within (length (app_of apps (Some n)).fixed) ps → HoldPieces (app_of apps (Some n)).fixed ps ws → map_changed apps n (Some ps) ≡ committed apps n ws
+committed_is : (apps : List (List ℕ × App)) (n : List ℕ) (ps ws : List (ℕ × List ℕ)) (a : App) → lookup apps n ≡ Some a → PiecesWithin (length (app_of apps (Some n)).fixed) ps → HoldPieces (app_of apps (Some n)).fixed ps ws → map_changed apps n (Some ps) ≡ committed apps n ws
 committed_is apps n ps ws a there within held =
     let own : app_of apps (Some n) ≡ a = ap (λ (o : Option App). unwrap_or o no_app) there in
     let laid : laid_words a.fixed ws ≡ laid_pieces a.fixed ps = subst (λ (x : App). laid_words x.fixed ws ≡ laid_pieces x.fixed ps) own (laid_held (app_of apps (Some n)).fixed ps ws within held) in
@@ -95,7 +95,7 @@ module _ {B : Type 0} (did : B → BankItem → Answer → B → Type 0) (state 
     pub words : List Words
     pub commits : InOrder did b (commits words) a e
 
-  pub as_commits : (ws : List Write) (b e : B) (a : Answer) → InOrder (Wrote did state) b ws a e → AsCommits b a e
+  pub as_commits : (ws : List Write) (b e : B) (a : Answer) → InOrder (ChainWrote did state) b ws a e → AsCommits b a e
   as_commits [] b e (Ok u) h = record { words = []; commits = h }
   as_commits [] b e (Err s) h = absurd h
   as_commits (w ∷ ws) b e a h =
@@ -138,11 +138,11 @@ module _ {N : Type 0} (state : N → DeviceState) (wrote : N → ℕ → List �
         apps = committed_is (means m).apps w.name w.pieces ws there.0 there.1 sound.within here;
       }
 
-  pub write_made : (s e : Store N) (w : Write) (a : Answer) → IsSoundWrite (means (words_of s)).apps w → Wrote did bank_state s w a e → Made state wrote (means (words_of s)) (item_of w ∷ []) s.device a e.device
+  pub write_made : (s e : Store N) (w : Write) (a : Answer) → IsSoundWrite (means (words_of s)).apps w → ChainWrote did bank_state s w a e → ItemsMade state wrote (means (words_of s)) (item_of w ∷ []) s.device a e.device
   write_made s e w a sound h = made-one state wrote obeys s.device e.device s.count e.count (Commit w.name h.0) (item_of w) a (write_as s e w h.0 a sound h.1 h.2) h.2
 
   -- a store that made a write goes on
-  pub goes_on : (s e : Store N) (w : Write) → Wrote did bank_state s w (Ok tt) e → Going (state e.device) e.count
+  pub goes_on : (s e : Store N) (w : Write) → ChainWrote did bank_state s w (Ok tt) e → Going (state e.device) e.count
   goes_on s e w h =
       let t : Changes (bank_state s) (item_done (store_standing (state s.device)) (Commit w.name h.0) (bank_state s).apps) (Ok tt) (bank_state e) =
       store_obeys state wrote obeys s.device e.device s.count e.count (Commit w.name h.0) (Ok tt) h.2 in
@@ -151,11 +151,11 @@ module _ {N : Type 0} (state : N → DeviceState) (wrote : N → ℕ → List �
   -- ---- writes in order
 
   -- the writes of a chain on a store that goes on
-  pub writes_made : (ws : List Write) (s e : Store N) (a : Answer) → Going (state s.device) s.count → AreSound (means (words_of s)).apps ws → InOrder (Wrote did bank_state) s ws a e
-      → Made state wrote (means (words_of s)) (write_items ws) s.device a e.device
+  pub writes_made : (ws : List Write) (s e : Store N) (a : Answer) → Going (state s.device) s.count → AreSound (means (words_of s)).apps ws → InOrder (ChainWrote did bank_state) s ws a e
+      → ItemsMade state wrote (means (words_of s)) (write_items ws) s.device a e.device
   writes_made [] s e (Ok u) g sound h =
       let m = words_of s in
-      subst (λ (t : Store N). Made state wrote (means m) [] s.device (Ok tt) t.device) (sym h) (made-none state wrote obeys (means m) s.device (closed-base m (means m) g.closed g.laid (sym (closed_means m g.closed))))
+      subst (λ (t : Store N). ItemsMade state wrote (means m) [] s.device (Ok tt) t.device) (sym h) (made-none state wrote obeys (means m) s.device (closed-base m (means m) g.closed g.laid (sym (closed_means m g.closed))))
   writes_made [] s e (Err x) g sound h = absurd h
   writes_made (w ∷ ws) s e a g sound h =
       let c = means (words_of s) in
@@ -163,11 +163,11 @@ module _ {N : Type 0} (state : N → DeviceState) (wrote : N → ℕ → List �
       elim h [
         | inl done ↦
             let m = done.0 in
-            let first : Made state wrote c i s.device (Ok tt) m.device = write_made s m w (Ok tt) sound.0 done.1 in
+            let first : ItemsMade state wrote c i s.device (Ok tt) m.device = write_made s m w (Ok tt) sound.0 done.1 in
             let now : card_done c i ≡ means (words_of m) = card-found (card_done c i) 0 (words_of m) first.done in
-            let rest : Made state wrote (means (words_of m)) (write_items ws) m.device a e.device =
+            let rest : ItemsMade state wrote (means (words_of m)) (write_items ws) m.device a e.device =
             writes_made ws m e a (goes_on s m w done.1) (subst (λ (k : Card). AreSound k.apps ws) now sound.1) done.2 in
-            made-append state wrote obeys c i (write_items ws) s.device m.device e.device a g.on first (subst (λ (k : Card). Made state wrote k (write_items ws) m.device a e.device) (sym now) rest)
-        | inr stop ↦ subst (λ (b : Answer). Made state wrote c (write_items (w ∷ ws)) s.device b e.device) (sym stop.2)
+            made-append state wrote obeys c i (write_items ws) s.device m.device e.device a g.on first (subst (λ (k : Card). ItemsMade state wrote k (write_items ws) m.device a e.device) (sym now) rest)
+        | inr stop ↦ subst (λ (b : Answer). ItemsMade state wrote c (write_items (w ∷ ws)) s.device b e.device) (sym stop.2)
             (made-stopped state wrote obeys c i (write_items ws) s.device e.device stop.0 (write_made s e w (Err stop.0) sound.0 stop.1))
       ]

@@ -17,8 +17,8 @@ use Rattle.mc_manager.specs.CommandDue.{most_ticks}
 use Rattle.mc_store.specs.declared.power.Up.{Up}
 use Rattle.mc_store.specs.Power.{Powered, Runs as Runs_with, failed, count_of}
 use Rattle.mc_card.specs.declared.card.Card.{Card}
-use Rattle.mc_card.specs.Parts.{device_in, card_in, seat_in, due, with_session, IsReady, RunsChain}
-use Rattle.mc_card.specs.ItemWrites.{Made}
+use Rattle.mc_card.specs.Parts.{device_in, card_in, seat_in, due, with_session, IsReadyCard, RunsChain}
+use Rattle.mc_card.specs.ItemWrites.{ItemsMade}
 
 -- ---- steps
 
@@ -91,13 +91,13 @@ module _ {N : Type 0} (state : N → DeviceState) (wrote : N → ℕ → List �
 
   -- what a command did: its items, and where none stopped its outcome and the seat after it
   pub record Commanded (c : Card N) (r : Command) (result : Result Outcome Stop) (d : Card N) : Type 0 where
-    pub made : Made state wrote (card_in state c) r.items (device_in c) (answer_of result) (device_in d)
+    pub made : ItemsMade state wrote (card_in state c) r.items (device_in c) (answer_of result) (device_in d)
     pub outcome : IfOk result (λ o. outcome_value o ≡ r.outcome)
     pub seat : OnOk result (seat_in state d ≡ r.seat)
-    pub ready : OnOk result (IsReady state d)
+    pub ready : OnOk result (IsReadyCard state d)
 
   -- a command is passed to the selected application: its chain is ready to run, and nothing else changed
-  pub record Passed (c : Card N) (bytes : List ℕ) (budget : ℕ) (d : Card N) : Type 0 where
+  pub record PassedToChain (c : Card N) (bytes : List ℕ) (budget : ℕ) (d : Card N) : Type 0 where
     pub apdu : ApduParts
     pub routed : route bytes ≡ ToApplication apdu
     pub selected : Selected
@@ -114,18 +114,18 @@ module _ {N : Type 0} (state : N → DeviceState) (wrote : N → ℕ → List �
   -- the beginning of a command, by its result
   abbrev pub Begun : Card N → List ℕ → ℕ → Result (Option Outcome) Stop → Card N → Type 0
   Begun c bytes budget (Ok (Some o)) d = Answered c bytes budget (Ok o) d
-  Begun c bytes budget (Ok None) d = Passed c bytes budget d
+  Begun c bytes budget (Ok None) d = PassedToChain c bytes budget d
   Begun c bytes budget (Err s) d = Answered c bytes budget (Err s) d
 
   -- ---- a turn
 
   -- what follows a turn: the chain goes on with what is left of the budget, or it has ended, and its session bytes stay with the selection
-  abbrev pub GoesOn : Card N → Chain → ℕ → Follows → Card N → Type 0
-  GoesOn c ch left (Continues next) d = RunsChain state d next left × (seat_in state d ≡ seat_in state c)
-  GoesOn c ch left (Ends o) d = IsReady state d × (seat_in state d ≡ with_session (chain_session ch) (seat_in state c))
+  abbrev pub TurnGoesOn : Card N → Chain → ℕ → Follows → Card N → Type 0
+  TurnGoesOn c ch left (Continues next) d = RunsChain state d next left × (seat_in state d ≡ seat_in state c)
+  TurnGoesOn c ch left (Ends o) d = IsReadyCard state d × (seat_in state d ≡ with_session (chain_session ch) (seat_in state c))
 
   -- a turn of a chain: its items, what it tells, and what follows where none stopped
-  pub record Turned (c : Card N) (ch : Chain) (left : ℕ) (t : Acted) (result : Result Turn Stop) (d : Card N) : Type 0 where
-    pub made : Made state wrote (card_in state c) (write_items t.writes) (device_in c) (answer_of result) (device_in d)
+  pub record ChainTurned (c : Card N) (ch : Chain) (left : ℕ) (t : Acted) (result : Result Turn Stop) (d : Card N) : Type 0 where
+    pub made : ItemsMade state wrote (card_in state c) (write_items t.writes) (device_in c) (answer_of result) (device_in d)
     pub turn : IfOk result (λ told. t.turn ≡ turn_value told t.turn.wrote)
-    pub follows : OnOk result (GoesOn c ch (left - t.count) t.follows d)
+    pub follows : OnOk result (TurnGoesOn c ch (left - t.count) t.follows d)

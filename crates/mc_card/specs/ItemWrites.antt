@@ -8,33 +8,33 @@ use Rattle.mc_model.specs.Stopped.{torn}
 use Rattle.mc_model.specs.Card.{Card}
 use Rattle.mc_model.specs.Items.{Item, Stopped, weight, moves, card_done, at_stop}
 use Rattle.mc_model.specs.Play.{OnCard}
-use Rattle.mc_store.specs.Power.{IsBase}
+use Rattle.mc_store.specs.Power.{HoldsBase}
 
 -- words that are a card after the whole items of a stop, and owe what it owes
-abbrev pub IsStopped : Card → Stopped → List (List ℕ) → Type 0
-IsStopped c s m = IsBase (OnCard (card_done c s.whole)) s.owed Two m
+abbrev pub IsCardAfterStop : Card → Stopped → List (List ℕ) → Type 0
+IsCardAfterStop c s m = HoldsBase (OnCard (card_done c s.whole)) s.owed Two m
 
 -- wherever one of these writes stops, and whatever word it leaves, the words are the card after the items that are whole then
 abbrev pub StopsAtEach : Card → List Item → List (List ℕ) → List (ℕ × List ℕ) → Type 0
-StopsAtEach c is m ws = (k : ℕ) (x : List ℕ) → 1 ≤ k → k ≤ length ws → length x ≡ 8 → IsStopped c (at_stop is k x) (torn m ws k x)
+StopsAtEach c is m ws = (k : ℕ) (x : List ℕ) → 1 ≤ k → k ≤ length ws → length x ≡ 8 → IsCardAfterStop c (at_stop is k x) (torn m ws k x)
 
 -- how many writes were made of items: all of them, where none stopped
-abbrev pub IsAll : List Item → Answer → ℕ → Type 0
-IsAll is (Ok u) n = n ≡ moves is
-IsAll is (Err s) n = n ≤ moves is
+abbrev pub CountsWrites : List Item → Answer → ℕ → Type 0
+CountsWrites is (Ok u) n = n ≡ moves is
+CountsWrites is (Err s) n = n ≤ moves is
 
 -- what the words are: the card after all items, where none stopped
-abbrev pub IsDone : Card → List Item → Answer → List (List ℕ) → Type 0
-IsDone c is (Ok u) m = IsBase (OnCard (card_done c is)) 0 Two m
-IsDone c is (Err s) m = Unit {0}
+abbrev pub IsCardAfter : Card → List Item → Answer → List (List ℕ) → Type 0
+IsCardAfter c is (Ok u) m = HoldsBase (OnCard (card_done c is)) 0 Two m
+IsCardAfter c is (Err s) m = Unit {0}
 
 -- items on a card in the words of a device: the writes that were tried, in order
-pub record Made {D : Type 0} (state : D → DeviceState) (wrote : D → ℕ → List ℕ → Answer → D → Type 0) (c : Card) (is : List Item) (d : D) (a : Answer) (e : D) : Type 0 where
+pub record ItemsMade {D : Type 0} (state : D → DeviceState) (wrote : D → ℕ → List ℕ → Answer → D → Type 0) (c : Card) (is : List Item) (d : D) (a : Answer) (e : D) : Type 0 where
   pub writes : List (ℕ × List ℕ)
   pub makes : Makes wrote d writes a e
-  pub number : IsAll is a (length writes)
+  pub number : CountsWrites is a (length writes)
   pub stops : StopsAtEach c is (state d).words writes
-  pub done : IsDone c is a (state e).words
+  pub done : IsCardAfter c is a (state e).words
 
 -- the items that so many device writes fall in, from the first on: those that were begun
 abbrev pub begun : ℕ → List Item → List Item
@@ -46,5 +46,5 @@ begun (suc n) (i ∷ is) = i ∷ begun (suc n - weight i) is
 pub record MadeWithin {D : Type 0} (wrote : D → ℕ → List ℕ → Answer → D → Type 0) (most : ℕ) (is : List Item) (d : D) (a : Answer) (e : D) : Type 0 where
   pub writes : List (ℕ × List ℕ)
   pub makes : Makes wrote d writes a e
-  pub number : IsAll is a (length writes)
+  pub number : CountsWrites is a (length writes)
   pub few : AllByRecursion (λ i. weight i ≤ most) (begun (length writes) is)

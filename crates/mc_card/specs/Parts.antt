@@ -10,10 +10,10 @@ use Rattle.mc_model.specs.Play.{Command, command}
 use Rattle.mc_bank.specs.Bank.{app_of}
 use Rattle.mc_store.specs.Store.{is_going, store_state, store_named, store_room, store_standing}
 use Rattle.mc_store.specs.Power.{device_of, count_of, over}
-use Rattle.mc_manager.specs.ManagerState.{BankView, Fits, seat_of}
-use Rattle.mc_machine.specs.Chains.{Chained, Runs}
+use Rattle.mc_manager.specs.ManagerState.{BankView, ManagerFits, seat_of}
+use Rattle.mc_machine.specs.Chains.{Chained, RunsAs}
 use Rattle.mc_card.specs.declared.card.Card.{Card}
-use Rattle.mc_machine.specs.Sound.{IsSound}
+use Rattle.mc_machine.specs.Sound.{IsSoundChain}
 
 -- the device of a card
 abbrev pub device_in : {N : Type 0} → Card N → N
@@ -54,11 +54,11 @@ module _ {N : Type 0} (state : N → DeviceState) where
   -- many as the selected application has.
   pub record IsUp (c : Card N) : Type 0 where
     pub going : is_going (state (device_in c)) (count_of c.store) ≡ true
-    pub fits : Fits (view_in c) c.manager
+    pub fits : ManagerFits (view_in c) c.manager
     pub session : ForSome c.manager.selected (λ s. length c.session ≡ (app_of (card_in c).apps (Some s.aid)).session)
 
   -- a card runs, and no command does
-  pub record IsReady (c : Card N) : Type 0 where
+  pub record IsReadyCard (c : Card N) : Type 0 where
     pub up : IsUp c
     pub idle : c.chain ≡ None
 
@@ -67,10 +67,10 @@ module _ {N : Type 0} (state : N → DeviceState) where
     pub up : IsUp c
     pub chained : Chained
     pub is : c.chain ≡ Some chained
-    pub runs : Runs (view_in c).state (view_in c).named chained ch
+    pub runs : RunsAs (view_in c).state (view_in c).named chained ch
     pub left : chained.left ≡ n
     pub own : option_map (λ s. s.aid) c.manager.selected ≡ Some (first_frame ch.frame ch.below).name
-    pub sound : IsSound ch
+    pub sound : IsSoundChain ch
 
   -- a chain runs on the card
   abbrev pub IsRunning : Card N → Type 0

@@ -10,8 +10,9 @@ ghost use Rattle.mc_bank.specs.Bank.{app_of};
 ghost use Rattle.mc_machine.specs.declared.outcome.Outcome.TheVariants as outcome;
 ghost use Rattle.mc_machine.specs.Turns.{outcome_value, put_out, placed, WritesFew};
 ghost use Rattle.mc_store.specs.Power.{power_writes, power_answer, PowersUp};
-ghost use Rattle.mc_card.specs.Parts.{device_in, card_in, seat_in, due, IsUp, IsReady, RunsChain, IsRunning};
-ghost use Rattle.mc_card.specs.Ends.{powered, restarted, device_after, Commanded, Begun, Turned, RouteSteps, BeginSteps, IsReply, put_in, most_weight};
+ghost use Rattle.mc_card.specs.Parts.{device_in, card_in, seat_in, due, IsUp, IsReadyCard, RunsChain, IsRunning};
+ghost use Rattle.mc_card.specs.Ends.{powered, restarted, device_after, Commanded, Begun, ChainTurned, RouteSteps};
+ghost use Rattle.mc_card.specs.Ends.{BeginSteps, IsReply, put_in, most_weight};
 ghost use Rattle.mc_card.specs.ItemWrites.{MadeWithin};
 
 use crate::managing::Directed;
@@ -45,7 +46,7 @@ impl<N: Nvm> Card<N> {
         ensures makes { Makes N.wrote dev (power_writes (N.state dev).words) (power_answer (powered result))
             (device_after result) }
         ensures ends { PowersUp (N.state dev) (powered result) (N.state (device_after result)) }
-        ensures ready { IfOk result (λ p. IsReady N.state p.0) }
+        ensures ready { IfOk result (λ p. IsReadyCard N.state p.0) }
         ensures seat { IfOk result (λ p. seat_in N.state p.0 ≡ empty_seat) }
         ensures lent { N.same dev (device_after result) }
     {
@@ -83,7 +84,7 @@ impl<N: Nvm> Card<N> {
             (power_answer (restarted self.new result)) (device_in self.new) }
         ensures ends { PowersUp (N.state (device_in self.old)) (restarted self.new result)
             (N.state (device_in self.new)) }
-        ensures ready { IfOk result (λ n. IsReady N.state self.new) }
+        ensures ready { IfOk result (λ n. IsReadyCard N.state self.new) }
         ensures seat { IfOk result (λ n. seat_in N.state self.new ≡ empty_seat) }
         ensures lent { N.same (device_in self.old) (device_in self.new) }
     {
@@ -116,7 +117,7 @@ impl<N: Nvm> Card<N> {
         budget: u32,
         steps: &mut Steps<L>,
     ) -> Result<Outcome, Stop>
-        requires ready { IsReady N.state self.old }
+        requires ready { IsReadyCard N.state self.old }
         requires some { 1 ≤ budget }
         requires budget { budget ≤ 65536 }
         ensures done { Commanded N.state N.wrote self.old (due N.state self.old bytes.now budget) result self.new }
@@ -142,7 +143,7 @@ impl<N: Nvm> Card<N> {
         into: &mut Outcome,
         steps: &mut Steps<L>,
     ) -> Result<(), Stop>
-        requires ready { IsReady N.state self.old }
+        requires ready { IsReadyCard N.state self.old }
         requires some { 1 ≤ budget }
         requires budget { budget ≤ 65536 }
         ensures done { Commanded N.state N.wrote self.old (due N.state self.old bytes.now budget)
@@ -173,7 +174,7 @@ impl<N: Nvm> Card<N> {
         into: &mut Outcome,
         steps: &mut Steps<L>,
     ) -> Result<End, Stop>
-        requires ready { IsReady N.state self.old }
+        requires ready { IsReadyCard N.state self.old }
         requires some { 1 ≤ budget }
         requires budget { budget ≤ 65536 }
         requires place { IsReply into.old }
@@ -199,7 +200,7 @@ impl<N: Nvm> Card<N> {
         reply: &mut Reply,
         steps: &mut Steps<L>,
     ) -> Result<End, Stop>
-        requires ready { IsReady N.state self.old }
+        requires ready { IsReadyCard N.state self.old }
         requires some { 1 ≤ budget }
         requires budget { budget ≤ 65536 }
         ensures done { Commanded N.state N.wrote self.old (due N.state self.old bytes.now budget)
@@ -236,7 +237,7 @@ impl<N: Nvm> Card<N> {
         budget: u32,
         steps: &mut Steps<L>,
     ) -> Result<Option<Outcome>, Stop>
-        requires ready { IsReady N.state self.old }
+        requires ready { IsReadyCard N.state self.old }
         requires some { 1 ≤ budget }
         requires budget { budget ≤ 65536 }
         ensures done { Begun N.state N.wrote self.old bytes.now budget result self.new }
@@ -266,7 +267,7 @@ impl<N: Nvm> Card<N> {
     pub fn turn<L: Ledger>(&mut self, steps: &mut Steps<L>) -> Result<Turn, Stop>
         requires running { IsRunning N.state self.old }
         ensures done { (ch : ModelChain) (left : ℕ) → RunsChain N.state self.old ch left
-            → Turned N.state N.wrote self.old ch left (turn_of left ch) result self.new }
+            → ChainTurned N.state N.wrote self.old ch left (turn_of left ch) result self.new }
         ensures steps { (ch : ModelChain) (left : ℕ) → RunsChain N.state self.old ch left
             → steps.new ≡ steps.old + (turn_of left ch).count }
         ensures shaped { IfOk result (λ turn. IfSome turn.ins Shaped) }

@@ -7,7 +7,7 @@ ghost use Rattle.mc_bank.specs.Bank.{app_of};
 ghost use Rattle.mc_manager.specs.CommandDue.{most_ticks};
 ghost use Rattle.mc_store.specs.Store.{apps_in, is_going, store_named};
 ghost use Rattle.mc_store.specs.Power.{device_of, count_of};
-ghost use Rattle.mc_card.specs.Parts.{device_in, card_in, IsReady};
+ghost use Rattle.mc_card.specs.Parts.{device_in, card_in, IsReadyCard};
 ghost use Rattle.mc_card.specs.Managing.{Directs};
 
 use crate::card::Card;
@@ -36,7 +36,7 @@ impl<N: Nvm> Card<N> {
         reply: &mut Reply,
         steps: &mut Steps<L>,
     ) -> Result<Directed, Stop>
-        requires ready { IsReady N.state self.old }
+        requires ready { IsReadyCard N.state self.old }
         ensures done { Directs N.state N.wrote self.old (parts_of apdu.now) result reply.new self.new }
         ensures rises { steps.old ≤ steps.new }
         ensures ticks { steps.new ≤ steps.old

@@ -9,12 +9,12 @@ use Rattle.mc_model.specs.declared.instruction.DecodeFault.TheVariants as fault
 use Rattle.mc_model.specs.declared.instruction.Ins.{Ins}
 use Rattle.mc_model.specs.Code.{decoded}
 use Rattle.mc_model.specs.StackRows.{need, is_indirect, counts, places_inside}
-use Rattle.mc_model.specs.StackShape.{Fact, is_main, Look, Bad, Stands, seen, look, Gives, Reached, Depth, IsBase, Accepts}
+use Rattle.mc_model.specs.StackShape.{Fact, is_main, FactLook, Bad, Stands, seen, look, Gives, Reached, Depth, IsBase, Accepts}
 
 -- ---- what is seen of a fact
 
 -- nothing is bad
-none_bad : (a b c d : Bool) (w x y z : CheckCause) (l : Look) → a ≡ false → b ≡ false → c ≡ false → d ≡ false → cond a (Bad w) (cond b (Bad x) (cond c (Bad y) (cond d (Bad z) l))) ≡ l
+none_bad : (a b c d : Bool) (w x y z : CheckCause) (l : FactLook) → a ≡ false → b ≡ false → c ≡ false → d ≡ false → cond a (Bad w) (cond b (Bad x) (cond c (Bad y) (cond d (Bad z) l))) ≡ l
 none_bad a b c d w x y z l p q r s = rw (p, q, r, s) refl
 
 -- ---- facts of accepted code
@@ -29,7 +29,7 @@ pub record GoodAt (code : List ℕ) (f : Fact) (i : Ins) (next : ℕ) : Type 0 w
   pub inside : places_inside (length code) i next ≡ true
 
 -- room for so many bytes above a base, within the stack and within the deepest one
-pub record HasRoom (session most base height : ℕ) : Type 0 where
+pub record HasStackRoom (session most base height : ℕ) : Type 0 where
   pub stack : session + base + height ≤ 512
   pub deepest : base + height ≤ most
 
@@ -66,7 +66,7 @@ module _ (code : List ℕ) (session most : ℕ) (accepts : Accepts code session 
           | inr fits ↦ fits
         ]
 
-    pub room_at : (f : Fact) (b : ℕ) → Reached code f → Depth code f.routine b → HasRoom session most b f.height
+    pub room_at : (f : Fact) (b : ℕ) → Reached code f → Depth code f.routine b → HasStackRoom session most b f.height
     room_at f b reached depth =
         let greatest = (bases f reached).0 in
         let is : IsBase code f.routine greatest = (bases f reached).1 in

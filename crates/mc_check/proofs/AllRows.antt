@@ -13,11 +13,11 @@ use Rattle.mc_model.specs.Row.{causes, first_cause, effect, holds, no_place, kno
 use Rattle.mc_model.specs.StackRows.{need, height_after, row_uses, WritesNothing, row_writing, always_abends, is_indirect, counts, goes_on, call_target}
 use Rattle.mc_family.proofs.RowWords.{none_holds}
 use Rattle.mc_check.specs.Standing.{StandsAt}
-use Rattle.mc_check.proofs.RowFacts.{GoesTo, RowStays, RowFacts}
+use Rattle.mc_check.proofs.RowFacts.{GoesTo, RowStays, RowsAreCalm}
 use Rattle.mc_check.proofs.CalmAddresses.{IsSafe}
 use Rattle.mc_check.proofs.CalmCauses.{always_first, stepped_stands, need_few, row_pops, rows_calm}
 use Rattle.mc_check.proofs.CalmPublic.{effect_grows}
-use Rattle.mc_check.proofs.CalmEffects.{IsRunning, place_after, effect_kept, no_call}
+use Rattle.mc_check.proofs.CalmEffects.{RunsPlainRow, place_after, effect_kept, no_call}
 
 -- ---- where a frame goes on
 
@@ -63,7 +63,7 @@ unfolding causes
 branch_inside k d f public x e = (none_holds (causes (ins.Branch k d) f public x) e).0
 
 -- where a row goes that is no call and no return
-row_goes : (i : Ins) (h : ℕ) (f : Frame) (public : List ℕ) (x : Around) (at : ℕ) → always_abends i ≡ false → IsRunning h i f public x → at ≡ place_after i f → GoesTo i f.at at (effect i f public x).next
+row_goes : (i : Ins) (h : ℕ) (f : Frame) (public : List ℕ) (x : Around) (at : ℕ) → always_abends i ≡ false → RunsPlainRow h i f public x → at ≡ place_after i f → GoesTo i f.at at (effect i f public x).next
 unfolding effect
 row_goes ins.Exit h f public x at runs y is = tt
 row_goes (ins.Exitsw sw) h f public x at runs y is = tt
@@ -91,7 +91,7 @@ runs_from true i f public x is none = absurd (cc (always_first i f public x is, 
 runs_from false i f public x is none = refl
 
 -- the effect of a row that is no call and no return
-effect_stays : (len size base h : ℕ) (i : Ins) (next : ℕ) (f : Frame) (public : List ℕ) (x : Around) → StandsAt len size base h f → always_abends i ≡ false → IsRunning h i (stepped f next) public x
+effect_stays : (len size base h : ℕ) (i : Ins) (next : ℕ) (f : Frame) (public : List ℕ) (x : Around) → StandsAt len size base h f → always_abends i ≡ false → RunsPlainRow h i (stepped f next) public x
     → size + base + height_after i h ≤ 512 → RowStays len size base h i next f (effect i (stepped f next) public x)
 effect_stays len size base h i next f public x s runs y room =
     let g = stepped f next in
@@ -121,7 +121,7 @@ rows_stay len size base h i next f public x d shaped s few direct no_return no_c
     let parts = done_parts (first_cause (causes i g public x)) (effect i g public x) d e in
     let runs : always_abends i ≡ false = runs_from (always_abends i) i g public x refl parts.0 in
     let few_bytes : (row_uses i).needs ≤ h = need_few i h few runs in
-    let y : IsRunning h i g public x = record {
+    let y : RunsPlainRow h i g public x = record {
       shaped = shaped;
       few = few_bytes;
       direct = direct;
@@ -142,7 +142,7 @@ rows_grow i f public x d e =
     subst (λ (done : Done). length public ≤ length done.effect.public) parts.1 (effect_grows i f public x)
 
 -- what every row keeps to that stands on accepted code
-pub row_facts : RowFacts
+pub row_facts : RowsAreCalm
 row_facts = record {
   calm = λ len size base h i next f public x c shaped. rows_calm len size base h i next f public x c;
   stays = rows_stay;

@@ -8,32 +8,32 @@ use Rattle.mc_model.specs.declared.instruction.DecodeFault.TheVariants as fault
 use Rattle.mc_model.specs.declared.checker.CheckCause.TheVariants.{Indirect, Returns, Under, Target}
 use Rattle.mc_model.specs.Code.{decoded}
 use Rattle.mc_model.specs.StackRows.{need, is_indirect, counts, goes_on, jump_target, call_target, target_inside, call_inside, places_inside}
-use Rattle.mc_model.specs.StackShape.{Routine, Main, At, Fact, fact, is_main, Look, Stands, first_bad, seen, look, Reached, Gives, IsAt, Calls}
+use Rattle.mc_model.specs.StackShape.{Routine, Main, At, Fact, fact, is_main, FactLook, Stands, first_bad, seen, look, Reached, Gives, IsAt, Calls}
 use Rattle.mc_model.specs.StackShape.{IsBase, NoRecursion, ReachesItself}
 use Rattle.mc_model.specs.StackShape as shape
-use Rattle.mc_check.specs.Table.{routine_of, IsGood}
+use Rattle.mc_check.specs.Table.{routine_of, IsGoodFact}
 use Rattle.mc_check.specs.declared.calls.Call.{Call}
-use Rattle.mc_check.specs.CallList.{Has, IsCall, AreCalls, DepthIn, EntersIn, IsBaseIn}
+use Rattle.mc_check.specs.CallList.{ListsCall, IsCall, AreCalls, DepthIn, EntersIn, IsBaseIn}
 use Rattle.mc_check.specs.CallList as list
 
 -- ---- what a good fact shows
 
 -- what was decoded there, and where it may go
-record Shows (len : ℕ) (r : Result (Ins × ℕ) DecodeFault) (i : Ins) (next : ℕ) : Type 0 where
+record DecodesInside (len : ℕ) (r : Result (Ins × ℕ) DecodeFault) (i : Ins) (next : ℕ) : Type 0 where
   decoded : r ≡ Ok (i, next)
   inside : places_inside len i next ≡ true
 
-same_parts : (a i : Ins) (m n : ℕ) → ◌≡◌ {A = Look} (Stands a m) (Stands i n) → (a ≡ i) × (m ≡ n)
+same_parts : (a i : Ins) (m n : ℕ) → ◌≡◌ {A = FactLook} (Stands a m) (Stands i n) → (a ≡ i) × (m ≡ n)
 same_parts a i m n e = (cc, cc)
 
-none_bad : (a b c d : Bool) (x i : Ins) (m n : ℕ) → first_bad ((Indirect, a) ∷ (Returns, b) ∷ (Under, c) ∷ (Target, not d) ∷ []) (Stands x m) ≡ Stands i n → (d ≡ true) × (◌≡◌ {A = Look} (Stands x m) (Stands i n))
+none_bad : (a b c d : Bool) (x i : Ins) (m n : ℕ) → first_bad ((Indirect, a) ∷ (Returns, b) ∷ (Under, c) ∷ (Target, not d) ∷ []) (Stands x m) ≡ Stands i n → (d ≡ true) × (◌≡◌ {A = FactLook} (Stands x m) (Stands i n))
 none_bad true b c d x i m n e = cc
 none_bad false true c d x i m n e = cc
 none_bad false false true d x i m n e = cc
 none_bad false false false true x i m n e = (refl, e)
 none_bad false false false false x i m n e = cc
 
-seen_shows : (len : ℕ) (f : Fact) (r : Result (Ins × ℕ) DecodeFault) (i : Ins) (next : ℕ) → seen len f r ≡ Stands i next → Shows len r i next
+seen_shows : (len : ℕ) (f : Fact) (r : Result (Ins × ℕ) DecodeFault) (i : Ins) (next : ℕ) → seen len f r ≡ Stands i next → DecodesInside len r i next
 seen_shows len f (Err fault.Undefined) i next e = cc
 seen_shows len f (Err fault.Past) i next e = cc
 seen_shows len f (Ok (x, m)) i next e =
@@ -45,7 +45,7 @@ seen_shows len f (Ok (x, m)) i next e =
     }
 
 -- a fact whose instruction stands
-shows_at : (code : List ℕ) (f : Fact) (i : Ins) (next : ℕ) → look code f ≡ Stands i next → Shows (length code) (decoded code f.place) i next
+shows_at : (code : List ℕ) (f : Fact) (i : Ins) (next : ℕ) → look code f ≡ Stands i next → DecodesInside (length code) (decoded code f.place) i next
 unfolding look
 shows_at code f i next e = seen_shows (length code) f (decoded code f.place) i next e
 
@@ -57,7 +57,7 @@ same_ins : (r : Result (Ins × ℕ) DecodeFault) (a i : Ins) (m n : ℕ) → r �
 same_ins r a i m n e h = let same : ◌≡◌ {A = Ins × ℕ} (a, m) (i, n) = cc in ap (λ (p : Ins × ℕ). p.0) same
 
 -- a good CALL calls a place of the code
-pub target_is_inside : (code : List ℕ) (f : Fact) (i : Ins) (q : ℕ) → IsGood code f → IsAt code f.place i → call_target i ≡ Some q → q < length code
+pub target_is_inside : (code : List ℕ) (f : Fact) (i : Ins) (q : ℕ) → IsGoodFact code f → IsAt code f.place i → call_target i ≡ Some q → q < length code
 target_is_inside code f i q good at target =
     let shows = shows_at code f good.0 good.1 good.2 in
     let same = same_ins (decoded code f.place) good.0 i good.1 at.0 shows.decoded at.1 in
@@ -88,7 +88,7 @@ calls_of code c r h q is same_caller same_height same_target = record {
   target = is.target ∙ ap Some same_target;
 }
 
-pub listed_calls : (code : List ℕ) (calls : List Call) → AreCalls code calls → (r : Routine) (h q : ℕ) → Has calls r h q → Calls code r h q
+pub listed_calls : (code : List ℕ) (calls : List Call) → AreCalls code calls → (r : Routine) (h q : ℕ) → ListsCall calls r h q → Calls code r h q
 listed_calls code calls are r h q has = calls_of code has.call r h q (are.each has.at has.call has.there) has.caller has.height has.target
 
 -- depths and ways by the list are those of the code

@@ -8,10 +8,10 @@ use Rattle.mc_model.specs.declared.instruction.DecodeFault.{DecodeFault}
 use Rattle.mc_model.specs.Code.{decoded}
 use Rattle.mc_model.specs.StackRows.{call_target}
 use Rattle.mc_model.specs.StackShape.{Routine, Fact, fact, Calls}
-use Rattle.mc_check.specs.Table.{routine_of, fact_of, IsWhole}
+use Rattle.mc_check.specs.Table.{routine_of, fact_of, IsWholeTable}
 use Rattle.mc_check.specs.declared.calls.Call.{Call}
 use Rattle.mc_check.specs.declared.table.Entry.{Entry}
-use Rattle.mc_check.specs.CallList.{target_of, call_of, Has, IsCall, AreCalls}
+use Rattle.mc_check.specs.CallList.{target_of, call_of, ListsCall, IsCall, AreCalls}
 use Rattle.mc_check.proofs.ListPlaces.{get_push, get_push_before, get_push_last, before, last}
 use Rattle.mc_check.proofs.CallLemmas.{target_is_inside, called_by}
 
@@ -19,7 +19,7 @@ use Rattle.mc_check.proofs.CallLemmas.{target_is_inside, called_by}
 pub record ListsUpTo (code : List ℕ) (t : List (Option Entry)) (n : ℕ) (l : List Call) : Type 0 where
   pub each : (k : ℕ) (c : Call) → slice_get l k ≡ Some c → IsCall code c
   pub heights : (k : ℕ) (c : Call) → slice_get l k ≡ Some c → c.height ≤ 65535
-  pub found : (p : ℕ) (e : Entry) (q : ℕ) → p < n → slice_get t p ≡ Some (Some e) → target_of (decoded code p) ≡ Some q → Has l (routine_of e.routine) e.height q
+  pub found : (p : ℕ) (e : Entry) (q : ℕ) → p < n → slice_get t p ≡ Some (Some e) → target_of (decoded code p) ≡ Some q → ListsCall l (routine_of e.routine) e.height q
 
 -- ---- one entry more
 
@@ -31,16 +31,16 @@ target_at : (r : Result (Ins × ℕ) DecodeFault) (i : Ins) (next q : ℕ) → r
 target_at r i next q is target = ap target_of is ∙ target
 
 -- the call of an entry is one of the code
-is_call : (code : List ℕ) (t : List (Option Entry)) (p : ℕ) (e : Entry) (q : ℕ) → IsWhole code t → slice_get t p ≡ Some (Some e) → target_of (decoded code p) ≡ Some q → IsCall code (call_of p e q)
+is_call : (code : List ℕ) (t : List (Option Entry)) (p : ℕ) (e : Entry) (q : ℕ) → IsWholeTable code t → slice_get t p ≡ Some (Some e) → target_of (decoded code p) ≡ Some q → IsCall code (call_of p e q)
 is_call code t p e q whole there target =
     let found = target_from (decoded code p) q target in
     let sound = whole.sound (fact_of p e) (e, there, refl) in
     record { reached = sound.0; good = sound.1; ins = found.0; stands = (found.1, found.2); target = found.3 }
 
-has_push : (l : List Call) (c : Call) (r : Routine) (h q : ℕ) → Has l r h q → Has (l ++ c ∷ []) r h q
+has_push : (l : List Call) (c : Call) (r : Routine) (h q : ℕ) → ListsCall l r h q → ListsCall (l ++ c ∷ []) r h q
 has_push l c r h q has = record { at = has.at; call = has.call; there = get_push_before l c has.call has.at has.there; caller = has.caller; height = has.height; target = has.target }
 
-has_last : (l : List Call) (p : ℕ) (e f : Entry) (q t : ℕ) → e ≡ f → q ≡ t → Has (l ++ call_of p e q ∷ []) (routine_of f.routine) f.height t
+has_last : (l : List Call) (p : ℕ) (e f : Entry) (q t : ℕ) → e ≡ f → q ≡ t → ListsCall (l ++ call_of p e q ∷ []) (routine_of f.routine) f.height t
 has_last l p e f q t same target = record {
   at = length l;
   call = call_of p e q;
@@ -78,7 +78,7 @@ module _ (code : List ℕ) (t : List (Option Entry)) (n : ℕ) (l : List Call) (
   }
 
   -- a call is made there
-  lists_call : (e : Entry) (q : ℕ) → e.height ≤ 65535 → IsWhole code t → slice_get t n ≡ Some (Some e) → target_of (decoded code n) ≡ Some q → ListsUpTo code t (n + 1) (l ++ call_of n e q ∷ [])
+  lists_call : (e : Entry) (q : ℕ) → e.height ≤ 65535 → IsWholeTable code t → slice_get t n ≡ Some (Some e) → target_of (decoded code n) ≡ Some q → ListsUpTo code t (n + 1) (l ++ call_of n e q ∷ [])
   lists_call e q small whole there target =
       let this = is_call code t n e q whole there target in
       record {
@@ -96,19 +96,19 @@ module _ (code : List ℕ) (t : List (Option Entry)) (n : ℕ) (l : List Call) (
         ];
       }
 
-  pub lists_more : (e : Entry) (c : Call) → c.height ≤ 65535 → IsWhole code t → slice_get t n ≡ Some (Some e) → option_map (call_of n e) (target_of (decoded code n)) ≡ Some c → ListsUpTo code t (n + 1) (l ++ c ∷ [])
+  pub lists_more : (e : Entry) (c : Call) → c.height ≤ 65535 → IsWholeTable code t → slice_get t n ≡ Some (Some e) → option_map (call_of n e) (target_of (decoded code n)) ≡ Some c → ListsUpTo code t (n + 1) (l ++ c ∷ [])
   lists_more e c small whole there is =
       let found = call_from n e c (target_of (decoded code n)) is in
       subst (λ (x : Call). ListsUpTo code t (n + 1) (l ++ x ∷ [])) found.2 (lists_call e found.0 (subst (λ (x : Call). x.height ≤ 65535) (sym found.2) small) whole there found.1)
 
 -- ---- the whole table
 
-has_at : (l : List Call) (r s : Routine) (h k q : ℕ) → r ≡ s → h ≡ k → Has l r h q → Has l s k q
+has_at : (l : List Call) (r s : Routine) (h k q : ℕ) → r ≡ s → h ≡ k → ListsCall l r h q → ListsCall l s k q
 has_at l r s h k q same_routine same_height has = record { at = has.at; call = has.call; there = has.there; caller = has.caller ∙ same_routine; height = has.height ∙ same_height; target = has.target }
 
-pub are_calls : (code : List ℕ) (t : List (Option Entry)) (n : ℕ) (l : List Call) → length t ≤ n → IsWhole code t → ListsUpTo code t n l → AreCalls code l
+pub are_calls : (code : List ℕ) (t : List (Option Entry)) (n : ℕ) (l : List Call) → length t ≤ n → IsWholeTable code t → ListsUpTo code t n l → AreCalls code l
 are_calls code t n l long whole so =
-    let all : (r : Routine) (h q : ℕ) → Calls code r h q → Has l r h q = λ r h q by.
+    let all : (r : Routine) (h q : ℕ) → Calls code r h q → ListsCall l r h q = λ r h q by.
     let here = whole.all (fact r by.place h) by.reached in
     let inside = slice_get_within t by.place (Some here.0) here.1 in
     let has = so.found by.place here.0 q (omega arith) here.1 (target_at (decoded code by.place) by.call by.stands.0 q by.stands.1 by.target) in

@@ -13,7 +13,7 @@ use Rattle.mc_check.specs.declared.bases.Progress.TheVariants as progress
 use Rattle.mc_check.specs.declared.bases.Answer.{Answer}
 use Rattle.mc_check.specs.declared.bases.Answer.TheVariants as answer
 use Rattle.mc_check.specs.CallList.{IsCalled, AreClosed}
-use Rattle.mc_check.specs.Searching.{told_by, told_of, told, IsTold, AreAtMost, Answers}
+use Rattle.mc_check.specs.Searching.{told_by, told_of, told, CallTells, AreAtMost, Answers}
 
 -- ---- places
 
@@ -54,7 +54,7 @@ greater_is g b = greater_by (ltb b g) (eqb b g) g b refl
 
 -- what the calls before a place tell, with the greatest base among it, or 0
 pub record TellsUpTo (states : List Progress) (l : List Call) (q n greatest : ℕ) : Type 0 where
-  pub some : (greatest ≡ 0) ⊎ IsTold states l q (answer.Base greatest)
+  pub some : (greatest ≡ 0) ⊎ CallTells states l q (answer.Base greatest)
   pub each : AreAtMost states l q n greatest
 
 module _ (states : List Progress) (l : List Call) (q n g : ℕ) (so : TellsUpTo states l q n g) (c : Call) (there : slice_get l n ≡ Some c) where
@@ -80,7 +80,7 @@ module _ (states : List Progress) (l : List Call) (q n g : ℕ) (so : TellsUpTo 
           inr (record { at = n; call = c; there = there; target = of; tells = tells ∙ ap answer.Base greatest })
       | inr le ↦
           let greatest : g ≡ max g b = omega arith in
-          subst (λ (m : ℕ). (m ≡ 0) ⊎ IsTold states l q (answer.Base m)) greatest so.some
+          subst (λ (m : ℕ). (m ≡ 0) ⊎ CallTells states l q (answer.Base m)) greatest so.some
     ];
     each = λ k d lt here target. elim (cases_eq k n) [
       | inl same ↦ (b, ap (told states) (sym (call_at k d same here)) ∙ tells, omega arith)
@@ -103,7 +103,7 @@ tells_all states l q n g so long called =
     ]
 
 -- a call tells that there is no base yet
-pub tells_stop : (states : List Progress) (l : List Call) (q : ℕ) (a : Answer) → ((b : ℕ) → a ≡ answer.Base b → ⊥) → IsTold states l q a → Answers states l q a
+pub tells_stop : (states : List Progress) (l : List Call) (q : ℕ) (a : Answer) → ((b : ℕ) → a ≡ answer.Base b → ⊥) → CallTells states l q a → Answers states l q a
 tells_stop states l q (answer.Base b) other is = absurd (other b refl)
 tells_stop states l q (answer.Unseen p) other is = is
 tells_stop states l q (answer.Open p) other is = is

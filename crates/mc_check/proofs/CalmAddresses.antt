@@ -11,7 +11,7 @@ use Rattle.mc_model.specs.Row.{known, place_of}
 use Rattle.mc_model.specs.StackRows.{Writing, WritesAt, WritesAnywhere, is_plain, is_plain_at}
 use Rattle.mc_model.proofs.ListLemmas.{splice-longer}
 use Rattle.mc_check.specs.Standing.{StandsAt}
-use Rattle.mc_check.proofs.CalmWrites.{IsRoomy, IsSafeAt, Untouched, session, stack, none}
+use Rattle.mc_check.proofs.CalmWrites.{IsRoomy, IsSafeAt, MissesCalls, session, stack, none}
 
 -- ---- plain addresses
 
@@ -39,7 +39,7 @@ down_is r j a is low =
 
 -- a plain address, tag by tag and by the sign of the offset
 plain_untouched : (len size base h : ℕ) (f : Frame) (tag : ℕ) (off : ℤ) (n k m a : ℕ) → StandsAt len size base h f → IsAddress tag off → ((tag == 0) ≡ true → k ≤ h) → m ≤ n
-    → place_of f tag off k ≡ a → dynamic_base ≤ a → a + m ≤ dynamic_end → is_plain_at size h tag off n ≡ true → Untouched (floor f) f.lb a m
+    → place_of f tag off k ≡ a → dynamic_base ≤ a → a + m ≤ dynamic_end → is_plain_at size h tag off n ≡ true → MissesCalls (floor f) f.lb a m
 plain_untouched len size base h f zero off n k m a s shaped top few is low high plain =
     let fits : k ≤ h = top refl in
     stack (omega arith)
@@ -88,11 +88,11 @@ plain_untouched len size base h f (suc (suc (suc (suc (suc (suc (suc (suc t)))))
     absurd (omega arith)
 
 -- without an open call LB is the floor
-no_call : (len size base h : ℕ) (f : Frame) (a n : ℕ) → StandsAt len size base h f → base ≡ 0 → Untouched (floor f) f.lb a n
+no_call : (len size base h : ℕ) (f : Frame) (a n : ℕ) → StandsAt len size base h f → base ≡ 0 → MissesCalls (floor f) f.lb a n
 no_call len size base h f a n s is = none (omega arith)
 
 safe_untouched : (len size base h : ℕ) (f : Frame) (tag : ℕ) (off : ℤ) (n k m : ℕ) → StandsAt len size base h f → IsAddress tag off → ((tag == 0) ≡ true → k ≤ h) → m ≤ n
-    → dynamic_base ≤ place_of f tag off k → place_of f tag off k + m ≤ dynamic_end → IsSafe size base h (WritesAt tag off n) → Untouched (floor f) f.lb (place_of f tag off k) m
+    → dynamic_base ≤ place_of f tag off k → place_of f tag off k + m ≤ dynamic_end → IsSafe size base h (WritesAt tag off n) → MissesCalls (floor f) f.lb (place_of f tag off k) m
 safe_untouched len size base h f tag off n k m s shaped top few low high (inl plain) = plain_untouched len size base h f tag off n k m _ s shaped top few refl low high plain
 safe_untouched len size base h f tag off n k m s shaped top few low high (inr is) = no_call len size base h f _ m s is
 

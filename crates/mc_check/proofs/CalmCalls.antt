@@ -13,8 +13,8 @@ use Rattle.mc_model.specs.Row as rows
 use Rattle.mc_model.specs.Chain.{stepped}
 use Rattle.mc_model.specs.StackRows.{call_target, is_conditional}
 use Rattle.mc_model.specs.StackShape.{Routine, At, fact, Reached, calls, passes, Depth, called, Accepts, Gives}
-use Rattle.mc_check.specs.Standing.{Open, call}
-use Rattle.mc_check.proofs.AcceptedFacts.{GoodAt, HasRoom, HasBases, room_at, gives_at}
+use Rattle.mc_check.specs.Standing.{OpenCalls, call}
+use Rattle.mc_check.proofs.AcceptedFacts.{GoodAt, HasStackRoom, HasBases, room_at, gives_at}
 use Rattle.mc_check.proofs.OpenCalls.{IsAtFact, open_front, open_depth, spliced_length, spliced_above, spliced_words}
 
 -- ---- the end of a row
@@ -72,7 +72,7 @@ module _ (code : List ℕ) (session most : ℕ) (accepts : Accepts code session 
     gives = gives_at code session most accepts bases (fact r f.at h) b i next here.reached depth good
 
     -- the call opens in the bytes that it pushed
-    pub call_opened : (bytes : List ℕ) → take b (drop session f.dyn) ≡ take b bytes → take 2 (drop (b + h) bytes) ≡ bytes2 f.lb → take 2 (drop (b + h + 2) bytes) ≡ bytes2 next → Open code session bytes (At q) (b + h + 4)
+    pub call_opened : (bytes : List ℕ) → take b (drop session f.dyn) ≡ take b bytes → take 2 (drop (b + h) bytes) ≡ bytes2 f.lb → take 2 (drop (b + h + 2) bytes) ≡ bytes2 next → OpenCalls code session bytes (At q) (b + h + 4)
     call_opened bytes same lb at =
         let where_lb : f.lb ≡ dynamic_base + session + b = here.stands.lb in
         call i next (open_front bytes here.opened same) here.reached gives target (lb ∙ ap bytes2 where_lb) at
@@ -81,7 +81,7 @@ module _ (code : List ℕ) (session most : ℕ) (accepts : Accepts code session 
     routine_reached = calls i next q here.reached gives target
 
     -- room for the LB and the return address of the call
-    pub call_room : HasRoom session most (b + h + 4) 0
+    pub call_room : HasStackRoom session most (b + h + 4) 0
     call_room =
         let begins : Depth code (At q) (b + h + 4) = called depth (record { place = f.at; reached = here.reached; call = i; stands = (next, good.decoded); target = target }) in
         room_at code session most accepts bases (fact (At q) q 0) (b + h + 4) routine_reached begins

@@ -127,7 +127,7 @@ prim_calm (Some p) args f h public x r few room = (tt, (tt, later_calm p args f 
 -- ---- all rows
 
 -- what is known where an instruction runs: its bytes are there, its places are in the code, and there is room behind it
-pub record IsReady (len : ℕ) (i : Ins) (f : Frame) (h : ℕ) : Type 0 where
+pub record IsReadyToRun (len : ℕ) (i : Ins) (f : Frame) (h : ℕ) : Type 0 where
   pub roomy : IsRoomy f h
   pub code_len : f.code_len ≡ len
   pub few : (row_uses i).needs ≤ h
@@ -151,7 +151,7 @@ call_known len i next h =
     let of_call = call_inside len (call_target i) in
     (and_parts (behind && at) of_call h).1
 
-causes_calm : (i : Ins) (len h : ℕ) (f : Frame) (public : List ℕ) (x : Around) → IsReady len i f h → AreCalm (causes i f public x)
+causes_calm : (i : Ins) (len h : ℕ) (f : Frame) (public : List ℕ) (x : Around) → IsReadyToRun len i f h → AreCalm (causes i f public x)
 unfolding causes
 causes_calm ins.Nop len h f public x y = tt
 causes_calm (ins.Setsw sw) len h f public x y = tt

@@ -13,18 +13,18 @@ use Rattle.mc_model.specs.Frame.{Frame, Effect, dynamic_base, public_base, publi
 use Rattle.mc_model.specs.Primitives.{Around, Then, Goes, Exits, Delegates, Done}
 use Rattle.mc_model.specs.Row.{RowEnd, Abends, Does, row}
 use Rattle.mc_model.specs.Chain.{Chain, Outcome, Reply, Abended, Follows, Continues, Ends, code_in, around, with_pieces, changed_app, map_changed, settled, called, called_app, is_active, depth_of, exited, follows, end_of, told_frame, row_turn, stepped, fetched, acted}
-use Rattle.mc_model.specs.Manager.{most_static}
+use Rattle.mc_model.specs.Limits.{most_static}
 use Rattle.mc_model.specs.StackShape.{Main, fact, begins, main, Accepts}
 use Rattle.mc_bank.specs.Bank.{no_app, app_of}
 use Rattle.mc_bank.specs.NameLaws.{same_name, lookup-inserted, lookup-beside}
 use Rattle.mc_model.proofs.ListLemmas.{splice-longer}
 use Rattle.mc_check.specs.Checked.{ends_excluded, RunsCode, IsCalm, OnFollows}
 use Rattle.mc_family.specs.Begins.{AreLimited}
-use Rattle.mc_machine.specs.Sound.{IsSoundFrame, IsSound}
+use Rattle.mc_machine.specs.Sound.{IsSoundFrame, IsSoundChain}
 use Rattle.mc_check.specs.Standing.{none}
-use Rattle.mc_machine.proofs.SoundRows.{ChangesWithin, Keeps, RowKeeps, row_keeps}
-use Rattle.mc_machine.proofs.SoundChains.{SameSizes, sizes_changed}
-use Rattle.mc_check.proofs.RowFacts.{RowFacts}
+use Rattle.mc_machine.proofs.SoundRows.{ChangesWithin, KeepsPartsOf, RowKeeps, row_keeps}
+use Rattle.mc_machine.proofs.SoundChains.{SameLengths, sizes_changed}
+use Rattle.mc_check.proofs.RowFacts.{RowsAreCalm}
 use Rattle.mc_check.proofs.AcceptedFacts.{HasBases, room_at, undefined_never, past_never, GoodAt, good_at}
 use Rattle.mc_check.proofs.OpenCalls.{IsStanding}
 use Rattle.mc_check.proofs.CalmTurns.{OnGoing, IsLow, DoneCalm, RowCalm, FixedStays, row_calm, low_at}
@@ -69,7 +69,7 @@ limited_by : (map : List (List ℕ × App)) (name : List ℕ) (o : Option App) �
 limited_by map name None limited is = omega arith
 limited_by map name (Some a) limited is = limited name a is
 
-pub limited_still : (map now : List (List ℕ × App)) → SameSizes map now → AreLimited map → AreLimited now
+pub limited_still : (map now : List (List ℕ × App)) → SameLengths map now → AreLimited map → AreLimited now
 limited_still map now same limited = λ name a there.
     let size : length a.fixed ≡ length (app_of now (Some name)).fixed = ap (λ (o : Option App). length (unwrap_or o no_app).fixed) (sym there) in
     let low = limited_by map name (lookup map name) limited refl in
@@ -85,21 +85,21 @@ fixed_low map f limited s =
 -- ---- chains that are held
 
 -- a frame, if it runs the code, stands at a fact
-abbrev pub IsHeld : List ℕ → ℕ → List (List ℕ × App) → Frame → Type 0
-IsHeld code session map f = HasCode code session map f.name → IsStanding code session f
+abbrev pub StandsIfRunning : List ℕ → ℕ → List (List ℕ × App) → Frame → Type 0
+StandsIfRunning code session map f = HasCode code session map f.name → IsStanding code session f
 
 -- a public segment with all its bytes
-abbrev pub IsWhole : List ℕ → Type 0
-IsWhole public = public_end - public_base ≤ length public
+abbrev pub IsWholePublic : List ℕ → Type 0
+IsWholePublic public = public_end - public_base ≤ length public
 
 -- each frame of a chain does, its applications keep to the limit, and its public segment is whole
 pub record IsHeldChain (code : List ℕ) (session : ℕ) (ch : Chain) : Type 0 where
   pub limited : AreLimited ch.map
-  pub whole : IsWhole ch.public
-  pub frame : IsHeld code session ch.map ch.frame
-  pub below : AllByRecursion (IsHeld code session ch.map) ch.below
+  pub whole : IsWholePublic ch.public
+  pub frame : StandsIfRunning code session ch.map ch.frame
+  pub below : AllByRecursion (StandsIfRunning code session ch.map) ch.below
 
-held_still : (code : List ℕ) (session : ℕ) (map : List (List ℕ × App)) (n : List ℕ) (changes : Option (List (ℕ × List ℕ))) (fs : List Frame) → AllByRecursion (IsHeld code session map) fs → AllByRecursion (IsHeld code session (map_changed map n changes)) fs
+held_still : (code : List ℕ) (session : ℕ) (map : List (List ℕ × App)) (n : List ℕ) (changes : Option (List (ℕ × List ℕ))) (fs : List Frame) → AllByRecursion (StandsIfRunning code session map) fs → AllByRecursion (StandsIfRunning code session (map_changed map n changes)) fs
 held_still code session map n changes [] all = tt
 held_still code session map n changes (f ∷ fs) all = (λ has. all.0 (code_back code session map n changes f.name has), held_still code session map n changes fs all.1)
 
@@ -113,7 +113,7 @@ going_under (Delegates n) P Q h = h
 
 module _ (code : List ℕ) (session most : ℕ) (accepts : Accepts code session most) (bases : HasBases code) where
   -- a frame before its first instruction
-  pub new_held : (map : List (List ℕ × App)) (name : List ℕ) (a : App) (bytes : List ℕ) → lookup map name ≡ Some a → length bytes ≡ a.session → AreLimited map → IsHeld code session map (new_frame name (length a.code) a.deny a.fixed bytes)
+  pub new_held : (map : List (List ℕ × App)) (name : List ℕ) (a : App) (bytes : List ℕ) → lookup map name ≡ Some a → length bytes ≡ a.session → AreLimited map → StandsIfRunning code session map (new_frame name (length a.code) a.deny a.fixed bytes)
   new_held map name a bytes there size limited = λ has.
       let found : Some a ≡ Some has.app = sym there ∙ has.there in
       let same : a ≡ has.app = cc found in
@@ -144,7 +144,7 @@ module _ (code : List ℕ) (session most : ℕ) (accepts : Accepts code session 
       }
 
   -- a status in a public segment leaves it whole
-  whole_still : (public : List ℕ) (sw : ℕ) → IsWhole public → IsWhole (with_sw public sw)
+  whole_still : (public : List ℕ) (sw : ℕ) → IsWholePublic public → IsWholePublic (with_sw public sw)
   whole_still public sw whole = let longer = splice-longer public 1039 (bytes2 sw) in omega (arith, whole, longer)
 
   entered_held : (b : Bool) (ch : Chain) (n : List ℕ) (a : App) → lookup ch.map n ≡ Some a → IsHeldChain code session ch → IsHeldChain code session (called_app b ch n a)
@@ -161,11 +161,11 @@ module _ (code : List ℕ) (session most : ℕ) (accepts : Accepts code session 
   ends_both true o p = tt
   ends_both false o p = tt
 
-  exited_held : (ch : Chain) (fs : List Frame) → AreLimited ch.map → IsWhole ch.public → AllByRecursion (IsHeld code session ch.map) fs → OnFollows (exited ch fs) (IsHeldChain code session)
+  exited_held : (ch : Chain) (fs : List Frame) → AreLimited ch.map → IsWholePublic ch.public → AllByRecursion (StandsIfRunning code session ch.map) fs → OnFollows (exited ch fs) (IsHeldChain code session)
   exited_held ch [] limited whole all = ends_both (nat_lt 1024 (la_of ch.public)) _ _
   exited_held ch (f ∷ fs) limited whole all = record { limited = limited; whole = whole; frame = all.0; below = all.1 }
 
-  follows_held : (ch : Chain) (t : Then) → AreLimited ch.map → IsWhole ch.public → OnGoing t (IsHeld code session ch.map ch.frame) → AllByRecursion (IsHeld code session ch.map) ch.below → OnFollows (follows ch t) (IsHeldChain code session)
+  follows_held : (ch : Chain) (t : Then) → AreLimited ch.map → IsWholePublic ch.public → OnGoing t (StandsIfRunning code session ch.map ch.frame) → AllByRecursion (StandsIfRunning code session ch.map) ch.below → OnFollows (follows ch t) (IsHeldChain code session)
   follows_held ch Goes limited whole frame below = record { limited = limited; whole = whole; frame = frame; below = below }
   follows_held ch Exits limited whole frame below = exited_held ch ch.below limited whole below
   follows_held ch (Delegates n) limited whole frame below = called_held ch n (lookup ch.map n) refl (record { limited = limited; whole = whole; frame = frame; below = below })
@@ -203,16 +203,16 @@ abbrev RowGrows : List ℕ → RowEnd → Type 0
 RowGrows public (Abends cause) = Unit {0}
 RowGrows public (Does d) = length public ≤ length d.effect.public
 
-end_grows : (facts : RowFacts) (i : Ins) (f : Frame) (public : List ℕ) (x : Around) (end : RowEnd) → row i f public x ≡ end → RowGrows public end
+end_grows : (facts : RowsAreCalm) (i : Ins) (f : Frame) (public : List ℕ) (x : Around) (end : RowEnd) → row i f public x ≡ end → RowGrows public end
 end_grows facts i f public x (Abends cause) is = tt
 end_grows facts i f public x (Does d) is = facts.grows i f public x d is
 
 -- what a row leaves of the chain's applications and frame
-fixed_stays : (ch : Chain) (next : ℕ) (r : RowEnd) → AreLimited ch.map → IsSound ch → RowKeeps (stepped ch.frame next) r → FixedStays r
+fixed_stays : (ch : Chain) (next : ℕ) (r : RowEnd) → AreLimited ch.map → IsSoundChain ch → RowKeeps (stepped ch.frame next) r → FixedStays r
 fixed_stays ch next (Abends cause) limited sound keeps = tt
 fixed_stays ch next (Does d) limited sound keeps = subst (λ (n : ℕ). n ≤ dynamic_base) (sym (keeps.fixed sound.0.pieces)) (fixed_low ch.map ch.frame limited sound.0)
 
-settled_limited : (ch : Chain) (next : ℕ) (e : Effect) → AreLimited ch.map → IsSound ch → Keeps (stepped ch.frame next) e → AreLimited (settled ch e).map
+settled_limited : (ch : Chain) (next : ℕ) (e : Effect) → AreLimited ch.map → IsSoundChain ch → KeepsPartsOf (stepped ch.frame next) e → AreLimited (settled ch e).map
 settled_limited ch next e limited sound keeps =
     let stands = sound.0 in
     let within : ChangesWithin (length (app_of ch.map (Some ch.frame.name)).fixed) e.changes = subst (λ (n : ℕ). ChangesWithin n e.changes) stands.fixed (keeps.change stands.pieces) in
@@ -220,13 +220,13 @@ settled_limited ch next e limited sound keeps =
 
 module _ (code : List ℕ) (session most : ℕ) (accepts : Accepts code session most) (bases : HasBases code) where
   -- the frame after an instruction, if it runs the code
-  frame_held : (ch : Chain) (next : ℕ) (d : Done) → Keeps (stepped ch.frame next) d.effect → (HasCode code session ch.map ch.frame.name → DoneCalm code session most d) → OnGoing d.next (IsHeld code session (settled ch d.effect).map d.effect.frame)
+  frame_held : (ch : Chain) (next : ℕ) (d : Done) → KeepsPartsOf (stepped ch.frame next) d.effect → (HasCode code session ch.map ch.frame.name → DoneCalm code session most d) → OnGoing d.next (StandsIfRunning code session (settled ch d.effect).map d.effect.frame)
   frame_held ch next d keeps calm =
       let back : HasCode code session (settled ch d.effect).map d.effect.frame.name → HasCode code session ch.map ch.frame.name =
       λ has. code_back code session ch.map ch.frame.name d.effect.changes ch.frame.name (subst (λ (n : List ℕ). HasCode code session (settled ch d.effect).map n) keeps.name has) in
       going_under d.next (HasCode code session (settled ch d.effect).map d.effect.frame.name) (IsStanding code session d.effect.frame) (λ has. (calm (back has)).stands)
 
-  row_turn_held : (ch : Chain) (i : Ins) (next : ℕ) (r : RowEnd) → IsSound ch → IsHeldChain code session ch → RowKeeps (stepped ch.frame next) r → RowGrows ch.public r → (HasCode code session ch.map ch.frame.name → RowCalm code session most r) → OnFollows (row_turn ch i r).follows (IsHeldChain code session)
+  row_turn_held : (ch : Chain) (i : Ins) (next : ℕ) (r : RowEnd) → IsSoundChain ch → IsHeldChain code session ch → RowKeeps (stepped ch.frame next) r → RowGrows ch.public r → (HasCode code session ch.map ch.frame.name → RowCalm code session most r) → OnFollows (row_turn ch i r).follows (IsHeldChain code session)
   row_turn_held ch i next (Abends cause) sound held keeps grows calm = tt
   row_turn_held ch i next (Does d) sound held keeps grows calm =
       let whole = held.whole in
@@ -234,28 +234,28 @@ module _ (code : List ℕ) (session most : ℕ) (accepts : Accepts code session 
       (settled_limited ch next d.effect held.limited sound keeps) (omega (arith, whole, grows)) (frame_held ch next d keeps calm)
       (held_still code session ch.map ch.frame.name d.effect.changes ch.below held.below)
 
-  module _ (short : length code ≤ 8192) (bytes : AllByRecursion (λ b. b < 256) code) (facts : RowFacts) where
+  module _ (short : length code ≤ 8192) (bytes : AllByRecursion (λ b. b < 256) code) (facts : RowsAreCalm) where
     -- the code that a frame fetches from, where it runs this code
     fetches : (ch : Chain) (r : Result (Ins × ℕ) DecodeFault) → HasCode code session ch.map ch.frame.name → decoded (code_in (lookup ch.map ch.frame.name)) ch.frame.at ≡ r → decoded code ch.frame.at ≡ r
     fetches ch r has is =
         let same : code_in (lookup ch.map ch.frame.name) ≡ code = ap code_in has.there ∙ has.code in
         ap (λ (c : List ℕ). decoded c ch.frame.at) (sym same) ∙ is
 
-    row_here : (ch : Chain) (i : Ins) (next : ℕ) → IsSound ch → IsHeldChain code session ch → HasCode code session ch.map ch.frame.name → decoded code ch.frame.at ≡ Ok (i, next) → RowCalm code session most (row i (stepped ch.frame next) ch.public (around ch))
+    row_here : (ch : Chain) (i : Ins) (next : ℕ) → IsSoundChain ch → IsHeldChain code session ch → HasCode code session ch.map ch.frame.name → decoded code ch.frame.at ≡ Ok (i, next) → RowCalm code session most (row i (stepped ch.frame next) ch.public (around ch))
     row_here ch i next sound held has is =
         let s : IsStanding code session ch.frame = held.frame has in
         let good : GoodAt code (fact s.routine ch.frame.at s.height) i next = good_at code session most accepts (fact s.routine ch.frame.at s.height) s.here.reached i next is in
         row_calm code session most accepts bases s.routine s.base s.height ch.frame s.here i next good short bytes facts ch.public held.whole (around ch)
         (fixed_stays ch next (row i (stepped ch.frame next) ch.public (around ch)) held.limited sound (row_keeps i (stepped ch.frame next) ch.public (around ch)))
 
-    fetched_held : (ch : Chain) (r : Result (Ins × ℕ) DecodeFault) → decoded (code_in (lookup ch.map ch.frame.name)) ch.frame.at ≡ r → IsSound ch → IsHeldChain code session ch → OnFollows (fetched ch r).follows (IsHeldChain code session)
+    fetched_held : (ch : Chain) (r : Result (Ins × ℕ) DecodeFault) → decoded (code_in (lookup ch.map ch.frame.name)) ch.frame.at ≡ r → IsSoundChain ch → IsHeldChain code session ch → OnFollows (fetched ch r).follows (IsHeldChain code session)
     fetched_held ch (Err Undefined) is sound held = tt
     fetched_held ch (Err Past) is sound held = tt
     fetched_held ch (Ok i) is sound held =
         let f = stepped ch.frame i.1 in
         row_turn_held ch i.0 i.1 (row i.0 f ch.public (around ch)) sound held (row_keeps i.0 f ch.public (around ch)) (end_grows facts i.0 f ch.public (around ch) (row i.0 f ch.public (around ch)) refl) (λ has. row_here ch i.0 i.1 sound held has (fetches ch (Ok i) has is))
 
-    fetched_calm : (ch : Chain) (r : Result (Ins × ℕ) DecodeFault) → decoded code ch.frame.at ≡ r → IsSound ch → IsHeldChain code session ch → HasCode code session ch.map ch.frame.name → IsCalm session most (fetched ch r).turn
+    fetched_calm : (ch : Chain) (r : Result (Ins × ℕ) DecodeFault) → decoded code ch.frame.at ≡ r → IsSoundChain ch → IsHeldChain code session ch → HasCode code session ch.map ch.frame.name → IsCalm session most (fetched ch r).turn
     fetched_calm ch (Err Undefined) is sound held has =
         let s : IsStanding code session ch.frame = held.frame has in
         absurd (undefined_never code session most accepts (fact s.routine ch.frame.at s.height) s.here.reached is)
@@ -266,12 +266,12 @@ module _ (code : List ℕ) (session most : ℕ) (accepts : Accepts code session 
         row_turn_calm code session most ch i.0 (row i.0 (stepped ch.frame i.1) ch.public (around ch)) (low_at code session most accepts bases ch.frame (held.frame has)) (row_here ch i.0 i.1 sound held has is)
 
     -- the chain that follows a turn
-    pub acted_held : (ch : Chain) → IsSound ch → IsHeldChain code session ch → OnFollows (acted ch).follows (IsHeldChain code session)
+    pub acted_held : (ch : Chain) → IsSoundChain ch → IsHeldChain code session ch → OnFollows (acted ch).follows (IsHeldChain code session)
     unfolding acted
     acted_held ch sound held = fetched_held ch (decoded (code_in (lookup ch.map ch.frame.name)) ch.frame.at) refl sound held
 
     -- the turn of a frame that runs the code
-    pub acted_calm : (ch : Chain) → IsSound ch → IsHeldChain code session ch → RunsCode code session ch → IsCalm session most (acted ch).turn
+    pub acted_calm : (ch : Chain) → IsSoundChain ch → IsHeldChain code session ch → RunsCode code session ch → IsCalm session most (acted ch).turn
     unfolding acted
     acted_calm ch sound held runs =
         let has : HasCode code session ch.map ch.frame.name = record { app = runs.app; there = runs.there; code = runs.code; session = runs.session } in

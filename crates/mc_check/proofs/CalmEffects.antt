@@ -13,19 +13,14 @@ use Rattle.mc_model.specs.Frame.{Frame, dynamic_end, public_base, public_end, mo
 use Rattle.mc_model.specs.Primitives.{Around, framed, effect_flagged, Primitive, CheckCase, LoadCcr, StoreCcr, Lookup, MemoryCompare, MemoryCopy, DelegateTo, DelegatorAid, Digest, CompareFixed, CopyFixed, SetProtection, Encipher, Decipher, Sign, BitByte, ShiftLeft, ShiftRight, BitWord, primitive, prim_done, prim_effect, looked_up, delegator_told, manipulated}
 use Rattle.mc_model.specs.Row.{causes, first_cause, effect, holds, gone, known, on_stack, operand, place_of, value_of}
 use Rattle.mc_model.specs.StackRows.{WritesAt, WritesAnywhere, height_after, pair_uses, prim_uses, row_uses, prim_writing, row_writing, is_indirect, counts, call_target}
-use Rattle.mc_family.proofs.RowWords.{none_holds}
+use Rattle.mc_family.proofs.RowWords.{none_holds, NoneHolds}
 use Rattle.mc_family.proofs.BlockLengths.{worked-short, each-short, map-short, stacked-short, at-short}
 use Rattle.mc_check.specs.Standing.{StandsAt}
-use Rattle.mc_check.proofs.CalmWrites.{IsRoomy, stands_roomy, popped_roomy, Keeps, framed_kept, popped_kept, gone_kept, flagged_kept, pushed_kept, topped_kept, written_kept, protect_kept}
+use Rattle.mc_check.proofs.CalmWrites.{IsRoomy, stands_roomy, popped_roomy, KeepsCalls, framed_kept, popped_kept, gone_kept, flagged_kept, pushed_kept, topped_kept, written_kept, protect_kept}
 use Rattle.mc_check.proofs.CalmAddresses.{IsSafe, operand_safe, anywhere_safe, zeros-short, operand-whole, at-whole}
 use Rattle.mc_check.proofs.CalmCauses.{row_pops}
 
 -- ---- no cause
-
--- no cause holds
-abbrev pub NoneHolds : List (Abend × Bool) → Type 0
-NoneHolds [] = Unit {0}
-NoneHolds (c ∷ cs) = (c.1 ≡ false) × NoneHolds cs
 
 -- an operand on the stack lies on it whole
 on_top : (b : Bool) (n m h : ℕ) → cond b n m ≤ h → b ≡ true → n ≤ h
@@ -46,7 +41,7 @@ place_after (ins.Jump k to) f = cond (holds k f) to f.at
 place_after _ f = f.at
 
 -- what is known where a row is done that is no call and no return
-pub record IsRunning (h : ℕ) (i : Ins) (f : Frame) (public : List ℕ) (x : Around) : Type 0 where
+pub record RunsPlainRow (h : ℕ) (i : Ins) (f : Frame) (public : List ℕ) (x : Around) : Type 0 where
   pub shaped : Shaped i
   pub few : (row_uses i).needs ≤ h
   pub direct : is_indirect i ≡ false
@@ -78,65 +73,65 @@ module _ (len size base h : ℕ) (f : Frame) (public : List ℕ) (s : StandsAt l
 
   -- ---- rows by kind
 
-  same : (k : ℕ) (safe : Type 0) (segment : List ℕ) (c z : Bool) → k ≡ h → Keeps f k f.at safe (framed (flagged f c z) segment)
+  same : (k : ℕ) (safe : Type 0) (segment : List ℕ) (c z : Bool) → k ≡ h → KeepsCalls f k f.at safe (framed (flagged f c z) segment)
   same k safe segment c z is = framed_kept f h k safe segment c z roomy is
 
-  shorter : (n k : ℕ) (safe : Type 0) (c z : Bool) → n ≤ h → k ≡ h - n → Keeps f k f.at safe (framed (flagged (popped f n) c z) public)
+  shorter : (n k : ℕ) (safe : Type 0) (c z : Bool) → n ≤ h → k ≡ h - n → KeepsCalls f k f.at safe (framed (flagged (popped f n) c z) public)
   shorter n k safe c z few is = popped_kept f h n k safe public c z roomy few is
 
-  higher : (k : ℕ) (b : List ℕ) (safe : Type 0) → k ≡ h + length b → f.dt + length b ≤ dynamic_end → Keeps f k f.at safe (framed (pushed f b) public)
+  higher : (k : ℕ) (b : List ℕ) (safe : Type 0) → k ≡ h + length b → f.dt + length b ≤ dynamic_end → KeepsCalls f k f.at safe (framed (pushed f b) public)
   higher k b safe is room = pushed_kept f h k b safe public roomy is room
 
   -- so many bytes taken, and some pushed
-  longer : (n k : ℕ) (b : List ℕ) (safe : Type 0) → n ≤ h → k ≡ h - n + length b → f.dt - n + length b ≤ dynamic_end → Keeps f k f.at safe (framed (pushed (popped f n) b) public)
+  longer : (n k : ℕ) (b : List ℕ) (safe : Type 0) → n ≤ h → k ≡ h - n + length b → f.dt - n + length b ≤ dynamic_end → KeepsCalls f k f.at safe (framed (pushed (popped f n) b) public)
   longer n k b safe few is room = pushed_kept (popped f n) (h - n) k b safe public (popped_roomy f h n roomy few) is room
 
-  replaced : (n k : ℕ) (b : List ℕ) (safe : Type 0) (c z : Bool) → length b ≤ n → n ≤ h → k ≡ h → Keeps f k f.at safe (framed (flagged (topped f b) c z) public)
+  replaced : (n k : ℕ) (b : List ℕ) (safe : Type 0) (c z : Bool) → length b ≤ n → n ≤ h → k ≡ h → KeepsCalls f k f.at safe (framed (flagged (topped f b) c z) public)
   replaced n k b safe c z short few is = topped_kept f h k b safe public c z roomy (omega arith) is
 
   -- a write at an operand
   at_operand : (tag : ℕ) (off : ℤ) (n depth other k : ℕ) (b : List ℕ) → IsAddress tag off → on_stack tag depth other ≤ h → length b ≤ n → k ≡ h
-      → Keeps f k f.at (IsSafe size base h (WritesAt tag off n)) (written f public (place_of f tag off depth) b)
+      → KeepsCalls f k f.at (IsSafe size base h (WritesAt tag off n)) (written f public (place_of f tag off depth) b)
   at_operand tag off n depth other k b shaped few short is =
       written_kept f h k (IsSafe size base h (WritesAt tag off n)) public (place_of f tag off depth) b roomy is
       (operand_safe len size base h f tag off n depth (length b) s shaped (on_top (tag == 0) depth other h few) short)
 
   -- the same with flags
   becomes_kept : (tag : ℕ) (off : ℤ) (n depth other k : ℕ) (b : List ℕ) (c z : Bool) → IsAddress tag off → on_stack tag depth other ≤ h → length b ≤ n → k ≡ h
-      → Keeps f k f.at (IsSafe size base h (WritesAt tag off n)) (effect_flagged (written f public (place_of f tag off depth) b) c z)
+      → KeepsCalls f k f.at (IsSafe size base h (WritesAt tag off n)) (effect_flagged (written f public (place_of f tag off depth) b) c z)
   becomes_kept tag off n depth other k b c z shaped few short is =
       flagged_kept f k f.at (IsSafe size base h (WritesAt tag off n)) (written f public (place_of f tag off depth) b) c z (at_operand tag off n depth other k b shaped few short is)
 
   -- the top n bytes taken off and written at an operand
   stored : (tag : ℕ) (off : ℤ) (n k : ℕ) → IsAddress tag off → on_stack tag (2 * n) n ≤ h → n ≤ h → k ≡ h - n
-      → Keeps f k f.at (IsSafe size base h (WritesAt tag off n)) (written (popped f n) public (place_of f tag off (2 * n)) (top f n))
+      → KeepsCalls f k f.at (IsSafe size base h (WritesAt tag off n)) (written (popped f n) public (place_of f tag off (2 * n)) (top f n))
   stored tag off n k shaped few taken is =
       written_kept (popped f n) (h - n) k (IsSafe size base h (WritesAt tag off n)) public (place_of f tag off (2 * n)) (top f n) (popped_roomy f h n roomy taken) is
       (operand_safe len size base h f tag off n (2 * n) (length (top f n)) s shaped (on_top (tag == 0) (2 * n) n h few) (stacked-short f n n))
 
   -- a write anywhere, so many bytes taken
-  anywhere : (n k a : ℕ) (b : List ℕ) → n ≤ h → k ≡ h - n → Keeps f k f.at (IsSafe size base h WritesAnywhere) (written (popped f n) public a b)
+  anywhere : (n k a : ℕ) (b : List ℕ) → n ≤ h → k ≡ h - n → KeepsCalls f k f.at (IsSafe size base h WritesAnywhere) (written (popped f n) public a b)
   anywhere n k a b few is =
       written_kept (popped f n) (h - n) k (IsSafe size base h WritesAnywhere) public a b (popped_roomy f h n roomy few) is (anywhere_safe len size base h f a (length b) s)
 
   -- ---- primitives
 
-  looked_kept : (k : ℕ) (safe : Type 0) (o : Option ℕ) → 3 ≤ h → k ≡ h - 3 + 1 → f.dt - 3 + 1 ≤ dynamic_end → Keeps f k f.at safe (looked_up (popped f 3) public o)
+  looked_kept : (k : ℕ) (safe : Type 0) (o : Option ℕ) → 3 ≤ h → k ≡ h - 3 + 1 → f.dt - 3 + 1 ≤ dynamic_end → KeepsCalls f k f.at safe (looked_up (popped f 3) public o)
   looked_kept k safe (Some i) few is room = flagged_kept f k f.at safe (framed (pushed (popped f 3) (i ∷ [])) public) f.c true (longer 3 k (i ∷ []) safe few is room)
   looked_kept k safe None few is room = flagged_kept f k f.at safe (framed (pushed (popped f 3) (0 ∷ [])) public) f.c false (longer 3 k (0 ∷ []) safe few is room)
 
-  told_kept : (k a : ℕ) (o : Option (List ℕ)) → 2 ≤ h → k ≡ h - 2 → Keeps f k f.at (IsSafe size base h WritesAnywhere) (delegator_told (popped f 2) public a o)
+  told_kept : (k a : ℕ) (o : Option (List ℕ)) → 2 ≤ h → k ≡ h - 2 → KeepsCalls f k f.at (IsSafe size base h WritesAnywhere) (delegator_told (popped f 2) public a o)
   told_kept k a None few is = shorter 2 k (IsSafe size base h WritesAnywhere) f.c true few is
   told_kept k a (Some name) few is =
       flagged_kept f k f.at (IsSafe size base h WritesAnywhere) (written (popped f 2) public a (length name ∷ name)) f.c false (anywhere 2 k a (length name ∷ name) few is)
 
   -- the top n bytes under a mask
-  masked : (n op k : ℕ) (mask : List ℕ) (safe : Type 0) (c z : Bool) → n ≤ h → k ≡ h → Keeps f k f.at safe (framed (flagged (topped f (manipulated op (top f n) mask)) c z) public)
+  masked : (n op k : ℕ) (mask : List ℕ) (safe : Type 0) (c z : Bool) → n ≤ h → k ≡ h → KeepsCalls f k f.at safe (framed (flagged (topped f (manipulated op (top f n) mask)) c z) public)
   masked n op k mask safe c z few is =
       replaced n k (manipulated op (top f n) mask) safe c z (manipulated-short (op == 0) (op == 1) (op == 2) (top f n) mask n (stacked-short f n n)) few is
 
   prim_effect_kept : (p : Primitive) (args : List ℕ) (x : Around) → (prim_uses p args).needs ≤ h → f.dt - (prim_uses p args).pops + (prim_uses p args).pushes ≤ dynamic_end
-      → Keeps f (h - (prim_uses p args).pops + (prim_uses p args).pushes) f.at (IsSafe size base h (prim_writing (Some p))) (prim_effect p args f public x).effect
+      → KeepsCalls f (h - (prim_uses p args).pops + (prim_uses p args).pushes) f.at (IsSafe size base h (prim_writing (Some p))) (prim_effect p args f public x).effect
   unfolding prim_effect
   prim_effect_kept CheckCase args x few room = shorter 1 _ _ _ _ few (omega arith)
   prim_effect_kept LoadCcr args x few room = higher _ _ _ (omega arith) (omega arith)
@@ -159,25 +154,25 @@ module _ (len size base h : ℕ) (f : Frame) (public : List ℕ) (s : StandsAt l
   prim_effect_kept BitWord args x few room = masked 2 (slice_index args 0) _ (take 2 (drop 1 args)) _ _ _ few (omega arith)
 
   prim_kept : (p : Option Primitive) (args : List ℕ) (x : Around) → (pair_uses p args).needs ≤ h → f.dt - (pair_uses p args).pops + (pair_uses p args).pushes ≤ dynamic_end
-      → Keeps f (h - (pair_uses p args).pops + (pair_uses p args).pushes) f.at (IsSafe size base h (prim_writing p)) (prim_done p args f public x).effect
+      → KeepsCalls f (h - (pair_uses p args).pops + (pair_uses p args).pushes) f.at (IsSafe size base h (prim_writing p)) (prim_done p args f public x).effect
   prim_kept None args x few room = same _ _ public f.c f.z (omega arith)
   prim_kept (Some p) args x few room = prim_effect_kept p args x few room
 
   -- ---- jumps
 
   -- on to a place where the condition holds
-  jumped : (b : Bool) (k to : ℕ) (safe : Type 0) → k ≡ h → Keeps f k (cond b to f.at) safe (framed (gone b f to) public)
+  jumped : (b : Bool) (k to : ℕ) (safe : Type 0) → k ≡ h → KeepsCalls f k (cond b to f.at) safe (framed (gone b f to) public)
   jumped true k to safe is = gone_kept f h k to safe public roomy is
   jumped false k to safe is = gone_kept f h k f.at safe public roomy is
 
   -- the same where the place may be on the stack, and is not
-  direct_kept : (on b : Bool) (k n to : ℕ) (safe : Type 0) → on ≡ false → k ≡ h → Keeps f k (cond b to f.at) safe (framed (gone b (cond on (popped f 2) f) (cond on n to)) public)
+  direct_kept : (on b : Bool) (k n to : ℕ) (safe : Type 0) → on ≡ false → k ≡ h → KeepsCalls f k (cond b to f.at) safe (framed (gone b (cond on (popped f 2) f) (cond on n to)) public)
   direct_kept true b k n to safe direct is = absurd (cc direct)
   direct_kept false b k n to safe direct is = jumped b k to safe is
 
   -- ---- all rows
 
-  pub effect_kept : (i : Ins) (x : Around) → IsRunning h i f public x → Keeps f (height_after i h) (place_after i f) (IsSafe size base h (row_writing i)) (effect i f public x).effect
+  pub effect_kept : (i : Ins) (x : Around) → RunsPlainRow h i f public x → KeepsCalls f (height_after i h) (place_after i f) (IsSafe size base h (row_writing i)) (effect i f public x).effect
   unfolding effect
   effect_kept ins.Nop x y = same _ _ public f.c f.z (omega arith)
   effect_kept (ins.Setsw sw) x y = same _ _ _ f.c f.z (omega arith)

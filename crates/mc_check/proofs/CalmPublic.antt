@@ -12,33 +12,33 @@ use Rattle.mc_model.specs.Row.{effect}
 use Rattle.mc_model.proofs.ListLemmas.{splice-longer}
 
 -- the public segment of an effect is no shorter than this one
-abbrev Grows : List ℕ → Effect → Type 0
-Grows public e = length public ≤ length e.public
+abbrev PublicGrows : List ℕ → Effect → Type 0
+PublicGrows public e = length public ≤ length e.public
 
 -- ---- effects by kind
 
-static_grows : (b : Bool) (f : Frame) (public : List ℕ) (i : ℕ) (bytes : List ℕ) → Grows public (static_written b f public i bytes)
+static_grows : (b : Bool) (f : Frame) (public : List ℕ) (i : ℕ) (bytes : List ℕ) → PublicGrows public (static_written b f public i bytes)
 static_grows true f public i bytes = omega arith
 static_grows false f public i bytes = omega arith
 
-written_in_grows : (f : Frame) (public bytes : List ℕ) (place : Option Place) → Grows public (written_in f public bytes place)
+written_in_grows : (f : Frame) (public bytes : List ℕ) (place : Option Place) → PublicGrows public (written_in f public bytes place)
 written_in_grows f public bytes None = omega arith
 written_in_grows f public bytes (Some (Static i)) = static_grows f.protected f public i bytes
 written_in_grows f public bytes (Some (Dynamic i)) = omega arith
 written_in_grows f public bytes (Some (Public i)) = splice-longer public i bytes
 
-written_grows : (f : Frame) (public : List ℕ) (a : ℕ) (bytes : List ℕ) → Grows public (written f public a bytes)
+written_grows : (f : Frame) (public : List ℕ) (a : ℕ) (bytes : List ℕ) → PublicGrows public (written f public a bytes)
 unfolding written
 written_grows f public a bytes = written_in_grows f public bytes (where_is f a (length bytes))
 
 both_set : (public : List ℕ) (sw la : ℕ) → length public ≤ length (with_la (with_sw public sw) la)
 both_set public sw la = omega (arith, splice-longer public 1039 (bytes2 sw), splice-longer (with_sw public sw) 1037 (bytes2 la))
 
-cond_grows : (public : List ℕ) (b : Bool) (d e : Effect) → Grows public d → Grows public e → Grows public (cond b d e)
+cond_grows : (public : List ℕ) (b : Bool) (d e : Effect) → PublicGrows public d → PublicGrows public e → PublicGrows public (cond b d e)
 cond_grows public true d e s t = s
 cond_grows public false d e s t = t
 
-protect_grows : (f : Frame) (public : List ℕ) (mode : ℕ) → Grows public (protect f public mode)
+protect_grows : (f : Frame) (public : List ℕ) (mode : ℕ) → PublicGrows public (protect f public mode)
 protect_grows f public mode =
     let on = nat_le 2 mode in
     let kept : Effect = record { frame = record f { fixed = static_bytes f; pieces = []; protected = on }; public = public; changes = committed f f.pieces } in
@@ -47,15 +47,15 @@ protect_grows f public mode =
 
 -- ---- primitives
 
-looked_grows : (f : Frame) (public : List ℕ) (o : Option ℕ) → Grows public (looked_up f public o)
+looked_grows : (f : Frame) (public : List ℕ) (o : Option ℕ) → PublicGrows public (looked_up f public o)
 looked_grows f public (Some i) = omega arith
 looked_grows f public None = omega arith
 
-told_grows : (f : Frame) (public : List ℕ) (a : ℕ) (o : Option (List ℕ)) → Grows public (delegator_told f public a o)
+told_grows : (f : Frame) (public : List ℕ) (a : ℕ) (o : Option (List ℕ)) → PublicGrows public (delegator_told f public a o)
 told_grows f public a None = omega arith
 told_grows f public a (Some name) = written_grows f public a (length name ∷ name)
 
-prim_effect_grows : (p : Primitive) (args : List ℕ) (f : Frame) (public : List ℕ) (x : Around) → Grows public (prim_effect p args f public x).effect
+prim_effect_grows : (p : Primitive) (args : List ℕ) (f : Frame) (public : List ℕ) (x : Around) → PublicGrows public (prim_effect p args f public x).effect
 unfolding prim_effect
 prim_effect_grows Lookup args f public x = looked_grows (popped f 3) public _
 prim_effect_grows MemoryCopy args f public x = written_grows (popped f 6) public _ _
@@ -68,7 +68,7 @@ prim_effect_grows (Decipher c) args f public x = written_grows (popped f 6) publ
 prim_effect_grows (Sign c) args f public x = written_grows (popped f 8) public _ _
 prim_effect_grows _ args f public x = omega arith
 
-prim_grows : (p : Option Primitive) (args : List ℕ) (f : Frame) (public : List ℕ) (x : Around) → Grows public (prim_done p args f public x).effect
+prim_grows : (p : Option Primitive) (args : List ℕ) (f : Frame) (public : List ℕ) (x : Around) → PublicGrows public (prim_done p args f public x).effect
 prim_grows None args f public x = omega arith
 prim_grows (Some p) args f public x = prim_effect_grows p args f public x
 

@@ -12,9 +12,9 @@ use Rattle.mc_model.specs.Primitives.{Around, going, framed}
 use Rattle.mc_model.specs.Row.{causes, effect, first_cause, return_causes, no_place}
 use Rattle.mc_model.specs.Chain.{stepped}
 use Rattle.mc_model.specs.StackRows.{need, counts, goes_on, jump_target, call_target, target_inside, call_inside, places_inside}
-use Rattle.mc_model.specs.StackShape.{Routine, At, fact, Reached, returns, Gives, Counts, Accepts}
-use Rattle.mc_check.specs.Standing.{StandsAt, Open, none, call}
-use Rattle.mc_check.proofs.AcceptedFacts.{GoodAt, good_at, HasRoom, HasBases, room_at}
+use Rattle.mc_model.specs.StackShape.{Routine, At, fact, Reached, returns, Gives, ReturnsWith, Accepts}
+use Rattle.mc_check.specs.Standing.{StandsAt, OpenCalls, none, call}
+use Rattle.mc_check.proofs.AcceptedFacts.{GoodAt, good_at, HasStackRoom, HasBases, room_at}
 use Rattle.mc_check.proofs.FactLooks.{fine}
 use Rattle.mc_check.proofs.OpenCalls.{IsAtFact, IsStanding, open_front, open_depth, spliced_length, spliced_above, num_bytes2}
 
@@ -75,13 +75,13 @@ module _ (code : List ℕ) (session most : ℕ) (accepts : Accepts code session 
   enough_taken : (r : Routine) (p k at h q less more : ℕ) (j i : Ins) (after next : ℕ) → Reached code (fact r p k) → GoodAt code (fact r p k) j after → call_target j ≡ Some q
       → Reached code (fact (At q) at h) → GoodAt code (fact (At q) at h) i next → counts i ≡ Some (less, more) → less ≤ k
   enough_taken r p k at h q less more j i after next caller call_good target reached good e =
-      let back : Counts code (At q) less more = record { place = at; height = h; reached = reached; back = i; stands = (next, good.decoded); counts = e } in
+      let back : ReturnsWith code (At q) less more = record { place = at; height = h; reached = reached; back = i; stands = (next, good.decoded); counts = e } in
       elim (cases_lt k less) [
         | inl fewer ↦ absurd (accepts.sound (fact r p k) Under caller (inr (record { call = j; stands = (after, call_good.decoded); to = q; target = target; less = less; more = more; counts = back; fewer = fewer })))
         | inr fits ↦ fits
       ]
 
-  module _ (bytes : List ℕ) (r : Routine) (p k b q : ℕ) (j : Ins) (after : ℕ) (opened : Open code session bytes r b) (caller : Reached code (fact r p k)) (gives : Gives code (fact r p k) j after) (target : call_target j ≡ Some q)
+  module _ (bytes : List ℕ) (r : Routine) (p k b q : ℕ) (j : Ins) (after : ℕ) (opened : OpenCalls code session bytes r b) (caller : Reached code (fact r p k)) (gives : Gives code (fact r p k) j after) (target : call_target j ≡ Some q)
       (lb_word : take 2 (drop (b + k) bytes) ≡ bytes2 (dynamic_base + session + b)) (at_word : take 2 (drop (b + k + 2) bytes) ≡ bytes2 after) where
     -- the call that is open last
     call_good : GoodAt code (fact r p k) j after
@@ -97,7 +97,7 @@ module _ (code : List ℕ) (session most : ℕ) (accepts : Accepts code session 
       behind : Reached code (fact r after (k - less + more))
       behind = returns j after q i less more caller gives target reached (next, good.decoded) e fewer
 
-      room : HasRoom session most b (k - less + more)
+      room : HasStackRoom session most b (k - less + more)
       room = room_at code session most accepts bases (fact r after (k - less + more)) b behind (open_depth opened)
 
       base_low : session + b ≤ 512
@@ -167,7 +167,7 @@ module _ (code : List ℕ) (session most : ℕ) (accepts : Accepts code session 
   no_home i c no_count e = let some : is_some (Some c) ≡ false = subst (λ (o : Option (ℕ × ℕ)). is_some o ≡ false) e no_count in absurd (cc some)
 
   -- a return of a routine has a call to go back to
-  back_from : {bytes : List ℕ} {r : Routine} {b : ℕ} (h : ℕ) (f : Frame) (i : Ins) (next less more : ℕ) → Open code session bytes r b → bytes ≡ drop session f.dyn → StandsAt (length code) session b h f → Reached code (fact r f.at h)
+  back_from : {bytes : List ℕ} {r : Routine} {b : ℕ} (h : ℕ) (f : Frame) (i : Ins) (next less more : ℕ) → OpenCalls code session bytes r b → bytes ≡ drop session f.dyn → StandsAt (length code) session b h f → Reached code (fact r f.at h)
       → GoodAt code (fact r f.at h) i next → counts i ≡ Some (less, more) → Back code session (stepped f next) less more
   back_from h f i next less more none same s reached good e = absurd (no_home i (less, more) good.home e)
   back_from {bytes = bytes} h f i next less more (call {r = r} {p = p} {h = k} {b = b} {q = q} j after opened caller gives target lb at) same s reached good e =

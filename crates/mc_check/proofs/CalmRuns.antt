@@ -10,28 +10,28 @@ use Rattle.mc_model.specs.StackShape.{Accepts}
 use Rattle.mc_bank.specs.Bank.{app_of}
 use Rattle.mc_check.specs.Checked.{RunsCode, IsCalm, OnFollows, RunsCalmly, IsChecked}
 use Rattle.mc_family.specs.Begins.{session_in, AreLimited}
-use Rattle.mc_machine.specs.Sound.{IsSound}
+use Rattle.mc_machine.specs.Sound.{IsSoundChain}
 use Rattle.mc_machine.proofs.SoundChains.{FollowsSound, turn_sound}
 use Rattle.mc_machine.proofs.SoundRuns.{start_sound}
-use Rattle.mc_check.proofs.RowFacts.{RowFacts}
+use Rattle.mc_check.proofs.RowFacts.{RowsAreCalm}
 use Rattle.mc_check.proofs.AcceptedFacts.{HasBases}
 use Rattle.mc_check.proofs.CalmPublic.{begun_whole}
 use Rattle.mc_check.proofs.CalmTurns.{low_at}
-use Rattle.mc_check.proofs.CalmChains.{IsHeld, IsHeldChain, new_held, acted_held, acted_calm}
+use Rattle.mc_check.proofs.CalmChains.{StandsIfRunning, IsHeldChain, new_held, acted_held, acted_calm}
 
 -- what holds of each sound and held chain holds of the one that follows
 on_follows : (code : List ℕ) (session : ℕ) (ch : Chain) (apps : List (List ℕ × App)) (f : Follows) (holds : Chain → Type 0) → FollowsSound ch apps f → OnFollows f (IsHeldChain code session)
-    → ((next : Chain) → IsSound next → IsHeldChain code session next → holds next) → OnFollows f holds
+    → ((next : Chain) → IsSoundChain next → IsHeldChain code session next → holds next) → OnFollows f holds
 on_follows code session ch apps (Ends o) holds sound held all = tt
 on_follows code session ch apps (Continues next) holds sound held all = all next sound.sound held
 
-module _ (facts : RowFacts) (code : List ℕ) (bytes : AllByRecursion (λ b. b < 256) code) (short : length code ≤ 8192) (session most : ℕ) (accepts : Accepts code session most) (bases : HasBases code) where
+module _ (facts : RowsAreCalm) (code : List ℕ) (bytes : AllByRecursion (λ b. b < 256) code) (short : length code ≤ 8192) (session most : ℕ) (accepts : Accepts code session most) (bases : HasBases code) where
   -- the turn of a chain whose budget is spent
   spent_calm : (ch : Chain) → IsHeldChain code session ch → RunsCode code session ch → IsCalm session most (turn_of zero ch).turn
   spent_calm ch held runs =
       record { end = refl; dt = low_at code session most accepts bases ch.frame (held.frame (record { app = runs.app; there = runs.there; code = runs.code; session = runs.session })) }
 
-  runs_calmly : (budget : ℕ) (ch : Chain) → IsSound ch → IsHeldChain code session ch → RunsCalmly code session most budget ch
+  runs_calmly : (budget : ℕ) (ch : Chain) → IsSoundChain ch → IsHeldChain code session ch → RunsCalmly code session most budget ch
   unfolding RunsCalmly
   runs_calmly zero ch sound held = λ runs. spent_calm ch held runs
   runs_calmly (suc n) ch sound held =
@@ -41,7 +41,7 @@ module _ (facts : RowFacts) (code : List ℕ) (bytes : AllByRecursion (λ b. b <
       )
 
   -- the first frame of a chain, by what stands under its name
-  first_held : (map : List (List ℕ × App)) (first body : List ℕ) (apdu : ApduParts) (o : Option App) → lookup map first ≡ o → length body ≡ session_in o → AreLimited map → IsHeld code session map (start_app map first body apdu (unwrap_or o no_app)).frame
+  first_held : (map : List (List ℕ × App)) (first body : List ℕ) (apdu : ApduParts) (o : Option App) → lookup map first ≡ o → length body ≡ session_in o → AreLimited map → StandsIfRunning code session map (start_app map first body apdu (unwrap_or o no_app)).frame
   first_held map first body apdu None is size limited = λ has. let found : None ≡ Some has.app = sym is ∙ has.there in absurd (cc found)
   first_held map first body apdu (Some a) is size limited = new_held code session most accepts bases map first a body is size limited
 
@@ -53,7 +53,7 @@ session_there map first None is = ap session_in is ∙ ap (λ (o : Option App). 
 session_there map first (Some a) is = ap session_in is ∙ ap (λ (o : Option App). (unwrap_or o no_app).session) (sym is)
 
 -- accepted code is checked
-pub checked : RowFacts → (code : List ℕ) → AllByRecursion (λ b. b < 256) code → length code ≤ 8192 → (session most : ℕ) → Accepts code session most → HasBases code → IsChecked code session most
+pub checked : RowsAreCalm → (code : List ℕ) → AllByRecursion (λ b. b < 256) code → length code ≤ 8192 → (session most : ℕ) → Accepts code session most → HasBases code → IsChecked code session most
 checked facts code bytes short session most accepts bases = λ map first body apdu budget limited size.
-    let sound : IsSound (start map first body apdu) = start_sound map first body apdu (size ∙ session_there map first (lookup map first) refl) in
+    let sound : IsSoundChain (start map first body apdu) = start_sound map first body apdu (size ∙ session_there map first (lookup map first) refl) in
     runs_calmly facts code bytes short session most accepts bases budget (start map first body apdu) sound (start_held facts code bytes short session most accepts bases map first body apdu size limited)

@@ -7,7 +7,7 @@ use Rattle.mc_model.specs.declared.checker.CheckCause.TheVariants.{Wild}
 use Rattle.mc_model.specs.declared.instruction.DecodeFault.{DecodeFault}
 use Rattle.mc_model.specs.declared.instruction.Ins.{Ins}
 use Rattle.mc_model.specs.declared.machine.Abend.{Abend}
-use Rattle.mc_model.specs.Code.{Shaped, Stands, decoded}
+use Rattle.mc_model.specs.Code.{Shaped, DecodesTo, decoded}
 use Rattle.mc_model.specs.Frame.{Frame, dynamic_base, public_base, public_end, come_back}
 use Rattle.mc_model.specs.Primitives.{Around, Then, Goes, Exits, Delegates, Done, going, framed}
 use Rattle.mc_model.specs.Row.{effect, first_cause, row, RowEnd, Abends, Does}
@@ -16,9 +16,9 @@ use Rattle.mc_model.specs.StackRows.{height_after, always_abends, writing, is_pl
 use Rattle.mc_model.specs.StackShape.{Routine, fact, Reached, goes, jumps, Gives, Depth, Accepts}
 use Rattle.mc_isa.proofs.PlaceLemmas.{decoded_stands}
 use Rattle.mc_check.specs.Checked.{is_excluded}
-use Rattle.mc_check.specs.Standing.{StandsAt, Open, none, call, calls_of}
-use Rattle.mc_check.proofs.RowFacts.{RowFacts, RowStays, GoesTo}
-use Rattle.mc_check.proofs.AcceptedFacts.{GoodAt, HasRoom, HasBases, room_at, gives_at}
+use Rattle.mc_check.specs.Standing.{StandsAt, OpenCalls, none, call, calls_of}
+use Rattle.mc_check.proofs.RowFacts.{RowsAreCalm, RowStays, GoesTo}
+use Rattle.mc_check.proofs.AcceptedFacts.{GoodAt, HasStackRoom, HasBases, room_at, gives_at}
 use Rattle.mc_check.proofs.OpenCalls.{IsAtFact, IsStanding, open_front, open_depth, calls_below, target_of_call}
 use Rattle.mc_check.proofs.HeightLemmas.{moves, jump_height, exit_height}
 use Rattle.mc_check.proofs.CalmCalls.{row_cause, row_done, CallEnd, call_end, call_room, entered_at, passed_at}
@@ -53,7 +53,7 @@ FixedStays (Does d) = length d.effect.frame.fixed ≤ dynamic_base
 -- an instruction of code is shaped
 shaped_at : (code : List ℕ) (at : ℕ) (i : Ins) (next : ℕ) → AllByRecursion (λ b. b < 256) code → decoded code at ≡ Ok (i, next) → Shaped i
 shaped_at code at i next bytes is =
-    let stands : Stands code at (Ok (i, next)) = subst (λ (r : Result (Ins × ℕ) DecodeFault). Stands code at r) is (decoded_stands code at bytes) in
+    let stands : DecodesTo code at (Ok (i, next)) = subst (λ (r : Result (Ins × ℕ) DecodeFault). DecodesTo code at r) is (decoded_stands code at bytes) in
     stands.shaped
 
 going_calm : (code : List ℕ) (session : ℕ) (t : Then) (f : Frame) → IsStanding code session f → OnGoing t (IsStanding code session f)
@@ -65,7 +65,7 @@ module _ (code : List ℕ) (session most : ℕ) (accepts : Accepts code session 
   -- ---- writes
 
   -- a write that is not plain stands only in code without a call
-  plain_or_bottom : {bytes : List ℕ} {r : Routine} {b : ℕ} (at h : ℕ) (i : Ins) (next : ℕ) → Open code session bytes r b → Reached code (fact r at h) → decoded code at ≡ Ok (i, next) → (is_plain session h (writing i) ≡ true) ⊎ (b ≡ 0)
+  plain_or_bottom : {bytes : List ℕ} {r : Routine} {b : ℕ} (at h : ℕ) (i : Ins) (next : ℕ) → OpenCalls code session bytes r b → Reached code (fact r at h) → decoded code at ≡ Ok (i, next) → (is_plain session h (writing i) ≡ true) ⊎ (b ≡ 0)
   plain_or_bottom at h i next none reached is = inr refl
   plain_or_bottom at h i next (call {r = r} {p = p} {h = k} {q = q} j after opened caller gives target lb_word at_word) reached is =
       elim (cases_Bool (is_plain session h (writing i))) [
@@ -92,7 +92,7 @@ module _ (code : List ℕ) (session most : ℕ) (accepts : Accepts code session 
     gives : Gives code (fact r f.at h) i next
     gives = gives_at code session most accepts bases (fact r f.at h) b i next here.reached depth good
 
-    room_now : HasRoom session most b h
+    room_now : HasStackRoom session most b h
     room_now = room_at code session most accepts bases (fact r f.at h) b here.reached depth
 
     -- the height after an instruction that may be done
@@ -177,7 +177,7 @@ module _ (code : List ℕ) (session most : ℕ) (accepts : Accepts code session 
 
       -- ---- all rows
 
-      module _ (bytes : AllByRecursion (λ b. b < 256) code) (facts : RowFacts) (public : List ℕ) (whole : public_end - public_base ≤ length public) (x : Around) where
+      module _ (bytes : AllByRecursion (λ b. b < 256) code) (facts : RowsAreCalm) (public : List ℕ) (whole : public_end - public_base ≤ length public) (x : Around) where
         shaped : Shaped i
         shaped = shaped_at code f.at i next bytes good.decoded
 

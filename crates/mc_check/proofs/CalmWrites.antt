@@ -73,40 +73,40 @@ pub record KeptParts (known : List ℕ) (size len base : ℕ) (opened : List ℕ
   pub at : e.frame.at ≡ place
   pub calls : safe → calls_of e.frame ≡ opened
 
-abbrev pub Keeps : Frame → ℕ → ℕ → Type 0 → Effect → Type 0
-Keeps f height place safe e = KeptParts f.name f.session f.code_len f.lb (calls_of f) height place safe e
+abbrev pub KeepsCalls : Frame → ℕ → ℕ → Type 0 → Effect → Type 0
+KeepsCalls f height place safe e = KeptParts f.name f.session f.code_len f.lb (calls_of f) height place safe e
 
 -- ---- effects by kind
 
 -- a frame whose flags or whose public segment changed
-pub framed_kept : (f : Frame) (h k : ℕ) (safe : Type 0) (public : List ℕ) (c z : Bool) → IsRoomy f h → k ≡ h → Keeps f k f.at safe (framed (flagged f c z) public)
+pub framed_kept : (f : Frame) (h k : ℕ) (safe : Type 0) (public : List ℕ) (c z : Bool) → IsRoomy f h → k ≡ h → KeepsCalls f k f.at safe (framed (flagged f c z) public)
 framed_kept f h k safe public c z r is =
     let top : f.dt ≡ f.lb + h = r.top in
     record { name = refl; session = refl; code_len = refl; lb = refl; dyn = r.dyn; dt = omega arith; at = refl; calls = λ p. refl }
 
 -- the same with the top bytes taken off
-pub popped_kept : (f : Frame) (h n k : ℕ) (safe : Type 0) (public : List ℕ) (c z : Bool) → IsRoomy f h → n ≤ h → k ≡ h - n → Keeps f k f.at safe (framed (flagged (popped f n) c z) public)
+pub popped_kept : (f : Frame) (h n k : ℕ) (safe : Type 0) (public : List ℕ) (c z : Bool) → IsRoomy f h → n ≤ h → k ≡ h - n → KeepsCalls f k f.at safe (framed (flagged (popped f n) c z) public)
 popped_kept f h n k safe public c z r few is = framed_kept (popped f n) (h - n) k safe public c z (popped_roomy f h n r few) is
 
 -- the code goes on elsewhere
-pub gone_kept : (f : Frame) (h k to : ℕ) (safe : Type 0) (public : List ℕ) → IsRoomy f h → k ≡ h → Keeps f k to safe (framed (record f { at = to }) public)
+pub gone_kept : (f : Frame) (h k to : ℕ) (safe : Type 0) (public : List ℕ) → IsRoomy f h → k ≡ h → KeepsCalls f k to safe (framed (record f { at = to }) public)
 gone_kept f h k to safe public r is =
     let top : f.dt ≡ f.lb + h = r.top in
     record { name = refl; session = refl; code_len = refl; lb = refl; dyn = r.dyn; dt = omega arith; at = refl; calls = λ p. refl }
 
 -- an effect that sets the flags besides
-pub flagged_kept : (f : Frame) (k place : ℕ) (safe : Type 0) (e : Effect) (c z : Bool) → Keeps f k place safe e → Keeps f k place safe (effect_flagged e c z)
+pub flagged_kept : (f : Frame) (k place : ℕ) (safe : Type 0) (e : Effect) (c z : Bool) → KeepsCalls f k place safe e → KeepsCalls f k place safe (effect_flagged e c z)
 flagged_kept f k place safe e c z s = record { name = s.name; session = s.session; code_len = s.code_len; lb = s.lb; dyn = s.dyn; dt = s.dt; at = s.at; calls = s.calls }
 
 -- ---- written bytes
 
 -- Bytes at a dynamic address that are none of those from the floor up to LB: session bytes, bytes from LB on, or any where LB is the floor.
-pub data Untouched (low base a n : ℕ) : Type 0 where
-  session : a + n ≤ low → Untouched low base a n
-  stack : base ≤ a → Untouched low base a n
-  none : base ≤ low → Untouched low base a n
+pub data MissesCalls (low base a n : ℕ) : Type 0 where
+  session : a + n ≤ low → MissesCalls low base a n
+  stack : base ≤ a → MissesCalls low base a n
+  none : base ≤ low → MissesCalls low base a n
 
-spliced_calls : (f : Frame) (h a : ℕ) (b : List ℕ) → IsRoomy f h → dynamic_base ≤ a → a + length b ≤ dynamic_end → Untouched (floor f) f.lb a (length b)
+spliced_calls : (f : Frame) (h a : ℕ) (b : List ℕ) → IsRoomy f h → dynamic_base ≤ a → a + length b ≤ dynamic_end → MissesCalls (floor f) f.lb a (length b)
     → take (f.lb - floor f) (drop f.session (splice f.dyn (a - dynamic_base) b)) ≡ calls_of f
 spliced_calls f h a b r from to (session behind) =
     ap (take (f.lb - floor f)) (rest-splice f.dyn f.session (a - dynamic_base) b (omega arith) (omega (arith, r.dyn)))
@@ -117,8 +117,8 @@ spliced_calls f h a b r from to (none low) =
     ap (λ (n : ℕ). take n (drop f.session (splice f.dyn (a - dynamic_base) b))) nothing ∙ ap (λ (n : ℕ). take n (drop f.session f.dyn)) (sym nothing)
 
 -- bytes written into the dynamic segment, DT at a place not above its end
-spliced_kept : (f : Frame) (h k dt a : ℕ) (b : List ℕ) (safe : Type 0) (public : List ℕ) → IsRoomy f h → dynamic_base ≤ a → a + length b ≤ dynamic_end → dt ≡ f.lb + k → (safe → Untouched (floor f) f.lb a (length b))
-    → Keeps f k f.at safe (framed (record f { dyn = splice f.dyn (a - dynamic_base) b; dt = dt }) public)
+spliced_kept : (f : Frame) (h k dt a : ℕ) (b : List ℕ) (safe : Type 0) (public : List ℕ) → IsRoomy f h → dynamic_base ≤ a → a + length b ≤ dynamic_end → dt ≡ f.lb + k → (safe → MissesCalls (floor f) f.lb a (length b))
+    → KeepsCalls f k f.at safe (framed (record f { dyn = splice f.dyn (a - dynamic_base) b; dt = dt }) public)
 spliced_kept f h k dt a b safe public r from to is untouched =
     record {
       name = refl;
@@ -132,14 +132,14 @@ spliced_kept f h k dt a b safe public r from to is untouched =
     }
 
 -- bytes pushed
-pub pushed_kept : (f : Frame) (h k : ℕ) (b : List ℕ) (safe : Type 0) (public : List ℕ) → IsRoomy f h → k ≡ h + length b → f.dt + length b ≤ dynamic_end → Keeps f k f.at safe (framed (pushed f b) public)
+pub pushed_kept : (f : Frame) (h k : ℕ) (b : List ℕ) (safe : Type 0) (public : List ℕ) → IsRoomy f h → k ≡ h + length b → f.dt + length b ≤ dynamic_end → KeepsCalls f k f.at safe (framed (pushed f b) public)
 pushed_kept f h k b safe public r is room =
     let top : f.dt ≡ f.lb + h = r.top in
     let low : floor f ≤ f.lb = r.low in
     spliced_kept f h k (f.dt + length b) f.dt b safe public r (omega arith) room (omega arith) (λ p. stack (omega arith))
 
 -- the top bytes replaced
-pub topped_kept : (f : Frame) (h k : ℕ) (b : List ℕ) (safe : Type 0) (public : List ℕ) (c z : Bool) → IsRoomy f h → length b ≤ h → k ≡ h → Keeps f k f.at safe (framed (flagged (topped f b) c z) public)
+pub topped_kept : (f : Frame) (h k : ℕ) (b : List ℕ) (safe : Type 0) (public : List ℕ) (c z : Bool) → IsRoomy f h → length b ≤ h → k ≡ h → KeepsCalls f k f.at safe (framed (flagged (topped f b) c z) public)
 topped_kept f h k b safe public c z r few is =
     let top : f.dt ≡ f.lb + h = r.top in
     let low : floor f ≤ f.lb = r.low in
@@ -157,7 +157,7 @@ dynamic_fits false true p a n i j k dt test e =
 dynamic_fits false false true a n i j k dt test e = absurd (cc e)
 dynamic_fits false false false a n i j k dt test e = absurd (cc e)
 
-static_kept : (b : Bool) (f : Frame) (h k : ℕ) (safe : Type 0) (public : List ℕ) (i : ℕ) (bytes : List ℕ) → IsRoomy f h → k ≡ h → Keeps f k f.at safe (static_written b f public i bytes)
+static_kept : (b : Bool) (f : Frame) (h k : ℕ) (safe : Type 0) (public : List ℕ) (i : ℕ) (bytes : List ℕ) → IsRoomy f h → k ≡ h → KeepsCalls f k f.at safe (static_written b f public i bytes)
 static_kept true f h k safe public i bytes r is =
     let top : f.dt ≡ f.lb + h = r.top in
     record { name = refl; session = refl; code_len = refl; lb = refl; dyn = r.dyn; dt = omega arith; at = refl; calls = λ p. refl }
@@ -167,10 +167,10 @@ static_kept false f h k safe public i bytes r is =
 
 -- what makes a write at an address safe: where it is in the dynamic segment, it touches no call
 abbrev pub IsSafeAt : Frame → ℕ → ℕ → Type 0 → Type 0
-IsSafeAt f a n safe = dynamic_base ≤ a → a + n ≤ dynamic_end → safe → Untouched (floor f) f.lb a n
+IsSafeAt f a n safe = dynamic_base ≤ a → a + n ≤ dynamic_end → safe → MissesCalls (floor f) f.lb a n
 
 written_in_kept : (f : Frame) (h k : ℕ) (safe : Type 0) (public : List ℕ) (a : ℕ) (bytes : List ℕ) (place : Option Place) → IsRoomy f h → k ≡ h → IsSafeAt f a (length bytes) safe
-    → where_is f a (length bytes) ≡ place → Keeps f k f.at safe (written_in f public bytes place)
+    → where_is f a (length bytes) ≡ place → KeepsCalls f k f.at safe (written_in f public bytes place)
 written_in_kept f h k safe public a bytes None r is untouched e = framed_kept f h k safe public f.c f.z r is
 written_in_kept f h k safe public a bytes (Some (Static i)) r is untouched e = static_kept f.protected f h k safe public i bytes r is
 written_in_kept f h k safe public a bytes (Some (Dynamic i)) r is untouched e =
@@ -178,22 +178,22 @@ written_in_kept f h k safe public a bytes (Some (Dynamic i)) r is untouched e =
     let top : f.dt ≡ f.lb + h = r.top in
     let fits : (dynamic_base ≤ a) × (a + length bytes ≤ f.dt) × (i ≡ a - dynamic_base) = dynamic_fits _ _ _ a (length bytes) i _ _ f.dt refl e in
     let to : a + length bytes ≤ dynamic_end = omega arith in
-    subst (λ (j : ℕ). Keeps f k f.at safe (framed (record f { dyn = splice f.dyn j bytes }) public)) (sym fits.2)
+    subst (λ (j : ℕ). KeepsCalls f k f.at safe (framed (record f { dyn = splice f.dyn j bytes }) public)) (sym fits.2)
     (spliced_kept f h k f.dt a bytes safe public r fits.0 to (omega arith) (untouched fits.0 to))
 written_in_kept f h k safe public a bytes (Some (Public i)) r is untouched e = framed_kept f h k safe (splice public i bytes) f.c f.z r is
 
 -- bytes written at an address
-pub written_kept : (f : Frame) (h k : ℕ) (safe : Type 0) (public : List ℕ) (a : ℕ) (bytes : List ℕ) → IsRoomy f h → k ≡ h → IsSafeAt f a (length bytes) safe → Keeps f k f.at safe (written f public a bytes)
+pub written_kept : (f : Frame) (h k : ℕ) (safe : Type 0) (public : List ℕ) (a : ℕ) (bytes : List ℕ) → IsRoomy f h → k ≡ h → IsSafeAt f a (length bytes) safe → KeepsCalls f k f.at safe (written f public a bytes)
 unfolding written
 written_kept f h k safe public a bytes r is untouched = written_in_kept f h k safe public a bytes (where_is f a (length bytes)) r is untouched refl
 
 -- ---- protection
 
-cond_kept : (f : Frame) (k : ℕ) (safe : Type 0) (b : Bool) (d e : Effect) → Keeps f k f.at safe d → Keeps f k f.at safe e → Keeps f k f.at safe (cond b d e)
+cond_kept : (f : Frame) (k : ℕ) (safe : Type 0) (b : Bool) (d e : Effect) → KeepsCalls f k f.at safe d → KeepsCalls f k f.at safe e → KeepsCalls f k f.at safe (cond b d e)
 cond_kept f k safe true d e s t = s
 cond_kept f k safe false d e s t = t
 
-pub protect_kept : (f : Frame) (h k : ℕ) (safe : Type 0) (public : List ℕ) (mode : ℕ) → IsRoomy f h → k ≡ h → Keeps f k f.at safe (protect f public mode)
+pub protect_kept : (f : Frame) (h k : ℕ) (safe : Type 0) (public : List ℕ) (mode : ℕ) → IsRoomy f h → k ≡ h → KeepsCalls f k f.at safe (protect f public mode)
 protect_kept f h k safe public mode r is =
     let top : f.dt ≡ f.lb + h = r.top in
     let on = nat_le 2 mode in

@@ -23,8 +23,8 @@ module _ (code : List ℕ) (session deepest : ℕ) where
   abbrev Calm : Chain × Turn → Type 0
   Calm p = RunsCode code session p.0 → IsCalm session deepest p.1
 
-  abbrev Runs : ℕ → Chain → Type 0
-  Runs = RunsCalmly code session deepest
+  abbrev RunsChecked : ℕ → Chain → Type 0
+  RunsChecked = RunsCalmly code session deepest
 
   -- ---- runs
 
@@ -32,18 +32,18 @@ module _ (code : List ℕ) (session deepest : ℕ) where
   on_calm (Ends o) holds rest h more = tt
   on_calm (Continues c) holds rest h more = more c h
 
-  run_calm : (n : ℕ) (ch : Chain) → Runs n ch → AllByRecursion Calm (turns_from n ch)
+  run_calm : (n : ℕ) (ch : Chain) → RunsChecked n ch → AllByRecursion Calm (turns_from n ch)
   unfolding turns_from RunsCalmly
   run_calm zero ch h = (h, tt)
-  run_calm (suc n) ch h = (h.0, on_calm (acted ch).follows (λ c. Runs n c) (λ c. turns_from n c) h.1 (λ c k. run_calm n c k))
+  run_calm (suc n) ch h = (h.0, on_calm (acted ch).follows (λ c. RunsChecked n c) (λ c. turns_from n c) h.1 (λ c k. run_calm n c k))
 
   -- ---- commands
 
-  passed_calm : (m : List (List ℕ × App)) (budget : ℕ) (o : Option Selected) (a : ApduParts) → OnPassed Runs m budget o a → AllByRecursion Calm (turns_passed m budget o a)
+  passed_calm : (m : List (List ℕ × App)) (budget : ℕ) (o : Option Selected) (a : ApduParts) → OnPassed RunsChecked m budget o a → AllByRecursion Calm (turns_passed m budget o a)
   passed_calm m budget None a h = tt
   passed_calm m budget (Some s) a h = run_calm budget _ h
 
-  routed_calm : (m : List (List ℕ × App)) (seat : Seat) (budget : ℕ) (r : Route) → OnRouted Runs m seat budget r → AllByRecursion Calm (turns_routed m seat budget r)
+  routed_calm : (m : List (List ℕ × App)) (seat : Seat) (budget : ℕ) (r : Route) → OnRouted RunsChecked m seat budget r → AllByRecursion Calm (turns_routed m seat budget r)
   routed_calm m seat budget (ToApplication a) h = passed_calm m budget seat.selected a h
   routed_calm m seat budget WrongLength h = tt
   routed_calm m seat budget WrongClass h = tt
@@ -54,28 +54,28 @@ module _ (code : List ℕ) (session deepest : ℕ) where
   behind_calm true later ts more h = more h
   behind_calm false later ts more h = tt
 
-  sent_calm : (c : Card) (seat : Seat) (budget : ℕ) (bs : List (List ℕ)) → OnSent Runs c seat budget bs → AllByRecursion Calm (turns_sent c seat budget bs)
+  sent_calm : (c : Card) (seat : Seat) (budget : ℕ) (bs : List (List ℕ)) → OnSent RunsChecked c seat budget bs → AllByRecursion Calm (turns_sent c seat budget bs)
   sent_calm c seat budget [] h = tt
   sent_calm c seat budget (b ∷ bs) h =
       let r = command c seat b budget in
       let d = card_done c r.items in
       let rest = turns_sent d r.seat budget bs in
       all-append Calm (turns_routed c.apps seat budget (route b)) (turns_behind (is_done r.outcome) rest) (routed_calm c.apps seat budget (route b) h.0)
-      (behind_calm (is_done r.outcome) (OnSent Runs d r.seat budget bs) rest (λ k. sent_calm d r.seat budget bs k) h.1)
+      (behind_calm (is_done r.outcome) (OnSent RunsChecked d r.seat budget bs) rest (λ k. sent_calm d r.seat budget bs k) h.1)
 
   -- ---- lines
 
-  taken_calm : (v : Live) (b : Base) (budget : ℕ) (bs : List (List ℕ)) → OnTaken Runs v b budget bs → AllByRecursion Calm (turns_taken v b budget bs)
+  taken_calm : (v : Live) (b : Base) (budget : ℕ) (bs : List (List ℕ)) → OnTaken RunsChecked v b budget bs → AllByRecursion Calm (turns_taken v b budget bs)
   taken_calm (Running seat) (OnCard c) budget bs h = sent_calm c seat budget bs h
   taken_calm (Running seat) (AtFault cause p) budget bs h = tt
   taken_calm Unpowered b budget bs h = tt
   taken_calm Muted b budget bs h = tt
 
-  line_calm : (s : State) (bs : List (List ℕ)) → OnLine Runs s bs → AllByRecursion Calm (turns_in s bs)
+  line_calm : (s : State) (bs : List (List ℕ)) → OnLine RunsChecked s bs → AllByRecursion Calm (turns_in s bs)
   line_calm (Cold m b a) bs h = tt
   line_calm (Hot s) bs h = taken_calm s.live s.base s.budget bs h
 
-  plays_calm : (s : State) (ls : List (ℕ × DeckLine)) (ws : List (Option WornAt)) → OnEachRun Runs (plays s ls ws) → AllByRecursion (TellsCalmly code session deepest) (plays s ls ws)
+  plays_calm : (s : State) (ls : List (ℕ × DeckLine)) (ws : List (Option WornAt)) → OnEachRun RunsChecked (plays s ls ws) → AllByRecursion (TellsCalmly code session deepest) (plays s ls ws)
   unfolding plays
   plays_calm s [] ws h = tt
   plays_calm s (l ∷ ls) ws h =

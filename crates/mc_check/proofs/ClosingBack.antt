@@ -8,8 +8,8 @@ use Rattle.mc_model.specs.StackShape.{Routine, At, Fact, Stands, look, Reached}
 use Rattle.mc_check.specs.declared.table.Entry.{Entry}
 use Rattle.mc_check.specs.declared.shape.Counts.{Counts as Pair}
 use Rattle.mc_check.specs.declared.closing.Found.{Found}
-use Rattle.mc_check.specs.Table.{fact_of, IsIn, IsGood}
-use Rattle.mc_check.specs.Closing.{found_fact, IsFound, Tables, IsAmong, IsReal, ComesBack, ComesBackFrom, Adds}
+use Rattle.mc_check.specs.Table.{fact_of, IsIn, IsGoodFact}
+use Rattle.mc_check.specs.Closing.{found_fact, IsFound, Tables, IsAmong, IsReal, ComesBack, ComesBackFrom, AddsFacts}
 use Rattle.mc_check.proofs.ClosingLists.{in_at, in_alike}
 use Rattle.mc_check.proofs.FactLooks.{is_at}
 use Rattle.mc_check.proofs.ClosingPlaces.{return_less}
@@ -24,8 +24,8 @@ on_ok_both (Err e) f a b = b
 found_same : (place : ℕ) (e : Entry) (found : Found) → found.place ≡ place → found.entry ≡ e → found_fact found ≡ fact_of place e
 found_same place e found at is = ap₂ (λ (p : ℕ) (x : Entry). fact_of p x) at is
 
-pub good_found : (code : List ℕ) (place : ℕ) (e : Entry) (found : Found) → found.place ≡ place → found.entry ≡ e → IsFound code found → IsGood code (fact_of place e)
-good_found code place e found at is there = subst (λ (f : Fact). IsGood code f) (found_same place e found at is) (found.seen.ins, found.seen.next, there.stands)
+pub good_found : (code : List ℕ) (place : ℕ) (e : Entry) (found : Found) → found.place ≡ place → found.entry ≡ e → IsFound code found → IsGoodFact code (fact_of place e)
+good_found code place e found at is there = subst (λ (f : Fact). IsGoodFact code f) (found_same place e found at is) (found.seen.ins, found.seen.next, there.stands)
 
 -- a return that was found is one of its routine
 pub real_found : (code : List ℕ) (found : Found) (q : ℕ) (c : Pair) → (found_fact found).routine ≡ At q → Reached code (found_fact found) → IsFound code found
@@ -68,7 +68,7 @@ module _ (code : List ℕ) (t t' : List (Option Entry)) (place routine : ℕ) (c
 abbrev pub BackBelow : List ℕ → Tables → ℕ → Pair → ℕ → Type 0
 BackBelow code s routine c place = (f : Fact) → IsIn s.table f → f.place < place → ComesBackFrom code s.table routine c f ⊎ IsAmong s.work f.place
 
-pub back_more : (code : List ℕ) (s s' : Tables) (routine : ℕ) (c : Pair) (place : ℕ) → BackBelow code s routine c place → Adds s s'
+pub back_more : (code : List ℕ) (s s' : Tables) (routine : ℕ) (c : Pair) (place : ℕ) → BackBelow code s routine c place → AddsFacts s s'
     → ((f : Fact) → IsIn s.table f → f.place ≡ place → ComesBackFrom code s'.table routine c f) → BackBelow code s' routine c (place + 1)
 back_more code s s' routine c place below adds here f m low =
     elim (adds.fresh f m) [
@@ -91,7 +91,7 @@ back_all code s routine c place end below f m = below f m (omega (arith, end, sl
 pair_same : (a b : Pair) → ◌≡◌ {A = Option (Option Pair)} (Some (Some a)) (Some (Some b)) → a ≡ b
 pair_same a b h = cc
 
-pub back_known : (old new : Tables) (f : Fact) (next routine : ℕ) (c : Pair) → slice_get old.counts routine ≡ Some (Some c) → Adds old new → ComesBack new.table f next c.less c.more
+pub back_known : (old new : Tables) (f : Fact) (next routine : ℕ) (c : Pair) → slice_get old.counts routine ≡ Some (Some c) → AddsFacts old new → ComesBack new.table f next c.less c.more
     → (d : Pair) → slice_get new.counts routine ≡ Some (Some d) → ComesBack new.table f next d.less d.more
 back_known old new f next routine c known adds comes d there =
     let same : c ≡ d = pair_same c d (sym known ∙ sym (ap (λ (cs : List (Option Pair)). slice_get cs routine) adds.counts) ∙ there) in

@@ -2,11 +2,11 @@
 use Rattle.std.proofs.Common.{◌≡◌, ◌<◌, ℕ, true, false, ◌&&◌, is_some, List, [], ◌∷◌, length, replicate, slice_get, Option, Some, None, Result, OnOk, Ok, Err, refl, sym, subst, inl, inr}
 use Rattle.std.proofs.lemmas.Bool.{true≢false}
 use Rattle.mc_model.specs.StackRows.{counts, goes_on, jump_target, call_target, is_conditional, height_after}
-use Rattle.mc_model.specs.StackShape.{Routine, Main, At, fact, is_main, Counts}
+use Rattle.mc_model.specs.StackShape.{Routine, Main, At, fact, is_main, ReturnsWith}
 use Rattle.mc_check.specs.declared.shape.Counts.{Counts as Pair}
 use Rattle.mc_check.specs.declared.closing.Found.{Found}
 use Rattle.mc_check.specs.Table.{IsIn}
-use Rattle.mc_check.specs.Closing.{found_fact, IsFound, Tables, IsFit, ComesBack, IsOpen, Adds}
+use Rattle.mc_check.specs.Closing.{found_fact, IsFound, Tables, IsFit, ComesBack, ClosedOrWaiting, AddsFacts}
 use Rattle.mc_check.proofs.ClosingLists.{in_empty}
 use Rattle.mc_check.proofs.FactLooks.{fine}
 use Rattle.mc_check.proofs.ClosingPlaces.{BeginsInside, reached_inside}
@@ -23,7 +23,7 @@ on_ok_three (Err e) f a b c = c
 abbrev pub empty : ℕ → Tables
 empty len = record { table = replicate len None; counts = replicate len None; work = [] }
 
-pub started : (code : List ℕ) (a b : Tables) → a ≡ empty (length code) → Adds a b → IsFit code b → IsIn b.table (fact Main 0 0) → IsOpen code b.work b
+pub started : (code : List ℕ) (a b : Tables) → a ≡ empty (length code) → AddsFacts a b → IsFit code b → IsIn b.table (fact Main 0 0) → ClosedOrWaiting code b.work b
 started code a b e adds fit first = record {
   fit = fit;
   first = first;
@@ -35,30 +35,30 @@ started code a b e adds fit first = record {
 
 -- ---- a fact that was found, in the tables
 
-module _ (code : List ℕ) (found : Found) (a : Tables) (state : IsOpen code (found.place ∷ a.work) a) (here : IsIn a.table (found_fact found)) (there : IsFound code found) where
-  pub step_done : (b d : Tables) → call_target found.seen.ins ≡ None → counts found.seen.ins ≡ None → Adds a b
+module _ (code : List ℕ) (found : Found) (a : Tables) (state : ClosedOrWaiting code (found.place ∷ a.work) a) (here : IsIn a.table (found_fact found)) (there : IsFound code found) where
+  pub step_done : (b d : Tables) → call_target found.seen.ins ≡ None → counts found.seen.ins ≡ None → AddsFacts a b
       → (goes_on found.seen.ins ≡ true → IsIn b.table (fact (found_fact found).routine found.seen.next (height_after found.seen.ins found.entry.height)))
-      → IsFit code d → Adds b d → ((to : ℕ) → jump_target found.seen.ins found.seen.next ≡ Some (Some to) → IsIn d.table (fact (found_fact found).routine to found.entry.height))
-      → IsOpen code d.work d
+      → IsFit code d → AddsFacts b d → ((to : ℕ) → jump_target found.seen.ins found.seen.next ≡ Some (Some to) → IsIn d.table (fact (found_fact found).routine to found.entry.height))
+      → ClosedOrWaiting code d.work d
   step_done b d plain stays first goes fit second jumps =
       open_followed code found.place a d (found_fact found) state (adds_then a b d first second) fit here refl
       (closed_step code d.table d.counts (found_fact found) found.seen.ins found.seen.next there.stands plain stays (λ on. second.kept _ (goes on)) jumps)
 
-  pub call_done : (b d e : Tables) (q : ℕ) → call_target found.seen.ins ≡ Some q → Adds a b → IsIn b.table (fact (At q) q 0) → Adds b d
+  pub call_done : (b d e : Tables) (q : ℕ) → call_target found.seen.ins ≡ Some q → AddsFacts a b → IsIn b.table (fact (At q) q 0) → AddsFacts b d
       → (is_conditional found.seen.ins ≡ true → IsIn d.table (fact (found_fact found).routine found.seen.next found.entry.height))
-      → IsFit code e → Adds d e → ((c : Pair) → slice_get e.counts q ≡ Some (Some c) → ComesBack e.table (found_fact found) found.seen.next c.less c.more)
-      → IsOpen code e.work e
+      → IsFit code e → AddsFacts d e → ((c : Pair) → slice_get e.counts q ≡ Some (Some c) → ComesBack e.table (found_fact found) found.seen.next c.less c.more)
+      → ClosedOrWaiting code e.work e
   call_done b d e q call first entered second passed fit third back =
       open_followed code found.place a e (found_fact found) state (adds_then a b e first (adds_then b d e second third)) fit here refl
       (closed_call code e.table e.counts (found_fact found) found.seen.ins found.seen.next there.stands q call (third.kept _ (second.kept _ entered)) (λ conditional. third.kept _ (passed conditional)) back)
 
-  pub high_done : 512 < found.entry.height → counts found.seen.ins ≡ None → IsOpen code a.work a
+  pub high_done : 512 < found.entry.height → counts found.seen.ins ≡ None → ClosedOrWaiting code a.work a
   high_done high stays =
       open_followed code found.place a a (found_fact found) state (adds_none a) state.fit here refl
       (closed_high code a.table a.counts (found_fact found) found.seen.ins found.seen.next there.stands high stays (λ q c known. (state.fit.real q c known).less))
 
   -- a return whose routine has these counts already
-  pub return_known : (q : ℕ) (c : Pair) → (found_fact found).routine ≡ At q → counts found.seen.ins ≡ Some (c.less, c.more) → slice_get a.counts q ≡ Some (Some c) → IsOpen code a.work a
+  pub return_known : (q : ℕ) (c : Pair) → (found_fact found).routine ≡ At q → counts found.seen.ins ≡ Some (c.less, c.more) → slice_get a.counts q ≡ Some (Some c) → ClosedOrWaiting code a.work a
   return_known q c at e known =
       open_followed code found.place a a (found_fact found) state (adds_none a) state.fit here refl
       (closed_return code a.table a.counts (found_fact found) found.seen.ins found.seen.next q c at there.stands e known)
@@ -67,8 +67,8 @@ module _ (code : List ℕ) (found : Found) (a : Tables) (state : IsOpen code (fo
   routine_begins q at = subst (λ (r : Routine). BeginsInside (length code) r) at (reached_inside (state.fit.sound (found_fact found) here).0)
 
   -- the counts that are known of the routine of a return
-  pub known_counts : (q : ℕ) (c : Pair) → (found_fact found).routine ≡ At q → slice_get a.counts q ≡ Some (Some c) → Counts code (found_fact found).routine c.less c.more
-  known_counts q c at known = subst (λ (r : Routine). Counts code r c.less c.more) (sym at) (state.fit.real q c known).counts
+  pub known_counts : (q : ℕ) (c : Pair) → (found_fact found).routine ≡ At q → slice_get a.counts q ≡ Some (Some c) → ReturnsWith code (found_fact found).routine c.less c.more
+  known_counts q c at known = subst (λ (r : Routine). ReturnsWith code r c.less c.more) (sym at) (state.fit.real q c known).counts
 
 -- no return of main is good
 pub main_returns_not : (code : List ℕ) (found : Found) (c : ℕ × ℕ) → (found_fact found).routine ≡ Main → IsFound code found → counts found.seen.ins ≡ Some c → ⊥

@@ -23,12 +23,12 @@ call_jumps_not (ins.Call k to) next q h = refl
 call_jumps_not _ next q h = absurd (cc h)
 
 -- a return is no CALL, and goes nowhere by itself
-pub record Ends (i : Ins) (next : ℕ) : Type 0 where
+pub record LeadsNowhere (i : Ins) (next : ℕ) : Type 0 where
   pub calls : call_target i ≡ None
   pub stops : goes_on i ≡ false
   pub jumps : jump_target i next ≡ None
 
-pub return_ends : (i : Ins) (next : ℕ) (c : ℕ × ℕ) → counts i ≡ Some c → Ends i next
+pub return_ends : (i : Ins) (next : ℕ) (c : ℕ × ℕ) → counts i ≡ Some c → LeadsNowhere i next
 return_ends ins.Ret next c h = record { calls = refl; stops = refl; jumps = refl }
 return_ends (ins.Reti less) next c h = record { calls = refl; stops = refl; jumps = refl }
 return_ends (ins.Reto more) next c h = record { calls = refl; stops = refl; jumps = refl }
@@ -56,12 +56,12 @@ goes_or : (goes inside : Bool) → (not goes || inside) ≡ true → goes ≡ tr
 goes_or true inside h on = h
 goes_or false inside h on = absurd (cc on)
 
-record Inside (code : List ℕ) (i : Ins) (next : ℕ) : Type 0 where
+record LeadsInside (code : List ℕ) (i : Ins) (next : ℕ) : Type 0 where
   goes : (not (goes_on i) || nat_lt next (length code)) ≡ true
   target : target_inside (length code) (jump_target i next) ≡ true
   call : call_inside (length code) (call_target i) ≡ true
 
-inside : (code : List ℕ) (f : Fact) (i : Ins) (next : ℕ) → look code f ≡ Stands i next → Inside code i next
+inside : (code : List ℕ) (f : Fact) (i : Ins) (next : ℕ) → look code f ≡ Stands i next → LeadsInside code i next
 inside code f i next h =
     let a = not (goes_on i) || nat_lt next (length code) in
     let b = target_inside (length code) (jump_target i next) in

@@ -4,7 +4,7 @@ use Rattle.std.proofs.lemmas.Bool.{cases_eq, true≢false, and_from}
 use Rattle.mc_model.specs.declared.checker.CheckCause.TheVariants.{Returns, Under}
 use Rattle.mc_model.specs.declared.instruction.Ins.{Ins}
 use Rattle.mc_model.specs.StackRows.{counts, goes_on, jump_target, call_target, is_conditional, height_after}
-use Rattle.mc_model.specs.StackShape.{Routine, Main, At, Fact, fact, Stands, look, Gives, Reached, Counts, Refuses}
+use Rattle.mc_model.specs.StackShape.{Routine, Main, At, Fact, fact, Stands, look, Gives, Reached, ReturnsWith, Refuses}
 use Rattle.mc_model.specs.StackShape as shape
 use Rattle.mc_check.specs.declared.table.Entry.{Entry}
 use Rattle.mc_check.specs.declared.shape.Counts.{Counts as Pair}
@@ -103,7 +103,7 @@ counts_differ a b differ =
     ]
 
 pub refuses_returns : (code : List ℕ) (session : ℕ) (f : Fact) (i : Ins) (next : ℕ) (known c : Pair) → Reached code f → look code f ≡ Stands i next → counts i ≡ Some (c.less, c.more)
-    → Counts code f.routine known.less known.more → known ≢ c → Refuses code session f.place Returns
+    → ReturnsWith code f.routine known.less known.more → known ≢ c → Refuses code session f.place Returns
 refuses_returns code session f i next known c reached stands e other differ =
     refuses_good code session f Returns reached (i, next, stands) (inr (record {
       back = i;

@@ -6,18 +6,18 @@ use Rattle.mc_model.specs.StackRows.{counts}
 use Rattle.mc_model.specs.StackShape.{Routine, Main, At, Fact, fact, Stands, look, Reached}
 use Rattle.mc_check.specs.declared.table.Entry.{Entry}
 use Rattle.mc_check.specs.declared.shape.Counts.{Counts as Pair}
-use Rattle.mc_check.specs.Table.{fact_of, IsIn, IsGood, IsSound}
-use Rattle.mc_check.specs.Closing.{Tables, IsAmong, IsReal, IsFit, Leads, ComesBack, ComesBackFrom, HasCounts, IsFollowed, IsClosed, IsOpen, Adds}
+use Rattle.mc_check.specs.Table.{fact_of, IsIn, IsGoodFact, IsSoundTable}
+use Rattle.mc_check.specs.Closing.{Tables, IsAmong, IsReal, IsFit, HasSuccessors, ComesBack, ComesBackFrom, HasCounts, IsFollowed, IsClosed, ClosedOrWaiting, AddsFacts}
 use Rattle.mc_check.proofs.ListPlaces.{get_set_same, get_set_other}
 use Rattle.mc_check.proofs.ClosingLists.{among_more, among_last, among_taken, free_written, in_alike, in_written_before, in_written}
 use Rattle.mc_check.proofs.ClosingPlaces.{return_ends}
 
 -- ---- facts that come in
 
-pub adds_none : (s : Tables) → Adds s s
+pub adds_none : (s : Tables) → AddsFacts s s
 adds_none s = record { kept = λ f m. m; counts = refl; waiting = λ p m. m; fresh = λ f m. inl m; left = omega arith }
 
-pub adds_then : (a b c : Tables) → Adds a b → Adds b c → Adds a c
+pub adds_then : (a b c : Tables) → AddsFacts a b → AddsFacts b c → AddsFacts a c
 adds_then a b c first second = record {
   kept = λ f m. second.kept f (first.kept f m);
   counts = second.counts ∙ first.counts;
@@ -37,7 +37,7 @@ module _ (code : List ℕ) (s : Tables) (place : ℕ) (e : Entry) (free_there : 
   in_table : place < length s.table
   in_table = omega (arith, fit.size)
 
-  pub adds_put : Adds s (put s place e)
+  pub adds_put : AddsFacts s (put s place e)
   adds_put = record {
     kept = in_written_before s.table place e free_there in_table;
     counts = refl;
@@ -49,10 +49,10 @@ module _ (code : List ℕ) (s : Tables) (place : ℕ) (e : Entry) (free_there : 
     left = omega (arith, free_written s.table place e free_there, length-append s.work (place ∷ []));
   }
 
-  put_sound : Reached code (fact_of place e) → IsGood code (fact_of place e) → IsSound code (set s.table place (Some e))
+  put_sound : Reached code (fact_of place e) → IsGoodFact code (fact_of place e) → IsSoundTable code (set s.table place (Some e))
   put_sound reached good f m =
       elim (in_written s.table place e free_there in_table f m) [
-        | inl same ↦ subst (λ (g : Fact). Reached code g × IsGood code g) (sym same) (reached, good)
+        | inl same ↦ subst (λ (g : Fact). Reached code g × IsGoodFact code g) (sym same) (reached, good)
         | inr before ↦ fit.sound f before
       ]
 
@@ -63,7 +63,7 @@ module _ (code : List ℕ) (s : Tables) (place : ℕ) (e : Entry) (free_there : 
         | inr before ↦ fit.places p before
       ]
 
-  pub put_fits : Reached code (fact_of place e) → IsGood code (fact_of place e) → IsFit code (put s place e)
+  pub put_fits : Reached code (fact_of place e) → IsGoodFact code (fact_of place e) → IsFit code (put s place e)
   put_fits reached good = record {
     size = length-set s.table place (Some e) ∙ fit.size;
     counts_size = fit.counts_size;
@@ -74,7 +74,7 @@ module _ (code : List ℕ) (s : Tables) (place : ℕ) (e : Entry) (free_there : 
 
 -- ---- what follows from a fact, in more tables
 
-leads_more : (t t' : List (Option Entry)) (f : Fact) (i : Ins) (next : ℕ) → ((g : Fact) → IsIn t g → IsIn t' g) → Leads t f i next → Leads t' f i next
+leads_more : (t t' : List (Option Entry)) (f : Fact) (i : Ins) (next : ℕ) → ((g : Fact) → IsIn t g → IsIn t' g) → HasSuccessors t f i next → HasSuccessors t' f i next
 leads_more t t' f i next more leads = record {
   goes = λ plain on. more (fact f.routine next _) (leads.goes plain on);
   jumps = λ to e. more (fact f.routine to f.height) (leads.jumps to e);
@@ -85,17 +85,17 @@ leads_more t t' f i next more leads = record {
 comes_more : (t t' : List (Option Entry)) (f : Fact) (next less more : ℕ) → ((g : Fact) → IsIn t g → IsIn t' g) → ComesBack t f next less more → ComesBack t' f next less more
 comes_more t t' f next less more kept comes = record { enough = comes.enough; back = λ low. kept (fact f.routine next _) (comes.back low) }
 
-pub comes_kept : (old new : Tables) (f : Fact) (next less more : ℕ) → Adds old new → ComesBack old.table f next less more → ComesBack new.table f next less more
+pub comes_kept : (old new : Tables) (f : Fact) (next less more : ℕ) → AddsFacts old new → ComesBack old.table f next less more → ComesBack new.table f next less more
 comes_kept old new f next less more adds comes = comes_more old.table new.table f next less more adds.kept comes
 
-followed_kept : (old new : Tables) (f : Fact) (i : Ins) (next : ℕ) → Adds old new → IsFollowed old.table old.counts f i next → IsFollowed new.table new.counts f i next
+followed_kept : (old new : Tables) (f : Fact) (i : Ins) (next : ℕ) → AddsFacts old new → IsFollowed old.table old.counts f i next → IsFollowed new.table new.counts f i next
 followed_kept old new f i next adds followed = record {
   leads = λ low. leads_more old.table new.table f i next adds.kept (followed.leads low);
   back = λ routine c call known. comes_more old.table new.table f next c.less c.more adds.kept (followed.back routine c call (sym (ap (λ (cs : List (Option Pair)). slice_get cs routine) adds.counts) ∙ known));
   counted = λ less more e. subst (λ (cs : List (Option Pair)). HasCounts cs f.routine less more) (sym adds.counts) (followed.counted less more e);
 }
 
-closed_kept : (code : List ℕ) (old new : Tables) (f : Fact) → Adds old new → IsClosed code old.table old.counts f → IsClosed code new.table new.counts f
+closed_kept : (code : List ℕ) (old new : Tables) (f : Fact) → AddsFacts old new → IsClosed code old.table old.counts f → IsClosed code new.table new.counts f
 closed_kept code old new f adds closed i next h = followed_kept old new f i next adds (closed i next h)
 
 pub closed_from : (code : List ℕ) (t : List (Option Entry)) (cs : List (Option Pair)) (f : Fact) (i : Ins) (next : ℕ) → look code f ≡ Stands i next → IsFollowed t cs f i next → IsClosed code t cs f
@@ -108,8 +108,8 @@ closed_from code t cs f i next h followed i' next' h' =
 -- ---- a fact that was followed
 
 -- the fact at the place was followed, and others may have come in
-pub open_followed : (code : List ℕ) (place : ℕ) (old new : Tables) (f : Fact) → IsOpen code (place ∷ old.work) old → Adds old new → IsFit code new
-    → IsIn old.table f → place ≡ f.place → IsClosed code new.table new.counts f → IsOpen code new.work new
+pub open_followed : (code : List ℕ) (place : ℕ) (old new : Tables) (f : Fact) → ClosedOrWaiting code (place ∷ old.work) old → AddsFacts old new → IsFit code new
+    → IsIn old.table f → place ≡ f.place → IsClosed code new.table new.counts f → ClosedOrWaiting code new.work new
 open_followed code place old new f state adds fit here at closed = record {
   fit = fit;
   first = adds.kept (fact Main 0 0) state.first;
@@ -131,7 +131,7 @@ open_followed code place old new f state adds fit here at closed = record {
 abbrev pub without : Tables → List ℕ → Tables
 without s work = record { table = s.table; counts = s.counts; work = work }
 
-pub open_taken : (code : List ℕ) (s : Tables) (work : List ℕ) (place : ℕ) → s.work ≡ work ++ place ∷ [] → IsOpen code s.work s → IsOpen code (place ∷ work) (without s work)
+pub open_taken : (code : List ℕ) (s : Tables) (work : List ℕ) (place : ℕ) → s.work ≡ work ++ place ∷ [] → ClosedOrWaiting code s.work s → ClosedOrWaiting code (place ∷ work) (without s work)
 open_taken code s work place taken state = record {
   fit = record {
     size = state.fit.size;
@@ -230,10 +230,10 @@ module _ (code : List ℕ) (s : Tables) (q : ℕ) (c : Pair) (free_there : slice
       }
 
 -- a return gives its routine the counts, and each CALL of it in the tables has been followed
-pub open_counted : (code : List ℕ) (place : ℕ) (old s : Tables) (f : Fact) (i : Ins) (next q : ℕ) (c : Pair) → IsOpen code (place ∷ old.work) old → Adds old s → IsFit code s
+pub open_counted : (code : List ℕ) (place : ℕ) (old s : Tables) (f : Fact) (i : Ins) (next q : ℕ) (c : Pair) → ClosedOrWaiting code (place ∷ old.work) old → AddsFacts old s → IsFit code s
     → slice_get old.counts q ≡ Some None → q < length code → IsReal code q c
     → ((g : Fact) → IsIn s.table g → ComesBackFrom code s.table q c g ⊎ IsAmong s.work g.place)
-    → IsIn old.table f → place ≡ f.place → f.routine ≡ At q → look code f ≡ Stands i next → counts i ≡ Some (c.less, c.more) → IsOpen code s.work (counted s q c)
+    → IsIn old.table f → place ≡ f.place → f.routine ≡ At q → look code f ≡ Stands i next → counts i ≡ Some (c.less, c.more) → ClosedOrWaiting code s.work (counted s q c)
 open_counted code place old s f i next q c state adds fit none inside real comes here at routine h e =
     let free_there : slice_get s.counts q ≡ Some None = ap (λ (cs : List (Option Pair)). slice_get cs q) adds.counts ∙ none in
     record {

@@ -4,14 +4,14 @@ use Rattle.mc_model.specs.declared.instruction.Ins.{Ins}
 use Rattle.mc_model.specs.StackRows.{counts}
 use Rattle.mc_model.specs.StackShape.{Routine, Main, At, Fact, fact, Stands, look, Reached, begins, goes, jumps, calls, passes, returns, IsAt, Differs, TakesMore}
 use Rattle.mc_check.specs.declared.shape.Counts.{Counts as Pair}
-use Rattle.mc_check.specs.Table.{IsIn, IsWhole}
-use Rattle.mc_check.specs.Closing.{Tables, HasCounts, IsFollowed, IsClosed, IsOpen}
+use Rattle.mc_check.specs.Table.{IsIn, IsWholeTable}
+use Rattle.mc_check.specs.Closing.{Tables, HasCounts, IsFollowed, IsClosed, ClosedOrWaiting}
 use Rattle.mc_check.proofs.FactLooks.{stands_at}
 
 some_same : (a b : Pair) → ◌≡◌ {A = Option (Option Pair)} (Some (Some a)) (Some (Some b)) → a ≡ b
 some_same a b h = cc
 
-module _ (code : List ℕ) (s : Tables) (state : IsOpen code [] s) where
+module _ (code : List ℕ) (s : Tables) (state : ClosedOrWaiting code [] s) where
   closed_in : (f : Fact) → IsIn s.table f → IsClosed code s.table s.counts f
   closed_in f m = elim (state.closed f m) [ inl closed ↦ closed | inr waits ↦ absurd waits ]
 
@@ -54,7 +54,7 @@ module _ (code : List ℕ) (s : Tables) (state : IsOpen code [] s) where
       let comes = (followed_at f t.call (all_in reached) t.stands).2.back t.to (record { less = t.less; more = t.more }) t.target known in
       omega (arith, comes.enough, t.fewer)
 
-  pub whole : IsWhole code s.table
+  pub whole : IsWholeTable code s.table
   whole = record {
     size = state.fit.size;
     sound = state.fit.sound;

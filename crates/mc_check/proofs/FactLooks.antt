@@ -8,24 +8,24 @@ use Rattle.mc_model.specs.declared.instruction.DecodeFault.TheVariants as fault
 use Rattle.mc_model.specs.declared.instruction.Ins.{Ins}
 use Rattle.mc_model.specs.Code.{decoded}
 use Rattle.mc_model.specs.StackRows.{need, is_indirect, counts, places_inside}
-use Rattle.mc_model.specs.StackShape.{Fact, Look, Bad, Stands, is_main, seen, look, Reached, IsAt, Breaks, Refuses}
-use Rattle.mc_check.specs.Table.{IsGood}
+use Rattle.mc_model.specs.StackShape.{Fact, FactLook, Bad, Stands, is_main, seen, look, Reached, IsAt, Breaks, Refuses}
+use Rattle.mc_check.specs.Table.{IsGoodFact}
 
 -- ---- the chain of tests
 
 -- the tests, one after another, and what stands there where none of them holds
-abbrev chain : Bool → Bool → Bool → Bool → Look → Look
+abbrev chain : Bool → Bool → Bool → Bool → FactLook → FactLook
 chain a b c d look = cond a (Bad Indirect) (cond b (Bad Returns) (cond c (Bad Under) (cond d (Bad Target) look)))
 
 -- none of the tests holds
-record NoneHolds (a b c d : Bool) (i : Ins) (next : ℕ) (l : Look) : Type 0 where
+record NoTestHolds (a b c d : Bool) (i : Ins) (next : ℕ) (l : FactLook) : Type 0 where
   indirect : a ≡ false
   returns : b ≡ false
   under : c ≡ false
   target : d ≡ false
   stands : l ≡ Stands i next
 
-chain_stands : (a b c d : Bool) (l : Look) (i : Ins) (next : ℕ) → chain a b c d l ≡ Stands i next → NoneHolds a b c d i next l
+chain_stands : (a b c d : Bool) (l : FactLook) (i : Ins) (next : ℕ) → chain a b c d l ≡ Stands i next → NoTestHolds a b c d i next l
 chain_stands true b c d l i next h = absurd (cc h)
 chain_stands false true c d l i next h = absurd (cc h)
 chain_stands false false true d l i next h = absurd (cc h)
@@ -36,40 +36,40 @@ bad_same : (a b : CheckCause) → Bad a ≡ Bad b → a ≡ b
 bad_same a b h = cc
 
 -- the first test that holds is named
-data Named (a b c d : Bool) : CheckCause → Type 0 where
-  indirect : a ≡ true → Named a b c d Indirect
-  returns : b ≡ true → Named a b c d Returns
-  under : c ≡ true → Named a b c d Under
-  target : d ≡ true → Named a b c d Target
+data FirstTestNamed (a b c d : Bool) : CheckCause → Type 0 where
+  indirect : a ≡ true → FirstTestNamed a b c d Indirect
+  returns : b ≡ true → FirstTestNamed a b c d Returns
+  under : c ≡ true → FirstTestNamed a b c d Under
+  target : d ≡ true → FirstTestNamed a b c d Target
 
-chain_bad : (a b c d : Bool) (i : Ins) (next : ℕ) (cause : CheckCause) → chain a b c d (Stands i next) ≡ Bad cause → Named a b c d cause
-chain_bad true b c d i next cause h = subst (λ (x : CheckCause). Named true b c d x) (bad_same Indirect cause h) (indirect refl)
-chain_bad false true c d i next cause h = subst (λ (x : CheckCause). Named false true c d x) (bad_same Returns cause h) (returns refl)
-chain_bad false false true d i next cause h = subst (λ (x : CheckCause). Named false false true d x) (bad_same Under cause h) (under refl)
-chain_bad false false false true i next cause h = subst (λ (x : CheckCause). Named false false false true x) (bad_same Target cause h) (target refl)
+chain_bad : (a b c d : Bool) (i : Ins) (next : ℕ) (cause : CheckCause) → chain a b c d (Stands i next) ≡ Bad cause → FirstTestNamed a b c d cause
+chain_bad true b c d i next cause h = subst (λ (x : CheckCause). FirstTestNamed true b c d x) (bad_same Indirect cause h) (indirect refl)
+chain_bad false true c d i next cause h = subst (λ (x : CheckCause). FirstTestNamed false true c d x) (bad_same Returns cause h) (returns refl)
+chain_bad false false true d i next cause h = subst (λ (x : CheckCause). FirstTestNamed false false true d x) (bad_same Under cause h) (under refl)
+chain_bad false false false true i next cause h = subst (λ (x : CheckCause). FirstTestNamed false false false true x) (bad_same Target cause h) (target refl)
 chain_bad false false false false i next cause h = absurd (cc h)
 
 -- ---- a good fact
 
 -- what the instruction of a good fact keeps to
-pub record Fine (code : List ℕ) (f : Fact) (i : Ins) (next : ℕ) : Type 0 where
+pub record KeepsRules (code : List ℕ) (f : Fact) (i : Ins) (next : ℕ) : Type 0 where
   pub there : decoded code f.place ≡ Ok (i, next)
   pub direct : is_indirect i ≡ false
   pub stays : (is_main f.routine && is_some (counts i)) ≡ false
   pub enough : nat_lt f.height (need i) ≡ false
   pub inside : places_inside (length code) i next ≡ true
 
-fine_from : (code : List ℕ) (f : Fact) (d : Result (Ins × ℕ) DecodeFault) (i : Ins) (next : ℕ) → decoded code f.place ≡ d → seen (length code) f d ≡ Stands i next → Fine code f i next
+fine_from : (code : List ℕ) (f : Fact) (d : Result (Ins × ℕ) DecodeFault) (i : Ins) (next : ℕ) → decoded code f.place ≡ d → seen (length code) f d ≡ Stands i next → KeepsRules code f i next
 fine_from code f (Err fault.Undefined) i next e h = absurd (cc h)
 fine_from code f (Err fault.Past) i next e h = absurd (cc h)
 fine_from code f (Ok p) i next e h =
     let passed = chain_stands (is_indirect p.0) (is_main f.routine && is_some (counts p.0)) (nat_lt f.height (need p.0)) (not (places_inside (length code) p.0 p.1)) (Stands p.0 p.1) i next h in
     let same : p.0 ≡ i = cc passed.stands in
     let next_same : p.1 ≡ next = cc passed.stands in
-    let fine : Fine code f p.0 p.1 = record { there = e; direct = passed.indirect; stays = passed.returns; enough = passed.under; inside = not-false (places_inside (length code) p.0 p.1) passed.target } in
-    subst (λ (n : ℕ). Fine code f i n) next_same (subst (λ (x : Ins). Fine code f x p.1) same fine)
+    let fine : KeepsRules code f p.0 p.1 = record { there = e; direct = passed.indirect; stays = passed.returns; enough = passed.under; inside = not-false (places_inside (length code) p.0 p.1) passed.target } in
+    subst (λ (n : ℕ). KeepsRules code f i n) next_same (subst (λ (x : Ins). KeepsRules code f x p.1) same fine)
 
-pub fine : (code : List ℕ) (f : Fact) (i : Ins) (next : ℕ) → look code f ≡ Stands i next → Fine code f i next
+pub fine : (code : List ℕ) (f : Fact) (i : Ins) (next : ℕ) → look code f ≡ Stands i next → KeepsRules code f i next
 unfolding look
 fine code f i next h = fine_from code f (decoded code f.place) i next refl h
 
@@ -80,7 +80,7 @@ ok_same : (p q : Ins × ℕ) → ◌≡◌ {A = Result (Ins × ℕ) DecodeFault}
 ok_same p q h = cc
 
 -- the instruction at a good fact's place is the one that stands there
-pub stands_at : (code : List ℕ) (f : Fact) (i : Ins) → IsGood code f → IsAt code f.place i → (next : ℕ) × (look code f ≡ Stands i next)
+pub stands_at : (code : List ℕ) (f : Fact) (i : Ins) → IsGoodFact code f → IsAt code f.place i → (next : ℕ) × (look code f ≡ Stands i next)
 stands_at code f i good at =
     let there = (fine code f good.0 good.1 good.2).there in
     let same : good.0 ≡ i = ap (λ (p : Ins × ℕ). p.0) (ok_same (good.0, good.1) (i, at.0) (sym there ∙ at.1)) in
@@ -89,7 +89,7 @@ stands_at code f i good at =
 -- ---- a bad fact
 
 named_breaks : (code : List ℕ) (session : ℕ) (f : Fact) (p : Ins × ℕ) (cause : CheckCause) → decoded code f.place ≡ Ok p
-    → Named (is_indirect p.0) (is_main f.routine && is_some (counts p.0)) (nat_lt f.height (need p.0)) (not (places_inside (length code) p.0 p.1)) cause → Breaks code session cause f
+    → FirstTestNamed (is_indirect p.0) (is_main f.routine && is_some (counts p.0)) (nat_lt f.height (need p.0)) (not (places_inside (length code) p.0 p.1)) cause → Breaks code session cause f
 named_breaks code session f p cause e (indirect h) = (p.0, p.1, e, h)
 named_breaks code session f p cause e (returns h) = inl (p.0, p.1, e, h)
 named_breaks code session f p cause e (under h) = inl (p.0, p.1, e, ltb-true f.height (need p.0) h)
@@ -116,7 +116,7 @@ refuses_bad code session f cause reached h = record {
   first = λ alone e. bad_same cause alone (sym h ∙ e);
 }
 
-pub refuses_good : (code : List ℕ) (session : ℕ) (f : Fact) (cause : CheckCause) → Reached code f → IsGood code f → Breaks code session cause f → Refuses code session f.place cause
+pub refuses_good : (code : List ℕ) (session : ℕ) (f : Fact) (cause : CheckCause) → Reached code f → IsGoodFact code f → Breaks code session cause f → Refuses code session f.place cause
 refuses_good code session f cause reached good broken = record {
   fact = f;
   reached = reached;

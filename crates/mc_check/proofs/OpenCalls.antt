@@ -8,7 +8,7 @@ use Rattle.mc_model.specs.Frame.{Frame, floor}
 use Rattle.mc_model.specs.StackRows.{call_target, is_call}
 use Rattle.mc_model.specs.StackShape.{Routine, fact, Reached, Depth, main, called}
 use Rattle.mc_check.proofs.FactLooks.{fine}
-use Rattle.mc_check.specs.Standing.{StandsAt, Open, none, call, calls_of}
+use Rattle.mc_check.specs.Standing.{StandsAt, OpenCalls, none, call, calls_of}
 
 -- ---- lists
 
@@ -58,7 +58,7 @@ num_bytes2 n small = omega arith
 -- ---- open calls
 
 -- they depend on the bytes below LB alone
-pub open_front : {code : List ℕ} {session : ℕ} {xs : List ℕ} (ys : List ℕ) {r : Routine} {b : ℕ} → Open code session xs r b → take b xs ≡ take b ys → Open code session ys r b
+pub open_front : {code : List ℕ} {session : ℕ} {xs : List ℕ} (ys : List ℕ) {r : Routine} {b : ℕ} → OpenCalls code session xs r b → take b xs ≡ take b ys → OpenCalls code session ys r b
 open_front ys none same = none
 open_front {xs = xs} ys (call {p = p} {h = h} {b = b} i next opened reached gives target lb at) same =
     let below = same_fewer b (b + h + 4) xs ys (omega arith) same in
@@ -67,7 +67,7 @@ open_front {xs = xs} ys (call {p = p} {h = h} {b = b} i next opened reached give
     (sym (same_two (b + h + 2) (b + h + 4) xs ys (omega arith) same) ∙ at)
 
 -- LB lies as far above the floor as some calls of the code bring it
-pub open_depth : {code : List ℕ} {session : ℕ} {bytes : List ℕ} {r : Routine} {b : ℕ} → Open code session bytes r b → Depth code r b
+pub open_depth : {code : List ℕ} {session : ℕ} {bytes : List ℕ} {r : Routine} {b : ℕ} → OpenCalls code session bytes r b → Depth code r b
 open_depth none = main
 open_depth {code = code} (call {r = r} {p = p} {h = h} i next opened reached gives target lb at) =
     called (open_depth opened) (record { place = p; reached = reached; call = i; stands = (next, (fine code (fact r p h) i next gives.stands).there); target = target })
@@ -81,7 +81,7 @@ target_of_call i q e = absurd (cc e)
 -- a frame at a fact of its code, with the open calls of its routine
 pub record IsAtFact (code : List ℕ) (session : ℕ) (r : Routine) (base height : ℕ) (f : Frame) : Type 0 where
   pub stands : StandsAt (length code) session base height f
-  pub opened : Open code session (drop session f.dyn) r base
+  pub opened : OpenCalls code session (drop session f.dyn) r base
   pub reached : Reached code (fact r f.at height)
 
 -- a frame at some fact

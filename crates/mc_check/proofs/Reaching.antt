@@ -3,12 +3,12 @@ use Rattle.std.proofs.Common.{ℕ, List}
 use Rattle.mc_model.specs.StackShape.{Routine, Main, At, Fact, fact, Reached}
 
 -- the routine begins at its own place
-abbrev pub Entered : List ℕ → Routine → Type 0
-Entered code Main = Unit {0}
-Entered code (At q) = Reached code (fact (At q) q 0)
+abbrev pub RoutineEntered : List ℕ → Routine → Type 0
+RoutineEntered code Main = Unit {0}
+RoutineEntered code (At q) = Reached code (fact (At q) q 0)
 
 -- a routine of which some fact is reached is entered
-pub entered : {code : List ℕ} {f : Fact} → Reached code f → Entered code f.routine
+pub entered : {code : List ℕ} {f : Fact} → Reached code f → RoutineEntered code f.routine
 entered Reached.begins = tt
 entered (Reached.goes i next r g c o) = entered r
 entered (Reached.jumps i next to r g j) = entered r

@@ -25,7 +25,7 @@ pub record RowStays (len size base h : ℕ) (i : Ins) (next : ℕ) (f : Frame) (
   pub place : GoesTo i next d.effect.frame.at d.next
 
 -- Both, of every row, where the public segment is whole that it may load from; and no row makes that segment shorter.
-pub record RowFacts : Type 0 where
+pub record RowsAreCalm : Type 0 where
   pub calm : (len size base h : ℕ) (i : Ins) (next : ℕ) (f : Frame) (public : List ℕ) (x : Around) (c : Abend) → Shaped i → StandsAt len size base h f
       → need i ≤ h → is_indirect i ≡ false → places_inside len i next ≡ true → counts i ≡ None
       → (always_abends i ≡ false → size + base + height_after i h ≤ 512) → ((q : ℕ) → call_target i ≡ Some q → size + base + h + 4 ≤ 512)

@@ -7,9 +7,9 @@ use Rattle.std.proofs.lemmas.List.Sums.{count_by-le-length}
 use Rattle.std.proofs.lemmas.Option.{slice_get-get_or, slice_get_within, slice_get-map, get_or_from_slice_get, same_Some}
 use Rattle.mc_model.specs.declared.instruction.Ins.{Ins}
 use Rattle.mc_model.specs.declared.checker.CheckCause.{CheckCause}
-use Rattle.mc_model.specs.StackShape.{Routine, Main, At, Fact, fact, Look, Bad, Stands, look, Reached, IsBase, ReachesItself, Breaks}
+use Rattle.mc_model.specs.StackShape.{Routine, Main, At, Fact, fact, FactLook, Bad, Stands, look, Reached, IsBase, ReachesItself, Breaks}
 use Rattle.mc_model.specs.StackShape as shape
-use Rattle.mc_check.specs.Table.{routine_of, base_in, AreBases, IsDue, IsRefused}
+use Rattle.mc_check.specs.Table.{routine_of, base_in, AreBases, IsFaultDue, IsRefusalOf}
 use Rattle.mc_check.specs.declared.calls.Call.{Call}
 use Rattle.mc_check.specs.declared.table.Refusal.{Refusal}
 use Rattle.mc_check.specs.declared.table.Fault.{Fault}
@@ -108,10 +108,10 @@ module _ (code : List ℕ) (l : List Call) (bases : List ℕ) (are : AreCalls co
 
 -- ---- a refusal
 
-not_bad : (o : Look) (i : Ins) (next : ℕ) (alone : CheckCause) → o ≡ Stands i next → o ≡ Bad alone → ⊥
+not_bad : (o : FactLook) (i : Ins) (next : ℕ) (alone : CheckCause) → o ≡ Stands i next → o ≡ Bad alone → ⊥
 not_bad o i next alone stands bad = cc
 
-refusal_of : (code : List ℕ) (l : List Call) (r : Refusal) (session : ℕ) → AreCalls code l → IsRing l (Refused r) → IsRefused code session r
+refusal_of : (code : List ℕ) (l : List Call) (r : Refusal) (session : ℕ) → AreCalls code l → IsRing l (Refused r) → IsRefusalOf code session r
 refusal_of code l r session are ring =
     let c = ring.0 in
     let is = are.each ring.1.at c ring.1.there in
@@ -125,6 +125,6 @@ refusal_of code l r session are ring =
       first = λ alone bad. absurd (not_bad (look code f) is.good.0 is.good.1 alone is.good.2 bad);
     }
 
-pub fault_of : (code : List ℕ) (l : List Call) (fault : Fault) → AreCalls code l → IsRing l fault → IsDue code fault
+pub fault_of : (code : List ℕ) (l : List Call) (fault : Fault) → AreCalls code l → IsRing l fault → IsFaultDue code fault
 fault_of code l NoMemory are ring = tt
 fault_of code l (Refused r) are ring = λ session. refusal_of code l r session are ring

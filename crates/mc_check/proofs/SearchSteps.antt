@@ -13,9 +13,9 @@ use Rattle.mc_check.specs.declared.table.Routine.TheVariants as owner
 use Rattle.mc_check.specs.declared.bases.Progress.{Progress}
 use Rattle.mc_check.specs.declared.bases.Progress.TheVariants as progress
 use Rattle.mc_check.specs.declared.bases.Answer.TheVariants as answer
-use Rattle.mc_check.specs.CallList.{Has, IsCalled, AreClosed, EntersIn, IsBaseIn, ClosesRing}
+use Rattle.mc_check.specs.CallList.{ListsCall, IsCalled, AreClosed, EntersIn, IsBaseIn, ClosesRing}
 use Rattle.mc_check.specs.CallList as list
-use Rattle.mc_check.specs.Searching.{IsTold, Answers, is_unseen, unseen, AreBelow, StaySeen, Searches, left}
+use Rattle.mc_check.specs.Searching.{CallTells, Answers, is_unseen, unseen, AreBelow, StaySeen, Searches, left}
 use Rattle.mc_check.proofs.ListPlaces.{get_set_same, get_set_other, get_push_before, get_push_last, get_push, before, last, get_take, take_get}
 use Rattle.mc_check.proofs.CallTelling.{called_is_inside, caller_is_inside}
 use Rattle.mc_check.proofs.ToldBases.{told_unseen, told_open, told_bound, base_found}
@@ -94,7 +94,7 @@ module _ (states : List Progress) (l : List Call) (stack : List ℕ) (q : ℕ) (
       omega arith
 
   -- an unseen caller
-  module _ (p : ℕ) (tells : IsTold states l q (answer.Unseen p)) where
+  module _ (p : ℕ) (tells : CallTells states l q (answer.Unseen p)) where
     caller : tells.call.caller ≡ owner.At p
     caller = (told_unseen states tells.call p tells.call.caller tells.tells).by
 
@@ -116,7 +116,7 @@ module _ (states : List Progress) (l : List Call) (stack : List ℕ) (q : ℕ) (
     way : (i a : ℕ) → slice_get stack i ≡ Some a → EntersIn l (At p) (At a)
     way i a there =
         let inside = slice_get_within stack i a there in
-        let has : Has l (At p) tells.call.height q = record { at = tells.at; call = tells.call; there = tells.there; caller = ap routine_of caller; height = refl; target = tells.target } in
+        let has : ListsCall l (At p) tells.call.height q = record { at = tells.at; call = tells.call; there = tells.there; caller = ap routine_of caller; height = refl; target = tells.target } in
         list.further has (so.enters i (length stack - 1) a q (omega arith) there top)
 
     enters_pushed : (i j a b : ℕ) → i ≤ j → slice_get (stack ++ p ∷ []) i ≡ Some a → slice_get (stack ++ p ∷ []) j ≡ Some b → EntersIn l (At b) (At a)
@@ -163,7 +163,7 @@ module _ (states : List Progress) (l : List Call) (stack : List ℕ) (q : ℕ) (
     enters new now e f = step_as l states stack new (set states p progress.Open) now (stack ++ p ∷ []) e f (record { searches = entered; seen = stay_seen states p progress.Open caller_inside (λ same. cc); nearer = entered_nearer })
 
   -- an open caller
-  pub closes_ring : (place : ℕ) (tells : IsTold states l q (answer.Open place)) → ClosesRing l tells.call × (tells.call.place ≡ place)
+  pub closes_ring : (place : ℕ) (tells : CallTells states l q (answer.Open place)) → ClosesRing l tells.call × (tells.call.place ≡ place)
   closes_ring place tells =
       let told = told_open states tells.call place tells.call.caller tells.tells in
       let on = so.on_stack told.routine told.open_there in

@@ -12,14 +12,14 @@ use Rattle.mc_model.specs.declared.instruction.DecodeFault.TheVariants as fault
 use Rattle.mc_model.specs.declared.instruction.Ins.{Ins}
 use Rattle.mc_model.specs.Code.{decoded}
 use Rattle.mc_model.specs.StackRows.{need, is_indirect, counts, places_inside, is_call, is_plain, writing}
-use Rattle.mc_model.specs.StackShape.{Routine, Main, At, Fact, fact, is_main, Bad, look, Reached, Holds, ReachesItself, SharesPlace, WritesWild, TooDeep, Depth, Breaks, Accepts, Refuses}
+use Rattle.mc_model.specs.StackShape.{Routine, Main, At, Fact, fact, is_main, Bad, look, Reached, HoldsAtFact, ReachesItself, SharesPlace, WritesWild, TooDeep, Depth, Breaks, Accepts, Refuses}
 use Rattle.mc_check.specs.declared.table.Entry.{Entry}
 use Rattle.mc_check.specs.declared.table.Refusal.{Refusal}
-use Rattle.mc_check.specs.Judging.{calls_at, plain_at, depth_of, BeginsWithin, IsKept, HasCall, HasNoCall}
-use Rattle.mc_check.specs.Table.{routine_of, fact_of, base_in, IsWhole, AreBases, IsRefused}
+use Rattle.mc_check.specs.Judging.{calls_at, plain_at, depth_of, BeginsWithin, HasFactAt, HasCall, HasNoCall}
+use Rattle.mc_check.specs.Table.{routine_of, fact_of, base_in, IsWholeTable, AreBases, IsRefusalOf}
 use Rattle.mc_check.proofs.TableReads.{kept-inside}
-use Rattle.mc_check.proofs.Reaching.{Entered, entered}
-use Rattle.mc_check.proofs.FactLooks.{Fine as GoodAlone, fine as good-alone}
+use Rattle.mc_check.proofs.Reaching.{RoutineEntered, entered}
+use Rattle.mc_check.proofs.FactLooks.{KeepsRules as GoodAlone, fine as good-alone}
 
 -- ---- what stands at a place
 
@@ -50,12 +50,12 @@ depth_in code session bases calls p e =
     depth_of session p (base_in bases (routine_of e.routine)) e.height (calls && not (plain_at session e.height (decoded code p)))
 
 -- no rule was broken
-record Fine (deep wild : Bool) (s d : ℕ) : Type 0 where
+record NoRuleBroken (deep wild : Bool) (s d : ℕ) : Type 0 where
   shallow : deep ≡ false
   plain : wild ≡ false
   depth : s ≡ d
 
-fine : (deep wild : Bool) (a b : Refusal) (s d : ℕ) → cond deep (Err a) (cond wild (Err b) (Ok s)) ≡ Ok d → Fine deep wild s d
+fine : (deep wild : Bool) (a b : Refusal) (s d : ℕ) → cond deep (Err a) (cond wild (Err b) (Ok s)) ≡ Ok d → NoRuleBroken deep wild s d
 fine true wild a b s d h = absurd (cc h)
 fine false true a b s d h = absurd (cc h)
 fine false false a b s d h = record { shallow = refl; plain = refl; depth = cc h }
@@ -104,7 +104,7 @@ passes-none code session t bases calls =
     }
 
 -- a place without an entry
-pub passes-skip : (code : List ℕ) (session : ℕ) (t : List (Option Entry)) (bases : List ℕ) (calls : Bool) (n most : ℕ) → (IsKept t n → ⊥)
+pub passes-skip : (code : List ℕ) (session : ℕ) (t : List (Option Entry)) (bases : List ℕ) (calls : Bool) (n most : ℕ) → (HasFactAt t n → ⊥)
     → Passes code session t bases calls n most → Passes code session t bases calls (n + 1) most
 passes-skip code session t bases calls n most none passes =
     let Each : ℕ → Type 0 = λ p. (e : Entry) → slice_get t p ≡ Some (Some e) → (d : ℕ) × (depth_in code session bases calls p e ≡ Ok d) × (d ≤ most) in
@@ -154,7 +154,7 @@ passes-more code session t bases calls n most e d there depth reached passes =
 
 -- the code has a call where one is kept
 told-true : (code : List ℕ) (t : List (Option Entry)) (calls : Bool) → MatchBool calls (HasCall code t) (HasNoCall code t (length t))
-    → (p : ℕ) → IsKept t p → calls_at (decoded code p) ≡ true → calls ≡ true
+    → (p : ℕ) → HasFactAt t p → calls_at (decoded code p) ≡ true → calls ≡ true
 told-true code t true told p kept called = refl
 told-true code t false told p kept called = absurd (cc (told p (kept-inside t p kept) kept, called))
 
@@ -170,7 +170,7 @@ and-both false b h = absurd (cc h)
 
 -- what the pass knows before it begins
 pub record Known (code : List ℕ) (t : List (Option Entry)) (bases : List ℕ) (calls : Bool) : Type 0 where
-  pub whole : IsWhole code t
+  pub whole : IsWholeTable code t
   pub based : AreBases code bases
   pub told : MatchBool calls (HasCall code t) (HasNoCall code t (length t))
 
@@ -181,7 +181,7 @@ module _ (code : List ℕ) (session : ℕ) (t : List (Option Entry)) (bases : Li
       let g = (known.whole.sound f (known.whole.all f reached)).1 in
       (g.0, g.1, good-alone code f g.0 g.1 g.2)
 
-  no-holds : (f : Fact) (P : Ins → ℕ → Type 0) → Reached code f → ((i : Ins) (next : ℕ) → GoodAlone code f i next → P i next → ⊥) → Holds code f P → ⊥
+  no-holds : (f : Fact) (P : Ins → ℕ → Type 0) → Reached code f → ((i : Ins) (next : ℕ) → GoodAlone code f i next → P i next → ⊥) → HoldsAtFact code f P → ⊥
   no-holds f P reached not-there h =
       let g = good f reached in
       let ins = same-ins (decoded code f.place) h.0 g.0 h.1 g.1 h.2 g.2.there in
@@ -319,7 +319,7 @@ module _ (code : List ℕ) (session : ℕ) (t : List (Option Entry)) (bases : Li
         first = never-bad (fact_of p e) reached Wild;
       }
 
-  begins-within : (r : Routine) → Entered code r → BeginsWithin (length bases) r
+  begins-within : (r : Routine) → RoutineEntered code r → BeginsWithin (length bases) r
   begins-within Main h = tt
   begins-within (At q) h =
       let kept = known.whole.all (fact (At q) q 0) h in
@@ -330,14 +330,14 @@ module _ (code : List ℕ) (session : ℕ) (t : List (Option Entry)) (bases : Li
   pub entry-reached : (p : ℕ) (e : Entry) → slice_get t p ≡ Some (Some e) → Reached code (fact_of p e)
   entry-reached p e there = (known.whole.sound (fact_of p e) (e, there, refl)).0
 
-  pub refuses : (p : ℕ) (e : Entry) (r : Refusal) → slice_get t p ≡ Some (Some e) → depth_in code session bases calls p e ≡ Err r → IsRefused code session r
+  pub refuses : (p : ℕ) (e : Entry) (r : Refusal) → slice_get t p ≡ Some (Some e) → depth_in code session bases calls p e ≡ Err r → IsRefusalOf code session r
   refuses p e r there depth =
       let reached = entry-reached p e there in
       let base = base_in bases (routine_of e.routine) in
       let wild = calls && not (plain_at session e.height (decoded code p)) in
       elim (broken (nat_lt 512 (session + base + e.height)) wild (record { place = p; cause = Deep }) (record { place = p; cause = Wild }) r (base + e.height) depth) [
-        | inl deep ↦ subst (λ (x : Refusal). IsRefused code session x) deep.1 (too-deep p e reached (ltb-true 512 (session + base + e.height) deep.0))
-        | inr wrote ↦ subst (λ (x : Refusal). IsRefused code session x) wrote.1 (writes-wild p e reached wrote.0)
+        | inl deep ↦ subst (λ (x : Refusal). IsRefusalOf code session x) deep.1 (too-deep p e reached (ltb-true 512 (session + base + e.height) deep.0))
+        | inr wrote ↦ subst (λ (x : Refusal). IsRefusalOf code session x) wrote.1 (writes-wild p e reached wrote.0)
       ]
 
   -- the routine of an entry begins in the code

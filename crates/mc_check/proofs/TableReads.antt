@@ -5,7 +5,7 @@ use Rattle.std.proofs.lemmas.Option.{slice_get-get_or, get_or_from_slice_get, sl
 use native.Mathlib.Decide.{dec_lt}
 use Prim.{yes, no}
 use Rattle.mc_check.specs.declared.table.Entry.{Entry}
-use Rattle.mc_check.specs.Judging.{IsKept}
+use Rattle.mc_check.specs.Judging.{HasFactAt}
 
 -- an entry that a read gives stands in the table
 pub read-kept : (t : List (Option Entry)) (p : ℕ) (e : Entry) → p < length t → get_or t p None ≡ Some e → slice_get t p ≡ Some (Some e)
@@ -16,21 +16,21 @@ some-of None h = absurd (cc h)
 some-of (Some e) h = (e, refl)
 
 -- where a read gives something, an entry is kept
-pub some-kept : (t : List (Option Entry)) (p : ℕ) → p < length t → is_some (get_or t p None) ≡ true → IsKept t p
+pub some-kept : (t : List (Option Entry)) (p : ℕ) → p < length t → is_some (get_or t p None) ≡ true → HasFactAt t p
 some-kept t p inside h =
     let found = some-of (get_or t p None) h in
     (found.0, read-kept t p found.0 inside found.1)
 
 -- and where it gives nothing, none is
-pub none-kept : (t : List (Option Entry)) (p : ℕ) → is_some (get_or t p None) ≡ false → IsKept t p → ⊥
+pub none-kept : (t : List (Option Entry)) (p : ℕ) → is_some (get_or t p None) ≡ false → HasFactAt t p → ⊥
 none-kept t p h kept =
     let read = get_or_from_slice_get t p (Some kept.0) None kept.1 in
     cc (h, ap (λ (o : Option Entry). is_some o) read)
 
 -- a read that gives no entry finds none kept
-pub unread : (t : List (Option Entry)) (p : ℕ) → ((e : Entry) → get_or t p None ≡ Some e → ⊥) → IsKept t p → ⊥
+pub unread : (t : List (Option Entry)) (p : ℕ) → ((e : Entry) → get_or t p None ≡ Some e → ⊥) → HasFactAt t p → ⊥
 unread t p none kept = none kept.0 (get_or_from_slice_get t p (Some kept.0) None kept.1)
 
 -- a place with an entry is one of the table's
-pub kept-inside : (t : List (Option Entry)) (p : ℕ) → IsKept t p → p < length t
+pub kept-inside : (t : List (Option Entry)) (p : ℕ) → HasFactAt t p → p < length t
 kept-inside t p kept = elim (dec_lt p (length t)) [ yes inside ↦ inside | no outside ↦ absurd (cc (kept.1, slice_get_past t p (omega (arith, outside)))) ]

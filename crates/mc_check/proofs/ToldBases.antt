@@ -10,9 +10,9 @@ use Rattle.mc_check.specs.declared.table.Routine.TheVariants as owner
 use Rattle.mc_check.specs.declared.bases.Progress.{Progress}
 use Rattle.mc_check.specs.declared.bases.Progress.TheVariants as progress
 use Rattle.mc_check.specs.declared.bases.Answer.TheVariants as answer
-use Rattle.mc_check.specs.CallList.{Has, AreClosed, DepthIn, IsBaseIn}
+use Rattle.mc_check.specs.CallList.{ListsCall, AreClosed, DepthIn, IsBaseIn}
 use Rattle.mc_check.specs.CallList as list
-use Rattle.mc_check.specs.Searching.{told_by, told_of, IsTold, AreAtMost, Answers, AreBelow}
+use Rattle.mc_check.specs.Searching.{told_by, told_of, CallTells, AreAtMost, Answers, AreBelow}
 
 -- ---- one call
 
@@ -72,7 +72,7 @@ told_base states c b (owner.At r) e =
 -- ---- bounds
 
 -- what a call tells is little more than the bases before
-pub told_bound : (states : List Progress) (l : List Call) (q b most : ℕ) → AreClosed (length states) l → AreBelow most states → IsTold states l q (answer.Base b) → b ≤ most + 65539
+pub told_bound : (states : List Progress) (l : List Call) (q b most : ℕ) → AreClosed (length states) l → AreBelow most states → CallTells states l q (answer.Base b) → b ≤ most + 65539
 told_bound states l q b most closed below tells =
     let small = closed.heights tells.at tells.call tells.there in
     elim (told_base states tells.call b tells.call.caller tells.tells) [
@@ -87,16 +87,16 @@ main_depth list.main is = refl
 main_depth (list.called deep has) is = cc
 
 module _ (states : List Progress) (l : List Call) (known : (q b : ℕ) → slice_get states q ≡ Some (progress.Done b) → IsBaseIn l q b) where
-  reached_by : (q b : ℕ) → IsTold states l q (answer.Base b) → DepthIn l (At q) b
+  reached_by : (q b : ℕ) → CallTells states l q (answer.Base b) → DepthIn l (At q) b
   reached_by q b tells =
       let c = tells.call in
       elim (told_base states c b c.caller tells.tells) [
         | by_main main is ↦
-            let has : Has l Main c.height q = record { at = tells.at; call = c; there = tells.there; caller = ap routine_of main; height = refl; target = tells.target } in
+            let has : ListsCall l Main c.height q = record { at = tells.at; call = c; there = tells.there; caller = ap routine_of main; height = refl; target = tells.target } in
             let same : 0 + c.height + 4 ≡ b = omega arith in
             subst (λ (n : ℕ). DepthIn l (At q) n) same (list.called list.main has)
         | by_done r d by there is ↦
-            let has : Has l (At r) c.height q = record { at = tells.at; call = c; there = tells.there; caller = ap routine_of by; height = refl; target = tells.target } in
+            let has : ListsCall l (At r) c.height q = record { at = tells.at; call = c; there = tells.there; caller = ap routine_of by; height = refl; target = tells.target } in
             subst (λ (n : ℕ). DepthIn l (At q) n) is (list.called (known r d there).reached has)
       ]
 

@@ -79,7 +79,7 @@ line_told c seat budget (line.Load u fixed session) = sent_told c seat budget (b
 line_told c seat budget _ = refl
 
 -- a line tells the turns of its runs, and has the state and the line that it was played in and by
-record Tells (s : State) (l : DeckLine) (t : Step) : Type 0 where
+record LineTells (s : State) (l : DeckLine) (t : Step) : Type 0 where
   before : t.before ≡ s
   line : t.line ≡ l
   turns : bare (turns_in s (bytes_of l)) ≡ t.turns
@@ -102,17 +102,17 @@ card_told n l s (Running seat) (AtFault cause p) w = record { before = refl; lin
 card_told n l s Unpowered b w = record { before = refl; line = refl; turns = refl }
 card_told n l s Muted b w = record { before = refl; line = refl; turns = refl }
 
-on_card : (n : ℕ) (l : DeckLine) (s : Warm) (w : Option WornAt) → Tells (Hot s) l (card_line n l s s.live s.base w)
+on_card : (n : ℕ) (l : DeckLine) (s : Warm) (w : Option WornAt) → LineTells (Hot s) l (card_line n l s s.live s.base w)
 on_card n l s w = let told = card_told n l s s.live s.base w in record { before = told.before; line = told.line; turns = told.turns }
 
-hot_told : (n : ℕ) (l : DeckLine) (s : Warm) (w : Option WornAt) → Tells (Hot s) l (hot_step n l s w)
+hot_told : (n : ℕ) (l : DeckLine) (s : Warm) (w : Option WornAt) → LineTells (Hot s) l (hot_step n l s w)
 hot_told n (line.Load u fixed session) s w = on_card n (line.Load u fixed session) s w
 hot_told n (line.Select a) s w = on_card n (line.Select a) s w
 hot_told n (line.Delete a) s w = on_card n (line.Delete a) s w
 hot_told n (line.Apdu b) s w = on_card n (line.Apdu b) s w
 hot_told n _ s w = record { before = refl; line = refl; turns = none_taken s.live s.base s.budget }
 
-cold_told : (n : ℕ) (l : DeckLine) (m : List (List ℕ)) (b : ℕ) (a : Armed) (w : Option WornAt) → Tells (Cold m b a) l (cold_step n l m b a w)
+cold_told : (n : ℕ) (l : DeckLine) (m : List (List ℕ)) (b : ℕ) (a : Armed) (w : Option WornAt) → LineTells (Cold m b a) l (cold_step n l m b a w)
 cold_told n line.Format m b a w = record { before = refl; line = refl; turns = refl }
 cold_told n (line.Poke at x) m b a w = record { before = refl; line = refl; turns = refl }
 cold_told n line.Named m b a w = record { before = refl; line = refl; turns = refl }
@@ -126,7 +126,7 @@ cold_told n (line.Select x) m b a w = record { before = refl; line = refl; turns
 cold_told n (line.Delete x) m b a w = record { before = refl; line = refl; turns = refl }
 cold_told n (line.Apdu x) m b a w = record { before = refl; line = refl; turns = refl }
 
-step_told : (s : State) (l : ℕ × DeckLine) (w : Option WornAt) → Tells s l.1 (step s l w)
+step_told : (s : State) (l : ℕ × DeckLine) (w : Option WornAt) → LineTells s l.1 (step s l w)
 unfolding step
 step_told (Cold m b a) l w = cold_told l.0 l.1 m b a w
 step_told (Hot s) l w = hot_told l.0 l.1 s w

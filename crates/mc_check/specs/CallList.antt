@@ -5,7 +5,7 @@ use Rattle.mc_model.specs.declared.instruction.DecodeFault.{DecodeFault}
 use Rattle.mc_model.specs.declared.checker.CheckCause.TheVariants.{Recursive}
 use Rattle.mc_model.specs.StackRows.{call_target}
 use Rattle.mc_model.specs.StackShape.{Routine, Main, At, fact, Reached, IsAt, Calls}
-use Rattle.mc_check.specs.Table.{routine_of, IsGood}
+use Rattle.mc_check.specs.Table.{routine_of, IsGoodFact}
 use Rattle.mc_check.specs.declared.calls.Call.{Call}
 use Rattle.mc_check.specs.declared.table.Entry.{Entry}
 use Rattle.mc_check.specs.declared.table.Fault.{Fault}
@@ -24,7 +24,7 @@ abbrev pub call_of : ℕ → Entry → ℕ → Call
 call_of p e q = record { place = p; caller = e.routine; height = e.height; target = q }
 
 -- the list has a call by this routine, at this height, of the routine at q
-pub record Has (calls : List Call) (r : Routine) (h q : ℕ) : Type 0 where
+pub record ListsCall (calls : List Call) (r : Routine) (h q : ℕ) : Type 0 where
   pub at : ℕ
   pub call : Call
   pub there : slice_get calls at ≡ Some call
@@ -34,12 +34,12 @@ pub record Has (calls : List Call) (r : Routine) (h q : ℕ) : Type 0 where
 
 -- some call of the list is one of the routine at q
 abbrev pub IsCalled : List Call → ℕ → Type 0
-IsCalled calls q = (r : Routine) × (h : ℕ) × Has calls r h q
+IsCalled calls q = (r : Routine) × (h : ℕ) × ListsCall calls r h q
 
 -- a call that the code has
 pub record IsCall (code : List ℕ) (c : Call) : Type 0 where
   pub reached : Reached code (fact (routine_of c.caller) c.place c.height)
-  pub good : IsGood code (fact (routine_of c.caller) c.place c.height)
+  pub good : IsGoodFact code (fact (routine_of c.caller) c.place c.height)
   pub ins : Ins
   pub stands : IsAt code c.place ins
   pub target : call_target ins ≡ Some c.target
@@ -54,19 +54,19 @@ pub record AreClosed (len : ℕ) (calls : List Call) : Type 0 where
 pub record AreCalls (code : List ℕ) (calls : List Call) : Type 0 where
   pub closed : AreClosed (length code) calls
   pub each : (k : ℕ) (c : Call) → slice_get calls k ≡ Some c → IsCall code c
-  pub all : (r : Routine) (h q : ℕ) → Calls code r h q → Has calls r h q
+  pub all : (r : Routine) (h q : ℕ) → Calls code r h q → ListsCall calls r h q
 
 -- ---- what the list says of bases
 
 -- LB of a routine may lie this far above the floor, by the listed calls from main to it
 pub data DepthIn (calls : List Call) : Routine → ℕ → Type 0 where
   main : DepthIn calls Main 0
-  called : {r : Routine} {b h q : ℕ} → DepthIn calls r b → Has calls r h q → DepthIn calls (At q) (b + h + 4)
+  called : {r : Routine} {b h q : ℕ} → DepthIn calls r b → ListsCall calls r h q → DepthIn calls (At q) (b + h + 4)
 
 -- a routine reaches another one by listed calls, or is it
 pub data EntersIn (calls : List Call) : Routine → Routine → Type 0 where
   same : {r : Routine} → EntersIn calls r r
-  further : {r s : Routine} {h q : ℕ} → Has calls r h q → EntersIn calls (At q) s → EntersIn calls r s
+  further : {r s : Routine} {h q : ℕ} → ListsCall calls r h q → EntersIn calls (At q) s → EntersIn calls r s
 
 -- the greatest depth of the routine at q
 pub record IsBaseIn (calls : List Call) (q b : ℕ) : Type 0 where

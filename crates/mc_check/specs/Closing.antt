@@ -3,12 +3,12 @@ use Rattle.std.specs.Prelude.{◌≡◌, ◌⊎◌, ◌<◌, ◌≤◌, ◌+◌,
 use Rattle.mc_model.specs.declared.instruction.Ins.{Ins}
 use Rattle.mc_model.specs.Code.{Shaped}
 use Rattle.mc_model.specs.StackRows.{height_after, counts, goes_on, jump_target, call_target, is_conditional}
-use Rattle.mc_model.specs.StackShape.{Routine, Main, At, Fact, fact, Stands, look, Counts}
+use Rattle.mc_model.specs.StackShape.{Routine, Main, At, Fact, fact, Stands, look, ReturnsWith}
 use Rattle.mc_check.specs.declared.table.Entry.{Entry}
 use Rattle.mc_check.specs.declared.shape.Counts.{Counts as Pair}
 use Rattle.mc_check.specs.declared.closing.Closing.{Closing}
 use Rattle.mc_check.specs.declared.closing.Found.{Found}
-use Rattle.mc_check.specs.Table.{fact_of, IsIn, IsSound}
+use Rattle.mc_check.specs.Table.{fact_of, IsIn, IsSoundTable}
 
 -- ---- what was found
 
@@ -50,21 +50,21 @@ left s = 2 * free s.table + length s.work
 
 -- a routine returns with these counts
 pub record IsReal (code : List ℕ) (routine : ℕ) (c : Pair) : Type 0 where
-  pub counts : Counts code (At routine) c.less c.more
+  pub counts : ReturnsWith code (At routine) c.less c.more
   pub less : c.less ≤ 255
 
 -- each fact is reached and good, each routine's counts are those of one of its returns, and all places are in the code
 pub record IsFit (code : List ℕ) (s : Tables) : Type 0 where
   pub size : length s.table ≡ length code
   pub counts_size : length s.counts ≡ length code
-  pub sound : IsSound code s.table
+  pub sound : IsSoundTable code s.table
   pub real : (routine : ℕ) (c : Pair) → slice_get s.counts routine ≡ Some (Some c) → IsReal code routine c
   pub places : (place : ℕ) → IsAmong s.work place → place < length code
 
 -- ---- what follows from a fact
 
 -- the facts that a fact gives whatever the counts are
-pub record Leads (t : List (Option Entry)) (f : Fact) (i : Ins) (next : ℕ) : Type 0 where
+pub record HasSuccessors (t : List (Option Entry)) (f : Fact) (i : Ins) (next : ℕ) : Type 0 where
   pub goes : call_target i ≡ None → goes_on i ≡ true → IsIn t (fact f.routine next (height_after i f.height))
   pub jumps : (to : ℕ) → jump_target i next ≡ Some (Some to) → IsIn t (fact f.routine to f.height)
   pub calls : (q : ℕ) → call_target i ≡ Some q → IsIn t (fact (At q) q 0)
@@ -86,7 +86,7 @@ HasCounts cs (At routine) less more = slice_get cs routine ≡ Some (Some (recor
 
 -- all that follows from a fact is in the tables
 pub record IsFollowed (t : List (Option Entry)) (cs : List (Option Pair)) (f : Fact) (i : Ins) (next : ℕ) : Type 0 where
-  pub leads : f.height ≤ 512 → Leads t f i next
+  pub leads : f.height ≤ 512 → HasSuccessors t f i next
   pub back : (routine : ℕ) (c : Pair) → call_target i ≡ Some routine → slice_get cs routine ≡ Some (Some c) → ComesBack t f next c.less c.more
   pub counted : (less more : ℕ) → counts i ≡ Some (less, more) → HasCounts cs f.routine less more
 
@@ -97,13 +97,13 @@ IsClosed code t cs f = (i : Ins) (next : ℕ) → look code f ≡ Stands i next 
 -- ---- the search
 
 -- the first fact is there, and each fact is closed or waits
-pub record IsOpen (code : List ℕ) (waiting : List ℕ) (s : Tables) : Type 0 where
+pub record ClosedOrWaiting (code : List ℕ) (waiting : List ℕ) (s : Tables) : Type 0 where
   pub fit : IsFit code s
   pub first : IsIn s.table (fact Main 0 0)
   pub closed : (f : Fact) → IsIn s.table f → IsClosed code s.table s.counts f ⊎ IsAmong waiting f.place
 
 -- facts came into the tables, and these wait
-pub record Adds (old new : Tables) : Type 0 where
+pub record AddsFacts (old new : Tables) : Type 0 where
   pub kept : (f : Fact) → IsIn old.table f → IsIn new.table f
   pub counts : new.counts ≡ old.counts
   pub waiting : (place : ℕ) → IsAmong old.work place → IsAmong new.work place

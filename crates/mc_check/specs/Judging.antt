@@ -31,13 +31,13 @@ BeginsWithin n Main = Unit {0}
 BeginsWithin n (At q) = q < n
 
 -- a fact of the table stands at the place
-abbrev pub IsKept : List (Option Entry) → ℕ → Type 0
-IsKept t p = (e : Entry) × (slice_get t p ≡ Some (Some e))
+abbrev pub HasFactAt : List (Option Entry) → ℕ → Type 0
+HasFactAt t p = (e : Entry) × (slice_get t p ≡ Some (Some e))
 
 -- a call stands at a place of the table
 abbrev pub HasCall : List ℕ → List (Option Entry) → Type 0
-HasCall code t = (p : ℕ) × IsKept t p × (calls_at (decoded code p) ≡ true)
+HasCall code t = (p : ℕ) × HasFactAt t p × (calls_at (decoded code p) ≡ true)
 
 -- none stands at any of its places before the n-th
 abbrev pub HasNoCall : List ℕ → List (Option Entry) → ℕ → Type 0
-HasNoCall code t n = (p : ℕ) → p < n → IsKept t p → calls_at (decoded code p) ≡ false
+HasNoCall code t n = (p : ℕ) → p < n → HasFactAt t p → calls_at (decoded code p) ≡ false

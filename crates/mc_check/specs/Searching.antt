@@ -29,7 +29,7 @@ abbrev pub told : List Progress → Call → Answer
 told states c = told_of states c c.caller
 
 -- a call of the routine at q tells this
-pub record IsTold (states : List Progress) (calls : List Call) (q : ℕ) (a : Answer) : Type 0 where
+pub record CallTells (states : List Progress) (calls : List Call) (q : ℕ) (a : Answer) : Type 0 where
   pub at : ℕ
   pub call : Call
   pub there : slice_get calls at ≡ Some call
@@ -43,9 +43,9 @@ AreAtMost states calls q n b =
 
 -- the greatest base that the calls of the routine at q tell, or a caller without a base
 abbrev pub Answers : List Progress → List Call → ℕ → Answer → Type 0
-Answers states calls q (answer.Base b) = IsTold states calls q (answer.Base b) × AreAtMost states calls q (length calls) b
-Answers states calls q (answer.Unseen p) = IsTold states calls q (answer.Unseen p)
-Answers states calls q (answer.Open p) = IsTold states calls q (answer.Open p)
+Answers states calls q (answer.Base b) = CallTells states calls q (answer.Base b) × AreAtMost states calls q (length calls) b
+Answers states calls q (answer.Unseen p) = CallTells states calls q (answer.Unseen p)
+Answers states calls q (answer.Open p) = CallTells states calls q (answer.Open p)
 
 -- ---- the state of the search
 

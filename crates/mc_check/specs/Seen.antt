@@ -5,7 +5,7 @@ use Rattle.mc_model.specs.declared.checker.CheckCause.TheVariants.{Undefined, Pa
 use Rattle.mc_model.specs.declared.instruction.DecodeFault.{DecodeFault}
 use Rattle.mc_model.specs.declared.instruction.DecodeFault.TheVariants as fault
 use Rattle.mc_model.specs.StackRows as shape
-use Rattle.mc_model.specs.StackShape.{Look, Bad, Stands}
+use Rattle.mc_model.specs.StackShape.{FactLook, Bad, Stands}
 use Rattle.mc_check.specs.declared.shape.Counts.{Counts}
 use Rattle.mc_check.specs.declared.shape.Seen.{Seen}
 use Rattle.mc_check.specs.declared.uses.Uses.{Uses}
@@ -32,6 +32,6 @@ cause_of fault.Undefined = Undefined
 cause_of fault.Past = Past
 
 -- what a fact alone shows
-abbrev pub seen_as : Result Seen CheckCause → Look
+abbrev pub seen_as : Result Seen CheckCause → FactLook
 seen_as (Ok s) = Stands s.ins s.next
 seen_as (Err cause) = Bad cause

@@ -22,8 +22,8 @@ calls_of f = take (f.lb - floor f) (drop f.session f.dyn)
 
 -- The open calls of a routine, whose LB lies that much above the floor, in the bytes of the stack from the floor on: a CALL of
 -- each routine, the first one of main, with the LB and the return address that it pushed.
-pub data Open (code : List ℕ) (session : ℕ) (bytes : List ℕ) : Routine → ℕ → Type 0 where
-  none : Open code session bytes Main 0
-  call : {r : Routine} {p h b q : ℕ} (i : Ins) (next : ℕ) → Open code session bytes r b → Reached code (fact r p h) → Gives code (fact r p h) i next
+pub data OpenCalls (code : List ℕ) (session : ℕ) (bytes : List ℕ) : Routine → ℕ → Type 0 where
+  none : OpenCalls code session bytes Main 0
+  call : {r : Routine} {p h b q : ℕ} (i : Ins) (next : ℕ) → OpenCalls code session bytes r b → Reached code (fact r p h) → Gives code (fact r p h) i next
       → call_target i ≡ Some q → take 2 (drop (b + h) bytes) ≡ bytes2 (dynamic_base + session + b) → take 2 (drop (b + h + 2) bytes) ≡ bytes2 next
-      → Open code session bytes (At q) (b + h + 4)
+      → OpenCalls code session bytes (At q) (b + h + 4)

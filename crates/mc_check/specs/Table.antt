@@ -23,30 +23,30 @@ abbrev pub IsIn : List (Option Entry) → Fact → Type 0
 IsIn t f = (e : Entry) × (slice_get t f.place ≡ Some (Some e)) × (fact_of f.place e ≡ f)
 
 -- nothing that is seen from the fact alone is wrong with it
-abbrev pub IsGood : List ℕ → Fact → Type 0
-IsGood code f = (i : Ins) × (next : ℕ) × (look code f ≡ Stands i next)
+abbrev pub IsGoodFact : List ℕ → Fact → Type 0
+IsGoodFact code f = (i : Ins) × (next : ℕ) × (look code f ≡ Stands i next)
 
 -- each fact of the table is reached, and good by itself
-abbrev pub IsSound : List ℕ → List (Option Entry) → Type 0
-IsSound code t = (f : Fact) → IsIn t f → Reached code f × IsGood code f
+abbrev pub IsSoundTable : List ℕ → List (Option Entry) → Type 0
+IsSoundTable code t = (f : Fact) → IsIn t f → Reached code f × IsGoodFact code f
 
 -- The table of all facts: none is wrong by itself, no two have the same place, no two returns of a routine differ, and each CALL finds
 -- the bytes that its routine takes.
-pub record IsWhole (code : List ℕ) (t : List (Option Entry)) : Type 0 where
+pub record IsWholeTable (code : List ℕ) (t : List (Option Entry)) : Type 0 where
   pub size : length t ≡ length code
-  pub sound : IsSound code t
+  pub sound : IsSoundTable code t
   pub all : (f : Fact) → Reached code f → IsIn t f
   pub returns : (f : Fact) → Reached code f → Differs code f → ⊥
   pub takes : (f : Fact) → Reached code f → TakesMore code f → ⊥
 
 -- a refusal whose cause does not depend on session bytes
-abbrev pub IsRefused : List ℕ → ℕ → Refusal → Type 0
-IsRefused code session r = Refuses code session r.place r.cause
+abbrev pub IsRefusalOf : List ℕ → ℕ → Refusal → Type 0
+IsRefusalOf code session r = Refuses code session r.place r.cause
 
 -- a fault that is due: want of memory, or a refusal whatever the session bytes are
-abbrev pub IsDue : List ℕ → Fault → Type 0
-IsDue code NoMemory = Unit {0}
-IsDue code (Refused r) = (session : ℕ) → IsRefused code session r
+abbrev pub IsFaultDue : List ℕ → Fault → Type 0
+IsFaultDue code NoMemory = Unit {0}
+IsFaultDue code (Refused r) = (session : ℕ) → IsRefusalOf code session r
 
 -- the base of a routine in a list of bases by place
 abbrev pub base_in : List ℕ → Routine → ℕ

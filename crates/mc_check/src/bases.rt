@@ -1,6 +1,7 @@
 // The bases of routines, or a call by which a routine reaches itself: a search along the calls, from routines to their callers.
 ghost use Rattle.std.specs.Prelude.{◌≡◌, ◌<◌, ◌≤◌, ◌-◌, ◌^◌, ◌++◌, ◌∷◌, ℕ, [], length, replicate, map, take, slice_get, slice_set, Some, OnOk, IfOk, IfErr};
-ghost use Rattle.mc_check.specs.Table.{IsWhole, AreBases, IsDue};
+ghost use Rattle.mc_model.specs.Limits.{most_code};
+ghost use Rattle.mc_check.specs.Table.{IsWholeTable, AreBases, IsFaultDue};
 ghost use Rattle.mc_check.specs.CallList.{AreClosed, AreBasesIn, IsCalled, IsRing};
 ghost use Rattle.mc_check.specs.Searching.{told, Answers, AreBelow, IsSeen, StaySeen, Searches, left, base_of};
 
@@ -113,7 +114,7 @@ impl Search {
 
     // One step with the routine that was entered last: it is left, or an unseen caller of it is entered.
     fn advance(&mut self, calls: &[Call], routine: u16) -> Result<(), Fault>
-        requires len { length self.old.progress.items ≤ 8192 }
+        requires len { length self.old.progress.items ≤ most_code }
         requires closed { AreClosed (length self.old.progress.items) calls.now }
         requires searches { Searches calls.now self.old.progress.items self.old.stack.items }
         requires last { slice_get self.old.stack.items (length self.old.stack.items - 1) ≡ Some routine }
@@ -142,7 +143,7 @@ impl Search {
 
     // Finds the base of a routine, and the bases of all routines that reach it by calls.
     fn find(&mut self, calls: &[Call], routine: u16) -> Result<(), Fault>
-        requires len { length self.old.progress.items ≤ 8192 }
+        requires len { length self.old.progress.items ≤ most_code }
         requires closed { AreClosed (length self.old.progress.items) calls.now }
         requires called { IsCalled calls.now routine }
         requires searches { Searches calls.now self.old.progress.items [] }
@@ -180,7 +181,7 @@ fn found(alloc: Global, progress: &[Progress]) -> Result<Vec<u32>, AllocError>
 
 // The bases of the routines that are called, in code of so many bytes; or a call by which a routine reaches itself.
 fn bases_by(alloc: Global, calls: &[Call], len: usize) -> Result<Vec<u32>, Fault>
-    requires len { len ≤ 8192 }
+    requires len { len ≤ most_code }
     requires closed { AreClosed len calls.now }
     ensures bases { IfOk result (λ bases. AreBasesIn len calls.now bases.items) }
     ensures ring { IfErr result (IsRing calls.now) }
@@ -195,10 +196,10 @@ fn bases_by(alloc: Global, calls: &[Call], len: usize) -> Result<Vec<u32>, Fault
 /// The bases of the routines that are reached, by their places, from the table of all facts; or a CALL by which its routine
 /// reaches itself.
 pub fn find_bases(alloc: Global, code: &[u8], table: &[Option<Entry>]) -> Result<Vec<u32>, Fault>
-    requires high { length code.now ≤ 8192 }
-    requires whole { IsWhole code.now table.now }
+    requires high { length code.now ≤ most_code }
+    requires whole { IsWholeTable code.now table.now }
     ensures bases { IfOk result (λ bases. AreBases code.now bases.items) }
-    ensures due { IfErr result (IsDue code.now) }
+    ensures due { IfErr result (IsFaultDue code.now) }
 {
     let calls = list_calls(alloc, code, table)?;
     bases_by(alloc, calls.as_slice(), code.len())

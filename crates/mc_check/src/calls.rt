@@ -1,7 +1,8 @@
 // The calls between the routines of code.
 ghost use Rattle.std.specs.Prelude.{◌≡◌, ◌≤◌, length, option_map, IfSome, IfOk};
+ghost use Rattle.mc_model.specs.Limits.{most_code};
 ghost use Rattle.mc_model.specs.Code.{decoded};
-ghost use Rattle.mc_check.specs.Table.{IsWhole};
+ghost use Rattle.mc_check.specs.Table.{IsWholeTable};
 ghost use Rattle.mc_check.specs.CallList.{AreCalls, call_of, target_of};
 
 use crate::shape::call_target;
@@ -21,7 +22,7 @@ pub struct Call {
 
 // The routine that is called by the instruction at a place.
 fn called_at(code: &[u8], place: u16) -> Option<u16>
-    requires { length code.now ≤ 8192 }
+    requires { length code.now ≤ most_code }
     ensures { result ≡ target_of (decoded code.now place) }
 {
     match decode(code, place) {
@@ -32,7 +33,7 @@ fn called_at(code: &[u8], place: u16) -> Option<u16>
 
 // The call that stands at an entry, if one does.
 fn call_at(code: &[u8], place: u16, entry: Entry) -> Option<Call>
-    requires { length code.now ≤ 8192 }
+    requires { length code.now ≤ most_code }
     ensures call { result ≡ option_map (call_of place entry) (target_of (decoded code.now place)) }
     ensures height { IfSome result (λ call. call.height ≤ 65535) }
 {
@@ -51,8 +52,8 @@ pub fn list_calls(
     code: &[u8],
     table: &[Option<Entry>],
 ) -> Result<Vec<Call>, AllocError>
-    requires high { length code.now ≤ 8192 }
-    requires whole { IsWhole code.now table.now }
+    requires high { length code.now ≤ most_code }
+    requires whole { IsWholeTable code.now table.now }
     ensures { IfOk result (λ calls. AreCalls code.now calls.items) }
 {
     let mut calls = Vec::new(alloc);

@@ -1,8 +1,9 @@
 // The search for all facts of code. It ends with a table of them, or at the first fact that is seen to break a rule.
 ghost use Rattle.std.specs.Prelude.{◌≡◌, ◌⊎◌, ℕ, ◌+◌, ◌<◌, ◌≤◌, true, [], ◌∷◌, length, replicate, slice_get, OnOk, IfOk, IfErr};
+ghost use Rattle.mc_model.specs.Limits.{most_code};
 ghost use Rattle.mc_model.specs.StackRows as shape;
 ghost use Rattle.mc_model.specs.StackShape as stack;
-ghost use Rattle.mc_check.specs.Table.{fact_of, IsDue, IsGood, IsIn, IsWhole};
+ghost use Rattle.mc_check.specs.Table.{fact_of, IsFaultDue, IsGoodFact, IsIn, IsWholeTable};
 ghost use Rattle.mc_check.specs.Closing as closing;
 
 use crate::shape::{
@@ -41,12 +42,12 @@ fn refusal(place: u16, cause: CheckCause) -> Fault
 
 // What stands at a fact, which is refused where it is bad by itself.
 fn find(code: &[u8], place: u16, entry: Entry) -> Result<Found, Fault>
-    requires high { length code.now ≤ 8192 }
+    requires high { length code.now ≤ most_code }
     requires reached { stack.Reached code.now (fact_of place entry) }
     ensures place { IfOk result (λ found. found.place ≡ place) }
     ensures entry { IfOk result (λ found. found.entry ≡ entry) }
     ensures found { IfOk result (closing.IsFound code.now) }
-    ensures due { IfErr result (λ fault. IsDue code.now fault) }
+    ensures due { IfErr result (λ fault. IsFaultDue code.now fault) }
 {
     match look(code, place, entry) {
         Ok(seen) => Ok(Found { place, entry, seen }),
@@ -57,10 +58,10 @@ fn find(code: &[u8], place: u16, entry: Entry) -> Result<Found, Fault>
 // Two facts with one place have to be the same.
 fn same_fact(code: &[u8], place: u16, known: Entry, entry: Entry) -> Result<(), Fault>
     requires known { stack.Reached code.now (fact_of place known) }
-    requires good { IsGood code.now (fact_of place known) }
+    requires good { IsGoodFact code.now (fact_of place known) }
     requires reached { stack.Reached code.now (fact_of place entry) }
     ensures same { OnOk result (known ≡ entry) }
-    ensures due { IfErr result (λ fault. IsDue code.now fault) }
+    ensures due { IfErr result (λ fault. IsFaultDue code.now fault) }
 {
     if known == entry {
         Ok(())
@@ -74,9 +75,9 @@ fn same_counts(code: &[u8], found: Found, known: Counts, counts: Counts) -> Resu
     requires reached { stack.Reached code.now (closing.found_fact found) }
     requires found { closing.IsFound code.now found }
     requires returns { shape.counts found.seen.ins ≡ Some (counts.less, counts.more) }
-    requires known { stack.Counts code.now (closing.found_fact found).routine known.less known.more }
+    requires known { stack.ReturnsWith code.now (closing.found_fact found).routine known.less known.more }
     ensures same { OnOk result (known ≡ counts) }
-    ensures due { IfErr result (λ fault. IsDue code.now fault) }
+    ensures due { IfErr result (λ fault. IsFaultDue code.now fault) }
 {
     if known == counts {
         Ok(())
@@ -100,14 +101,14 @@ impl Closing {
 
     // Puts a fact into the table, if it is good by itself and no other fact has its place.
     fn add(&mut self, code: &[u8], place: u16, entry: Entry) -> Result<(), Fault>
-        requires high { length code.now ≤ 8192 }
+        requires high { length code.now ≤ most_code }
         requires inside { place < length code.now }
         requires fit { closing.IsFit code.now (closing.tables_of self.old) }
         requires reached { stack.Reached code.now (fact_of place entry) }
         ensures fit { OnOk result (closing.IsFit code.now (closing.tables_of self.new)) }
-        ensures adds { OnOk result (closing.Adds (closing.tables_of self.old) (closing.tables_of self.new)) }
+        ensures adds { OnOk result (closing.AddsFacts (closing.tables_of self.old) (closing.tables_of self.new)) }
         ensures there { OnOk result (IsIn self.new.table.items (fact_of place entry)) }
-        ensures due { IfErr result (λ fault. IsDue code.now fault) }
+        ensures due { IfErr result (λ fault. IsFaultDue code.now fault) }
     {
         if let Some(known) = self.table[place as usize] {
             return same_fact(code, place, known, entry);
@@ -120,17 +121,17 @@ impl Closing {
 
     // Follows a CALL to the place behind it, where its routine has these counts.
     fn come_back(&mut self, code: &[u8], found: Found, counts: Counts) -> Result<(), Fault>
-        requires high { length code.now ≤ 8192 }
+        requires high { length code.now ≤ most_code }
         requires fit { closing.IsFit code.now (closing.tables_of self.old) }
         requires here { IsIn self.old.table.items (closing.found_fact found) }
         requires found { closing.IsFound code.now found }
         requires calls { (routine : ℕ) × (shape.call_target found.seen.ins ≡ Some routine)
             × closing.IsReal code.now routine counts }
         ensures fit { OnOk result (closing.IsFit code.now (closing.tables_of self.new)) }
-        ensures adds { OnOk result (closing.Adds (closing.tables_of self.old) (closing.tables_of self.new)) }
+        ensures adds { OnOk result (closing.AddsFacts (closing.tables_of self.old) (closing.tables_of self.new)) }
         ensures back { OnOk result (closing.ComesBack self.new.table.items
             (closing.found_fact found) found.seen.next counts.less counts.more) }
-        ensures due { IfErr result (λ fault. IsDue code.now fault) }
+        ensures due { IfErr result (λ fault. IsFaultDue code.now fault) }
     {
         let less = u16::from(counts.less);
         if found.entry.height < less {
@@ -154,15 +155,15 @@ impl Closing {
         routine: u16,
         counts: Counts,
     ) -> Result<(), Fault>
-        requires high { length code.now ≤ 8192 }
+        requires high { length code.now ≤ most_code }
         requires inside { place < length code.now }
         requires fit { closing.IsFit code.now (closing.tables_of self.old) }
         requires real { closing.IsReal code.now routine counts }
         ensures fit { OnOk result (closing.IsFit code.now (closing.tables_of self.new)) }
-        ensures adds { OnOk result (closing.Adds (closing.tables_of self.old) (closing.tables_of self.new)) }
+        ensures adds { OnOk result (closing.AddsFacts (closing.tables_of self.old) (closing.tables_of self.new)) }
         ensures back { OnOk result ((f : stack.Fact) → IsIn self.old.table.items f → f.place ≡ place
             → closing.ComesBackFrom code.now self.new.table.items routine counts f) }
-        ensures due { IfErr result (λ fault. IsDue code.now fault) }
+        ensures due { IfErr result (λ fault. IsFaultDue code.now fault) }
     {
         let Some(entry) = self.table[place as usize] else {
             return Ok(());
@@ -176,15 +177,15 @@ impl Closing {
 
     // Follows each CALL of a routine to the place behind it. A fact that comes in here waits, whatever it is.
     fn come_back_all(&mut self, code: &[u8], routine: u16, counts: Counts) -> Result<(), Fault>
-        requires high { length code.now ≤ 8192 }
+        requires high { length code.now ≤ most_code }
         requires fit { closing.IsFit code.now (closing.tables_of self.old) }
         requires real { closing.IsReal code.now routine counts }
         ensures fit { OnOk result (closing.IsFit code.now (closing.tables_of self.new)) }
-        ensures adds { OnOk result (closing.Adds (closing.tables_of self.old) (closing.tables_of self.new)) }
+        ensures adds { OnOk result (closing.AddsFacts (closing.tables_of self.old) (closing.tables_of self.new)) }
         ensures back { OnOk result ((f : stack.Fact) → IsIn self.new.table.items f
             → closing.ComesBackFrom code.now self.new.table.items routine counts f ⊎ closing.IsAmong
             self.new.work.items f.place) }
-        ensures due { IfErr result (λ fault. IsDue code.now fault) }
+        ensures due { IfErr result (λ fault. IsFaultDue code.now fault) }
     {
         for place in 0..code.len() as u16 {
             self.come_back_at(code, place, routine, counts)?;
@@ -194,15 +195,17 @@ impl Closing {
 
     // Works a return with these counts, which are those of its routine from now on.
     fn work_return(&mut self, code: &[u8], found: Found, counts: Counts) -> Result<(), Fault>
-        requires high { length code.now ≤ 8192 }
-        requires state { closing.IsOpen code.now (found.place ∷ self.old.work.items) (closing.tables_of self.old) }
+        requires high { length code.now ≤ most_code }
+        requires state { closing.ClosedOrWaiting code.now (found.place ∷ self.old.work.items)
+            (closing.tables_of self.old) }
         requires here { IsIn self.old.table.items (closing.found_fact found) }
         requires found { closing.IsFound code.now found }
         requires returns { shape.counts found.seen.ins ≡ Some (counts.less, counts.more) }
-        ensures state { OnOk result (closing.IsOpen code.now self.new.work.items (closing.tables_of self.new)) }
+        ensures state { OnOk result (closing.ClosedOrWaiting code.now self.new.work.items
+            (closing.tables_of self.new)) }
         ensures left { OnOk result (closing.left (closing.tables_of self.new)
             ≤ closing.left (closing.tables_of self.old)) }
-        ensures due { IfErr result (λ fault. IsDue code.now fault) }
+        ensures due { IfErr result (λ fault. IsFaultDue code.now fault) }
     {
         let Routine::At(routine) = found.entry.routine else {
             return Err(refusal(found.place, CheckCause::Returns));
@@ -217,18 +220,18 @@ impl Closing {
 
     // Goes on behind a CALL with the same height, if it has a condition.
     fn pass(&mut self, code: &[u8], found: Found) -> Result<(), Fault>
-        requires high { length code.now ≤ 8192 }
+        requires high { length code.now ≤ most_code }
         requires fit { closing.IsFit code.now (closing.tables_of self.old) }
         requires here { IsIn self.old.table.items (closing.found_fact found) }
         requires found { closing.IsFound code.now found }
         requires low { found.entry.height ≤ HIGHEST }
         requires calls { (routine : ℕ) × (shape.call_target found.seen.ins ≡ Some routine) }
         ensures fit { OnOk result (closing.IsFit code.now (closing.tables_of self.new)) }
-        ensures adds { OnOk result (closing.Adds (closing.tables_of self.old) (closing.tables_of self.new)) }
+        ensures adds { OnOk result (closing.AddsFacts (closing.tables_of self.old) (closing.tables_of self.new)) }
         ensures passes { OnOk result (shape.is_conditional found.seen.ins ≡ true
             → IsIn self.new.table.items
             (stack.fact (closing.found_fact found).routine found.seen.next found.entry.height)) }
-        ensures due { IfErr result (λ fault. IsDue code.now fault) }
+        ensures due { IfErr result (λ fault. IsFaultDue code.now fault) }
     {
         if !is_conditional(found.seen.ins) {
             return Ok(());
@@ -238,17 +241,17 @@ impl Closing {
 
     // Goes on behind a CALL of a routine, if its counts are known.
     fn come_back_known(&mut self, code: &[u8], found: Found, routine: u16) -> Result<(), Fault>
-        requires high { length code.now ≤ 8192 }
+        requires high { length code.now ≤ most_code }
         requires fit { closing.IsFit code.now (closing.tables_of self.old) }
         requires here { IsIn self.old.table.items (closing.found_fact found) }
         requires found { closing.IsFound code.now found }
         requires low { found.entry.height ≤ HIGHEST }
         requires calls { shape.call_target found.seen.ins ≡ Some routine }
         ensures fit { OnOk result (closing.IsFit code.now (closing.tables_of self.new)) }
-        ensures adds { OnOk result (closing.Adds (closing.tables_of self.old) (closing.tables_of self.new)) }
+        ensures adds { OnOk result (closing.AddsFacts (closing.tables_of self.old) (closing.tables_of self.new)) }
         ensures back { OnOk result ((c : Counts) → slice_get self.new.counts.items routine ≡ Some (Some c)
             → closing.ComesBack self.new.table.items (closing.found_fact found) found.seen.next c.less c.more) }
-        ensures due { IfErr result (λ fault. IsDue code.now fault) }
+        ensures due { IfErr result (λ fault. IsFaultDue code.now fault) }
     {
         match self.counts[routine as usize] {
             Some(counts) => self.come_back(code, found, counts),
@@ -258,16 +261,18 @@ impl Closing {
 
     // Works a CALL of a routine.
     fn work_call(&mut self, code: &[u8], found: Found, routine: u16) -> Result<(), Fault>
-        requires high { length code.now ≤ 8192 }
-        requires state { closing.IsOpen code.now (found.place ∷ self.old.work.items) (closing.tables_of self.old) }
+        requires high { length code.now ≤ most_code }
+        requires state { closing.ClosedOrWaiting code.now (found.place ∷ self.old.work.items)
+            (closing.tables_of self.old) }
         requires here { IsIn self.old.table.items (closing.found_fact found) }
         requires found { closing.IsFound code.now found }
         requires low { found.entry.height ≤ HIGHEST }
         requires calls { shape.call_target found.seen.ins ≡ Some routine }
-        ensures state { OnOk result (closing.IsOpen code.now self.new.work.items (closing.tables_of self.new)) }
+        ensures state { OnOk result (closing.ClosedOrWaiting code.now self.new.work.items
+            (closing.tables_of self.new)) }
         ensures left { OnOk result (closing.left (closing.tables_of self.new)
             ≤ closing.left (closing.tables_of self.old)) }
-        ensures due { IfErr result (λ fault. IsDue code.now fault) }
+        ensures due { IfErr result (λ fault. IsFaultDue code.now fault) }
     {
         let entry = Entry {
             routine: Routine::At(routine),
@@ -280,19 +285,19 @@ impl Closing {
 
     // Goes on behind an instruction that is no CALL.
     fn go_on(&mut self, code: &[u8], found: Found) -> Result<(), Fault>
-        requires high { length code.now ≤ 8192 }
+        requires high { length code.now ≤ most_code }
         requires fit { closing.IsFit code.now (closing.tables_of self.old) }
         requires here { IsIn self.old.table.items (closing.found_fact found) }
         requires found { closing.IsFound code.now found }
         requires low { found.entry.height ≤ HIGHEST }
         requires plain { shape.call_target found.seen.ins ≡ None }
         ensures fit { OnOk result (closing.IsFit code.now (closing.tables_of self.new)) }
-        ensures adds { OnOk result (closing.Adds (closing.tables_of self.old) (closing.tables_of self.new)) }
+        ensures adds { OnOk result (closing.AddsFacts (closing.tables_of self.old) (closing.tables_of self.new)) }
         ensures goes { OnOk result (shape.goes_on found.seen.ins ≡ true
             → IsIn self.new.table.items
             (stack.fact (closing.found_fact found).routine found.seen.next
             (shape.height_after found.seen.ins found.entry.height))) }
-        ensures due { IfErr result (λ fault. IsDue code.now fault) }
+        ensures due { IfErr result (λ fault. IsFaultDue code.now fault) }
     {
         if !goes_on(found.seen.ins) {
             return Ok(());
@@ -306,16 +311,16 @@ impl Closing {
 
     // Goes to the target of a BRANCH or JUMP.
     fn jump(&mut self, code: &[u8], found: Found) -> Result<(), Fault>
-        requires high { length code.now ≤ 8192 }
+        requires high { length code.now ≤ most_code }
         requires fit { closing.IsFit code.now (closing.tables_of self.old) }
         requires here { IsIn self.old.table.items (closing.found_fact found) }
         requires found { closing.IsFound code.now found }
         requires low { found.entry.height ≤ HIGHEST }
         ensures fit { OnOk result (closing.IsFit code.now (closing.tables_of self.new)) }
-        ensures adds { OnOk result (closing.Adds (closing.tables_of self.old) (closing.tables_of self.new)) }
+        ensures adds { OnOk result (closing.AddsFacts (closing.tables_of self.old) (closing.tables_of self.new)) }
         ensures jumps { OnOk result ((to : ℕ) → shape.jump_target found.seen.ins found.seen.next ≡ Some (Some to)
             → IsIn self.new.table.items (stack.fact (closing.found_fact found).routine to found.entry.height)) }
-        ensures due { IfErr result (λ fault. IsDue code.now fault) }
+        ensures due { IfErr result (λ fault. IsFaultDue code.now fault) }
     {
         match jump_target(found.seen.ins, found.seen.next) {
             Some(to) => self.add(code, to, found.entry),
@@ -325,17 +330,19 @@ impl Closing {
 
     // Works an instruction that is neither a CALL nor a return.
     fn work_step(&mut self, code: &[u8], found: Found) -> Result<(), Fault>
-        requires high { length code.now ≤ 8192 }
-        requires state { closing.IsOpen code.now (found.place ∷ self.old.work.items) (closing.tables_of self.old) }
+        requires high { length code.now ≤ most_code }
+        requires state { closing.ClosedOrWaiting code.now (found.place ∷ self.old.work.items)
+            (closing.tables_of self.old) }
         requires here { IsIn self.old.table.items (closing.found_fact found) }
         requires found { closing.IsFound code.now found }
         requires low { found.entry.height ≤ HIGHEST }
         requires plain { shape.call_target found.seen.ins ≡ None }
         requires stays { shape.counts found.seen.ins ≡ None }
-        ensures state { OnOk result (closing.IsOpen code.now self.new.work.items (closing.tables_of self.new)) }
+        ensures state { OnOk result (closing.ClosedOrWaiting code.now self.new.work.items
+            (closing.tables_of self.new)) }
         ensures left { OnOk result (closing.left (closing.tables_of self.new)
             ≤ closing.left (closing.tables_of self.old)) }
-        ensures due { IfErr result (λ fault. IsDue code.now fault) }
+        ensures due { IfErr result (λ fault. IsFaultDue code.now fault) }
     {
         self.go_on(code, found)?;
         self.jump(code, found)
@@ -343,14 +350,16 @@ impl Closing {
 
     // Works a fact: all that follows from it comes into the table. Where it is too high, nothing does.
     fn work_fact(&mut self, code: &[u8], found: Found) -> Result<(), Fault>
-        requires high { length code.now ≤ 8192 }
-        requires state { closing.IsOpen code.now (found.place ∷ self.old.work.items) (closing.tables_of self.old) }
+        requires high { length code.now ≤ most_code }
+        requires state { closing.ClosedOrWaiting code.now (found.place ∷ self.old.work.items)
+            (closing.tables_of self.old) }
         requires here { IsIn self.old.table.items (closing.found_fact found) }
         requires found { closing.IsFound code.now found }
-        ensures state { OnOk result (closing.IsOpen code.now self.new.work.items (closing.tables_of self.new)) }
+        ensures state { OnOk result (closing.ClosedOrWaiting code.now self.new.work.items
+            (closing.tables_of self.new)) }
         ensures left { OnOk result (closing.left (closing.tables_of self.new)
             ≤ closing.left (closing.tables_of self.old)) }
-        ensures due { IfErr result (λ fault. IsDue code.now fault) }
+        ensures due { IfErr result (λ fault. IsFaultDue code.now fault) }
     {
         if let Some(counts) = return_counts(found.seen.ins) {
             return self.work_return(code, found, counts);
@@ -366,13 +375,14 @@ impl Closing {
 
     // Works the fact at a place, if there is one.
     fn work_place(&mut self, code: &[u8], place: u16) -> Result<(), Fault>
-        requires high { length code.now ≤ 8192 }
+        requires high { length code.now ≤ most_code }
         requires inside { place < length code.now }
-        requires state { closing.IsOpen code.now (place ∷ self.old.work.items) (closing.tables_of self.old) }
-        ensures state { OnOk result (closing.IsOpen code.now self.new.work.items (closing.tables_of self.new)) }
+        requires state { closing.ClosedOrWaiting code.now (place ∷ self.old.work.items) (closing.tables_of self.old) }
+        ensures state { OnOk result (closing.ClosedOrWaiting code.now self.new.work.items
+            (closing.tables_of self.new)) }
         ensures left { OnOk result (closing.left (closing.tables_of self.new)
             ≤ closing.left (closing.tables_of self.old)) }
-        ensures due { IfErr result (λ fault. IsDue code.now fault) }
+        ensures due { IfErr result (λ fault. IsFaultDue code.now fault) }
     {
         match self.table[place as usize] {
             Some(entry) => {
@@ -385,10 +395,10 @@ impl Closing {
 
     // Works all facts.
     fn work_all(&mut self, code: &[u8]) -> Result<(), Fault>
-        requires high { length code.now ≤ 8192 }
-        requires state { closing.IsOpen code.now self.old.work.items (closing.tables_of self.old) }
-        ensures state { OnOk result (closing.IsOpen code.now [] (closing.tables_of self.new)) }
-        ensures due { IfErr result (λ fault. IsDue code.now fault) }
+        requires high { length code.now ≤ most_code }
+        requires state { closing.ClosedOrWaiting code.now self.old.work.items (closing.tables_of self.old) }
+        ensures state { OnOk result (closing.ClosedOrWaiting code.now [] (closing.tables_of self.new)) }
+        ensures due { IfErr result (λ fault. IsFaultDue code.now fault) }
     {
         while let Some(place) = self.work.pop() {
             self.work_place(code, place)?;
@@ -400,9 +410,9 @@ impl Closing {
 /// The table of all facts of code, or why the code is refused whatever its session bytes are.
 pub fn close(alloc: Global, code: &[u8]) -> Result<Vec<Option<Entry>>, Fault>
     requires low { 1 ≤ length code.now }
-    requires high { length code.now ≤ 8192 }
-    ensures whole { IfOk result (λ table. IsWhole code.now table.items) }
-    ensures due { IfErr result (λ fault. IsDue code.now fault) }
+    requires high { length code.now ≤ most_code }
+    ensures whole { IfOk result (λ table. IsWholeTable code.now table.items) }
+    ensures due { IfErr result (λ fault. IsFaultDue code.now fault) }
 {
     let mut closing = Closing::new(alloc, code.len())?;
     let first = Entry {

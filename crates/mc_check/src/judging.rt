@@ -1,11 +1,12 @@
 // The last pass over the facts, when the bases of the routines are known: where the stack grows too deep, where a write may
 // touch an open call, and how deep the stack is at most.
 ghost use Rattle.std.specs.Prelude.{◌≡◌, ◌≤◌, ◌<◌, ◌&&◌, not, length, IfOk, IfErr, MatchBool};
+ghost use Rattle.mc_model.specs.Limits.{most_code};
 ghost use Rattle.mc_model.specs.Code.{decoded};
 ghost use Rattle.mc_model.specs.StackShape.{Accepts};
 ghost use Rattle.mc_check.specs.Judging.{calls_at, plain_at, depth_of, BeginsWithin, HasCall, HasNoCall};
 ghost use Rattle.mc_check.specs.Verdicts.{IsVerdictOf};
-ghost use Rattle.mc_check.specs.Table.{routine_of, base_in, IsWhole, AreBases, IsRefused};
+ghost use Rattle.mc_check.specs.Table.{routine_of, base_in, IsWholeTable, AreBases, IsRefusalOf};
 
 use crate::shape::{is_call, is_plain};
 use crate::table::{Entry, Refusal, Routine};
@@ -18,7 +19,7 @@ const ROOM: u64 = 512;
 
 // Whether a call stands at a place of code.
 fn calls(code: &[u8], place: u16) -> bool
-    requires { length code.now ≤ 8192 }
+    requires { length code.now ≤ most_code }
     ensures { result ≡ calls_at (decoded code.now place) }
 {
     match decode(code, place) {
@@ -29,7 +30,7 @@ fn calls(code: &[u8], place: u16) -> bool
 
 // Whether what stands at a place of code writes at no address that is not plain.
 fn writes_plain(code: &[u8], session: u16, place: u16, height: u16) -> bool
-    requires { length code.now ≤ 8192 }
+    requires { length code.now ≤ most_code }
     ensures { result ≡ plain_at session height (decoded code.now place) }
 {
     match decode(code, place) {
@@ -59,7 +60,7 @@ fn depth_at(
     base: u32,
     has_calls: bool,
 ) -> Result<u16, Refusal>
-    requires { length code.now ≤ 8192 }
+    requires { length code.now ≤ most_code }
     ensures { result ≡ depth_of session place base height (has_calls
         && not (plain_at session height (decoded code.now place))) }
 {
@@ -81,7 +82,7 @@ fn depth_at(
 
 // Whether some fact is a call.
 fn has_call(code: &[u8], table: &[Option<Entry>]) -> bool
-    requires high { length code.now ≤ 8192 }
+    requires high { length code.now ≤ most_code }
     requires size { length table.now ≡ length code.now }
     ensures { MatchBool result (HasCall code.now table.now) (HasNoCall code.now table.now (length table.now)) }
 {
@@ -100,11 +101,11 @@ fn greatest_depth(
     table: &[Option<Entry>],
     bases: &[u32],
 ) -> Result<u16, Refusal>
-    requires high { length code.now ≤ 8192 }
-    requires whole { IsWhole code.now table.now }
+    requires high { length code.now ≤ most_code }
+    requires whole { IsWholeTable code.now table.now }
     requires based { AreBases code.now bases.now }
     ensures accepts { IfOk result (λ most. Accepts code.now session most) }
-    ensures refuses { IfErr result (λ refusal. IsRefused code.now session refusal) }
+    ensures refuses { IfErr result (λ refusal. IsRefusalOf code.now session refusal) }
 {
     let has_calls = has_call(code, table);
     let mut most = 0;
@@ -121,8 +122,8 @@ fn greatest_depth(
 /// The verdict on code, from the whole table of its facts and the bases of its routines.
 pub fn judge(code: &[u8], session: u16, table: &[Option<Entry>], bases: &[u32]) -> Verdict
     requires low { 1 ≤ length code.now }
-    requires high { length code.now ≤ 8192 }
-    requires whole { IsWhole code.now table.now }
+    requires high { length code.now ≤ most_code }
+    requires whole { IsWholeTable code.now table.now }
     requires bases { AreBases code.now bases.now }
     ensures { IsVerdictOf code.now session result }
 {

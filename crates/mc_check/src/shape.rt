@@ -1,5 +1,6 @@
 // Where an instruction goes, and what is seen of a fact alone.
 ghost use Rattle.std.specs.Prelude.{◌≡◌, ◌≤◌, ◌==◌, ◌&&◌, if◌then◌else◌, IfOk, is_some, length, option_map, option_and_then};
+ghost use Rattle.mc_model.specs.Limits.{most_code};
 ghost use Rattle.mc_model.specs.Code.{Shaped};
 ghost use Rattle.mc_model.specs.Frame as frame;
 ghost use Rattle.mc_model.specs.StackRows as shape;
@@ -183,10 +184,10 @@ fn looked_at(len: usize, entry: Entry, ins: Ins, next: u16) -> Result<Seen, Chec
 /// broken there, as far as it is seen from this alone.
 #[tactic(auto, unfolding(mc_model::specs::StackShape::look))]
 pub fn look(code: &[u8], place: u16, entry: Entry) -> Result<Seen, CheckCause>
-    requires high { length code.now ≤ 8192 }
+    requires high { length code.now ≤ most_code }
     ensures seen { seen_as result ≡ look code.now (fact_of place entry) }
     ensures shaped { IfOk result (λ seen. Shaped seen.ins) }
-    ensures inside { IfOk result (λ seen. seen.next ≤ 8192) }
+    ensures inside { IfOk result (λ seen. seen.next ≤ most_code) }
 {
     match decode(code, place) {
         Ok((ins, next)) => looked_at(code.len(), entry, ins, next),

@@ -1,7 +1,8 @@
 // The verdict on code.
 ghost use Rattle.std.specs.Prelude.{◌≤◌, length, IfOk, IfErr};
+ghost use Rattle.mc_model.specs.Limits.{most_code};
 ghost use Rattle.mc_check.specs.Verdicts.{IsVerdictOf, KeepsTo};
-ghost use Rattle.mc_check.specs.Table.{IsDue};
+ghost use Rattle.mc_check.specs.Table.{IsFaultDue};
 
 use crate::bases::find_bases;
 use crate::closing::close;
@@ -21,10 +22,10 @@ pub enum Verdict {
 // The verdict, or why it comes to none before the session bytes are looked at.
 fn decide(alloc: Global, code: &[u8], session: u16) -> Result<Verdict, Fault>
     requires low { 1 ≤ length code.now }
-    requires high { length code.now ≤ 8192 }
+    requires high { length code.now ≤ most_code }
     ensures verdict { IfOk result (λ verdict. IsVerdictOf code.now session verdict) }
     ensures runs { IfOk result (λ verdict. KeepsTo code.now session verdict) }
-    ensures due { IfErr result (λ fault. IsDue code.now fault) }
+    ensures due { IfErr result (λ fault. IsFaultDue code.now fault) }
 {
     let table = close(alloc, code)?;
     let bases = find_bases(alloc, code, &table)?;
@@ -35,7 +36,7 @@ fn decide(alloc: Global, code: &[u8], session: u16) -> Result<Verdict, Fault>
 /// and a rule that a refusal names is broken there. The code has 1 to 8,192 bytes.
 pub fn check(alloc: Global, code: &[u8], session: u16) -> Result<Verdict, NoMemory>
     requires low { 1 ≤ length code.now }
-    requires high { length code.now ≤ 8192 }
+    requires high { length code.now ≤ most_code }
     ensures verdict { IfOk result (λ verdict. IsVerdictOf code.now session verdict) }
     ensures runs { IfOk result (λ verdict. KeepsTo code.now session verdict) }
 {

@@ -8,7 +8,7 @@ use Rattle.mc_model.specs.DeckGrammar.{DeckLine, Format, Power, Named, Load, Sel
 use Rattle.mc_model.specs.Generator.{command, next, draw, turns, line_of, opening, closing, opening_word, cut_line, purse_line, generated, counter, purse, relay, counter_aid, purse_aid, relay_aid}
 use Rattle.mc_unit.proofs.Made.{made_name}
 use Rattle.mc_deck.specs.declared.line.OwnedLine.{OwnedLine}
-use Rattle.mc_deck.specs.Lines.{powered_by, Inside, GoodLine, GoodUnit, Timely, OnTime, AreDeck}
+use Rattle.mc_deck.specs.Lines.{powered_by, UnitWithin, GoodLine, GoodUnit, Timely, OnTime, AreDeck}
 use Rattle.mc_deck.proofs.ReaderLemmas.{all_more}
 
 -- ---- numbers
@@ -51,8 +51,8 @@ turns_done so n x whole h w =
     sym (append-nil so) ∙ sym (ap (λ k. so ++ numbered n (turns k x)) e) ∙ w
 
 -- a line behind others
-pub inside_behind : (ls ks : List (ℕ × OwnedLine)) (n : ℕ) (l : OwnedLine) → ks ≡ ls ++ (n, l) ∷ [] → Inside 3 l → AllByRecursion (λ l. Inside 3 l.1) ls → AllByRecursion (λ (l : ℕ × OwnedLine). Inside 3 l.1) ks
-inside_behind ls ks n l e h a = rw e (all_more (λ (l : ℕ × OwnedLine). Inside 3 l.1) ls (n, l) a h)
+pub inside_behind : (ls ks : List (ℕ × OwnedLine)) (n : ℕ) (l : OwnedLine) → ks ≡ ls ++ (n, l) ∷ [] → UnitWithin 3 l → AllByRecursion (λ l. UnitWithin 3 l.1) ls → AllByRecursion (λ (l : ℕ × OwnedLine). UnitWithin 3 l.1) ks
+inside_behind ls ks n l e h a = rw e (all_more (λ (l : ℕ × OwnedLine). UnitWithin 3 l.1) ls (n, l) a h)
 
 -- ---- the lines of a generated deck are those of a deck
 

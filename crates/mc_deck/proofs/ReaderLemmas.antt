@@ -8,13 +8,13 @@ use Rattle.mc_model.specs.Text.{◌>>=◌, ok_as, err_as, begins}
 use Rattle.mc_model.specs.declared.deck.DeckCause.{DeckCause}
 use Rattle.mc_model.specs.declared.deck.DeckCause.TheVariants.{BadLine}
 use Rattle.mc_model.specs.DeckGrammar
-use Rattle.mc_model.specs.DeckGrammar.{DeckLine, Context, Stated, Says, Opens, Turn, Between, between, turn_of, Word, FormatWord, PowerWord, UnitWord, AppWord, LoadWord, SelectWord, DeleteWord, DumpWord, ApduWord, BudgetWord, CutWord, FailWord, PokeWord, stated, deck_words, with_unit}
+use Rattle.mc_model.specs.DeckGrammar.{DeckLine, Context, Stated, Says, Opens, LineTurn, Between, between, turn_of, Word, FormatWord, PowerWord, UnitWord, AppWord, LoadWord, SelectWord, DeleteWord, DumpWord, ApduWord, BudgetWord, CutWord, FailWord, PokeWord, stated, deck_words, with_unit}
 use Rattle.mc_deck.specs.declared.unit.OwnedUnit.{OwnedUnit}
 use Rattle.mc_deck.specs.declared.line.OwnedLine.{OwnedLine}
-use Rattle.mc_deck.specs.Lines.{said, said_lines, unit_at, owned_parts, powered_by, Inside, GoodLine, GoodUnit, Timely, OnTime, AreDeck}
-use Rattle.mc_deck.specs.Statements.{Ranged, InRange}
+use Rattle.mc_deck.specs.Lines.{said, said_lines, unit_at, owned_parts, powered_by, UnitWithin, GoodLine, GoodUnit, Timely, OnTime, AreDeck}
+use Rattle.mc_deck.specs.Statements.{Ranged, LineInRange}
 use Rattle.mc_deck.specs.Contexts.{AreNames}
-use Rattle.mc_deck.specs.Readers.{line_stated, powered_after, Stands, StandsBy, Took}
+use Rattle.mc_deck.specs.Readers.{line_stated, powered_after, StandsForContext, StandsBy, TurnTaken}
 use Rattle.mc_deck.specs.declared.reading.Reader.{Reader}
 use Rattle.mc_deck.proofs.LineLemmas.{unit_front, one_longer}
 
@@ -87,7 +87,7 @@ unit_good (u ∷ us) zero h a = a.0
 unit_good (u ∷ us) (suc i) h a = unit_good us i (omega (arith, h)) a.1
 
 -- a line that a statement says
-good_said : (us : List OwnedUnit) (p : Bool) (l : OwnedLine) → Ranged l → InRange (length us) p l → AllByRecursion (λ u. GoodUnit (owned_parts u)) us → GoodLine (said us l)
+good_said : (us : List OwnedUnit) (p : Bool) (l : OwnedLine) → Ranged l → LineInRange (length us) p l → AllByRecursion (λ u. GoodUnit (owned_parts u)) us → GoodLine (said us l)
 good_said us p OwnedLine.Format r h a = tt
 good_said us p OwnedLine.Power r h a = tt
 good_said us p OwnedLine.Named r h a = tt
@@ -102,7 +102,7 @@ good_said us p (OwnedLine.Cut k fill) r h a = r
 good_said us p (OwnedLine.Fail k) r h a = r
 good_said us p (OwnedLine.Poke at fill) r h a = r
 
-timely_said : (us : List OwnedUnit) (n : ℕ) (p : Bool) (l : OwnedLine) → InRange n p l → Timely p (said us l)
+timely_said : (us : List OwnedUnit) (n : ℕ) (p : Bool) (l : OwnedLine) → LineInRange n p l → Timely p (said us l)
 timely_said us n p OwnedLine.Format h = h
 timely_said us n p OwnedLine.Power h = tt
 timely_said us n p OwnedLine.Named h = tt
@@ -117,7 +117,7 @@ timely_said us n p (OwnedLine.Cut k fill) h = tt
 timely_said us n p (OwnedLine.Fail k) h = tt
 timely_said us n p (OwnedLine.Poke at fill) h = h
 
-power_said : (us : List OwnedUnit) (n : ℕ) (p : Bool) (l : OwnedLine) → InRange n p l → powered_by p (said us l) ≡ p
+power_said : (us : List OwnedUnit) (n : ℕ) (p : Bool) (l : OwnedLine) → LineInRange n p l → powered_by p (said us l) ≡ p
 power_said us n p OwnedLine.Format h = refl
 power_said us n p OwnedLine.Power h = absurd h
 power_said us n p OwnedLine.Named h = refl
@@ -132,7 +132,7 @@ power_said us n p (OwnedLine.Cut k fill) h = refl
 power_said us n p (OwnedLine.Fail k) h = refl
 power_said us n p (OwnedLine.Poke at fill) h = refl
 
-inside_said : (n : ℕ) (p : Bool) (l : OwnedLine) → InRange n p l → Inside n l
+inside_said : (n : ℕ) (p : Bool) (l : OwnedLine) → LineInRange n p l → UnitWithin n l
 inside_said n p OwnedLine.Format h = tt
 inside_said n p OwnedLine.Power h = tt
 inside_said n p OwnedLine.Named h = tt
@@ -148,13 +148,13 @@ inside_said n p (OwnedLine.Fail k) h = tt
 inside_said n p (OwnedLine.Poke at fill) h = tt
 
 -- a line that a statement says, behind others
-pub stands_line : (m : BTreeMap (Bor (List ℕ)) ℕ) (us : List OwnedUnit) (p : Bool) (ls ks : List (ℕ × OwnedLine)) (c : Context) (n : ℕ) (l : OwnedLine) → ks ≡ ls ++ (n, l) ∷ [] → Ranged l → InRange (length us) p l
+pub stands_line : (m : BTreeMap (Bor (List ℕ)) ℕ) (us : List OwnedUnit) (p : Bool) (ls ks : List (ℕ × OwnedLine)) (c : Context) (n : ℕ) (l : OwnedLine) → ks ≡ ls ++ (n, l) ∷ [] → Ranged l → LineInRange (length us) p l
     → StandsBy m us p ls c → StandsBy m us p ks c
 stands_line m us p ls ks c n l e r h s = rw e (record {
   named = s.named;
   power = s.power;
   good = s.good;
-  inside = all_more (λ l. Inside (length us) l.1) ls (n, l) s.inside (inside_said (length us) p l h);
+  inside = all_more (λ l. UnitWithin (length us) l.1) ls (n, l) s.inside (inside_said (length us) p l h);
   deck = subst AreDeck (sym (said_more us ls n l)) (deck_more (said_lines us ls) n (said us l) p s.deck s.last (good_said us p l r h s.good) (timely_said us (length us) p l h));
   last = ap (powered_after false) (said_more us ls n l) ∙ after_more false (said_lines us ls) (n, said us l) ∙ ap (λ b. powered_by b (said us l)) s.last ∙ power_said us (length us) p l h;
 })
@@ -166,14 +166,14 @@ stands_power m us p ls ks c n e s = rw e (record {
   named = s.named;
   power = refl;
   good = s.good;
-  inside = all_more (λ l. Inside (length us) l.1) ls (n, OwnedLine.Power) s.inside tt;
+  inside = all_more (λ l. UnitWithin (length us) l.1) ls (n, OwnedLine.Power) s.inside tt;
   deck = subst AreDeck (sym (said_more us ls n OwnedLine.Power)) (deck_more (said_lines us ls) n DeckGrammar.Power p s.deck s.last tt tt);
   last = ap (powered_after false) (said_more us ls n OwnedLine.Power) ∙ after_more false (said_lines us ls) (n, DeckGrammar.Power);
 })
 
 -- ---- one more unit
 
-said_grow : (us : List OwnedUnit) (u : OwnedUnit) (l : OwnedLine) → Inside (length us) l → said (us ++ u ∷ []) l ≡ said us l
+said_grow : (us : List OwnedUnit) (u : OwnedUnit) (l : OwnedLine) → UnitWithin (length us) l → said (us ++ u ∷ []) l ≡ said us l
 said_grow us u OwnedLine.Format h = refl
 said_grow us u OwnedLine.Power h = refl
 said_grow us u OwnedLine.Named h = refl
@@ -188,11 +188,11 @@ said_grow us u (OwnedLine.Cut k fill) h = refl
 said_grow us u (OwnedLine.Fail k) h = refl
 said_grow us u (OwnedLine.Poke at fill) h = refl
 
-lines_grow : (us : List OwnedUnit) (u : OwnedUnit) (ls : List (ℕ × OwnedLine)) → AllByRecursion (λ l. Inside (length us) l.1) ls → said_lines (us ++ u ∷ []) ls ≡ said_lines us ls
+lines_grow : (us : List OwnedUnit) (u : OwnedUnit) (ls : List (ℕ × OwnedLine)) → AllByRecursion (λ l. UnitWithin (length us) l.1) ls → said_lines (us ++ u ∷ []) ls ≡ said_lines us ls
 lines_grow us u [] a = refl
 lines_grow us u (l ∷ ls) a = rw (said_grow us u l.1 a.0, lines_grow us u ls a.1) refl
 
-inside_more : (n : ℕ) (l : OwnedLine) → Inside n l → Inside (suc n) l
+inside_more : (n : ℕ) (l : OwnedLine) → UnitWithin n l → UnitWithin (suc n) l
 inside_more n OwnedLine.Format h = tt
 inside_more n OwnedLine.Power h = tt
 inside_more n OwnedLine.Named h = tt
@@ -207,12 +207,12 @@ inside_more n (OwnedLine.Cut k fill) h = tt
 inside_more n (OwnedLine.Fail k) h = tt
 inside_more n (OwnedLine.Poke at fill) h = tt
 
-all_inside_more : (n : ℕ) (ls : List (ℕ × OwnedLine)) → AllByRecursion (λ l. Inside n l.1) ls → AllByRecursion (λ (l : ℕ × OwnedLine). Inside (suc n) l.1) ls
+all_inside_more : (n : ℕ) (ls : List (ℕ × OwnedLine)) → AllByRecursion (λ l. UnitWithin n l.1) ls → AllByRecursion (λ (l : ℕ × OwnedLine). UnitWithin (suc n) l.1) ls
 all_inside_more n [] a = tt
 all_inside_more n (l ∷ ls) a = (inside_more n l.1 a.0, all_inside_more n ls a.1)
 
 -- the lines behind which a unit is named
-pub named_lines : (us vs : List OwnedUnit) (u : OwnedUnit) (ls ks : List (ℕ × OwnedLine)) (n : ℕ) → vs ≡ us ++ u ∷ [] → ks ≡ ls ++ (n, OwnedLine.Named) ∷ [] → AllByRecursion (λ l. Inside (length us) l.1) ls
+pub named_lines : (us vs : List OwnedUnit) (u : OwnedUnit) (ls ks : List (ℕ × OwnedLine)) (n : ℕ) → vs ≡ us ++ u ∷ [] → ks ≡ ls ++ (n, OwnedLine.Named) ∷ [] → AllByRecursion (λ l. UnitWithin (length us) l.1) ls
     → said_lines vs ks ≡ said_lines us ls ++ (n, DeckGrammar.Named) ∷ []
 named_lines us vs u ls ks n d e a = rw (d, e) (said_more (us ++ u ∷ []) ls n OwnedLine.Named ∙ ap (λ x. x ++ (n, DeckGrammar.Named) ∷ []) (lines_grow us u ls a))
 
@@ -224,7 +224,7 @@ stands_unit m k us vs u p ls ks c n name d e g a s =
       named = a;
       power = s.power;
       good = subst (AllByRecursion (λ u. GoodUnit (owned_parts u))) (sym d) (all_more (λ u. GoodUnit (owned_parts u)) us u s.good g);
-      inside = rw (d, e, one_longer us u) (all_more (λ (l : ℕ × OwnedLine). Inside (suc (length us)) l.1) ls (n, OwnedLine.Named) (all_inside_more (length us) ls s.inside) tt);
+      inside = rw (d, e, one_longer us u) (all_more (λ (l : ℕ × OwnedLine). UnitWithin (suc (length us)) l.1) ls (n, OwnedLine.Named) (all_inside_more (length us) ls s.inside) tt);
       deck = subst AreDeck (sym lines) (deck_more (said_lines us ls) n DeckGrammar.Named p s.deck s.last tt tt);
       last = ap (powered_after false) lines ∙ after_more false (said_lines us ls) (n, DeckGrammar.Named) ∙ s.last;
     }
@@ -232,9 +232,9 @@ stands_unit m k us vs u p ls ks c n name d e g a s =
 -- ---- turns
 
 -- a line that a statement says, and a `power`
-pub took_line : (old new : Reader) (c : Context) (n : ℕ) (l : OwnedLine) → Stands old c → Ranged l → InRange (length old.names.units.items) old.powered l
+pub took_line : (old new : Reader) (c : Context) (n : ℕ) (l : OwnedLine) → StandsForContext old c → Ranged l → LineInRange (length old.names.units.items) old.powered l
     → new.names.units.items ≡ old.names.units.items → new.names.places ≡ old.names.places → new.powered ≡ old.powered → new.lines.items ≡ old.lines.items ++ (n, l) ∷ []
-    → Took old new None (turn_of n (Says (said old.names.units.items l) c))
+    → TurnTaken old new None (turn_of n (Says (said old.names.units.items l) c))
 took_line old new c n l s r h us m p ls = record {
   context = c;
   stands = rw (us, m, p) (stands_line old.names.places old.names.units.items old.powered old.lines.items new.lines.items c n l ls r h s);
@@ -242,9 +242,9 @@ took_line old new c n l s r h us m p ls = record {
   mode = refl;
 }
 
-pub took_power : (old new : Reader) (c : Context) (n : ℕ) → Stands old c
+pub took_power : (old new : Reader) (c : Context) (n : ℕ) → StandsForContext old c
     → new.names.units.items ≡ old.names.units.items → new.names.places ≡ old.names.places → new.powered ≡ true → new.lines.items ≡ old.lines.items ++ (n, OwnedLine.Power) ∷ []
-    → Took old new None (turn_of n (Says DeckGrammar.Power (record c { powered = true })))
+    → TurnTaken old new None (turn_of n (Says DeckGrammar.Power (record c { powered = true })))
 took_power old new c n s us m p ls = record {
   context = record c { powered = true };
   stands = rw (us, m, p) (stands_power old.names.places old.names.units.items old.powered old.lines.items new.lines.items c n ls s);
@@ -253,7 +253,7 @@ took_power old new c n s us m p ls = record {
 }
 
 -- a line between statements, by its statement
-abbrev turn_or_none : Context → ℕ → Option Stated → Turn
+abbrev turn_or_none : Context → ℕ → Option Stated → LineTurn
 turn_or_none c n None = record { lines = []; mode = Between c }
 turn_or_none c n (Some s) = turn_of n s
 

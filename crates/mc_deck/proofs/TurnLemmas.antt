@@ -7,7 +7,7 @@ use Rattle.std.specs.BTreeMap.{BTreeMap}
 use Rattle.mc_model.specs.declared.deck.DeckCause.{DeckCause}
 use Rattle.mc_model.specs.declared.deck.DeckCause.TheVariants.{NoEnd}
 use Rattle.mc_model.specs.DeckGrammar
-use Rattle.mc_model.specs.DeckGrammar.{DeckLine, Context, Turn, Mode, deck_lines, ended, turn_at, Between, Within, between, within, turn_in, turn_of, is_end, section_unit, with_unit, Named}
+use Rattle.mc_model.specs.DeckGrammar.{DeckLine, Context, LineTurn, Mode, deck_lines, ended, turn_at, Between, Within, between, within, turn_in, turn_of, is_end, section_unit, with_unit, Named}
 use Rattle.mc_deck.specs.declared.refusal.DeckRefusal.{DeckRefusal}
 use Rattle.mc_deck.specs.declared.refusal.DeckRefusal.TheVariants.{At, NoMemory}
 use Rattle.mc_deck.specs.declared.statement.Statement.{Statement}
@@ -17,27 +17,27 @@ use Rattle.mc_deck.specs.declared.section.Section.{Section}
 use Rattle.mc_deck.specs.declared.reading.Reader.{Reader}
 use Rattle.mc_text.specs.Reading.{next_line}
 use Rattle.mc_asm.proofs.PassLemmas.{numbered_some, numbered_none}
-use Rattle.mc_deck.specs.Refused.{Refused}
-use Rattle.mc_deck.specs.Statements.{stated_of, Fits, InContext}
-use Rattle.mc_deck.specs.Readers.{line_stated, lines_of, mode_of, Stands, StandsBy, Took, Turned}
+use Rattle.mc_deck.specs.Refused.{DeckRefuses}
+use Rattle.mc_deck.specs.Statements.{stated_of, StatementFits, InContext}
+use Rattle.mc_deck.specs.Readers.{line_stated, lines_of, mode_of, StandsForContext, StandsBy, TurnTaken, LineTurned}
 use Rattle.mc_deck.specs.Contexts.{AreNames}
 use Rattle.mc_deck.specs.Lines.{said_lines}
 use Rattle.mc_deck.proofs.ReaderLemmas.{between_skipped, between_says, between_refused}
 
 -- what was read so far, as the statement reader has it
-pub in_context : (r : Reader) (c : Context) → Stands r c → InContext r.names r.powered c
+pub in_context : (r : Reader) (c : Context) → StandsForContext r c → InContext r.names r.powered c
 in_context r c s = record { named = s.named; power = s.power }
 
 -- what a line's reading answers of its statement
-abbrev pub Reads : Reader → Context → ℕ → List (List ℕ) → Result (Option Statement) DeckRefusal → Type 0
-Reads old c n ts r = MatchResult r (λ o. line_stated c n ts ≡ Ok (option_map (stated_of old.names.units.items c n) o)) (λ e. Refused (line_stated c n ts) e)
+abbrev pub ReadsStatement : Reader → Context → ℕ → List (List ℕ) → Result (Option Statement) DeckRefusal → Type 0
+ReadsStatement old c n ts r = MatchResult r (λ o. line_stated c n ts ≡ Ok (option_map (stated_of old.names.units.items c n) o)) (λ e. DeckRefuses (line_stated c n ts) e)
 
-pub fits_some : (n : ℕ) (p : Bool) (s : Statement) (r : Result (Option Statement) DeckRefusal) → r ≡ Ok (Some s) → IfOk r (λ o. MatchOption o ⊤ (Fits n p)) → Fits n p s
+pub fits_some : (n : ℕ) (p : Bool) (s : Statement) (r : Result (Option Statement) DeckRefusal) → r ≡ Ok (Some s) → IfOk r (λ o. MatchOption o ⊤ (StatementFits n p)) → StatementFits n p s
 fits_some n p s (Err e) h f = absurd (cc h)
 fits_some n p s (Ok None) h f = absurd (cc h)
-fits_some n p s (Ok (Some t)) h f = let e : t ≡ s = cc h in subst (Fits n p) e f
+fits_some n p s (Ok (Some t)) h f = let e : t ≡ s = cc h in subst (StatementFits n p) e f
 
-pub between_none : (old : Reader) (c : Context) (n : ℕ) (ts : List (List ℕ)) (r : Result (Option Statement) DeckRefusal) → r ≡ Ok None → Reads old c n ts r → Stands old c → Turned old old None (between c n ts)
+pub between_none : (old : Reader) (c : Context) (n : ℕ) (ts : List (List ℕ)) (r : Result (Option Statement) DeckRefusal) → r ≡ Ok None → ReadsStatement old c n ts r → StandsForContext old c → LineTurned old old None (between c n ts)
 between_none old c n ts (Err e) h m s = absurd (cc h)
 between_none old c n ts (Ok (Some t)) h m s = absurd (cc h)
 between_none old c n ts (Ok None) h m s = record {
@@ -47,27 +47,27 @@ between_none old c n ts (Ok None) h m s = record {
 }
 
 some_took : (old new : Reader) (c : Context) (n : ℕ) (ts : List (List ℕ)) (t : Statement) (q : Result (Option Section) DeckRefusal) → between c n ts ≡ Ok (turn_of n (stated_of old.names.units.items c n t))
-    → IfOk q (λ s. (c : Context) → Stands old c → Took old new s (turn_of n (stated_of old.names.units.items c n t))) → IfErr q (λ e. e ≡ NoMemory) → Stands old c
-    → MatchResult q (λ s. Turned old new s (between c n ts)) (λ e. Refused (between c n ts) e)
+    → IfOk q (λ s. (c : Context) → StandsForContext old c → TurnTaken old new s (turn_of n (stated_of old.names.units.items c n t))) → IfErr q (λ e. e ≡ NoMemory) → StandsForContext old c
+    → MatchResult q (λ s. LineTurned old new s (between c n ts)) (λ e. DeckRefuses (between c n ts) e)
 some_took old new c n ts t (Ok s) e f g h = record { turn = turn_of n (stated_of old.names.units.items c n t); is = e; took = f c h }
-some_took old new c n ts t (Err x) e f g h = subst (λ (x : DeckRefusal). Refused (between c n ts) x) (sym g) tt
+some_took old new c n ts t (Err x) e f g h = subst (λ (x : DeckRefusal). DeckRefuses (between c n ts) x) (sym g) tt
 
-pub between_some : (old new : Reader) (c : Context) (n : ℕ) (ts : List (List ℕ)) (t : Statement) (r : Result (Option Statement) DeckRefusal) (q : Result (Option Section) DeckRefusal) → r ≡ Ok (Some t) → Reads old c n ts r
-    → IfOk q (λ s. (c : Context) → Stands old c → Took old new s (turn_of n (stated_of old.names.units.items c n t))) → IfErr q (λ e. e ≡ NoMemory) → Stands old c
-    → MatchResult q (λ s. Turned old new s (between c n ts)) (λ e. Refused (between c n ts) e)
+pub between_some : (old new : Reader) (c : Context) (n : ℕ) (ts : List (List ℕ)) (t : Statement) (r : Result (Option Statement) DeckRefusal) (q : Result (Option Section) DeckRefusal) → r ≡ Ok (Some t) → ReadsStatement old c n ts r
+    → IfOk q (λ s. (c : Context) → StandsForContext old c → TurnTaken old new s (turn_of n (stated_of old.names.units.items c n t))) → IfErr q (λ e. e ≡ NoMemory) → StandsForContext old c
+    → MatchResult q (λ s. LineTurned old new s (between c n ts)) (λ e. DeckRefuses (between c n ts) e)
 between_some old new c n ts t (Err e) q h m f g s = absurd (cc h)
 between_some old new c n ts t (Ok None) q h m f g s = absurd (cc h)
 between_some old new c n ts t (Ok (Some u)) q h m f g s =
     let e : u ≡ t = cc h in
     some_took old new c n ts t q (between_says c n ts (stated_of old.names.units.items c n t) (m ∙ ap (λ (u : Statement). Ok (Some (stated_of old.names.units.items c n u))) e)) f g s
 
-refused_line : (c : Context) (n : ℕ) (ts : List (List ℕ)) (x : DeckRefusal) → Refused (line_stated c n ts) x → Refused (between c n ts) x
+refused_line : (c : Context) (n : ℕ) (ts : List (List ℕ)) (x : DeckRefusal) → DeckRefuses (line_stated c n ts) x → DeckRefuses (between c n ts) x
 refused_line c n ts (At m e) h = between_refused c n ts (m, e) h
 refused_line c n ts NoMemory h = tt
 
-pub between_err : (old : Reader) (c : Context) (n : ℕ) (ts : List (List ℕ)) (x : DeckRefusal) (r : Result (Option Statement) DeckRefusal) → r ≡ Err x → Reads old c n ts r → Refused (between c n ts) x
+pub between_err : (old : Reader) (c : Context) (n : ℕ) (ts : List (List ℕ)) (x : DeckRefusal) (r : Result (Option Statement) DeckRefusal) → r ≡ Err x → ReadsStatement old c n ts r → DeckRefuses (between c n ts) x
 between_err old c n ts x (Ok o) h m = absurd (cc h)
-between_err old c n ts x (Err y) h m = let e : y ≡ x = cc h in subst (λ (x : DeckRefusal). Refused (between c n ts) x) e (refused_line c n ts y m)
+between_err old c n ts x (Err y) h m = let e : y ≡ x = cc h in subst (λ (x : DeckRefusal). DeckRefuses (between c n ts) x) e (refused_line c n ts y m)
 
 -- ---- a line of a section
 
@@ -84,11 +84,11 @@ pub section_ended : (s : DeckGrammar.Section) (c : Context) (n : ℕ) (t : List 
     → turn_in (Within s c) (n, t) ≡ Ok (record { lines = (s.first, Named) ∷ []; mode = Between (with_unit c s.name u) })
 section_ended s c n t u e h = ap (λ b. within b s c (n, t)) e ∙ ends_step s c (n, t) ∙ ap (ok_as (λ u. record { lines = (s.first, Named) ∷ []; mode = Between (with_unit c s.name u) })) h
 
-unit_refused : (s : DeckGrammar.Section) (c : Context) (n : ℕ) (t : List ℕ) (x : DeckRefusal) → is_end (fields t) ≡ true → Refused (section_unit s n) x → Refused (turn_in (Within s c) (n, t)) x
+unit_refused : (s : DeckGrammar.Section) (c : Context) (n : ℕ) (t : List ℕ) (x : DeckRefusal) → is_end (fields t) ≡ true → DeckRefuses (section_unit s n) x → DeckRefuses (turn_in (Within s c) (n, t)) x
 unit_refused s c n t (At m k) e h = ap (λ b. within b s c (n, t)) e ∙ ends_step s c (n, t) ∙ ap (ok_as (λ u. record { lines = (s.first, Named) ∷ []; mode = Between (with_unit c s.name u) })) h
 unit_refused s c n t NoMemory e h = tt
 
-pub section_refused : (s : DeckGrammar.Section) (c : Context) (n : ℕ) (t : List ℕ) (x : DeckRefusal) → is_end (fields t) ≡ true → Refused (section_unit s n) x → Refused (turn_in (Within s c) (n, t)) x
+pub section_refused : (s : DeckGrammar.Section) (c : Context) (n : ℕ) (t : List ℕ) (x : DeckRefusal) → is_end (fields t) ≡ true → DeckRefuses (section_unit s n) x → DeckRefuses (turn_in (Within s c) (n, t)) x
 section_refused s c n t x e h = unit_refused s c n t x e h
 
 pub section_goes : (s : DeckGrammar.Section) (c : Context) (n : ℕ) (t : List ℕ) → is_end (fields t) ≡ false → turn_in (Within s c) (n, t) ≡ Ok (record { lines = []; mode = Within (record s { lines = s.lines ++ ((n, t) ∷ []) }) c })
@@ -113,21 +113,21 @@ lines_behind so more (Ok rest) = ap Ok (append_assoc so more rest)
 lines_behind so more (Err e) = refl
 
 -- one more line, a line that is refused, and the end
-pub line_read : (so now : List (ℕ × DeckLine)) (m : Mode) (turn : Turn) (n : ℕ) (t l b : List ℕ) (whole : Result (List (ℕ × DeckLine)) (ℕ × DeckCause)) → Some (l, b) ≡ next_line t → turn_at (n == 20001) m (n, l) ≡ Ok turn
+pub line_read : (so now : List (ℕ × DeckLine)) (m : Mode) (turn : LineTurn) (n : ℕ) (t l b : List ℕ) (whole : Result (List (ℕ × DeckLine)) (ℕ × DeckCause)) → Some (l, b) ≡ next_line t → turn_at (n == 20001) m (n, l) ≡ Ok turn
     → now ≡ so ++ turn.lines → left_lines so m n t ≡ whole → left_lines now turn.mode (n + 1) b ≡ whole
 line_read so now m turn n t l b whole h e g w =
     ap (λ x. ok_as (λ rest. x ++ rest) (deck_lines turn.mode (numbered (n + 1) (lines b)))) g
     ∙ lines_behind so turn.lines (deck_lines turn.mode (numbered (n + 1) (lines b)))
-    ∙ ap (ok_as (λ rest. so ++ rest)) (sym (ap (deck_lines m) (numbered_some n t l b h) ∙ lines_step m n l (numbered (n + 1) (lines b)) ∙ ap (λ r. r >>= λ (t : Turn). ok_as (λ rest. t.lines ++ rest) (deck_lines t.mode (numbered (n + 1) (lines b)))) e))
+    ∙ ap (ok_as (λ rest. so ++ rest)) (sym (ap (deck_lines m) (numbered_some n t l b h) ∙ lines_step m n l (numbered (n + 1) (lines b)) ∙ ap (λ r. r >>= λ (t : LineTurn). ok_as (λ rest. t.lines ++ rest) (deck_lines t.mode (numbered (n + 1) (lines b)))) e))
     ∙ w
 
 line_stops : (so : List (ℕ × DeckLine)) (m : Mode) (n : ℕ) (t l b : List ℕ) (whole : Result (List (ℕ × DeckLine)) (ℕ × DeckCause)) (x : ℕ × DeckCause) → Some (l, b) ≡ next_line t → turn_at (n == 20001) m (n, l) ≡ Err x
     → left_lines so m n t ≡ whole → whole ≡ Err x
 line_stops so m n t l b whole x h e w =
-    sym w ∙ ap (ok_as (λ rest. so ++ rest)) (ap (deck_lines m) (numbered_some n t l b h) ∙ lines_step m n l (numbered (n + 1) (lines b)) ∙ ap (λ r. r >>= λ (t : Turn). ok_as (λ rest. t.lines ++ rest) (deck_lines t.mode (numbered (n + 1) (lines b)))) e)
+    sym w ∙ ap (ok_as (λ rest. so ++ rest)) (ap (deck_lines m) (numbered_some n t l b h) ∙ lines_step m n l (numbered (n + 1) (lines b)) ∙ ap (λ r. r >>= λ (t : LineTurn). ok_as (λ rest. t.lines ++ rest) (deck_lines t.mode (numbered (n + 1) (lines b)))) e)
 
-pub line_refused : (so : List (ℕ × DeckLine)) (m : Mode) (n : ℕ) (t l b : List ℕ) (whole : Result (List (ℕ × DeckLine)) (ℕ × DeckCause)) (x : DeckRefusal) → Some (l, b) ≡ next_line t → Refused (turn_at (n == 20001) m (n, l)) x
-    → left_lines so m n t ≡ whole → Refused whole x
+pub line_refused : (so : List (ℕ × DeckLine)) (m : Mode) (n : ℕ) (t l b : List ℕ) (whole : Result (List (ℕ × DeckLine)) (ℕ × DeckCause)) (x : DeckRefusal) → Some (l, b) ≡ next_line t → DeckRefuses (turn_at (n == 20001) m (n, l)) x
+    → left_lines so m n t ≡ whole → DeckRefuses whole x
 line_refused so m n t l b whole (At k c) h e w = line_stops so m n t l b whole (k, c) h e w
 line_refused so m n t l b whole NoMemory h e w = tt
 

@@ -4,7 +4,7 @@ use Rattle.std.specs.List.{AllByRecursion}
 use Rattle.mc_model.specs.DeckGrammar.{DeckLine}
 use Rattle.mc_model.specs.ReadyAgain.{IsLine}
 use Rattle.mc_deck.specs.declared.deck.Deck.TheInside.{Inside as DeckFields}
-use Rattle.mc_deck.specs.Lines.{said_lines, Inside, AreDeck}
+use Rattle.mc_deck.specs.Lines.{said_lines, UnitWithin, AreDeck}
 
 -- the lines of a deck
 abbrev pub deck_view : DeckFields → List (ℕ × DeckLine)
@@ -12,6 +12,6 @@ deck_view d = said_lines d.units.items d.lines.items
 
 -- each `load` has its unit, the lines are those of a deck, and what they carry is bytes
 pub record KeepsDeck (d : DeckFields) : Type 0 where
-  pub inside : AllByRecursion (λ l. Inside (length d.units.items) l.1) d.lines.items
+  pub inside : AllByRecursion (λ l. UnitWithin (length d.units.items) l.1) d.lines.items
   pub deck : AreDeck (deck_view d)
   pub bytes : AllByRecursion (λ l. IsLine l.1) (deck_view d)

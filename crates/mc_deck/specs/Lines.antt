@@ -58,9 +58,9 @@ said us (OwnedLine.Fail k) = DeckGrammar.Fail k
 said us (OwnedLine.Poke at fill) = DeckGrammar.Poke at fill
 
 -- the place of a kept line's unit is one of so many
-abbrev pub Inside : ℕ → OwnedLine → Type 0
-Inside n (OwnedLine.Load i fixed session) = i < n
-Inside n l = Unit {0}
+abbrev pub UnitWithin : ℕ → OwnedLine → Type 0
+UnitWithin n (OwnedLine.Load i fixed session) = i < n
+UnitWithin n l = Unit {0}
 
 -- kept lines with their numbers
 abbrev pub said_lines : List OwnedUnit → List (ℕ × OwnedLine) → List (ℕ × DeckLine)
@@ -75,8 +75,8 @@ pub record GoodUnit (u : UnitParts) : Type 0 where
   pub name : name_of u.dir ≡ Ok u.aid
 
 -- a number from low to high
-abbrev pub Within : ℕ → ℕ → ℕ → Type 0
-Within low high n = (low ≤ n) × (n ≤ high)
+abbrev pub NumberWithin : ℕ → ℕ → ℕ → Type 0
+NumberWithin low high n = (low ≤ n) × (n ≤ high)
 
 -- the fields of a line are in their ranges
 abbrev pub GoodLine : DeckLine → Type 0
@@ -84,13 +84,13 @@ GoodLine DeckGrammar.Format = Unit {0}
 GoodLine DeckGrammar.Power = Unit {0}
 GoodLine DeckGrammar.Named = Unit {0}
 GoodLine (DeckGrammar.Load u fixed session) = GoodUnit u × (fixed ≤ 65535) × (session ≤ 65535)
-GoodLine (DeckGrammar.Select a) = Within 5 16 (length a)
-GoodLine (DeckGrammar.Delete a) = Within 5 16 (length a)
-GoodLine (DeckGrammar.Dump a) = Within 5 16 (length a)
+GoodLine (DeckGrammar.Select a) = NumberWithin 5 16 (length a)
+GoodLine (DeckGrammar.Delete a) = NumberWithin 5 16 (length a)
+GoodLine (DeckGrammar.Dump a) = NumberWithin 5 16 (length a)
 GoodLine (DeckGrammar.Apdu b) = 0 < length b
-GoodLine (DeckGrammar.Budget n) = Within 1 65536 n
-GoodLine (DeckGrammar.Cut k fill) = Within 1 4294967295 k × (length fill ≡ 8)
-GoodLine (DeckGrammar.Fail k) = Within 1 4294967295 k
+GoodLine (DeckGrammar.Budget n) = NumberWithin 1 65536 n
+GoodLine (DeckGrammar.Cut k fill) = NumberWithin 1 4294967295 k × (length fill ≡ 8)
+GoodLine (DeckGrammar.Fail k) = NumberWithin 1 4294967295 k
 GoodLine (DeckGrammar.Poke at fill) = (at ≤ 16383) × (length fill ≡ 8)
 
 -- a line that may stand where a `power` stood before, or none

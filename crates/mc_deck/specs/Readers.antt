@@ -5,14 +5,14 @@ use Rattle.std.specs.BTreeMap.{BTreeMap}
 use denote.Ref.{Bor}
 use Rattle.mc_model.specs.Bytes.{lookup}
 use Rattle.mc_model.specs.Text.{◌>>=◌, ok_as, err_as, begins}
-use Rattle.mc_model.specs.DeckGrammar.{DeckLine, Context, Stated, Turn, Mode, Between, Within, deck_words, stated}
+use Rattle.mc_model.specs.DeckGrammar.{DeckLine, Context, Stated, LineTurn, Mode, Between, Within, deck_words, stated}
 use Rattle.mc_model.specs.declared.deck.DeckCause.{DeckCause}
 use Rattle.mc_model.specs.declared.deck.DeckCause.TheVariants.{BadLine}
 use Rattle.mc_deck.specs.declared.unit.OwnedUnit.{OwnedUnit}
 use Rattle.mc_deck.specs.declared.line.OwnedLine.{OwnedLine}
 use Rattle.mc_deck.specs.declared.section.Section.{Section}
 use Rattle.mc_deck.specs.declared.reading.Reader.{Reader}
-use Rattle.mc_deck.specs.Lines.{said_lines, owned_parts, powered_by, Inside, GoodUnit, AreDeck}
+use Rattle.mc_deck.specs.Lines.{said_lines, owned_parts, powered_by, UnitWithin, GoodUnit, AreDeck}
 use Rattle.mc_deck.specs.Contexts.{AreNames}
 use Rattle.mc_deck.specs.Sections.{section_of}
 
@@ -31,13 +31,13 @@ pub record StandsBy (m : BTreeMap (Bor (List ℕ)) ℕ) (us : List OwnedUnit) (p
   pub named : AreNames m us c.units
   pub power : powered ≡ c.powered
   pub good : AllByRecursion (λ u. GoodUnit (owned_parts u)) us
-  pub inside : AllByRecursion (λ l. Inside (length us) l.1) ls
+  pub inside : AllByRecursion (λ l. UnitWithin (length us) l.1) ls
   pub deck : AreDeck (said_lines us ls)
   pub last : powered_after false (said_lines us ls) ≡ powered
 
 -- what was read so far stands for a context
-abbrev pub Stands : Reader → Context → Type 0
-Stands r c = StandsBy r.names.places r.names.units.items r.powered r.lines.items c
+abbrev pub StandsForContext : Reader → Context → Type 0
+StandsForContext r c = StandsBy r.names.places r.names.units.items r.powered r.lines.items c
 
 -- the lines so far
 abbrev pub lines_of : Reader → List (ℕ × DeckLine)
@@ -49,14 +49,14 @@ mode_of None c = Between c
 mode_of (Some s) c = Within (section_of s) c
 
 -- a turn was done to what was read so far
-pub record Took (old new : Reader) (section : Option Section) (t : Turn) : Type 0 where
+pub record TurnTaken (old new : Reader) (section : Option Section) (t : LineTurn) : Type 0 where
   pub context : Context
-  pub stands : Stands new context
+  pub stands : StandsForContext new context
   pub lines : lines_of new ≡ lines_of old ++ t.lines
   pub mode : t.mode ≡ mode_of section context
 
 -- a line's turn was done
-pub record Turned (old new : Reader) (section : Option Section) (r : Result Turn (ℕ × DeckCause)) : Type 0 where
-  pub turn : Turn
+pub record LineTurned (old new : Reader) (section : Option Section) (r : Result LineTurn (ℕ × DeckCause)) : Type 0 where
+  pub turn : LineTurn
   pub is : r ≡ Ok turn
-  pub took : Took old new section turn
+  pub took : TurnTaken old new section turn

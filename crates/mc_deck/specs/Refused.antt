@@ -7,9 +7,9 @@ use Rattle.mc_deck.specs.declared.refusal.Fault.{Fault}
 use Rattle.mc_deck.specs.declared.refusal.Fault
 
 -- the refusal is the one of the definition, or for want of memory
-abbrev pub Refused : {A : Type 0} → Result A (ℕ × DeckCause) → DeckRefusal → Type 0
-Refused r (DeckRefusal.TheVariants.At n c) = r ≡ Err (n, c)
-Refused r DeckRefusal.TheVariants.NoMemory = ⊤
+abbrev pub DeckRefuses : {A : Type 0} → Result A (ℕ × DeckCause) → DeckRefusal → Type 0
+DeckRefuses r (DeckRefusal.TheVariants.At n c) = r ≡ Err (n, c)
+DeckRefuses r DeckRefusal.TheVariants.NoMemory = ⊤
 
 -- the same of a statement, without its line
 abbrev pub Faulty : {A : Type 0} → Result A DeckCause → Fault → Type 0

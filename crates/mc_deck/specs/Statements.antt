@@ -7,7 +7,7 @@ use Rattle.mc_deck.specs.declared.line.OwnedLine.{OwnedLine}
 use Rattle.mc_deck.specs.declared.names.Names.{Names}
 use Rattle.mc_deck.specs.declared.statement.Keyword.{Keyword}
 use Rattle.mc_deck.specs.declared.statement.Statement.{Statement}
-use Rattle.mc_deck.specs.Lines.{said, owned_parts, GoodUnit, Within}
+use Rattle.mc_deck.specs.Lines.{said, owned_parts, GoodUnit, NumberWithin}
 use Rattle.mc_deck.specs.Contexts.{AreNames}
 
 -- the word of a statement as the grammar has it
@@ -52,27 +52,27 @@ Ranged OwnedLine.Format = Unit {0}
 Ranged OwnedLine.Power = Unit {0}
 Ranged OwnedLine.Named = Unit {0}
 Ranged (OwnedLine.Load i fixed session) = (fixed ≤ 65535) × (session ≤ 65535)
-Ranged (OwnedLine.Select a) = Within 5 16 (length a)
-Ranged (OwnedLine.Delete a) = Within 5 16 (length a)
-Ranged (OwnedLine.Dump a) = Within 5 16 (length a)
+Ranged (OwnedLine.Select a) = NumberWithin 5 16 (length a)
+Ranged (OwnedLine.Delete a) = NumberWithin 5 16 (length a)
+Ranged (OwnedLine.Dump a) = NumberWithin 5 16 (length a)
 Ranged (OwnedLine.Short b) = 0 < length b
 Ranged (OwnedLine.Apdu b) = 0 < length b
-Ranged (OwnedLine.Budget n) = Within 1 65536 n
-Ranged (OwnedLine.Cut k fill) = Within 1 4294967295 k × (length fill ≡ 8)
-Ranged (OwnedLine.Fail k) = Within 1 4294967295 k
+Ranged (OwnedLine.Budget n) = NumberWithin 1 65536 n
+Ranged (OwnedLine.Cut k fill) = NumberWithin 1 4294967295 k × (length fill ≡ 8)
+Ranged (OwnedLine.Fail k) = NumberWithin 1 4294967295 k
 Ranged (OwnedLine.Poke at fill) = (at ≤ 16383) × (length fill ≡ 8)
 
 -- a kept line that is no `power`, where so many units were named, and a `power` stood or none
-abbrev pub InRange : ℕ → Bool → OwnedLine → Type 0
-InRange n powered OwnedLine.Format = powered ≡ false
-InRange n powered OwnedLine.Power = ⊥
-InRange n powered (OwnedLine.Load i fixed session) = i < n
-InRange n powered (OwnedLine.Poke at fill) = powered ≡ false
-InRange n powered l = Unit {0}
+abbrev pub LineInRange : ℕ → Bool → OwnedLine → Type 0
+LineInRange n powered OwnedLine.Format = powered ≡ false
+LineInRange n powered OwnedLine.Power = ⊥
+LineInRange n powered (OwnedLine.Load i fixed session) = i < n
+LineInRange n powered (OwnedLine.Poke at fill) = powered ≡ false
+LineInRange n powered l = Unit {0}
 
 -- what a statement says is in its ranges
-abbrev pub Fits : ℕ → Bool → Statement → Type 0
-Fits n powered (Statement.Line l) = Ranged l × InRange n powered l
-Fits n powered Statement.Power = Unit {0}
-Fits n powered (Statement.Unit name u) = GoodUnit (owned_parts u)
-Fits n powered (Statement.Section name aid) = Unit {0}
+abbrev pub StatementFits : ℕ → Bool → Statement → Type 0
+StatementFits n powered (Statement.Line l) = Ranged l × LineInRange n powered l
+StatementFits n powered Statement.Power = Unit {0}
+StatementFits n powered (Statement.Unit name u) = GoodUnit (owned_parts u)
+StatementFits n powered (Statement.Section name aid) = Unit {0}

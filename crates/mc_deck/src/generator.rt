@@ -4,7 +4,7 @@ ghost use Rattle.std.specs.List.{AllByRecursion};
 ghost use Rattle.mc_model.specs.Text.{numbered};
 ghost use Rattle.mc_model.specs.Bytes.{bytes};
 ghost use Rattle.mc_model.specs.Generator.{closing, cut_line, generated, line_of, next, opening, purse_line, turns};
-ghost use Rattle.mc_deck.specs.Lines.{said, said_lines, Inside};
+ghost use Rattle.mc_deck.specs.Lines.{said, said_lines, UnitWithin};
 ghost use Rattle.mc_deck.specs.Generated.{AreUnits};
 
 use crate::bytes::ShortBytes;
@@ -71,7 +71,7 @@ fn command(ins: u8, number: u32) -> OwnedLine
 // A cut by a draw.
 fn cut_line(q: u32) -> OwnedLine
     ensures value { (us : List OwnedUnit) → said us result ≡ cut_line q }
-    ensures inside { Inside 3 result }
+    ensures inside { UnitWithin 3 result }
 {
     let fill = if q / 12 % 2 == 1 {
         OPENING_WORD
@@ -87,7 +87,7 @@ fn cut_line(q: u32) -> OwnedLine
 // A line on the purse by a draw, or `power`.
 fn purse_line(q: u32) -> OwnedLine
     ensures value { (us : List OwnedUnit) → AreUnits us → said us result ≡ purse_line q }
-    ensures inside { Inside 3 result }
+    ensures inside { UnitWithin 3 result }
 {
     match q % 4 {
         0 => OwnedLine::Delete(aid(2)),
@@ -103,7 +103,7 @@ fn purse_line(q: u32) -> OwnedLine
 // The line of a turn that draws r and q.
 fn line_of(r: u32, q: u32) -> OwnedLine
     ensures value { (us : List OwnedUnit) → AreUnits us → said us result ≡ line_of r q }
-    ensures inside { Inside 3 result }
+    ensures inside { UnitWithin 3 result }
 {
     match r % 16 {
         0 => OwnedLine::Select(aid(1)),
@@ -149,7 +149,7 @@ fn units(alloc: Global) -> Result<Vec<OwnedUnit>, AllocError>
 fn opening(alloc: Global) -> Result<Vec<(u32, OwnedLine)>, AllocError>
     ensures lines { IfOk result (λ v. (us : List OwnedUnit) → AreUnits us
         → said_lines us v.items ≡ numbered 1 opening) }
-    ensures inside { IfOk result (λ v. AllByRecursion (λ l. Inside 3 l.1) v.items) }
+    ensures inside { IfOk result (λ v. AllByRecursion (λ l. UnitWithin 3 l.1) v.items) }
 {
     Ok(Vec::from_array(
         alloc,
@@ -190,11 +190,11 @@ fn opening(alloc: Global) -> Result<Vec<(u32, OwnedLine)>, AllocError>
 // A line behind others.
 #[tactic(auto, using(crate::proofs::ReaderLemmas::said_more, crate::proofs::GeneratorLemmas::inside_behind))]
 fn push(lines: &mut Vec<(u32, OwnedLine)>, number: u32, line: OwnedLine) -> Result<(), AllocError>
-    requires line { Inside 3 line }
-    requires lines { AllByRecursion (λ l. Inside 3 l.1) lines.old.items }
+    requires line { UnitWithin 3 line }
+    requires lines { AllByRecursion (λ l. UnitWithin 3 l.1) lines.old.items }
     ensures said { OnOk result ((us : List OwnedUnit)
         → said_lines us lines.new.items ≡ said_lines us lines.old.items ++ (number, said us line) ∷ []) }
-    ensures inside { OnOk result (AllByRecursion (λ l. Inside 3 l.1) lines.new.items) }
+    ensures inside { OnOk result (AllByRecursion (λ l. UnitWithin 3 l.1) lines.new.items) }
 {
     lines.push((number, line))?;
     Ok(())
@@ -203,10 +203,10 @@ fn push(lines: &mut Vec<(u32, OwnedLine)>, number: u32, line: OwnedLine) -> Resu
 // The turns behind the opening.
 fn push_turns(lines: &mut Vec<(u32, OwnedLine)>, n: u32) -> Result<(), AllocError>
     requires number { n < 2 ^ 31 }
-    requires inside { AllByRecursion (λ l. Inside 3 l.1) lines.old.items }
+    requires inside { AllByRecursion (λ l. UnitWithin 3 l.1) lines.old.items }
     ensures lines { OnOk result ((us : List OwnedUnit) → AreUnits us
         → said_lines us lines.new.items ≡ said_lines us lines.old.items ++ numbered 9 (turns 4000 n)) }
-    ensures inside { OnOk result (AllByRecursion (λ l. Inside 3 l.1) lines.new.items) }
+    ensures inside { OnOk result (AllByRecursion (λ l. UnitWithin 3 l.1) lines.new.items) }
 {
     let mut x = n;
     for number in 9..4009 {
@@ -220,10 +220,10 @@ fn push_turns(lines: &mut Vec<(u32, OwnedLine)>, n: u32) -> Result<(), AllocErro
 
 // The last four lines.
 fn push_closing(lines: &mut Vec<(u32, OwnedLine)>) -> Result<(), AllocError>
-    requires { AllByRecursion (λ l. Inside 3 l.1) lines.old.items }
+    requires { AllByRecursion (λ l. UnitWithin 3 l.1) lines.old.items }
     ensures lines { OnOk result ((us : List OwnedUnit)
         → said_lines us lines.new.items ≡ said_lines us lines.old.items ++ numbered 4009 closing) }
-    ensures inside { OnOk result (AllByRecursion (λ l. Inside 3 l.1) lines.new.items) }
+    ensures inside { OnOk result (AllByRecursion (λ l. UnitWithin 3 l.1) lines.new.items) }
 {
     push(lines, 4009, OwnedLine::Power)?;
     push(lines, 4010, OwnedLine::Dump(aid(1)))?;

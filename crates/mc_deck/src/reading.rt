@@ -6,12 +6,12 @@ ghost use Rattle.mc_model.specs.DeckGrammar.{between, deck_read, turn_at, turn_i
 ghost use Rattle.mc_model.specs.ReadyAgain.{IsLine};
 ghost use Rattle.mc_asm.specs.Items.{texts};
 ghost use Rattle.mc_asm.specs.Passes.{numbered_lines};
-ghost use Rattle.mc_deck.specs.Refused.{Refused};
+ghost use Rattle.mc_deck.specs.Refused.{DeckRefuses};
 ghost use Rattle.mc_deck.specs.declared.refusal.DeckRefusal.TheVariants.{NoMemory};
 ghost use Rattle.mc_deck.specs.Lines.{owned_parts, GoodUnit};
 ghost use Rattle.mc_deck.specs.Sections.{section_of};
-ghost use Rattle.mc_deck.specs.Statements.{stated_of, Fits, InContext};
-ghost use Rattle.mc_deck.specs.Readers.{line_stated, lines_of, mode_of, Stands, Took, Turned};
+ghost use Rattle.mc_deck.specs.Statements.{stated_of, StatementFits, InContext};
+ghost use Rattle.mc_deck.specs.Readers.{line_stated, lines_of, mode_of, StandsForContext, TurnTaken, LineTurned};
 
 use crate::deck::Deck;
 use crate::line::OwnedLine;
@@ -63,9 +63,9 @@ fn worded<'a>(
         → MatchResult result
         (λ o. line_stated c number (word.now ∷ texts fields.now)
         ≡ Ok (option_map (stated_of names.now.units.items c number) o))
-        (λ e. Refused (line_stated c number (word.now ∷ texts fields.now)) e) }
+        (λ e. DeckRefuses (line_stated c number (word.now ∷ texts fields.now)) e) }
     ensures fits { (c : Context) → InContext names.now powered c
-        → IfOk result (λ o. MatchOption o ⊤ (Fits (length names.now.units.items) powered)) }
+        → IfOk result (λ o. MatchOption o ⊤ (StatementFits (length names.now.units.items) powered)) }
 {
     if is_comment(word) {
         return Ok(None);
@@ -92,9 +92,9 @@ fn statement_of<'a>(
     ensures value { (c : Context) → InContext names.now powered c
         → MatchResult result
         (λ o. line_stated c number (texts fields.now) ≡ Ok (option_map (stated_of names.now.units.items c number) o))
-        (λ e. Refused (line_stated c number (texts fields.now)) e) }
+        (λ e. DeckRefuses (line_stated c number (texts fields.now)) e) }
     ensures fits { (c : Context) → InContext names.now powered c
-        → IfOk result (λ o. MatchOption o ⊤ (Fits (length names.now.units.items) powered)) }
+        → IfOk result (λ o. MatchOption o ⊤ (StatementFits (length names.now.units.items) powered)) }
 {
     match fields {
         [] => Ok(None),
@@ -114,9 +114,9 @@ fn read_line<'a>(
     ensures value { (c : Context) → InContext names.now powered c
         → MatchResult result
         (λ o. line_stated c number (fields text.now) ≡ Ok (option_map (stated_of names.now.units.items c number) o))
-        (λ e. Refused (line_stated c number (fields text.now)) e) }
+        (λ e. DeckRefuses (line_stated c number (fields text.now)) e) }
     ensures fits { (c : Context) → InContext names.now powered c
-        → IfOk result (λ o. MatchOption o ⊤ (Fits (length names.now.units.items) powered)) }
+        → IfOk result (λ o. MatchOption o ⊤ (StatementFits (length names.now.units.items) powered)) }
 {
     if let Some(bytes) = plain_command(text) {
         return Ok(Some(Statement::Line(OwnedLine::Short(bytes))));
@@ -147,9 +147,9 @@ fn take_unit<'a>(
     unit: OwnedUnit,
 ) -> Result<(), DeckRefusal>
     requires { GoodUnit (owned_parts unit) }
-    ensures took { OnOk result ((c : Context) → Stands reader.old c
-        → Stands reader.new (with_unit c name.now (owned_parts unit))) }
-    ensures lines { OnOk result ((c : Context) → Stands reader.old c
+    ensures took { OnOk result ((c : Context) → StandsForContext reader.old c
+        → StandsForContext reader.new (with_unit c name.now (owned_parts unit))) }
+    ensures lines { OnOk result ((c : Context) → StandsForContext reader.old c
         → lines_of reader.new ≡ lines_of reader.old ++ (number, Named) ∷ []) }
     ensures memory { IfErr result (λ e. e ≡ NoMemory) }
 {
@@ -165,9 +165,9 @@ fn take_statement<'a>(
     number: u32,
     statement: Statement<'a>,
 ) -> Result<Option<Section<'a>>, DeckRefusal>
-    requires { Fits (length reader.old.names.units.items) reader.old.powered statement }
-    ensures took { IfOk result (λ s. (c : Context) → Stands reader.old c
-        → Took reader.old reader.new s
+    requires { StatementFits (length reader.old.names.units.items) reader.old.powered statement }
+    ensures took { IfOk result (λ s. (c : Context) → StandsForContext reader.old c
+        → TurnTaken reader.old reader.new s
         (turn_of number (stated_of reader.old.names.units.items c number statement.entry))) }
     ensures memory { IfErr result (λ e. e ≡ NoMemory) }
 {
@@ -201,10 +201,10 @@ fn between<'a>(
     number: u32,
     text: &'a [u8],
 ) -> Result<Option<Section<'a>>, DeckRefusal>
-    requires { (c : Context) × Stands reader.old c }
-    ensures turned { (c : Context) → Stands reader.old c
-        → MatchResult result (λ s. Turned reader.old reader.new s (between c number (fields text.now)))
-        (λ e. Refused (between c number (fields text.now)) e) }
+    requires { (c : Context) × StandsForContext reader.old c }
+    ensures turned { (c : Context) → StandsForContext reader.old c
+        → MatchResult result (λ s. LineTurned reader.old reader.new s (between c number (fields text.now)))
+        (λ e. DeckRefuses (between c number (fields text.now)) e) }
 {
     match read_line(alloc, &reader.names, reader.powered, number, text) {
         Err(refusal) => Err(refusal),
@@ -237,10 +237,10 @@ fn within<'a>(
     number: u32,
     text: &'a [u8],
 ) -> Result<Option<Section<'a>>, DeckRefusal>
-    ensures turned { (c : Context) → Stands reader.old c
+    ensures turned { (c : Context) → StandsForContext reader.old c
         → MatchResult result
-        (λ s. Turned reader.old reader.new s (turn_in (Within (section_of section.entry) c) (number, text.now)))
-        (λ e. Refused (turn_in (Within (section_of section.entry) c) (number, text.now)) e) }
+        (λ s. LineTurned reader.old reader.new s (turn_in (Within (section_of section.entry) c) (number, text.now)))
+        (λ e. DeckRefuses (turn_in (Within (section_of section.entry) c) (number, text.now)) e) }
 {
     let mut section = section;
     if ends_section(text) {
@@ -263,11 +263,12 @@ fn turn<'a>(
     number: u32,
     text: &'a [u8],
 ) -> Result<Option<Section<'a>>, DeckRefusal>
-    requires { (c : Context) × Stands reader.old c }
-    ensures turned { (c : Context) → Stands reader.old c
+    requires { (c : Context) × StandsForContext reader.old c }
+    ensures turned { (c : Context) → StandsForContext reader.old c
         → MatchResult result
-        (λ s. Turned reader.old reader.new s (turn_at (number == 20001) (mode_of section.entry c) (number, text.now)))
-        (λ e. Refused (turn_at (number == 20001) (mode_of section.entry c) (number, text.now)) e) }
+        (λ s. LineTurned reader.old reader.new s
+        (turn_at (number == 20001) (mode_of section.entry c) (number, text.now)))
+        (λ e. DeckRefuses (turn_at (number == 20001) (mode_of section.entry c) (number, text.now)) e) }
     ensures few { OnOk result (number ≢ 20001) }
 {
     if number == TOO_MANY {
@@ -281,7 +282,7 @@ fn turn<'a>(
 
 // The deck of what was read.
 fn deck_of(reader: Reader<'_>) -> Deck
-    requires stands { (c : Context) × Stands reader c }
+    requires stands { (c : Context) × StandsForContext reader c }
     requires bytes { AllByRecursion (λ l. IsLine l.1) (lines_of reader) }
     ensures { result ≡ lines_of reader.entry }
 {
@@ -298,7 +299,7 @@ fn deck_of(reader: Reader<'_>) -> Deck
 #[tactic(auto, unfolding(mc_model::specs::DeckGrammar::deck_read))]
 pub fn read_deck(alloc: Global, text: &[u8]) -> Result<Deck, DeckRefusal>
     ensures lines { IfOk result (λ d. deck_read text.now ≡ Ok d) }
-    ensures refused { IfErr result (λ e. Refused (deck_read text.now) e) }
+    ensures refused { IfErr result (λ e. DeckRefuses (deck_read text.now) e) }
 {
     let mut reader = Reader {
         names: no_names(alloc),

@@ -1,10 +1,11 @@
 // Sections: an application in assembly, up to its line `end`.
 ghost use Rattle.std.specs.Prelude.{◌≡◌, ◌<◌, ◌≤◌, length, vec_len, Ok, Err, IfOk, IfErr, MatchResult};
+ghost use Rattle.mc_model.specs.Limits.{most_code};
 ghost use Rattle.mc_model.specs.Text.{fields};
 ghost use Rattle.mc_model.specs.DeckGrammar.{data_hex, data_of_line, is_data, is_end, made_unit, section_data, section_program, section_unit};
 ghost use Rattle.mc_asm.specs.Items.{texts};
 ghost use Rattle.mc_asm.specs.Passes.{numbered_lines};
-ghost use Rattle.mc_deck.specs.Refused.{Faulty, Refused};
+ghost use Rattle.mc_deck.specs.Refused.{Faulty, DeckRefuses};
 ghost use Rattle.mc_deck.specs.declared.refusal.DeckRefusal.TheVariants.{NoMemory};
 ghost use Rattle.mc_deck.specs.Lines.{owned_parts, GoodUnit};
 ghost use Rattle.mc_deck.specs.Sections.{section_code, section_of, unit_judged};
@@ -90,7 +91,7 @@ fn data_of_line(alloc: Global, line: &[u8]) -> Result<Vec<u8>, Fault>
 // The data of a section.
 fn section_data(alloc: Global, lines: &[NumberedLine<'_>]) -> Result<Vec<u8>, DeckRefusal>
     ensures { MatchResult result (λ v. section_data (numbered_lines lines.now) ≡ Ok v.items)
-        (λ e. Refused (section_data (numbered_lines lines.now)) e) }
+        (λ e. DeckRefuses (section_data (numbered_lines lines.now)) e) }
 {
     let mut bytes = Vec::new(alloc);
     for line in lines {
@@ -125,8 +126,8 @@ fn section_program<'a>(
 // The code of the lines of a section.
 fn section_code(alloc: Global, lines: &[NumberedLine<'_>]) -> Result<Vec<u8>, DeckRefusal>
     ensures value { MatchResult result (λ v. section_code (numbered_lines lines.now) ≡ Ok v.items)
-        (λ e. Refused (section_code (numbered_lines lines.now)) e) }
-    ensures short { IfOk result (λ v. vec_len v ≤ 8192) }
+        (λ e. DeckRefuses (section_code (numbered_lines lines.now)) e) }
+    ensures short { IfOk result (λ v. vec_len v ≤ most_code) }
 {
     let program = section_program(alloc, lines)?;
     match assemble_lines(alloc, program.as_slice()) {
@@ -145,9 +146,9 @@ fn judged(
     init: Vec<u8>,
     number: u32,
 ) -> Result<OwnedUnit, DeckRefusal>
-    requires { vec_len code ≤ 8192 }
+    requires { vec_len code ≤ most_code }
     ensures value { MatchResult result (λ u. unit_judged number (made_unit aid.now code.items init.items)
-        ≡ Ok (owned_parts u)) (λ e. Refused (unit_judged number (made_unit aid.now code.items init.items)) e) }
+        ≡ Ok (owned_parts u)) (λ e. DeckRefuses (unit_judged number (made_unit aid.now code.items init.items)) e) }
     ensures good { IfOk result (λ u. GoodUnit (owned_parts u)) }
 {
     if code.is_empty() {
@@ -167,7 +168,7 @@ pub fn section_unit(
     number: u32,
 ) -> Result<OwnedUnit, DeckRefusal>
     ensures value { MatchResult result (λ u. section_unit (section_of section.now) number ≡ Ok (owned_parts u))
-        (λ e. Refused (section_unit (section_of section.now) number) e) }
+        (λ e. DeckRefuses (section_unit (section_of section.now) number) e) }
     ensures good { IfOk result (λ u. GoodUnit (owned_parts u)) }
 {
     let init = section_data(alloc, section.lines.as_slice())?;

@@ -9,9 +9,9 @@ ghost use Rattle.mc_model.specs.DeckGrammar.{deck_words, new_name, stated, Conte
 ghost use Rattle.mc_asm.specs.Items.{texts};
 ghost use Rattle.mc_asm.specs.Parts.{pair_of};
 ghost use Rattle.mc_deck.specs.Refused.{Faulty};
-ghost use Rattle.mc_deck.specs.Lines.{owned_parts, said, GoodUnit, Within};
+ghost use Rattle.mc_deck.specs.Lines.{owned_parts, said, GoodUnit, NumberWithin};
 ghost use Rattle.mc_deck.specs.Contexts.{AreNames};
-ghost use Rattle.mc_deck.specs.Statements.{first_words, keyword_of, second_words, stated_of, Fits, InContext};
+ghost use Rattle.mc_deck.specs.Statements.{first_words, keyword_of, second_words, stated_of, StatementFits, InContext};
 
 use crate::bytes::Bytes;
 use crate::field::{
@@ -101,7 +101,7 @@ fn format_statement<'a>(powered: bool, fields: &[&'a [u8]]) -> Result<Statement<
     ensures value { (us : List OwnedUnit) (c : Context) (n : ℕ) → powered ≡ c.powered
         → MatchResult result (λ s. stated c n FormatWord (texts fields.now) ≡ Ok (stated_of us c n s))
         (λ e. Faulty (stated c n FormatWord (texts fields.now)) e) }
-    ensures fits { (m : ℕ) → IfOk result (Fits m powered) }
+    ensures fits { (m : ℕ) → IfOk result (StatementFits m powered) }
 {
     match fields {
         [] => {
@@ -120,7 +120,7 @@ fn power_statement<'a>(powered: bool, fields: &[&'a [u8]]) -> Result<Statement<'
     ensures value { (us : List OwnedUnit) (c : Context) (n : ℕ)
         → MatchResult result (λ s. stated c n PowerWord (texts fields.now) ≡ Ok (stated_of us c n s))
         (λ e. Faulty (stated c n PowerWord (texts fields.now)) e) }
-    ensures fits { (m : ℕ) → IfOk result (Fits m powered) }
+    ensures fits { (m : ℕ) → IfOk result (StatementFits m powered) }
 {
     match fields {
         [] => Ok(Statement::Power),
@@ -140,7 +140,7 @@ fn unit_line<'a>(
         → AreNames names.now.places names.now.units.items c.units
         → MatchResult result (λ s. stated c n UnitWord (name.now ∷ hex.now ∷ []) ≡ Ok (stated_of us c n s))
         (λ e. Faulty (stated c n UnitWord (name.now ∷ hex.now ∷ [])) e) }
-    ensures fits { (m : ℕ) (powered : Bool) → IfOk result (Fits m powered) }
+    ensures fits { (m : ℕ) (powered : Bool) → IfOk result (StatementFits m powered) }
 {
     let name = name_field(name)?;
     let bytes = hex_field(alloc, hex)?;
@@ -170,7 +170,7 @@ fn unit_statement<'a>(
         → AreNames names.now.places names.now.units.items c.units
         → MatchResult result (λ s. stated c n UnitWord (texts fields.now) ≡ Ok (stated_of us c n s))
         (λ e. Faulty (stated c n UnitWord (texts fields.now)) e) }
-    ensures fits { (m : ℕ) (powered : Bool) → IfOk result (Fits m powered) }
+    ensures fits { (m : ℕ) (powered : Bool) → IfOk result (StatementFits m powered) }
 {
     match two(fields) {
         Some((name, hex)) => unit_line(alloc, names, name, hex),
@@ -212,7 +212,7 @@ fn app_statement<'a>(
         → AreNames names.now.places names.now.units.items c.units
         → MatchResult result (λ s. stated c n AppWord (texts fields.now) ≡ Ok (stated_of us c n s))
         (λ e. Faulty (stated c n AppWord (texts fields.now)) e) }
-    ensures fits { (m : ℕ) (powered : Bool) → IfOk result (Fits m powered) }
+    ensures fits { (m : ℕ) (powered : Bool) → IfOk result (StatementFits m powered) }
 {
     let [name, aid] = fields else {
         return Err(Fault::Cause(DeckCause::BadLine));
@@ -231,7 +231,7 @@ fn load_statement<'a>(names: &Names<'a>, fields: &[&'a [u8]]) -> Result<Statemen
         (λ s. stated c n LoadWord (texts fields.now) ≡ Ok (stated_of names.now.units.items c n s))
         (λ e. Faulty (stated c n LoadWord (texts fields.now)) e) }
     ensures fits { (c : Context) (powered : Bool) → AreNames names.now.places names.now.units.items c.units
-        → IfOk result (Fits (length names.now.units.items) powered) }
+        → IfOk result (StatementFits (length names.now.units.items) powered) }
 {
     let [name, fixed, session] = fields else {
         return Err(Fault::Cause(DeckCause::BadLine));
@@ -255,7 +255,7 @@ fn select_statement<'a>(alloc: Global, fields: &[&'a [u8]]) -> Result<Statement<
     ensures value { (us : List OwnedUnit) (c : Context) (n : ℕ)
         → MatchResult result (λ s. stated c n SelectWord (texts fields.now) ≡ Ok (stated_of us c n s))
         (λ e. Faulty (stated c n SelectWord (texts fields.now)) e) }
-    ensures fits { (m : ℕ) (powered : Bool) → IfOk result (Fits m powered) }
+    ensures fits { (m : ℕ) (powered : Bool) → IfOk result (StatementFits m powered) }
 {
     match fields {
         [aid] => Ok(Statement::Line(OwnedLine::Select(aid_field(alloc, aid)?))),
@@ -269,7 +269,7 @@ fn delete_statement<'a>(alloc: Global, fields: &[&'a [u8]]) -> Result<Statement<
     ensures value { (us : List OwnedUnit) (c : Context) (n : ℕ)
         → MatchResult result (λ s. stated c n DeleteWord (texts fields.now) ≡ Ok (stated_of us c n s))
         (λ e. Faulty (stated c n DeleteWord (texts fields.now)) e) }
-    ensures fits { (m : ℕ) (powered : Bool) → IfOk result (Fits m powered) }
+    ensures fits { (m : ℕ) (powered : Bool) → IfOk result (StatementFits m powered) }
 {
     match fields {
         [aid] => Ok(Statement::Line(OwnedLine::Delete(aid_field(alloc, aid)?))),
@@ -283,7 +283,7 @@ fn dump_statement<'a>(alloc: Global, fields: &[&'a [u8]]) -> Result<Statement<'a
     ensures value { (us : List OwnedUnit) (c : Context) (n : ℕ)
         → MatchResult result (λ s. stated c n DumpWord (texts fields.now) ≡ Ok (stated_of us c n s))
         (λ e. Faulty (stated c n DumpWord (texts fields.now)) e) }
-    ensures fits { (m : ℕ) (powered : Bool) → IfOk result (Fits m powered) }
+    ensures fits { (m : ℕ) (powered : Bool) → IfOk result (StatementFits m powered) }
 {
     match fields {
         [aid] => Ok(Statement::Line(OwnedLine::Dump(aid_field(alloc, aid)?))),
@@ -298,7 +298,7 @@ fn apdu_statement<'a>(alloc: Global, fields: &[&'a [u8]]) -> Result<Statement<'a
     ensures value { (us : List OwnedUnit) (c : Context) (n : ℕ)
         → MatchResult result (λ s. stated c n ApduWord (texts fields.now) ≡ Ok (stated_of us c n s))
         (λ e. Faulty (stated c n ApduWord (texts fields.now)) e) }
-    ensures fits { (m : ℕ) (powered : Bool) → IfOk result (Fits m powered) }
+    ensures fits { (m : ℕ) (powered : Bool) → IfOk result (StatementFits m powered) }
 {
     match fields {
         [hex] if hex.len() <= SHORT_DIGITS => {
@@ -315,7 +315,7 @@ fn budget_statement<'a>(fields: &[&'a [u8]]) -> Result<Statement<'a>, Fault>
     ensures value { (us : List OwnedUnit) (c : Context) (n : ℕ)
         → MatchResult result (λ s. stated c n BudgetWord (texts fields.now) ≡ Ok (stated_of us c n s))
         (λ e. Faulty (stated c n BudgetWord (texts fields.now)) e) }
-    ensures fits { (m : ℕ) (powered : Bool) → IfOk result (Fits m powered) }
+    ensures fits { (m : ℕ) (powered : Bool) → IfOk result (StatementFits m powered) }
 {
     match fields {
         [count] => Ok(Statement::Line(OwnedLine::Budget(number_field(count, 1, 65536)?))),
@@ -329,7 +329,7 @@ fn cut_statement<'a>(alloc: Global, fields: &[&'a [u8]]) -> Result<Statement<'a>
     ensures value { (us : List OwnedUnit) (c : Context) (n : ℕ)
         → MatchResult result (λ s. stated c n CutWord (texts fields.now) ≡ Ok (stated_of us c n s))
         (λ e. Faulty (stated c n CutWord (texts fields.now)) e) }
-    ensures fits { (m : ℕ) (powered : Bool) → IfOk result (Fits m powered) }
+    ensures fits { (m : ℕ) (powered : Bool) → IfOk result (StatementFits m powered) }
 {
     match fields {
         [k, fill] => {
@@ -347,7 +347,7 @@ fn fail_statement<'a>(fields: &[&'a [u8]]) -> Result<Statement<'a>, Fault>
     ensures value { (us : List OwnedUnit) (c : Context) (n : ℕ)
         → MatchResult result (λ s. stated c n FailWord (texts fields.now) ≡ Ok (stated_of us c n s))
         (λ e. Faulty (stated c n FailWord (texts fields.now)) e) }
-    ensures fits { (m : ℕ) (powered : Bool) → IfOk result (Fits m powered) }
+    ensures fits { (m : ℕ) (powered : Bool) → IfOk result (StatementFits m powered) }
 {
     match fields {
         [k] => Ok(Statement::Line(OwnedLine::Fail(number_field(k, 1, u32::MAX)?))),
@@ -365,7 +365,7 @@ fn poke_statement<'a>(
     ensures value { (us : List OwnedUnit) (c : Context) (n : ℕ) → powered ≡ c.powered
         → MatchResult result (λ s. stated c n PokeWord (texts fields.now) ≡ Ok (stated_of us c n s))
         (λ e. Faulty (stated c n PokeWord (texts fields.now)) e) }
-    ensures fits { (m : ℕ) → IfOk result (Fits m powered) }
+    ensures fits { (m : ℕ) → IfOk result (StatementFits m powered) }
 {
     match fields {
         [at, fill] => {
@@ -394,7 +394,7 @@ pub fn read_statement<'a>(
         (λ s. stated c n (keyword_of keyword) (texts fields.now) ≡ Ok (stated_of names.now.units.items c n s))
         (λ e. Faulty (stated c n (keyword_of keyword) (texts fields.now)) e) }
     ensures fits { (c : Context) → InContext names.now powered c
-        → IfOk result (Fits (length names.now.units.items) powered) }
+        → IfOk result (StatementFits (length names.now.units.items) powered) }
 {
     match keyword {
         Keyword::Format => format_statement(powered, fields),

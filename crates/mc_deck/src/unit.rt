@@ -3,7 +3,7 @@ ghost use Rattle.std.specs.Prelude.{◌≡◌, ◌≤◌, length, IfOk};
 ghost use Rattle.mc_model.specs.Units.{object};
 ghost use Rattle.mc_model.specs.DeckGrammar.{made_unit};
 ghost use Rattle.mc_unit.specs.Parts.{parts_of};
-ghost use Rattle.mc_deck.specs.Lines.{owned_parts, Within};
+ghost use Rattle.mc_deck.specs.Lines.{owned_parts, NumberWithin};
 
 use crate::bytes::Bytes;
 use mc_base::Aid;
@@ -38,7 +38,7 @@ pub fn copied(alloc: Global, unit: &Unit<'_>) -> Result<OwnedUnit, AllocError>
 // A record of a name: an object with the name in another object, each with a tag and a length of one byte.
 fn record_of(alloc: Global, outer: u8, inner: u8, aid: &Aid) -> Result<Bytes, AllocError>
     ensures value { IfOk result (λ b. b ≡ object outer (object inner aid.now)) }
-    ensures name { IfOk result (λ b. Within 5 16 (length aid.now)) }
+    ensures name { IfOk result (λ b. NumberWithin 5 16 (length aid.now)) }
 {
     let name = aid.bytes();
     let len = name.len() as u8;
@@ -51,7 +51,7 @@ fn record_of(alloc: Global, outer: u8, inner: u8, aid: &Aid) -> Result<Bytes, Al
 /// The unit of a section: its code and its data, a card number of zeros, and the DIR and FCI records of its name.
 pub fn made(alloc: Global, aid: &Aid, code: Vec<u8>, init: Vec<u8>) -> Result<OwnedUnit, AllocError>
     ensures value { IfOk result (λ u. owned_parts u ≡ made_unit aid.now code.items init.items) }
-    ensures name { IfOk result (λ u. Within 5 16 (length aid.now)) }
+    ensures name { IfOk result (λ u. NumberWithin 5 16 (length aid.now)) }
 {
     Ok(OwnedUnit {
         number: Bytes::copied(alloc, &[0; 8])?,

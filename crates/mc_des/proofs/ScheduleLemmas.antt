@@ -47,11 +47,11 @@ turned_bits s t x half high low =
     ∙ ap (λ (l : List ℕ). bits t half ++ l) (sym (bits-mod s s x (omega arith)) ∙ ap (bits s) low)
     ∙ sym (ap (turn s) (bits-cat s t half) ∙ turn-parts (bits s (half / 2 ^ t)) (bits t half) s (length-bits s (half / 2 ^ t)))
 
-record Turned (s half x : ℕ) : Type 0 where
+record HalfTurned (s half x : ℕ) : Type 0 where
   pub low : x < 2 ^ 28
   pub value : bits 28 x ≡ turn s (bits 28 half)
 
-by_one : (half : ℕ) → half < 2 ^ 28 → Turned 1 half (bit_or (bit_and (half * 2 ^ 1 % 2 ^ 32) (2 ^ 28 - 1)) (half / 2 ^ (28 - 1)))
+by_one : (half : ℕ) → half < 2 ^ 28 → HalfTurned 1 half (bit_or (bit_and (half * 2 ^ 1 % 2 ^ 32) (2 ^ 28 - 1)) (half / 2 ^ (28 - 1)))
 by_one half h =
     let x : ℕ = (half % 2 ^ 27) * 2 ^ 1 + half / 2 ^ 27 in
     let front : half * 2 ^ 1 % 2 ^ 32 % 2 ^ 28 ≡ (half % 2 ^ 27) * 2 ^ 1 = omega arith in
@@ -62,7 +62,7 @@ by_one half h =
       value = ap (bits 28) is ∙ turned_bits 1 27 x half (omega arith) (omega arith);
     }
 
-by_two : (half : ℕ) → half < 2 ^ 28 → Turned 2 half (bit_or (bit_and (half * 2 ^ 2 % 2 ^ 32) (2 ^ 28 - 1)) (half / 2 ^ (28 - 2)))
+by_two : (half : ℕ) → half < 2 ^ 28 → HalfTurned 2 half (bit_or (bit_and (half * 2 ^ 2 % 2 ^ 32) (2 ^ 28 - 1)) (half / 2 ^ (28 - 2)))
 by_two half h =
     let x : ℕ = (half % 2 ^ 26) * 2 ^ 2 + half / 2 ^ 26 in
     let front : half * 2 ^ 2 % 2 ^ 32 % 2 ^ 28 ≡ (half % 2 ^ 26) * 2 ^ 2 = omega arith in
@@ -73,11 +73,11 @@ by_two half h =
       value = ap (bits 28) is ∙ turned_bits 2 26 x half (omega arith) (omega arith);
     }
 
-turned : (half by : ℕ) → half < 2 ^ 28 → (by ≡ 1) ⊎ (by ≡ 2) → Turned by half (bit_or (bit_and (half * 2 ^ by % 2 ^ 32) (2 ^ 28 - 1)) (half / 2 ^ (28 - by)))
+turned : (half by : ℕ) → half < 2 ^ 28 → (by ≡ 1) ⊎ (by ≡ 2) → HalfTurned by half (bit_or (bit_and (half * 2 ^ by % 2 ^ 32) (2 ^ 28 - 1)) (half / 2 ^ (28 - by)))
 turned half by h size =
     elim size [
-      | inl one ↦ subst (λ (k : ℕ). Turned k half (bit_or (bit_and (half * 2 ^ k % 2 ^ 32) (2 ^ 28 - 1)) (half / 2 ^ (28 - k)))) (sym one) (by_one half h)
-      | inr two ↦ subst (λ (k : ℕ). Turned k half (bit_or (bit_and (half * 2 ^ k % 2 ^ 32) (2 ^ 28 - 1)) (half / 2 ^ (28 - k)))) (sym two) (by_two half h)
+      | inl one ↦ subst (λ (k : ℕ). HalfTurned k half (bit_or (bit_and (half * 2 ^ k % 2 ^ 32) (2 ^ 28 - 1)) (half / 2 ^ (28 - k)))) (sym one) (by_one half h)
+      | inr two ↦ subst (λ (k : ℕ). HalfTurned k half (bit_or (bit_and (half * 2 ^ k % 2 ^ 32) (2 ^ 28 - 1)) (half / 2 ^ (28 - k)))) (sym two) (by_two half h)
     ]
 
 pub turned_low : (half by : ℕ) → half < 2 ^ 28 → (by ≡ 1) ⊎ (by ≡ 2) → bit_or (bit_and (half * 2 ^ by % 2 ^ 32) (2 ^ 28 - 1)) (half / 2 ^ (28 - by)) < 2 ^ 28

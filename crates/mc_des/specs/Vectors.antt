@@ -4,36 +4,36 @@ use Rattle.mc_model.specs.Bytes.{bytes}
 use Rattle.mc_model.specs.Des.{des_encipher, des_decipher}
 
 -- a known answer
-pub record Row : Type 0 where
+pub record KnownDesAnswer : Type 0 where
   pub key : ℕ
   pub block : ℕ
   pub enciphered : ℕ
 
 -- a known answer from its three numbers
-abbrev pub row : ℕ → ℕ → ℕ → Row
+abbrev pub row : ℕ → ℕ → ℕ → KnownDesAnswer
 row key block enciphered = record { key = key; block = block; enciphered = enciphered }
 
 -- whether the definition enciphers each block of a list as the row says
-unfoldable pub all_encipher : List Row → Bool
+unfoldable pub all_encipher : List KnownDesAnswer → Bool
 unfolding des_encipher
 all_encipher [] = true
 all_encipher (r ∷ rs) = bytes_eq (des_encipher (bytes 8 r.key) (bytes 8 r.block)) (bytes 8 r.enciphered) && all_encipher rs
 
 -- and deciphers it
-unfoldable pub all_decipher : List Row → Bool
+unfoldable pub all_decipher : List KnownDesAnswer → Bool
 unfolding des_decipher
 all_decipher [] = true
 all_decipher (r ∷ rs) = bytes_eq (des_decipher (bytes 8 r.key) (bytes 8 r.enciphered)) (bytes 8 r.block) && all_decipher rs
 
 -- A worked example that is widely printed, one row of NIST SP 800-17, and zeros under zeros.
-abbrev pub worked : List Row
+abbrev pub worked : List KnownDesAnswer
 worked =
     row 0x133457799BBCDFF1 0x0123456789ABCDEF 0x85E813540F0AB405 ∷
     row 0x0101010101010101 0x95F8A5E5DD31D900 0x8000000000000000 ∷
     row 0x0000000000000000 0x0000000000000000 0x8CA64DE9C1B123A7 ∷ []
 
 -- NIST SP 800-17, table 1 (variable plaintext), its first rows.
-abbrev pub variable_plaintext : List Row
+abbrev pub variable_plaintext : List KnownDesAnswer
 variable_plaintext =
     row 0x0101010101010101 0x8000000000000000 0x95F8A5E5DD31D900 ∷
     row 0x0101010101010101 0x4000000000000000 0xDD7F121CA5015619 ∷
@@ -49,7 +49,7 @@ variable_plaintext =
     row 0x0101010101010101 0x0010000000000000 0xF15D0F286B65BD28 ∷ []
 
 -- NIST SP 800-17, table 2 (variable key), its first rows.
-abbrev pub variable_key : List Row
+abbrev pub variable_key : List KnownDesAnswer
 variable_key =
     row 0x8001010101010101 0x0000000000000000 0x95A8D72813DAA94D ∷
     row 0x4001010101010101 0x0000000000000000 0x0EEC1487DD8C26D5 ∷
@@ -63,7 +63,7 @@ variable_key =
     row 0x0120010101010101 0x0000000000000000 0x31FE17369B5288C9 ∷ []
 
 -- NIST SP 800-17, table 3 (permutation operation), its first rows.
-abbrev pub permutation_operation : List Row
+abbrev pub permutation_operation : List KnownDesAnswer
 permutation_operation =
     row 0x1046913489980131 0x0000000000000000 0x88D55E54F54C97B4 ∷
     row 0x1007103489988020 0x0000000000000000 0x0C0CC00C83EA48FD ∷
@@ -75,7 +75,7 @@ permutation_operation =
     row 0x1007B01519190101 0x0000000000000000 0xC9F00FFC74079067 ∷ []
 
 -- NIST SP 800-17, table 4 (substitution table), all rows.
-abbrev pub substitution_table : List Row
+abbrev pub substitution_table : List KnownDesAnswer
 substitution_table =
     row 0x7CA110454A1A6E57 0x01A1D6D039776742 0x690F5B0D9A26939B ∷
     row 0x0131D9619DC1376E 0x5CD54CA83DEF57DA 0x7A389D10354BD271 ∷

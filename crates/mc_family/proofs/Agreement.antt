@@ -13,13 +13,13 @@ bare None = None
 bare (Some a) = Some (placed 0 a)
 
 -- the maps have the same applications under all names of one side of K: those in it (true), or all others (false)
-abbrev pub Agree : List (List ℕ) → Bool → List (List ℕ × App) → List (List ℕ × App) → Type 0
-Agree K x m d = (k : List ℕ) → has_name k K ≡ x → bare (lookup m k) ≡ bare (lookup d k)
+abbrev pub MapsAgree : List (List ℕ) → Bool → List (List ℕ × App) → List (List ℕ × App) → Type 0
+MapsAgree K x m d = (k : List ℕ) → has_name k K ≡ x → bare (lookup m k) ≡ bare (lookup d k)
 
 module _ (K : List (List ℕ)) (x : Bool) where
   -- ---- the same change on both sides
 
-  pub Agree-inserted : (m d : List (List ℕ × App)) (n : List ℕ) (a b : App) → placed 0 a ≡ placed 0 b → Agree K x m d → Agree K x (insert m n a) (insert d n b)
+  pub Agree-inserted : (m d : List (List ℕ × App)) (n : List ℕ) (a b : App) → placed 0 a ≡ placed 0 b → MapsAgree K x m d → MapsAgree K x (insert m n a) (insert d n b)
   Agree-inserted m d n a b e h k on = by_test (bytes_eq n k) refl
     where
       by_test : (y : Bool) → bytes_eq n k ≡ y → bare (lookup (insert m n a) k) ≡ bare (lookup (insert d n b) k)
@@ -28,7 +28,7 @@ module _ (K : List (List ℕ)) (x : Bool) where
           (ap bare (lookup-inserted m n a) ∙ (ap (λ (c : App). Some c) e ∙ sym (ap bare (lookup-inserted d n b))))
       by_test false is = ap bare (lookup-beside m n a k is) ∙ (h k on ∙ sym (ap bare (lookup-beside d n b k is)))
 
-  pub Agree-removed : (m d : List (List ℕ × App)) (n : List ℕ) → Agree K x m d → Agree K x (remove m n) (remove d n)
+  pub Agree-removed : (m d : List (List ℕ × App)) (n : List ℕ) → MapsAgree K x m d → MapsAgree K x (remove m n) (remove d n)
   Agree-removed m d n h k on = by_test (bytes_eq n k) refl
     where
       by_test : (y : Bool) → bytes_eq n k ≡ y → bare (lookup (remove m n) k) ≡ bare (lookup (remove d n) k)
@@ -40,7 +40,7 @@ module _ (K : List (List ℕ)) (x : Bool) where
   -- ---- a change of a name of the other side
 
   -- a map is as before on this side
-  pub Agree-beside : (m : List (List ℕ × App)) (n : List ℕ) (a : App) → has_name n K ≡ not x → Agree K x (insert m n a) m
+  pub Agree-beside : (m : List (List ℕ × App)) (n : List ℕ) (a : App) → has_name n K ≡ not x → MapsAgree K x (insert m n a) m
   Agree-beside m n a off k on = ap bare (lookup-beside m n a k (apart_from k on))
     where
       apart_from : (k : List ℕ) → has_name k K ≡ x → bytes_eq n k ≡ false
@@ -50,7 +50,7 @@ module _ (K : List (List ℕ)) (x : Bool) where
           both_sides true h = h
           both_sides false h = h
 
-  pub Agree-left : (m : List (List ℕ × App)) (n : List ℕ) → has_name n K ≡ not x → Agree K x (remove m n) m
+  pub Agree-left : (m : List (List ℕ × App)) (n : List ℕ) → has_name n K ≡ not x → MapsAgree K x (remove m n) m
   Agree-left m n off k on = ap bare (lookup-left m n k (apart_from k on))
     where
       apart_from : (k : List ℕ) → has_name k K ≡ x → bytes_eq n k ≡ false
@@ -60,19 +60,19 @@ module _ (K : List (List ℕ)) (x : Bool) where
           both_sides true h = h
           both_sides false h = h
 
-  pub Agree-changed_app : (m : List (List ℕ × App)) (n : List ℕ) (ps : List (ℕ × List ℕ)) (o : Option App) → has_name n K ≡ not x → Agree K x (changed_app m n ps o) m
+  pub Agree-changed_app : (m : List (List ℕ × App)) (n : List ℕ) (ps : List (ℕ × List ℕ)) (o : Option App) → has_name n K ≡ not x → MapsAgree K x (changed_app m n ps o) m
   Agree-changed_app m n ps None off k on = refl
   Agree-changed_app m n ps (Some a) off k on = Agree-beside m n (with_pieces ps a) off k on
 
-  pub Agree-joined : (m d e : List (List ℕ × App)) → Agree K x m d → Agree K x d e → Agree K x m e
+  pub Agree-joined : (m d e : List (List ℕ × App)) → MapsAgree K x m d → MapsAgree K x d e → MapsAgree K x m e
   Agree-joined m d e g h k on = g k on ∙ h k on
 
-  pub Agree-back : (m d : List (List ℕ × App)) → Agree K x m d → Agree K x d m
+  pub Agree-back : (m d : List (List ℕ × App)) → MapsAgree K x m d → MapsAgree K x d m
   Agree-back m d h k on = sym (h k on)
 
   -- ---- static changes
 
-  on_both : (m d : List (List ℕ × App)) (n : List ℕ) (ps : List (ℕ × List ℕ)) (o p : Option App) → bare o ≡ bare p → Agree K x m d → Agree K x (changed_app m n ps o) (changed_app d n ps p)
+  on_both : (m d : List (List ℕ × App)) (n : List ℕ) (ps : List (ℕ × List ℕ)) (o p : Option App) → bare o ≡ bare p → MapsAgree K x m d → MapsAgree K x (changed_app m n ps o) (changed_app d n ps p)
   on_both m d n ps None None e h = h
   on_both m d n ps None (Some b) e h = absurd (cc e)
   on_both m d n ps (Some a) None e h = absurd (cc e)
@@ -80,7 +80,7 @@ module _ (K : List (List ℕ)) (x : Bool) where
       let same : placed 0 a ≡ placed 0 b = cc in
       Agree-inserted m d n (with_pieces ps a) (with_pieces ps b) (ap (with_pieces ps) same) h
 
-  by_side : (y z : Bool) (m d : List (List ℕ × App)) (n : List ℕ) (ps : List (ℕ × List ℕ)) → x ≡ z → has_name n K ≡ y → Agree K x m d → Agree K x (map_changed m n (Some ps)) (map_changed d n (Some ps))
+  by_side : (y z : Bool) (m d : List (List ℕ × App)) (n : List ℕ) (ps : List (ℕ × List ℕ)) → x ≡ z → has_name n K ≡ y → MapsAgree K x m d → MapsAgree K x (map_changed m n (Some ps)) (map_changed d n (Some ps))
   by_side true true m d n ps e is h = on_both m d n ps (lookup m n) (lookup d n) (h n (is ∙ sym e)) h
   by_side false false m d n ps e is h = on_both m d n ps (lookup m n) (lookup d n) (h n (is ∙ sym e)) h
   by_side true false m d n ps e is h =
@@ -92,19 +92,19 @@ module _ (K : List (List ℕ)) (x : Bool) where
       Agree-joined (map_changed m n (Some ps)) m (map_changed d n (Some ps)) (Agree-changed_app m n ps (lookup m n) off)
       (Agree-joined m d (map_changed d n (Some ps)) h (Agree-back (map_changed d n (Some ps)) d (Agree-changed_app d n ps (lookup d n) off)))
 
-  pub Agree-map_changed : (m d : List (List ℕ × App)) (n : List ℕ) (o : Option (List (ℕ × List ℕ))) → Agree K x m d → Agree K x (map_changed m n o) (map_changed d n o)
+  pub Agree-map_changed : (m d : List (List ℕ × App)) (n : List ℕ) (o : Option (List (ℕ × List ℕ))) → MapsAgree K x m d → MapsAgree K x (map_changed m n o) (map_changed d n o)
   Agree-map_changed m d n None h = h
   Agree-map_changed m d n (Some ps) h = by_side (has_name n K) x m d n ps refl refl h
 
   -- ---- items
 
-  pub Agree-changed : (c : Change) (m d : List (List ℕ × App)) → Agree K x m d → Agree K x (changed c m) (changed c d)
+  pub Agree-changed : (c : Change) (m d : List (List ℕ × App)) → MapsAgree K x m d → MapsAgree K x (changed c m) (changed c d)
   Agree-changed (Fixed n ps) m d h = Agree-map_changed m d n (Some ps) h
   Agree-changed (Created n a) m d h = Agree-inserted m d n a a refl h
   Agree-changed (Deleted n) m d h = Agree-removed m d n h
 
   -- the same items done to both
-  pub Agree-done : (is : List Item) (m d : List (List ℕ × App)) → Agree K x m d → Agree K x (done m is) (done d is)
+  pub Agree-done : (is : List Item) (m d : List (List ℕ × App)) → MapsAgree K x m d → MapsAgree K x (done m is) (done d is)
   Agree-done [] m d h = h
   Agree-done (Plain ∷ is) m d h = Agree-done is m d h
   Agree-done (Atomic w c ∷ is) m d h = Agree-done is (changed c m) (changed c d) (Agree-changed c m d h)

@@ -9,16 +9,16 @@ use Rattle.mc_model.specs.Chain.{Write, with_pieces, changed_app, map_changed}
 use Rattle.mc_model.specs.Items.{Change, Fixed, Created, Deleted, Item, Plain, Atomic, changed, done, Stopped, at_stop, in_flight, with_item}
 use Rattle.mc_model.specs.Image.{Two}
 use Rattle.mc_model.specs.Stopped.{cost, stands}
-use Rattle.mc_model.specs.Manager.{most_static}
+use Rattle.mc_model.specs.Limits.{most_static}
 use Rattle.std.specs.Prelude.{nat_le, ◌==◌}
-use Rattle.mc_family.specs.FewWords.{Inside}
+use Rattle.mc_family.specs.FewWords.{PiecesWithin}
 use Rattle.mc_family.specs.Begins.{AreLimited}
 use Rattle.mc_family.proofs.MapLemmas.{same_name, lookup-inserted, lookup-beside, lookup-removed, lookup-left}
 use Rattle.mc_family.proofs.RowSizes.{length-laid}
 
 -- the lengths of static and session bytes
-abbrev pub Sizes : Type 0
-Sizes = Option (ℕ × ℕ)
+abbrev pub SegmentSizes : Type 0
+SegmentSizes = Option (ℕ × ℕ)
 
 abbrev pub size_of : Option App → Option (ℕ × ℕ)
 size_of None = None
@@ -33,7 +33,7 @@ SameSizes m d = (n : List ℕ) → size_in d n ≡ size_in m n
 -- pieces that lie in the static bytes of an application, if it is there
 abbrev pub InsideApp : Option (ℕ × ℕ) → List (ℕ × List ℕ) → Type 0
 InsideApp None ps = ⊤
-InsideApp (Some s) ps = Inside s.0 ps
+InsideApp (Some s) ps = PiecesWithin s.0 ps
 
 -- a change of static bytes
 changed-size : (o : Option App) (m : List (List ℕ × App)) (n : List ℕ) (ps : List (ℕ × List ℕ)) → lookup m n ≡ o → InsideApp (size_of o) ps → SameSizes m (changed_app m n ps o)

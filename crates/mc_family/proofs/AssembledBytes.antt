@@ -12,7 +12,7 @@ use Rattle.mc_model.specs.Bytes.{AreBytes, bytes2, zeros, lookup}
 use Rattle.mc_model.specs.Text.{◌>>=◌, ok_as, err_as, only_if, first_cut, is_blank, is_empty, trim, pieces}
 use Rattle.mc_model.specs.Code.{spell, target, offset}
 use Rattle.mc_model.specs.Listing.{condition_names, register_names}
-use Rattle.mc_model.specs.Assembly.{fits_signed, number_operand, byte, word, signed_operand, natural, signed, place_among, condition, offset_and_end, register_and_rest, address, both, all_bytes, Item, Nothing, Raw, Plain, ToPlace, ToDistance, Form, Bare, OfByte, OfBytes, OfWord, OfWords, RawByte, ByDistance, ByPlace, Primitive, Addressed, AddressedByte, AddressedWord, words, Given, label_or_given, is_label, by_distance, by_place, primitive, worded, operands, word_and_operands, Line, label_and_rest, line_read, size, Placed, Laid, is_new, with_label, line_laid, laid_lines, emitted, joined_code, assembled_lines}
+use Rattle.mc_model.specs.Assembly.{fits_signed, number_operand, byte, word, signed_operand, natural, signed, place_among, condition, offset_and_end, register_and_rest, address, both, all_bytes, CodeItem, Nothing, Raw, Plain, ToPlace, ToDistance, WordForm, Bare, OfByte, OfBytes, OfWord, OfWords, RawByte, ByDistance, ByPlace, Primitive, Addressed, AddressedByte, AddressedWord, words, Given, label_or_given, is_label, by_distance, by_place, primitive, worded, operands, word_and_operands, Line, label_and_rest, line_read, size, Placed, Laid, is_new, with_label, line_laid, laid_lines, emitted, joined_code, assembled_lines}
 use Rattle.mc_model.proofs.ImageLemmas.{all-append}
 use Rattle.mc_family.proofs.CardFacts.{all-take}
 
@@ -125,22 +125,22 @@ near-byte (pos n) h = let low : n < 128 = grind (arith, h) in omega (arith, ints
 near-byte (negsuc n) h = let low : n < 128 = grind (arith, h) in omega (arith, ints)
 
 -- what a form makes of operands in their ranges is spelled in bytes
-abbrev Spells : Ins → Type 0
-Spells i = AreBytes (spell i)
+abbrev SpelledInBytes : Ins → Type 0
+SpelledInBytes i = AreBytes (spell i)
 
-abbrev GoodForm : Form → Type 0
-GoodForm (Bare i) = Spells i
-GoodForm (OfByte f) = (n : ℕ) → n ≤ 255 → Spells (f n)
-GoodForm (OfBytes f) = (n o : ℕ) → n ≤ 255 → o ≤ 255 → Spells (f n o)
-GoodForm (OfWord f) = (w : ℕ) → Spells (f w)
-GoodForm (OfWords f) = (v w : ℕ) → Spells (f v w)
+abbrev GoodForm : WordForm → Type 0
+GoodForm (Bare i) = SpelledInBytes i
+GoodForm (OfByte f) = (n : ℕ) → n ≤ 255 → SpelledInBytes (f n)
+GoodForm (OfBytes f) = (n o : ℕ) → n ≤ 255 → o ≤ 255 → SpelledInBytes (f n o)
+GoodForm (OfWord f) = (w : ℕ) → SpelledInBytes (f w)
+GoodForm (OfWords f) = (v w : ℕ) → SpelledInBytes (f v w)
 GoodForm RawByte = ⊤
-GoodForm (ByDistance f) = (c : ℕ) (d : ℤ) → c < 8 → fits_signed 128 d ≡ true → Spells (f c d)
-GoodForm (ByPlace f) = (c to : ℕ) → c < 8 → Spells (f c to)
+GoodForm (ByDistance f) = (c : ℕ) (d : ℤ) → c < 8 → fits_signed 128 d ≡ true → SpelledInBytes (f c d)
+GoodForm (ByPlace f) = (c to : ℕ) → c < 8 → SpelledInBytes (f c to)
 GoodForm Primitive = ⊤
-GoodForm (Addressed f) = (tag : ℕ) (off : ℤ) → tag < 8 → Spells (f tag off)
-GoodForm (AddressedByte f) = (tag : ℕ) (off : ℤ) (n : ℕ) → tag < 8 → n ≤ 255 → Spells (f tag off n)
-GoodForm (AddressedWord f) = (tag : ℕ) (off : ℤ) (w : ℕ) → tag < 8 → Spells (f tag off w)
+GoodForm (Addressed f) = (tag : ℕ) (off : ℤ) → tag < 8 → SpelledInBytes (f tag off)
+GoodForm (AddressedByte f) = (tag : ℕ) (off : ℤ) (n : ℕ) → tag < 8 → n ≤ 255 → SpelledInBytes (f tag off n)
+GoodForm (AddressedWord f) = (tag : ℕ) (off : ℤ) (w : ℕ) → tag < 8 → SpelledInBytes (f tag off w)
 
 two-words : (v w : ℕ) → AreBytes (bytes2 v ++ bytes2 w)
 two-words v w = all-append (λ b. b < 256) (bytes2 v) (bytes2 w) (pair-bytes v) (pair-bytes w)
@@ -148,7 +148,7 @@ two-words v w = all-append (λ b. b < 256) (bytes2 v) (bytes2 w) (pair-bytes v) 
 word-offset : (tag : ℕ) (off : ℤ) (w : ℕ) → AreBytes (bytes2 w ++ offset tag off)
 word-offset tag off w = all-append (λ b. b < 256) (bytes2 w) (offset tag off) (pair-bytes w) (offset-bytes tag off)
 
-good-words : AllByRecursion {X = List ℕ × Form} (λ w. GoodForm w.1) words
+good-words : AllByRecursion {X = List ℕ × WordForm} (λ w. GoodForm w.1) words
 good-words = (
   (omega arith, tt),
   (
@@ -296,7 +296,7 @@ good-words = (
 )
 
 -- the form of a word
-found-form : (ws : List (List ℕ × Form)) (t : List ℕ) → AllByRecursion {X = List ℕ × Form} (λ w. GoodForm w.1) ws → IfOk (ok_or (lookup ws t) UnknownWord) GoodForm
+found-form : (ws : List (List ℕ × WordForm)) (t : List ℕ) → AllByRecursion {X = List ℕ × WordForm} (λ w. GoodForm w.1) ws → IfOk (ok_or (lookup ws t) UnknownWord) GoodForm
 found-form [] t h = tt
 found-form (w ∷ ws) t h = by (bytes_eq w.0 t) (found-form ws t h.1)
   where
@@ -307,12 +307,12 @@ found-form (w ∷ ws) t h = by (bytes_eq w.0 t) (found-form ws t h.1)
 -- ---- lines
 
 -- what a line puts into the code is bytes, wherever its label stands
-abbrev ItemBytes : Item → Type 0
+abbrev ItemBytes : CodeItem → Type 0
 ItemBytes Nothing = ⊤
 ItemBytes (Raw b) = b < 256
-ItemBytes (Plain i) = Spells i
-ItemBytes (ToPlace f l) = (p : ℕ) → Spells (f p)
-ItemBytes (ToDistance f l) = (d : ℤ) → fits_signed 128 d ≡ true → Spells (f d)
+ItemBytes (Plain i) = SpelledInBytes i
+ItemBytes (ToPlace f l) = (p : ℕ) → SpelledInBytes (f p)
+ItemBytes (ToDistance f l) = (d : ℤ) → fits_signed 128 d ≡ true → SpelledInBytes (f d)
 
 distance-ok : (f : ℕ → ℤ → Ins) (c : ℕ) (b : Bool) (t : List ℕ) → GoodForm (ByDistance f) → c < 8 → IfOk (label_or_given b t (signed_operand 128 t)) (λ x. ItemBytes (by_distance (f c) x))
 distance-ok f c true t g h = λ d k. g c d h k
@@ -323,7 +323,7 @@ place-ok f c true t g h = λ p. g c p h
 place-ok f c false t g h = as-ok Given (word t) (λ z. ⊤) (λ x. ItemBytes (by_place (f c) x)) (any-ok (word t)) (λ z k. g c z h)
 
 -- both of a condition and what is made with it
-after-ok : {B : Type 0} (r : Result ℕ AsmCause) (s : Result B AsmCause) (f : ℕ → B → Item) → IfOk r (λ c. c < 8) → ((c : ℕ) → c < 8 → IfOk s (λ x. ItemBytes (f c x))) → IfOk (ok_as (λ p. f p.0 p.1) (both r s)) ItemBytes
+after-ok : {B : Type 0} (r : Result ℕ AsmCause) (s : Result B AsmCause) (f : ℕ → B → CodeItem) → IfOk r (λ c. c < 8) → ((c : ℕ) → c < 8 → IfOk s (λ x. ItemBytes (f c x))) → IfOk (ok_as (λ p. f p.0 p.1) (both r s)) ItemBytes
 after-ok (Ok c) (Ok x) f h k = k c h
 after-ok (Ok c) (Err e) f h k = tt
 after-ok (Err e) (Ok x) f h k = tt
@@ -335,7 +335,7 @@ primitive-bytes most (n ∷ args) few h e =
     let zero-bytes : AreBytes (zeros 3) = (omega arith, (omega arith, (omega arith, tt))) in
     (omega (arith, e, few), (h.0, all-take (λ b. b < 256) (length args) (take 3 (args ++ zeros 3)) (all-take (λ b. b < 256) 3 (args ++ zeros 3) (all-append (λ b. b < 256) args (zeros 3) h.1 zero-bytes))))
 
-worded-ok : (f : Form) (ts : List (List ℕ)) → GoodForm f → IfOk (worded f ts) ItemBytes
+worded-ok : (f : WordForm) (ts : List (List ℕ)) → GoodForm f → IfOk (worded f ts) ItemBytes
 worded-ok (Bare i) [] g = g
 worded-ok (Bare i) (t ∷ ts) g = tt
 worded-ok (OfByte f) [] g = tt
@@ -430,7 +430,7 @@ lines-ok labels place (t ∷ ts) =
     (λ l h. bind-ok (laid_lines (with_label labels l.label place) (place + size l.item) ts) (λ rest. Ok (record rest { placed = record { number = t.0; place = place; item = l.item } ∷ rest.placed })) LaidBytes LaidBytes
     (lines-ok (with_label labels l.label place) (place + size l.item) ts) (λ rest k. (h, k)))
 
-emitted-ok : (labels : List (List ℕ × ℕ)) (place : ℕ) (i : Item) → ItemBytes i → IfOk (emitted labels place i) AreBytes
+emitted-ok : (labels : List (List ℕ × ℕ)) (place : ℕ) (i : CodeItem) → ItemBytes i → IfOk (emitted labels place i) AreBytes
 emitted-ok labels place Nothing h = tt
 emitted-ok labels place (Raw b) h = (h, tt)
 emitted-ok labels place (Plain i) h = h

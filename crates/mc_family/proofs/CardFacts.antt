@@ -5,7 +5,7 @@ use Rattle.std.specs.List.{AllByRecursion, concat}
 use Rattle.std.proofs.lemmas.Bool.{and_parts, leb-true, ltb-true}
 use Rattle.std.proofs.lemmas.List.{length-take}
 use Rattle.mc_model.specs.Bytes.{AreBytes, lookup, insert, remove, up, be2, zeros, has_name}
-use Rattle.mc_model.specs.Code.{Stands}
+use Rattle.mc_model.specs.Code.{DecodesTo}
 use Rattle.mc_model.specs.Device.{IsImage}
 use Rattle.mc_model.specs.Image.{Two, look, after}
 use Rattle.mc_model.specs.Stopped.{cost, stands}
@@ -50,22 +50,22 @@ section-bytes m p n image =
 -- ---- applications
 
 -- a name of at most 16 bytes, and code of bytes
-pub record IsEntry (e : List ℕ × App) : Type 0 where
+pub record IsNamedCode (e : List ℕ × App) : Type 0 where
   pub name : length e.0 ≤ 16
   pub code : AreBytes (e.1).code
 
 -- the applications of a card
 pub record AreOnCard (m : List (List ℕ × App)) : Type 0 where
   pub ascending : Ascending m
-  pub entries : AllByRecursion IsEntry m
+  pub entries : AllByRecursion IsNamedCode m
   pub count : length m ≤ 32
 
 pub code-bytes : (m : List (List ℕ × App)) → AreOnCard m → (o : Option App) (n : List ℕ) → lookup m n ≡ o → AreBytes (code_in o)
 code-bytes m h None n e = tt
-code-bytes m h (Some a) n e = (each-found IsEntry m n a h.entries e).code
+code-bytes m h (Some a) n e = (each-found IsNamedCode m n a h.entries e).code
 
 pub name-short : (m : List (List ℕ × App)) (n : List ℕ) (a : App) → AreOnCard m → lookup m n ≡ Some a → length n ≤ 16
-name-short m n a h e = (each-found IsEntry m n a h.entries e).name
+name-short m n a h e = (each-found IsNamedCode m n a h.entries e).name
 
 pub are-coded : (m : List (List ℕ × App)) → Limited m → AreOnCard m → AreCoded m
 are-coded m limited h =
@@ -74,7 +74,7 @@ are-coded m limited h =
       shaped = λ name at i next e.
           let code = code_in (lookup m name) in
           let bytes : AreBytes code = code-bytes m h (lookup m name) name refl in
-          (subst (λ (r : _). Stands code at r) e (decoded_stands code at bytes)).shaped;
+          (subst (λ (r : _). DecodesTo code at r) e (decoded_stands code at bytes)).shaped;
     }
 
 -- ---- changes
@@ -82,7 +82,7 @@ are-coded m limited h =
 -- a change that leaves them so
 abbrev pub ChangeStands : List (List ℕ × App) → Change → Type 0
 ChangeStands m (Fixed n ps) = ⊤
-ChangeStands m (Created n a) = (length m ≤ 31) × IsEntry (n, a)
+ChangeStands m (Created n a) = (length m ≤ 31) × IsNamedCode (n, a)
 ChangeStands m (Deleted n) = ⊤
 
 abbrev pub ItemsStand : List (List ℕ × App) → List Item → Type 0
@@ -95,11 +95,11 @@ again : (m : List (List ℕ × App)) (n : List ℕ) (ps : List (ℕ × List ℕ)
 again m n ps None e h = (h, refl)
 again m n ps (Some a) e h =
     let b : App = with_pieces ps a in
-    let found : IsEntry (n, a) = each-found IsEntry m n a h.entries e in
+    let found : IsNamedCode (n, a) = each-found IsNamedCode m n a h.entries e in
     let same : length (insert m n b) ≡ length m = length-again m n a b h.ascending e in (
       record {
         ascending = ascending-inserted m n b h.ascending;
-        entries = each-inserted IsEntry m n b (record { name = found.name; code = found.code }) h.entries;
+        entries = each-inserted IsNamedCode m n b (record { name = found.name; code = found.code }) h.entries;
         count = subst (λ (k : ℕ). k ≤ 32) (sym same) h.count;
       },
       same,
@@ -113,11 +113,11 @@ changed-stands m (Fixed n ps) h k = (fixed-again m n ps h).0
 changed-stands m (Created n a) h k =
     let few : length m ≤ 31 = k.0 in
     let more : length (insert m n a) ≤ length m + 1 = insert-length m n a in
-    record { ascending = ascending-inserted m n a h.ascending; entries = each-inserted IsEntry m n a k.1 h.entries; count = omega arith }
+    record { ascending = ascending-inserted m n a h.ascending; entries = each-inserted IsNamedCode m n a k.1 h.entries; count = omega arith }
 changed-stands m (Deleted n) h k =
     let few : length m ≤ 32 = h.count in
     let less : length (remove m n) ≤ length m = remove-length m n in
-    record { ascending = ascending-removed m n h.ascending; entries = each-removed IsEntry m n h.entries; count = omega arith }
+    record { ascending = ascending-removed m n h.ascending; entries = each-removed IsNamedCode m n h.entries; count = omega arith }
 
 pub done-stands : (is : List Item) (m : List (List ℕ × App)) → AreOnCard m → ItemsStand m is → AreOnCard (done m is)
 done-stands [] m h f = h
@@ -177,12 +177,12 @@ name-few r words h =
     omega (arith, length-take n r)
 
 -- the applications of blocks whose records are good, behind `used` others
-record AreRead (used : ℕ) (m : List (List ℕ × App)) : Type 0 where
+record RecordsRead (used : ℕ) (m : List (List ℕ × App)) : Type 0 where
   ascending : Ascending m
-  entries : AllByRecursion IsEntry m
+  entries : AllByRecursion IsNamedCode m
   count : length m + used ≤ 32
 
-read-blocks : (m : List (List ℕ)) (bs : List Block) (names : List (List ℕ)) (used : ℕ) → IsImage m → used ≤ 32 → bad_record m bs names used ≡ None → AreRead used (apps_of m bs)
+read-blocks : (m : List (List ℕ)) (bs : List Block) (names : List (List ℕ)) (used : ℕ) → IsImage m → used ≤ 32 → bad_record m bs names used ≡ None → RecordsRead used (apps_of m bs)
 unfolding bad_record apps_of
 read-blocks m [] names used image few h = record { ascending = tt; entries = tt; count = omega (arith, few) }
 read-blocks m (b ∷ bs) names used image few h =
@@ -191,19 +191,19 @@ read-blocks m (b ∷ bs) names used image few h =
   where
     by : (u g : Bool) → (is_record (record_at m b.place) b.words && not (has_name (name_in (record_at m b.place)) names) && nat_lt used 32) ≡ g
         → cond u (cond g (bad_record m bs (name_in (record_at m b.place) ∷ names) (used + 1)) (Some b.place)) (bad_record m bs names used) ≡ None
-        → (used + 1 ≤ 32 → bad_record m bs (name_in (record_at m b.place) ∷ names) (used + 1) ≡ None → AreRead (used + 1) (apps_of m bs)) → (bad_record m bs names used ≡ None → AreRead used (apps_of m bs))
-        → AreRead used (cond u (insert (apps_of m bs) (name_at m b.place) (app_at m b.place)) (apps_of m bs))
+        → (used + 1 ≤ 32 → bad_record m bs (name_in (record_at m b.place) ∷ names) (used + 1) ≡ None → RecordsRead (used + 1) (apps_of m bs)) → (bad_record m bs names used ≡ None → RecordsRead used (apps_of m bs))
+        → RecordsRead used (cond u (insert (apps_of m bs) (name_at m b.place) (app_at m b.place)) (apps_of m bs))
     by true true is e next other =
         let r = record_at m b.place in
         let front = and_parts (is_record r b.words && not (has_name (name_in r) names)) (nat_lt used 32) is in
         let good = and_parts (is_record r b.words) (not (has_name (name_in r) names)) front.0 in
         let less : used < 32 = ltb-true used 32 front.1 in
-        let rest : AreRead (used + 1) (apps_of m bs) = next (omega arith) e in
+        let rest : RecordsRead (used + 1) (apps_of m bs) = next (omega arith) e in
         let most : length (apps_of m bs) + (used + 1) ≤ 32 = rest.count in
         let more : length (insert (apps_of m bs) (name_at m b.place) (app_at m b.place)) ≤ length (apps_of m bs) + 1 = insert-length (apps_of m bs) (name_at m b.place) (app_at m b.place) in
         record {
           ascending = ascending-inserted (apps_of m bs) (name_at m b.place) (app_at m b.place) rest.ascending;
-          entries = each-inserted IsEntry (apps_of m bs) (name_at m b.place) (app_at m b.place)
+          entries = each-inserted IsNamedCode (apps_of m bs) (name_at m b.place) (app_at m b.place)
               (record { name = name-few r b.words good.0; code = section-bytes m (b.place + 5) (be2 r 20) image }) rest.entries;
           count = omega arith;
         }
@@ -214,6 +214,6 @@ read-blocks m (b ∷ bs) names used image few h =
 pub means-on-card : (m : List (List ℕ)) → IsImage m → fault m ≡ None → AreOnCard (means m).apps
 means-on-card m image h =
     let w = words_after (after m) m in
-    let r : AreRead 0 (apps_of w (blocks w)) = read-blocks w (blocks w) [] 0 (image-settled m image) (omega arith) (good-records w (sound-after m (look m) refl h)) in
+    let r : RecordsRead 0 (apps_of w (blocks w)) = read-blocks w (blocks w) [] 0 (image-settled m image) (omega arith) (good-records w (sound-after m (look m) refl h)) in
     let most : length (apps_of w (blocks w)) + 0 ≤ 32 = r.count in
     record { ascending = r.ascending; entries = r.entries; count = omega arith }

@@ -12,7 +12,7 @@ use Rattle.mc_model.specs.Bytes.{AreBytes, lookup}
 use Rattle.mc_model.specs.Text.{◌>>=◌, ok_as, err_as, only_if, begins, lines, numbered, fields, is_within, is_digit, hex_value, before_values, hex_values, paired, hex_bytes}
 use Rattle.mc_model.specs.Units.{UnitParts, unit_read}
 use Rattle.mc_model.specs.Assembly.{assembled_lines}
-use Rattle.mc_model.specs.DeckGrammar.{DeckLine, hex_field, bytes_field, aid_field, fill_field, name_field, number_field, Context, Section, Stated, Says, Opens, Word, FormatWord, PowerWord, UnitWord, AppWord, LoadWord, SelectWord, DeleteWord, DumpWord, ApduWord, BudgetWord, CutWord, FailWord, PokeWord, deck_words, new_name, early, with_unit, stated, made_unit, unit_within, is_data, is_end, data_hex, data_of_line, section_data, section_program, section_unit, Mode, Between, Within, Turn, turn_of, between, within, turn_in, turn_at, ended, deck_lines, deck_read}
+use Rattle.mc_model.specs.DeckGrammar.{DeckLine, hex_field, bytes_field, aid_field, fill_field, name_field, number_field, Context, Section, Stated, Says, Opens, Word, FormatWord, PowerWord, UnitWord, AppWord, LoadWord, SelectWord, DeleteWord, DumpWord, ApduWord, BudgetWord, CutWord, FailWord, PokeWord, deck_words, new_name, early, with_unit, stated, made_unit, unit_within, is_data, is_end, data_hex, data_of_line, section_data, section_program, section_unit, Mode, Between, Within, LineTurn, turn_of, between, within, turn_in, turn_at, ended, deck_lines, deck_read}
 use Rattle.mc_model.specs.DeckGrammar as line
 use Rattle.mc_model.specs.Play.{WornAt, State, step, plays, first_worn, start}
 use Rattle.mc_model.specs.ReadyAgain.{AllFitJournal, IsLine, AreLines}
@@ -224,7 +224,7 @@ abbrev ModeBytes : Mode → Type 0
 ModeBytes (Between c) = ContextBytes c
 ModeBytes (Within s c) = SectionBytes s × ContextBytes c
 
-record TurnBytes (t : Turn) : Type 0 where
+record TurnBytes (t : LineTurn) : Type 0 where
   lines : LinesBytes t.lines
   mode : ModeBytes t.mode
 

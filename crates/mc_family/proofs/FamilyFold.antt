@@ -12,25 +12,25 @@ use Rattle.mc_model.specs.View.{is_seen, seen_if, answers, rest_of, work_if, wor
 use Rattle.mc_model.specs.DeckGrammar.{DeckLine}
 use Rattle.mc_model.specs.DeckGrammar as line
 use Rattle.mc_family.proofs.MapLemmas.{same_name}
-use Rattle.mc_family.proofs.Agreement.{bare, Agree}
-use Rattle.mc_family.proofs.Sim.{Sim, Kept, hears_all-append, hears_none, rest-alike}
-use Rattle.mc_family.proofs.HotLines.{hot-kept, Powered, powered, power-keeps}
+use Rattle.mc_family.proofs.Agreement.{bare, MapsAgree}
+use Rattle.mc_family.proofs.Sim.{Simulates, LineKeepsSimulation, hears_all-append, hears_none, rest-alike}
+use Rattle.mc_family.proofs.HotLines.{hot-kept, SameAfterPower, powered, power-keeps}
 
 -- the lone card hears of these lines what the play tells of them, and the maps agree behind them
-record Alike (K : List (List ℕ)) (t : Solo) (s : State) (us : List Step) : Type 0 where
+record HearsAlike (K : List (List ℕ)) (t : Solo) (s : State) (us : List Step) : Type 0 where
   answer : (hears_all t (events K us)).answer ≡ answers K us
   work : (hears_all t (events K us)).work ≡ work K us
-  map : Agree K true (apps_in (last_state s us)) (hears_all t (events K us)).after.map
+  map : MapsAgree K true (apps_in (last_state s us)) (hears_all t (events K us)).after.map
 
 module _ (K : List (List ℕ)) where
-  none-alike : (t : Solo) (s : State) → Agree K true (apps_in s) t.map → Alike K t s []
+  none-alike : (t : Solo) (s : State) → MapsAgree K true (apps_in s) t.map → HearsAlike K t s []
   unfolding hears_all events answers work
   none-alike t s h = record { answer = refl; work = refl; map = h }
 
   -- a line, and those behind it
   then-alike : (t : Solo) (s : State) (u : Step) (us : List Step)
       → (hears_all t (events_of K u u.line)).answer ≡ seen_if (is_seen K u u.line) u.result → (hears_all t (events_of K u u.line)).work ≡ work_if (is_own K u) u
-      → Alike K (hears_all t (events_of K u u.line)).after u.after us → Alike K t s (u ∷ us)
+      → HearsAlike K (hears_all t (events_of K u u.line)).after u.after us → HearsAlike K t s (u ∷ us)
   unfolding events answers work
   then-alike t s u us told worked r =
       let h = hears_all t (events_of K u u.line) in
@@ -38,24 +38,24 @@ module _ (K : List (List ℕ)) where
       record {
         answer = ap (λ (z : Heard). z.answer) e ∙ (ap (λ (z : List LineResult). z ++ (hears_all h.after (events K us)).answer) told ∙ ap (λ (z : List LineResult). seen_if (is_seen K u u.line) u.result ++ z) r.answer);
         work = ap (λ (z : Heard). z.work) e ∙ (ap (λ (z : List (List Item × Option StopAt)). z ++ (hears_all h.after (events K us)).work) worked ∙ ap (λ (z : List (List Item × Option StopAt)). work_if (is_own K u) u ++ z) r.work);
-        map = subst (λ (z : Heard). Agree K true (apps_in (last_state u.after us)) z.after.map) (sym e) r.map;
+        map = subst (λ (z : Heard). MapsAgree K true (apps_in (last_state u.after us)) z.after.map) (sym e) r.map;
       }
 
   -- ---- from the first power line on
 
-  step-kept : (s : State) (t : Solo) (l : ℕ × DeckLine) (w : Option WornAt) → Sim K s t → MayHit s l w → ClosedPairs K (step s l w).pairs → Kept K t (step s l w)
+  step-kept : (s : State) (t : Solo) (l : ℕ × DeckLine) (w : Option WornAt) → Simulates K s t → MayHit s l w → ClosedPairs K (step s l w).pairs → LineKeepsSimulation K t (step s l w)
   unfolding step
   step-kept (Cold m b a) t l w sim may closed = absurd sim.warm
   step-kept (Hot s) t l w sim may closed = hot-kept K t l.0 s.owed s.by s.budget s.armed l.1 w s.base s.live sim may closed
 
-  warm-alike : (n : ℕ) (ls : List (ℕ × DeckLine)) (ws : List (Option WornAt)) (s : State) (t : Solo) → Sim K s t → Possible s ls ws → Closed K (take n (plays s ls ws)) → Alike K t s (take n (plays s ls ws))
+  warm-alike : (n : ℕ) (ls : List (ℕ × DeckLine)) (ws : List (Option WornAt)) (s : State) (t : Solo) → Simulates K s t → Possible s ls ws → Closed K (take n (plays s ls ws)) → HearsAlike K t s (take n (plays s ls ws))
   unfolding plays
   warm-alike zero ls ws s t sim may closed = none-alike t s sim.map
   warm-alike (suc n) [] ws s t sim may closed = none-alike t s sim.map
   warm-alike (suc n) (l ∷ ls) [] s t sim may closed = absurd may
   warm-alike (suc n) (l ∷ ls) (w ∷ ws) s t sim may closed =
       let u = step s l w in
-      let k : Kept K t u = step-kept s t l w sim may.0 closed.0 in
+      let k : LineKeepsSimulation K t u = step-kept s t l w sim may.0 closed.0 in
       then-alike t s u (take n (plays u.after ls ws)) k.answer k.work (warm-alike n ls ws u.after (hears_all t (events_of K u u.line)).after k.sim may.1 closed.1)
 
   -- ---- before it
@@ -65,7 +65,7 @@ module _ (K : List (List ℕ)) where
   IsCold (Hot s) = ⊥
 
   -- a line that gives no event
-  record Silent (u : Step) : Type 0 where
+  record GivesNoEvent (u : Step) : Type 0 where
     power : is_power u.line ≡ false
     none : events_of K u u.line ≡ []
     seen : is_seen K u u.line ≡ false
@@ -75,7 +75,7 @@ module _ (K : List (List ℕ)) where
   -- the first power line, once the lone card has the family's applications that it finds
   record First (u : Step) : Type 0 where
     power : is_power u.line ≡ true
-    kept : (t : Solo) → Agree K true (apps_in u.after) t.map → Kept K t u
+    kept : (t : Solo) → MapsAgree K true (apps_in u.after) t.map → LineKeepsSimulation K t u
 
   no_dump : (b : Bool) (n : List ℕ) → dump_events (b && false) n ≡ []
   no_dump true n = refl
@@ -85,7 +85,7 @@ module _ (K : List (List ℕ)) where
   not_seen true = refl
   not_seen false = refl
 
-  cold-line : (n : ℕ) (l : DeckLine) (m : List (List ℕ)) (b : ℕ) (a : Armed) (w : Option WornAt) → Silent (cold_step n l m b a w) ⊎ First (cold_step n l m b a w)
+  cold-line : (n : ℕ) (l : DeckLine) (m : List (List ℕ)) (b : ℕ) (a : Armed) (w : Option WornAt) → GivesNoEvent (cold_step n l m b a w) ⊎ First (cold_step n l m b a w)
   cold-line n line.Format m b a w = inl (record { power = refl; none = refl; seen = refl; own = refl; cold = tt })
   cold-line n (line.Poke at x) m b a w = inl (record { power = refl; none = refl; seen = refl; own = refl; cold = tt })
   cold-line n line.Named m b a w = inl (record { power = refl; none = refl; seen = refl; own = refl; cold = tt })
@@ -100,13 +100,13 @@ module _ (K : List (List ℕ)) where
   cold-line n line.Power m b a w =
       let s = warmed m b a in
       let st = hit_of a (power_moves s) w in
-      let p : Powered K s (power_after s st) = powered K s st in
+      let p : SameAfterPower K s (power_after s st) = powered K s st in
       inr (record {
         power = refl;
-        kept = λ t h. power-keeps K t n (Cold m b a) s st refl (subst (λ (z : List (List ℕ × App)). Agree K true z t.map) p.map h);
+        kept = λ t h. power-keeps K t n (Cold m b a) s st refl (subst (λ (z : List (List ℕ × App)). MapsAgree K true z t.map) p.map h);
       })
 
-  cold-step : (s : State) (l : ℕ × DeckLine) (w : Option WornAt) → IsCold s → Silent (step s l w) ⊎ First (step s l w)
+  cold-step : (s : State) (l : ℕ × DeckLine) (w : Option WornAt) → IsCold s → GivesNoEvent (step s l w) ⊎ First (step s l w)
   unfolding step
   cold-step (Cold m b a) l w c = cold-line l.0 l.1 m b a w
   cold-step (Hot s) l w c = absurd c
@@ -122,7 +122,7 @@ module _ (K : List (List ℕ)) where
       absurd (cc (sym p ∙ here))
   own_here false false e es k on p q r = r
 
-  own_apps-agree : (m : List (List ℕ × App)) → Agree K true m (own_apps K m)
+  own_apps-agree : (m : List (List ℕ × App)) → MapsAgree K true m (own_apps K m)
   own_apps-agree [] k on = refl
   own_apps-agree (e ∷ es) k on = own_here (has_name e.0 K) (bytes_eq e.0 k) e es k on refl refl (own_apps-agree es k on)
 
@@ -131,17 +131,17 @@ module _ (K : List (List ℕ)) where
   abbrev first_solo : List Step → Solo
   first_solo us = record { map = own_apps K (first_apps us); selected = None }
 
-  silent-alike : (s : State) (u : Step) (us : List Step) → Silent u → Alike K (first_solo us) u.after us → Alike K (first_solo (u ∷ us)) s (u ∷ us)
+  silent-alike : (s : State) (u : Step) (us : List Step) → GivesNoEvent u → HearsAlike K (first_solo us) u.after us → HearsAlike K (first_solo (u ∷ us)) s (u ∷ us)
   silent-alike s u us h r =
       let t = first_solo us in
       let e : hears_all t (events_of K u u.line) ≡ silent t = ap (λ (es : List Event). hears_all t es) h.none ∙ hears_none t in
-      let whole : Alike K t s (u ∷ us) =
+      let whole : HearsAlike K t s (u ∷ us) =
       then-alike t s u us (ap (λ (z : Heard). z.answer) e ∙ sym (ap (λ (b : Bool). seen_if b u.result) h.seen)) (ap (λ (z : Heard). z.work) e ∙ sym (ap (λ (b : Bool). work_if b u) h.own))
-      (subst (λ (z : Heard). Alike K z.after u.after us) (sym e) r)
+      (subst (λ (z : Heard). HearsAlike K z.after u.after us) (sym e) r)
       in
-      subst (λ (b : Bool). Alike K (record { map = own_apps K (cond b (apps_in u.after) (first_apps us)); selected = None }) s (u ∷ us)) (sym h.power) whole
+      subst (λ (b : Bool). HearsAlike K (record { map = own_apps K (cond b (apps_in u.after) (first_apps us)); selected = None }) s (u ∷ us)) (sym h.power) whole
 
-  cold-alike : (n : ℕ) (ls : List (ℕ × DeckLine)) (ws : List (Option WornAt)) (s : State) → IsCold s → Possible s ls ws → Closed K (take n (plays s ls ws)) → Alike K (first_solo (take n (plays s ls ws))) s (take n (plays s ls ws))
+  cold-alike : (n : ℕ) (ls : List (ℕ × DeckLine)) (ws : List (Option WornAt)) (s : State) → IsCold s → Possible s ls ws → Closed K (take n (plays s ls ws)) → HearsAlike K (first_solo (take n (plays s ls ws))) s (take n (plays s ls ws))
   unfolding plays
   cold-alike zero ls ws (Cold m b a) c may closed = none-alike (record { map = []; selected = None }) (Cold m b a) (λ k on. refl)
   cold-alike (suc n) [] ws (Cold m b a) c may closed = none-alike (record { map = []; selected = None }) (Cold m b a) (λ k on. refl)
@@ -154,9 +154,9 @@ module _ (K : List (List ℕ)) where
         | inl h ↦ silent-alike s u us h (cold-alike n ls ws u.after h.cold may.1 closed.1)
         | inr h ↦
             let t : Solo = record { map = own_apps K (apps_in u.after); selected = None } in
-            let k : Kept K t u = h.kept t (own_apps-agree (apps_in u.after)) in
-            let whole : Alike K t s (u ∷ us) = then-alike t s u us k.answer k.work (warm-alike n ls ws u.after (hears_all t (events_of K u u.line)).after k.sim may.1 closed.1) in
-            subst (λ (b : Bool). Alike K (record { map = own_apps K (cond b (apps_in u.after) (first_apps us)); selected = None }) s (u ∷ us)) (sym h.power) whole
+            let k : LineKeepsSimulation K t u = h.kept t (own_apps-agree (apps_in u.after)) in
+            let whole : HearsAlike K t s (u ∷ us) = then-alike t s u us k.answer k.work (warm-alike n ls ws u.after (hears_all t (events_of K u u.line)).after k.sim may.1 closed.1) in
+            subst (λ (b : Bool). HearsAlike K (record { map = own_apps K (cond b (apps_in u.after) (first_apps us)); selected = None }) s (u ∷ us)) (sym h.power) whole
       ]
   cold-alike n ls ws (Hot s) c may closed = absurd c
 
@@ -164,7 +164,7 @@ module _ (K : List (List ℕ)) where
   pub isolated : (n : ℕ) (ls : List (ℕ × DeckLine)) (m : List (List ℕ)) (ws : List (Option WornAt)) → Possible (start m) ls ws → Closed K (take n (plays (start m) ls ws)) → IsIsolated K (start m) (take n (plays (start m) ls ws))
   isolated n ls m ws may closed =
       let us = take n (plays (start m) ls ws) in
-      let h : Alike K (first_solo us) (start m) us = cold-alike n ls ws (start m) tt may closed in
+      let h : HearsAlike K (first_solo us) (start m) us = cold-alike n ls ws (start m) tt may closed in
       record {
         view =
             ap (λ (z : List LineResult). record { answers = z; rest = rest_of K (apps_in (last_state (start m) us)) }) (sym h.answer)

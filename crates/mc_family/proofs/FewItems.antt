@@ -162,30 +162,30 @@ with-code part.Dir b g h k = k
 with-code part.Fci b g h k = k
 
 module _ (c : Card) (seat : Seat) (on : AreOnCard c.apps) (stands : SeatStands c.apps seat) where
-  Fine : Managed → Type 0
-  Fine m = CommandStands c.apps (managed c seat m)
+  ManagedStands : Managed → Type 0
+  ManagedStands m = CommandStands c.apps (managed c seat m)
 
-  declined : (sw : ℕ) → Fine (Declines sw)
-  unfolding Fine
+  declined : (sw : ℕ) → ManagedStands (Declines sw)
+  unfolding ManagedStands
   declined sw = record { few = tt; items = tt; seat = stands }
 
-  answered-stands : (o : Option ℕ) (d : Accepted) → (o ≡ None → Fine (Accepts d)) → Fine (answered o d)
+  answered-stands : (o : Option ℕ) (d : Accepted) → (o ≡ None → ManagedStands (Accepts d)) → ManagedStands (answered o d)
   answered-stands (Some sw) d h = declined sw
   answered-stands None d h = h refl
 
-  select-by : (a : ApduParts) (o : Option App) → lookup c.apps a.body ≡ o → Fine (Accepts (select_done seat a o))
-  unfolding Fine
+  select-by : (a : ApduParts) (o : Option App) → lookup c.apps a.body ≡ o → ManagedStands (Accepts (select_done seat a o))
+  unfolding ManagedStands
   select-by a None e = record { few = tt; items = tt; seat = stands }
   select-by a (Some app) e = record { few = tt; items = tt; seat = record { selected = name-short c.apps a.body app on e; load = stands.load } }
 
-  select-stands : (a : ApduParts) → Fine (select c.apps seat a)
+  select-stands : (a : ApduParts) → ManagedStands (select c.apps seat a)
   select-stands a = answered-stands (first_status (select_refusals c.apps a)) (select_done seat a (lookup c.apps a.body)) (λ e. select-by a (lookup c.apps a.body) refl)
 
   -- ---- OPEN
 
   opened-by : (a : ApduParts) (x y z v : Bool) → (nat_le 32 (length c.apps) || is_none (room_on c (sizes_in a))) ≡ v
-      → Fine (answered (cond x (Some 0x6A86) (cond y (Some 0x6700) (cond (not z) (Some 0x6A80) (cond v (Some 0x6A84) None)))) (open_done (room_on c) seat a))
-  unfolding Fine
+      → ManagedStands (answered (cond x (Some 0x6A86) (cond y (Some 0x6700) (cond (not z) (Some 0x6A80) (cond v (Some 0x6A84) None)))) (open_done (room_on c) seat a))
+  unfolding ManagedStands
   opened-by a true y z v h = declined 0x6A86
   opened-by a false true z v h = declined 0x6700
   opened-by a false false false v h = declined 0x6A80
@@ -194,13 +194,13 @@ module _ (c : Card) (seat : Seat) (on : AreOnCard c.apps) (stands : SeatStands c
       let below : nat_le 32 (length c.apps) ≡ false = or-false (nat_le 32 (length c.apps)) (is_none (room_on c (sizes_in a))) h in
       record { few = tt; items = tt; seat = record { selected = stands.selected; load = (grind (arith, below), tt) } }
 
-  open-stands : (a : ApduParts) → Fine (open_load (room_on c) c.apps seat a)
+  open-stands : (a : ApduParts) → ManagedStands (open_load (room_on c) c.apps seat a)
   open-stands a = opened-by a (nat_lt 15 (p1p2 a)) (not (length a.body == 12)) (fits_limits (sizes_in a)) (nat_le 32 (length c.apps) || is_none (room_on c (sizes_in a))) refl
 
   -- ---- LOAD
 
-  loaded-by : (p : Part) (a : ApduParts) (o : Option Open) → AreBytes a.body → seat.load ≡ o → Fine (Accepts (load_done seat o p a))
-  unfolding Fine
+  loaded-by : (p : Part) (a : ApduParts) (o : Option Open) → AreBytes a.body → seat.load ≡ o → ManagedStands (Accepts (load_done seat o p a))
+  unfolding ManagedStands
   loaded-by p a None bytes e = record { few = tt; items = tt; seat = stands }
   loaded-by p a (Some o) bytes e =
       let cs = word_parts (length (got_of p o.got)) a.body in
@@ -212,14 +212,14 @@ module _ (c : Card) (seat : Seat) (on : AreOnCard c.apps) (stands : SeatStands c
         seat = subst (λ (m : List (List ℕ × App)). SeatStands m (load_done seat (Some o) p a).seat) (sym now.1) (record { selected = stands.selected; load = (load.0, with-code p a.body o.got bytes load.1) });
       }
 
-  load-stands : (p : Part) (a : ApduParts) → AreBytes a.body → Fine (load_part p seat a)
+  load-stands : (p : Part) (a : ApduParts) → AreBytes a.body → ManagedStands (load_part p seat a)
   load-stands p a bytes = answered-stands (first_status (load_refusals seat.load p a)) (load_done seat seat.load p a) (λ e. loaded-by p a seat.load bytes refl)
 
   -- ---- CREATE
 
   created-by : (a : ApduParts) (o : Open) (r : Result (List ℕ) AidFault) (x y z v : Bool) → seat.load ≡ Some o → name_of o.got.dir ≡ r
-      → Fine (answered (cond x (Some 0x6A86) (cond y (Some 0x6700) (cond (not z) (Some 0x6985) (cond (not (is_ok r)) (Some 0x6A80) (cond v (Some 0x6A89) None))))) (create_done seat (Some o) r))
-  unfolding Fine
+      → ManagedStands (answered (cond x (Some 0x6A86) (cond y (Some 0x6700) (cond (not z) (Some 0x6985) (cond (not (is_ok r)) (Some 0x6A80) (cond v (Some 0x6A89) None))))) (create_done seat (Some o) r))
+  unfolding ManagedStands
   created-by a o r true y z v e k = declined 0x6A86
   created-by a o r false true z v e k = declined 0x6700
   created-by a o r false false false v e k = declined 0x6985
@@ -235,19 +235,19 @@ module _ (c : Card) (seat : Seat) (on : AreOnCard c.apps) (stands : SeatStands c
       record { few = creation-few _ ch o.site n cs (omega (arith, words, room)); items = items; seat = record { selected = stands.selected; load = tt } }
 
   create-by : (a : ApduParts) (o : Option Open) (x y : Bool) → seat.load ≡ o
-      → Fine (answered (cond x (Some 0x6A86) (cond y (Some 0x6700) (cond (not (can_create o)) (Some 0x6985) (cond (not (is_ok (name_of (dir_in o)))) (Some 0x6A80) (cond (is_taken c.apps (name_of (dir_in o))) (Some 0x6A89) None))))) (create_done seat o (name_of (dir_in o))))
+      → ManagedStands (answered (cond x (Some 0x6A86) (cond y (Some 0x6700) (cond (not (can_create o)) (Some 0x6985) (cond (not (is_ok (name_of (dir_in o)))) (Some 0x6A80) (cond (is_taken c.apps (name_of (dir_in o))) (Some 0x6A89) None))))) (create_done seat o (name_of (dir_in o))))
   create-by a None true y e = declined 0x6A86
   create-by a None false true e = declined 0x6700
   create-by a None false false e = declined 0x6985
   create-by a (Some o) x y e = created-by a o (name_of o.got.dir) x y (can_create (Some o)) (is_taken c.apps (name_of o.got.dir)) e refl
 
-  create-stands : (a : ApduParts) → Fine (create c.apps seat a)
+  create-stands : (a : ApduParts) → ManagedStands (create c.apps seat a)
   create-stands a = create-by a seat.load (not (p1p2 a == 0)) (not (is_empty a.body)) refl
 
   -- ---- DELETE
 
-  deleted-by : (a : ApduParts) (x y z v : Bool) → Fine (answered (cond x (Some 0x6A86) (cond y (Some 0x6700) (cond z (Some 0x6A82) (cond v (Some 0x6985) None)))) (delete_done seat a))
-  unfolding Fine
+  deleted-by : (a : ApduParts) (x y z v : Bool) → ManagedStands (answered (cond x (Some 0x6A86) (cond y (Some 0x6700) (cond z (Some 0x6A82) (cond v (Some 0x6985) None)))) (delete_done seat a))
+  unfolding ManagedStands
   deleted-by a true y z v = declined 0x6A86
   deleted-by a false true z v = declined 0x6700
   deleted-by a false false true v = declined 0x6A82
@@ -257,14 +257,14 @@ module _ (c : Card) (seat : Seat) (on : AreOnCard c.apps) (stands : SeatStands c
       let count : length c.apps ≤ 32 = on.count in
       record { few = (omega (arith, words, count), tt); items = (tt, tt); seat = record { selected = stands.selected; load = tt } }
 
-  delete-stands : (a : ApduParts) → Fine (delete c.apps seat a)
+  delete-stands : (a : ApduParts) → ManagedStands (delete c.apps seat a)
   delete-stands a = deleted-by a (not (p1p2 a == 0)) (is_empty a.body) (is_none (lookup c.apps a.body)) (is_selected seat.selected a.body)
 
-  either : (b : Bool) (m n : Managed) → Fine m → Fine n → Fine (cond b m n)
+  either : (b : Bool) (m n : Managed) → ManagedStands m → ManagedStands n → ManagedStands (cond b m n)
   either true m n h k = h
   either false m n h k = k
 
-  manage-stands : (a : ApduParts) → AreBytes a.body → Fine (manage (room_on c) c.apps seat a)
+  manage-stands : (a : ApduParts) → AreBytes a.body → ManagedStands (manage (room_on c) c.apps seat a)
   unfolding manage
   manage-stands a bytes =
       either (a.ins == 0x12) _ _ (open-stands a) (
@@ -303,7 +303,7 @@ passed-stands c seat (Some s) a budget e limited on h =
 -- ---- a command
 
 routed-stands : (c : Card) (seat : Seat) (budget : ℕ) (r : Route) → RouteBytes r → Limited c.apps → AreOnCard c.apps → SeatStands c.apps seat → CommandStands c.apps (by_route c seat budget r)
-unfolding Fine
+unfolding ManagedStands
 routed-stands c seat budget WrongLength bytes limited on h = record { few = tt; items = tt; seat = h }
 routed-stands c seat budget WrongClass bytes limited on h = record { few = tt; items = tt; seat = h }
 routed-stands c seat budget (ToSelect a) bytes limited on h = select-stands c seat on h a

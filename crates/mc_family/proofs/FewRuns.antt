@@ -19,7 +19,7 @@ use Rattle.mc_model.proofs.ImageLemmas.{all-append}
 use Rattle.mc_family.specs.FewWords.{HoldsFew, words_in, most_words}
 use Rattle.mc_family.specs.FewRuns.{AreCoded, FewRunsLaw}
 use Rattle.mc_family.proofs.MapLemmas.{same_name, lookup-inserted, lookup-beside}
-use Rattle.mc_family.proofs.RowWords.{none_holds, RowFacts, row-few, held-after, told-any, delegates-short, most-64}
+use Rattle.mc_family.proofs.RowWords.{none_holds, DoneRowFacts, row-few, held-after, told-any, delegates-short, most-64}
 use Rattle.mc_family.proofs.AppSizes.{SameSizes, Limited, limited-from, are-limited, limited-same}
 use Rattle.mc_family.proofs.RunSizes.{ChainFits, changed-by, NextFits, acted-fits, start-fits}
 
@@ -66,15 +66,15 @@ record FewChain (ch : Chain) : Type 0 where
 coded-moved : (m d : List (List ℕ × App)) → SameCode m d → Coded m → Coded d
 coded-moved m d same h n at i next e = h n at i next (subst (λ (c : List ℕ). decoded c at ≡ Ok (i, next)) (same n) e)
 
-abbrev Few : Write → Type 0
-Few w = w.words ≤ 64
+abbrev FewOfWrite : Write → Type 0
+FewOfWrite w = w.words ≤ 64
 
 abbrev FewNext : Follows → Type 0
 FewNext (Ends o) = ⊤
 FewNext (Continues c) = FewChain c
 
 record ActFew (t : Acted) : Type 0 where
-  writes : AllByRecursion Few t.writes
+  writes : AllByRecursion FewOfWrite t.writes
   next : FewNext t.follows
 
 none-few : length (touched []) ≤ 64
@@ -115,11 +115,11 @@ told-by : (fs : List Frame) → AllFew fs → IfSome (delegator_in fs) (λ n. le
 told-by [] a = tt
 told-by (f ∷ fs) a = a.0.name
 
-written-few : (n : List ℕ) (o : Option (List (ℕ × List ℕ))) → words_in o ≤ 64 → AllByRecursion Few (write_of n o)
+written-few : (n : List ℕ) (o : Option (List (ℕ × List ℕ))) → words_in o ≤ 64 → AllByRecursion FewOfWrite (write_of n o)
 written-few n None h = tt
 written-few n (Some ps) h = (h, tt)
 
-done-few : (ch : Chain) (i : Ins) (at : ℕ) → ChainFits ch → FewChain ch → (let f = stepped ch.frame at in RowFacts i f ch.public (around ch)) → ActFew (row_turn ch i (Does (effect i (stepped ch.frame at) ch.public (around ch))))
+done-few : (ch : Chain) (i : Ins) (at : ℕ) → ChainFits ch → FewChain ch → (let f = stepped ch.frame at in DoneRowFacts i f ch.public (around ch)) → ActFew (row_turn ch i (Does (effect i (stepped ch.frame at) ch.public (around ch))))
 done-few ch i at fits h p =
     let f = stepped ch.frame at in
     let x = around ch in
@@ -170,12 +170,12 @@ acted-few ch fits h = fetched-few ch (decoded (code_in (lookup ch.map ch.frame.n
 
 -- ---- runs
 
-ran_on-few : (ch : Chain) (t : Acted) (session : List ℕ) (f : Follows) (rest : Chain → Ran) → AllByRecursion Few t.writes → NextFits ch f → FewNext f
-    → ((c : Chain) → ChainFits c → FewChain c → AllByRecursion Few (rest c).writes) → AllByRecursion Few (ran_on t session f rest).writes
+ran_on-few : (ch : Chain) (t : Acted) (session : List ℕ) (f : Follows) (rest : Chain → Ran) → AllByRecursion FewOfWrite t.writes → NextFits ch f → FewNext f
+    → ((c : Chain) → ChainFits c → FewChain c → AllByRecursion FewOfWrite (rest c).writes) → AllByRecursion FewOfWrite (ran_on t session f rest).writes
 ran_on-few ch t session (Ends o) rest writes next few more = writes
-ran_on-few ch t session (Continues c) rest writes next few more = all-append Few t.writes (rest c).writes writes (more c next.1 few)
+ran_on-few ch t session (Continues c) rest writes next few more = all-append FewOfWrite t.writes (rest c).writes writes (more c next.1 few)
 
-ran-few : (n : ℕ) (ch : Chain) → ChainFits ch → FewChain ch → AllByRecursion Few (ran n ch).writes
+ran-few : (n : ℕ) (ch : Chain) → ChainFits ch → FewChain ch → AllByRecursion FewOfWrite (ran n ch).writes
 unfolding ran
 ran-few zero ch fits h = tt
 ran-few (suc n) ch fits h =

@@ -66,11 +66,11 @@ one_block k n w h low high =
     let after : 131 + (n - 131) ≤ length w = omega arith in
     rw (h.hole, headed n low high, le-leb (131 + (n - 131)) (length w) after) (ap (λ (bs : List Block). hole_of n ∷ bs) (no_header k w (131 + (n - 131)) (omega arith)))
 
-record Sizes (n : ℕ) : Type 0 where
+record AtLeastTwo (n : ℕ) : Type 0 where
   rest : ℕ
   is : n ≡ suc (suc rest)
 
-two_less : (n : ℕ) → 256 ≤ n → Sizes n
+two_less : (n : ℕ) → 256 ≤ n → AtLeastTwo n
 two_less n h = record { rest = n - 2; is = omega arith }
 
 sound_words : (n : ℕ) (w : List (List ℕ)) → IsEmptyCard n w → 256 ≤ n → n ≤ 16384 → words_fault w ≡ None

@@ -14,8 +14,8 @@ use Rattle.mc_model.specs.Solo.{Solo, Heard, silent, hears, hears_all}
 use Rattle.mc_model.specs.View.{seen_if}
 use Rattle.mc_model.specs.DeckGrammar.{DeckLine}
 use Rattle.mc_model.specs.DeckGrammar as line
-use Rattle.mc_family.proofs.Agreement.{Agree}
-use Rattle.mc_family.proofs.Sim.{own_selected, IsRunnable, Sim, Keeps, Kept, hears_none, hears_leave, static_alike}
+use Rattle.mc_family.proofs.Agreement.{MapsAgree}
+use Rattle.mc_family.proofs.Sim.{own_selected, IsRunnable, Simulates, KeepsSimulation, LineKeepsSimulation, hears_none, hears_leave, static_alike}
 use Rattle.mc_family.proofs.Stops.{WornWithin}
 use Rattle.mc_family.proofs.OtherCommand.{aside_other, command-aside, send-aside}
 use Rattle.mc_family.proofs.LoadCommands.{load-managers, delete-manager}
@@ -24,17 +24,17 @@ use Rattle.mc_family.proofs.Lines.{stopped-runs, no_selection, running, command-
 -- ---- lines that change nothing that is related
 
 -- a step without an event keeps the relation
-still-keeps : (K : List (List ℕ)) (t : Solo) (u : Step) → Sim K u.after t → Keeps K t u [] false false
-still-keeps K t u h = record { sim = subst (λ (z : Heard). Sim K u.after z.after) (sym (hears_none t)) h; answer = ap (λ (z : Heard). z.answer) (hears_none t); work = ap (λ (z : Heard). z.work) (hears_none t) }
+still-keeps : (K : List (List ℕ)) (t : Solo) (u : Step) → Simulates K u.after t → KeepsSimulation K t u [] false false
+still-keeps K t u h = record { sim = subst (λ (z : Heard). Simulates K u.after z.after) (sym (hears_none t)) h; answer = ap (λ (z : Heard). z.answer) (hears_none t); work = ap (λ (z : Heard). z.work) (hears_none t) }
 
 -- a line that makes no write, is no command of the family and no done SELECT
 quiet-keeps : (K : List (List ℕ)) (t : Solo) (n : ℕ) (l : DeckLine) (before : State) (o : Option LineResult) (after : State)
-    → is_own_command K (live_in before) (command_of l) ≡ false → (is_running (live_in before) && is_foreign_select K (command_of l) && is_done_reply o) ≡ false → Sim K after t
-    → let u = quiet n l before o after in Keeps K t u (line_events (is_own K u) K u) (is_own K u) (is_own K u)
+    → is_own_command K (live_in before) (command_of l) ≡ false → (is_running (live_in before) && is_foreign_select K (command_of l) && is_done_reply o) ≡ false → Simulates K after t
+    → let u = quiet n l before o after in KeepsSimulation K t u (line_events (is_own K u) K u) (is_own K u) (is_own K u)
 quiet-keeps K t n l before o after own left sim =
     let u = quiet n l before o after in
     let no_events : line_events false K u ≡ [] = ap left_if left in
-    subst (λ (b : Bool). Keeps K t u (line_events b K u) b b) (sym own) (subst (λ (es : List Event). Keeps K t u es false false) (sym no_events) (still-keeps K t u sim))
+    subst (λ (b : Bool). KeepsSimulation K t u (line_events b K u) b b) (sym own) (subst (λ (es : List Event). KeepsSimulation K t u es false false) (sym no_events) (still-keeps K t u sim))
 
 no_own : (K : List (List ℕ)) (v : Live) → is_own_command K v None ≡ false
 no_own K (Running seat) = refl
@@ -49,7 +49,7 @@ no_left Muted d = refl
 -- ---- power lines
 
 -- after a power line the applications are the same, and nothing is selected
-pub record Powered (K : List (List ℕ)) (s r : Warm) : Type 0 where
+pub record SameAfterPower (K : List (List ℕ)) (s r : Warm) : Type 0 where
   pub warm : IsRunnable r.live r.base
   pub map : apps_on r.base ≡ apps_on s.base
   pub selected : own_selected K r.live ≡ None
@@ -70,27 +70,27 @@ power-none : (K : List (List ℕ)) (b : Base) → own_selected K (power_live b) 
 power-none K (OnCard c) = refl
 power-none K (AtFault cause p) = refl
 
-stopped-powered : (K : List (List ℕ)) (s : Warm) (t : StopAt) (x : Bool) → Powered K s (stopped_power s t x)
+stopped-powered : (K : List (List ℕ)) (s : Warm) (t : StopAt) (x : Bool) → SameAfterPower K s (stopped_power s t x)
 stopped-powered K s t true = record { warm = stopped-runs t.kind s.base; map = refl; selected = no_selection K t.kind }
 stopped-powered K s t false =
     let b = cond (stands One 1 (t.at - s.owed) t.left) (migrated s.base) s.base in
     record { warm = stopped-runs t.kind b; map = migrated_if-apps (stands One 1 (t.at - s.owed) t.left) s.base; selected = no_selection K t.kind }
 
-pub powered : (K : List (List ℕ)) (s : Warm) (t : Option StopAt) → Powered K s (power_after s t)
+pub powered : (K : List (List ℕ)) (s : Warm) (t : Option StopAt) → SameAfterPower K s (power_after s t)
 powered K s None = record { warm = power-runs s.base; map = migrated-apps s.base; selected = power-none K s.base }
 powered K s (Some t) = stopped-powered K s t (nat_le t.at s.owed)
 
 -- a power line of a play in any state, in which the family has these applications already
-pub power-keeps : (K : List (List ℕ)) (t : Solo) (n : ℕ) (before : State) (s : Warm) (st : Option StopAt) → is_own_command K (live_in before) None ≡ false → Agree K true (apps_on s.base) t.map
-    → Kept K t (power_step n before s st)
+pub power-keeps : (K : List (List ℕ)) (t : Solo) (n : ℕ) (before : State) (s : Warm) (st : Option StopAt) → is_own_command K (live_in before) None ≡ false → MapsAgree K true (apps_on s.base) t.map
+    → LineKeepsSimulation K t (power_step n before s st)
 power-keeps K t n before s st own h =
     let u = power_step n before s st in
-    let p : Powered K s (power_after s st) = powered K s st in
+    let p : SameAfterPower K s (power_after s st) = powered K s st in
     let e : hears_all t (Leaves ∷ []) ≡ silent (record t { selected = None }) = hears_leave t in
-    subst (λ (b : Bool). Keeps K t u (Leaves ∷ []) b b) (sym own) (
+    subst (λ (b : Bool). KeepsSimulation K t u (Leaves ∷ []) b b) (sym own) (
     record {
-      sim = subst (λ (z : Heard). Sim K u.after z.after) (sym e)
-          (record { warm = p.warm; map = subst (λ (m : List (List ℕ × App)). Agree K true m t.map) (sym p.map) h; selected = sym p.selected });
+      sim = subst (λ (z : Heard). Simulates K u.after z.after) (sym e)
+          (record { warm = p.warm; map = subst (λ (m : List (List ℕ × App)). MapsAgree K true m t.map) (sym p.map) h; selected = sym p.selected });
       answer = ap (λ (z : Heard). z.answer) e;
       work = ap (λ (z : Heard). z.work) e;
     })
@@ -101,12 +101,12 @@ hears_dump : (t : Solo) (n : List ℕ) → hears_all t (Dumps n ∷ []) ≡ reco
 unfolding hears_all hears
 hears_dump t n = refl
 
-dump_at : (K : List (List ℕ)) (t : Solo) (u : Step) (n : List ℕ) (b : Bool) (r : LineResult) → Sim K u.after t → u.result ≡ Some r → (b ≡ true → static_of (lookup t.map n) ≡ r)
-    → Keeps K t u (dump_events b n) b false
+dump_at : (K : List (List ℕ)) (t : Solo) (u : Step) (n : List ℕ) (b : Bool) (r : LineResult) → Simulates K u.after t → u.result ≡ Some r → (b ≡ true → static_of (lookup t.map n) ≡ r)
+    → KeepsSimulation K t u (dump_events b n) b false
 dump_at K t u n true r sim is same =
     let e = hears_dump t n in
     record {
-      sim = subst (λ (z : Heard). Sim K u.after z.after) (sym e) sim;
+      sim = subst (λ (z : Heard). Simulates K u.after z.after) (sym e) sim;
       answer = ap (λ (z : Heard). z.answer) e ∙ (ap (λ (z : LineResult). z ∷ []) (same refl) ∙ sym (ap (seen_if true) is));
       work = ap (λ (z : Heard). z.work) e;
     }
@@ -130,7 +130,7 @@ worn-within s l m None e h = tt
 worn-within s l m (Some w) e h = subst (λ (k : ℕ). w.at ≤ k) e h.high
 
 module _ (K : List (List ℕ)) (t : Solo) (n : ℕ) (o : ℕ) (j : Journal) (g : ℕ) (a : Armed) where
-  dump-kept : (b : Base) (v : Live) (x : List ℕ) → let u = hot_step n (line.Dump x) (hot b o j v g a) None in Sim K (Hot (hot b o j v g a)) t → Kept K t u
+  dump-kept : (b : Base) (v : Live) (x : List ℕ) → let u = hot_step n (line.Dump x) (hot b o j v g a) None in Simulates K (Hot (hot b o j v g a)) t → LineKeepsSimulation K t u
   dump-kept (OnCard c) (Running seat) x sim =
       dump_at K t (hot_step n (line.Dump x) (hot (OnCard c) o j (Running seat) g a) None) x (has_name x K && true) (static_of (lookup c.apps x)) sim refl
       (λ h. sym (static_alike (lookup c.apps x) (lookup t.map x) (sim.map x (and_true (has_name x K) true h))))
@@ -147,13 +147,13 @@ module _ (K : List (List ℕ)) (t : Solo) (n : ℕ) (o : ℕ) (j : Journal) (g :
   moves-apdu c seat x = omega arith
 
   -- a card line where no card runs
-  no-card-kept : (l : DeckLine) (b : Base) (v : Live) → is_own_command K v (command_of l) ≡ false → is_running v ≡ false → Sim K (Hot (hot b o j v g a)) t
-      → let u = quiet n l (Hot (hot b o j v g a)) (Some (without_card v)) (Hot (hot b o j v g Unarmed)) in Keeps K t u (line_events (is_own K u) K u) (is_own K u) (is_own K u)
+  no-card-kept : (l : DeckLine) (b : Base) (v : Live) → is_own_command K v (command_of l) ≡ false → is_running v ≡ false → Simulates K (Hot (hot b o j v g a)) t
+      → let u = quiet n l (Hot (hot b o j v g a)) (Some (without_card v)) (Hot (hot b o j v g Unarmed)) in KeepsSimulation K t u (line_events (is_own K u) K u) (is_own K u) (is_own K u)
   no-card-kept l b v own off sim =
       quiet-keeps K t n l (Hot (hot b o j v g a)) (Some (without_card v)) (Hot (hot b o j v g Unarmed)) own
       (ap (λ (x : Bool). x && is_foreign_select K (command_of l) && is_done_reply (Some (without_card v))) off) (record { warm = sim.warm; map = sim.map; selected = sim.selected })
 
-  pub hot-kept : (l : DeckLine) (w : Option WornAt) (b : Base) (v : Live) → let s = hot b o j v g a in Sim K (Hot s) t → MayHit (Hot s) (n, l) w → ClosedPairs K (hot_step n l s w).pairs → Kept K t (hot_step n l s w)
+  pub hot-kept : (l : DeckLine) (w : Option WornAt) (b : Base) (v : Live) → let s = hot b o j v g a in Simulates K (Hot s) t → MayHit (Hot s) (n, l) w → ClosedPairs K (hot_step n l s w).pairs → LineKeepsSimulation K t (hot_step n l s w)
   hot-kept line.Format w b v sim may closed = quiet-keeps K t n line.Format (Hot (hot b o j v g a)) None (Hot (hot b o j v g a)) (no_own K v) (no_left v _) sim
   hot-kept (line.Poke at x) w b v sim may closed = quiet-keeps K t n (line.Poke at x) (Hot (hot b o j v g a)) None (Hot (hot b o j v g a)) (no_own K v) (no_left v _) sim
   hot-kept line.Named w b v sim may closed = quiet-keeps K t n line.Named (Hot (hot b o j v g a)) None (Hot (hot b o j v g a)) (no_own K v) (no_left v _) sim

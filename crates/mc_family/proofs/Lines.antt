@@ -12,9 +12,9 @@ use Rattle.mc_model.specs.Family.{ClosedPairs, routes_in, command_of}
 use Rattle.mc_model.specs.Given.{Event, Commands, given_stop, told, is_left, left_if, is_done_reply, is_foreign_select, line_events, command_event}
 use Rattle.mc_model.specs.Solo.{Solo, SoloCommand, Heard, silent, hears, heard_before, hears_all, solo_hit, heard_command, solo_command}
 use Rattle.mc_model.specs.DeckGrammar.{DeckLine}
-use Rattle.mc_family.proofs.Agreement.{Agree, Agree-done}
-use Rattle.mc_family.proofs.Sim.{own_selected, IsRunnable, Sim, Keeps, hears_all-append, hears_none, hears_leave}
-use Rattle.mc_family.proofs.Stops.{WornWithin, hits-given, whole-others, Told, told-alike}
+use Rattle.mc_family.proofs.Agreement.{MapsAgree, Agree-done}
+use Rattle.mc_family.proofs.Sim.{own_selected, IsRunnable, Simulates, KeepsSimulation, hears_all-append, hears_none, hears_leave}
+use Rattle.mc_family.proofs.Stops.{WornWithin, hits-given, whole-others, StillAgrees, told-alike}
 use Rattle.mc_family.proofs.OwnCommand.{alone, own_command}
 use Rattle.mc_family.proofs.OtherCommand.{unless, Other, other_command}
 
@@ -38,19 +38,19 @@ running c owed by seat budget armed = record { base = OnCard c; owed = owed; by 
 
 module _ (K : List (List ℕ)) (c : Card) (owed : ℕ) (by : Journal) (seat : Seat) (budget : ℕ) (armed : Armed) (t : Solo) where
   -- what the lone card hears of a command that does what it does in the play, hit by this stop
-  hit-keeps : (n : ℕ) (l : DeckLine) (r : Command) (s : Option StopAt) (es : List Event) → Agree K true c.apps t.map
+  hit-keeps : (n : ℕ) (l : DeckLine) (r : Command) (s : Option StopAt) (es : List Event) → MapsAgree K true c.apps t.map
       → hears_all t es ≡ heard_before (solo_hit t (alone K r) s) (silent (solo_hit t (alone K r) s).after)
-      → Keeps K t (command_step n l (running c owed by seat budget armed) c r s) es true true
+      → KeepsSimulation K t (command_step n l (running c owed by seat budget armed) c r s) es true true
   hit-keeps n l r None es agree e =
       record {
-        sim = subst (λ (h : Heard). Sim K (command_step n l (running c owed by seat budget armed) c r None).after h.after) (sym e) (record { warm = tt; map = Agree-done K true r.items c.apps t.map agree; selected = refl });
+        sim = subst (λ (h : Heard). Simulates K (command_step n l (running c owed by seat budget armed) c r None).after h.after) (sym e) (record { warm = tt; map = Agree-done K true r.items c.apps t.map agree; selected = refl });
         answer = ap (λ (h : Heard). h.answer) e;
         work = ap (λ (h : Heard). h.work) e;
       }
   hit-keeps n l r (Some s) es agree e =
       let whole = (at_stop r.items s.at s.left).whole in
       record {
-        sim = subst (λ (h : Heard). Sim K (command_step n l (running c owed by seat budget armed) c r (Some s)).after h.after) (sym e)
+        sim = subst (λ (h : Heard). Simulates K (command_step n l (running c owed by seat budget armed) c r (Some s)).after h.after) (sym e)
             (record { warm = stopped-runs s.kind (OnCard (card_done c whole)); map = Agree-done K true whole c.apps t.map agree; selected = sym (no_selection K s.kind) });
         answer = ap (λ (h : Heard). h.answer) e;
         work = ap (λ (h : Heard). h.work) e;
@@ -58,8 +58,8 @@ module _ (K : List (List ℕ)) (c : Card) (owed : ℕ) (by : Journal) (seat : Se
 
   -- the events of a line that is the family's
   own-keeps : (n : ℕ) (l : DeckLine) (bytes : List ℕ) (w : Option WornAt) → let r = command c seat bytes budget in
-      Sim K (Hot (running c owed by seat budget armed)) t → WornWithin (moves r.items) w → routes_in K seat (route bytes) ≡ true → ClosedPairs K r.pairs
-      → let s = hit_of armed (moves r.items) w in Keeps K t (command_step n l (running c owed by seat budget armed) c r s) (Commands bytes budget (given_stop armed s) ∷ []) true true
+      Simulates K (Hot (running c owed by seat budget armed)) t → WornWithin (moves r.items) w → routes_in K seat (route bytes) ≡ true → ClosedPairs K r.pairs
+      → let s = hit_of armed (moves r.items) w in KeepsSimulation K t (command_step n l (running c owed by seat budget armed) c r s) (Commands bytes budget (given_stop armed s) ∷ []) true true
   own-keeps n l bytes w sim within own closed =
       let r = command c seat bytes budget in
       let s = hit_of armed (moves r.items) w in
@@ -77,23 +77,23 @@ module _ (K : List (List ℕ)) (c : Card) (owed : ℕ) (by : Journal) (seat : Se
   left-heard true s = hears_leave s
   left-heard false s = hears_none s
 
-  told-left : (m : List (List ℕ × App)) (es : List Event) (b : Bool) (r : Told K t m es) → hears_all t (es ++ left_if b) ≡ silent (record { map = r.map; selected = unless b t.selected })
+  told-left : (m : List (List ℕ × App)) (es : List Event) (b : Bool) (r : StillAgrees K t m es) → hears_all t (es ++ left_if b) ≡ silent (record { map = r.map; selected = unless b t.selected })
   told-left m es b r =
       hears_all-append t es (left_if b)
       ∙ (ap (λ (h : Heard). heard_before h (hears_all h.after (left_if b))) r.heard
       ∙ ap (λ (h : Heard). heard_before (silent (record t { map = r.map })) h) (left-heard b (record t { map = r.map })))
 
   -- where a line changes others' applications alone
-  pub other-keeps : (n : ℕ) (l : DeckLine) (r : Command) (s : Option StopAt) → Sim K (Hot (running c owed by seat budget armed)) t
+  pub other-keeps : (n : ℕ) (l : DeckLine) (r : Command) (s : Option StopAt) → Simulates K (Hot (running c owed by seat budget armed)) t
       → Other K seat (is_foreign_select K (command_of l) && is_done_reply (Some (Answered r.outcome))) r
-      → let u = command_step n l (running c owed by seat budget armed) c r s in Keeps K t u (told K u.whole ++ left_if (is_left K u)) false false
+      → let u = command_step n l (running c owed by seat budget armed) c r s in KeepsSimulation K t u (told K u.whole ++ left_if (is_left K u)) false false
   other-keeps n l r None sim h =
       let u = command_step n l (running c owed by seat budget armed) c r None in
-      let told_all : Told K t (done c.apps r.items) (told K r.items) = told-alike K r.items t c.apps h.others sim.map in
+      let told_all : StillAgrees K t (done c.apps r.items) (told K r.items) = told-alike K r.items t c.apps h.others sim.map in
       let left = is_foreign_select K (command_of l) && is_done_reply (Some (Answered r.outcome)) in
       let e : hears_all t (told K r.items ++ left_if left) ≡ silent (record { map = told_all.map; selected = unless left t.selected }) = told-left (done c.apps r.items) (told K r.items) left told_all in
       record {
-        sim = subst (λ (h : Heard). Sim K u.after h.after) (sym e)
+        sim = subst (λ (h : Heard). Simulates K u.after h.after) (sym e)
             (record { warm = tt; map = told_all.agree; selected = ap (λ (o : Option Selected). unless left o) sim.selected ∙ sym h.selected });
         answer = ap (λ (h : Heard). h.answer) e;
         work = ap (λ (h : Heard). h.work) e;
@@ -101,10 +101,10 @@ module _ (K : List (List ℕ)) (c : Card) (owed : ℕ) (by : Journal) (seat : Se
   other-keeps n l r (Some s) sim h =
       let u = command_step n l (running c owed by seat budget armed) c r (Some s) in
       let whole = (at_stop r.items s.at s.left).whole in
-      let told_all : Told K t (done c.apps whole) (told K whole) = told-alike K whole t c.apps (whole-others K r.items s.at s.left h.others) sim.map in
+      let told_all : StillAgrees K t (done c.apps whole) (told K whole) = told-alike K whole t c.apps (whole-others K r.items s.at s.left h.others) sim.map in
       let e : hears_all t (told K whole ++ left_if true) ≡ silent (record { map = told_all.map; selected = None }) = told-left (done c.apps whole) (told K whole) true told_all in
       record {
-        sim = subst (λ (h : Heard). Sim K u.after h.after) (sym e)
+        sim = subst (λ (h : Heard). Simulates K u.after h.after) (sym e)
             (record { warm = stopped-runs s.kind (OnCard (card_done c whole)); map = told_all.agree; selected = sym (no_selection K s.kind) });
         answer = ap (λ (h : Heard). h.answer) e;
         work = ap (λ (h : Heard). h.work) e;
@@ -114,12 +114,12 @@ module _ (K : List (List ℕ)) (c : Card) (owed : ℕ) (by : Journal) (seat : Se
 
   pub command-keeps : (n : ℕ) (l : DeckLine) (bytes : List ℕ) (w : Option WornAt) (own : Bool) → let r = command c seat bytes budget in
       let u = command_step n l (running c owed by seat budget armed) c r (hit_of armed (moves r.items) w) in
-      command_of l ≡ Some bytes → Sim K (Hot (running c owed by seat budget armed)) t → WornWithin (moves r.items) w → routes_in K seat (route bytes) ≡ own → ClosedPairs K r.pairs
-      → Keeps K t u (line_events own K u) own own
+      command_of l ≡ Some bytes → Simulates K (Hot (running c owed by seat budget armed)) t → WornWithin (moves r.items) w → routes_in K seat (route bytes) ≡ own → ClosedPairs K r.pairs
+      → KeepsSimulation K t u (line_events own K u) own own
   command-keeps n l bytes w true e sim within own closed =
       let r = command c seat bytes budget in
       let u = command_step n l (running c owed by seat budget armed) c r (hit_of armed (moves r.items) w) in
-      subst (λ (o : Option (List ℕ)). Keeps K t u (command_event u o) true true) (sym e) (own-keeps n l bytes w sim within own closed)
+      subst (λ (o : Option (List ℕ)). KeepsSimulation K t u (command_event u o) true true) (sym e) (own-keeps n l bytes w sim within own closed)
   command-keeps n l bytes w false e sim within own closed =
       let r = command c seat bytes budget in
       let h = subst (λ (o : Option (List ℕ)). Other K seat (is_foreign_select K o && is_done_reply (Some (Answered r.outcome))) r) (sym e) (other_command K c seat bytes budget own closed) in

@@ -9,7 +9,7 @@ use Rattle.mc_model.specs.Manager.{Selected, Seat, Route, WrongLength, WrongClas
 use Rattle.mc_model.specs.Play.{Command, managed, passed, by_route, command}
 use Rattle.mc_model.specs.Family.{ClosedPairs, routes_in, selects_in}
 use Rattle.mc_model.specs.Solo.{Solo, SoloCommand, solo_selected, solo_ran, solo_passed, solo_routed, solo_command}
-use Rattle.mc_family.proofs.Agreement.{bare, Agree}
+use Rattle.mc_family.proofs.Agreement.{bare, MapsAgree}
 use Rattle.mc_family.proofs.RunLemma.{RunAlike, run-alike}
 use Rattle.mc_family.proofs.Sim.{own_of}
 
@@ -42,7 +42,7 @@ module _ (K : List (List ℕ)) (c : Card) (seat : Seat) (t : Solo) (same : t.sel
   missing_alike (Some f) None e = absurd (cc e)
   missing_alike (Some f) (Some g) e = refl
 
-  own_select : (a : ApduParts) → has_name a.body K ≡ true → Agree K true c.apps t.map
+  own_select : (a : ApduParts) → has_name a.body K ≡ true → MapsAgree K true c.apps t.map
       → solo_selected t (select t.map (record { selected = t.selected; load = None }) a) ≡ alone K (managed c seat (select c.apps seat a))
   own_select a h agree =
       let o = lookup c.apps a.body in
@@ -51,7 +51,7 @@ module _ (K : List (List ℕ)) (c : Card) (seat : Seat) (t : Solo) (same : t.sel
       ap (λ (b : Bool). solo_selected t (answered (select_status a b) done)) (sym (missing_alike o p (agree a.body h)))
       ∙ select_at a (select_status a (is_none o)) o p h (agree a.body h)
 
-  own_passed : (a : ApduParts) (budget : ℕ) (o : Option Selected) → own_of K seat.selected ≡ own_of K o → selects_in K o ≡ true → Agree K true c.apps t.map → ClosedPairs K (passed c seat o a budget).pairs
+  own_passed : (a : ApduParts) (budget : ℕ) (o : Option Selected) → own_of K seat.selected ≡ own_of K o → selects_in K o ≡ true → MapsAgree K true c.apps t.map → ClosedPairs K (passed c seat o a budget).pairs
       → solo_passed t t.selected a budget ≡ alone K (passed c seat o a budget)
   own_passed a budget None e h agree closed = absurd (cc h)
   own_passed a budget (Some s) e h agree closed =
@@ -61,7 +61,7 @@ module _ (K : List (List ℕ)) (c : Card) (seat : Seat) (t : Solo) (same : t.sel
       ∙ ap (λ (o : Option Selected). record { items = (solo_ran s.name (run c.apps s.name s.session a budget)).items; outcome = (run c.apps s.name s.session a budget).outcome; selected = o })
       (sym (own_of-named K (record { name = s.name; session = (run c.apps s.name s.session a budget).session }) h)))
 
-  own_routed : (budget : ℕ) (r : Route) → routes_in K seat r ≡ true → Agree K true c.apps t.map → ClosedPairs K (by_route c seat budget r).pairs
+  own_routed : (budget : ℕ) (r : Route) → routes_in K seat r ≡ true → MapsAgree K true c.apps t.map → ClosedPairs K (by_route c seat budget r).pairs
       → solo_routed t budget r ≡ alone K (by_route c seat budget r)
   own_routed budget WrongLength h agree closed = absurd (cc h)
   own_routed budget WrongClass h agree closed = absurd (cc h)
@@ -69,7 +69,7 @@ module _ (K : List (List ℕ)) (c : Card) (seat : Seat) (t : Solo) (same : t.sel
   own_routed budget (ToManager a) h agree closed = absurd (cc h)
   own_routed budget (ToApplication a) h agree closed = own_passed a budget seat.selected refl h agree closed
 
-  pub own_command : (bytes : List ℕ) (budget : ℕ) → routes_in K seat (route bytes) ≡ true → Agree K true c.apps t.map → ClosedPairs K (command c seat bytes budget).pairs
+  pub own_command : (bytes : List ℕ) (budget : ℕ) → routes_in K seat (route bytes) ≡ true → MapsAgree K true c.apps t.map → ClosedPairs K (command c seat bytes budget).pairs
       → solo_command t bytes budget ≡ alone K (command c seat bytes budget)
   unfolding command solo_command
   own_command bytes budget h agree closed = own_routed budget (route bytes) h agree closed

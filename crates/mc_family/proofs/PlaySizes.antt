@@ -20,7 +20,8 @@ use Rattle.mc_model.specs.Card.{App, Card, Block, needed_of, record_at, name_in,
 use Rattle.mc_model.specs.Layout.{is_record, no_root, bad_block, bad_record, bad_chain, by_cause, words_fault, fault_of, fault}
 use Rattle.mc_model.specs.Chain.{Write, run}
 use Rattle.mc_model.specs.Items.{Change, Fixed, Created, Item, Plain, Atomic, moves, changed, done, card_done, StopAt, at_stop, Site, BankItem, Piece, Blank, Note, Enter}
-use Rattle.mc_model.specs.Manager.{most_static, Selected, Open, Seat, Route, WrongLength, WrongClass, ToSelect, ToManager, ToApplication, route, Accepted, Managed, Declines, Accepts, answered, first_status, is_empty, p1p2, select_done, select_refusals, select, sizes_in, most_code, most_session, most_record, fits_limits, open_done, open_load, load_refusals, load_done, load_part, word_parts, is_complete, can_create, dir_in, is_taken, fresh, create_done, create, is_selected, delete_done, delete, manage, room_on}
+use Rattle.mc_model.specs.Limits.{most_static, most_code, most_session, most_record}
+use Rattle.mc_model.specs.Manager.{Selected, Open, Seat, Route, WrongLength, WrongClass, ToSelect, ToManager, ToApplication, route, Accepted, Managed, Declines, Accepts, answered, first_status, is_empty, p1p2, select_done, select_refusals, select, sizes_in, fits_limits, open_done, open_load, load_refusals, load_done, load_part, word_parts, is_complete, can_create, dir_in, is_taken, fresh, create_done, create, is_selected, delete_done, delete, manage, room_on}
 use Rattle.mc_model.specs.Play.{Armed, Live, Running, Unpowered, Muted, Base, OnCard, AtFault, Warm, State, Cold, Hot, Step, Command, item_of, managed, write_items, passed, by_route, command, is_done, sent_on, send, line_command, hit_of, WornAt, live_after, migrated, power_live, power_after, stopped_power, power_moves, line_after, card_line, hot_step, cold_step, step, base_of, warmed, plays, first_worn, start, select_bytes, delete_bytes, load_commands}
 use Rattle.mc_model.specs.Laws.{bytes_of}
 use Rattle.mc_model.specs.DeckGrammar.{DeckLine}
@@ -84,19 +85,19 @@ blanks-done m w c s n (x ∷ cs) = blanks-done m w c s n cs
 -- ---- the manager
 
 module _ (c : Card) (seat : Seat) (fits : SeatFits c.apps seat) where
-  Fine : Managed → Type 0
-  Fine m = CommandFits c.apps (managed c seat m)
+  ManagedFits : Managed → Type 0
+  ManagedFits m = CommandFits c.apps (managed c seat m)
 
-  declined : (sw : ℕ) → Fine (Declines sw)
-  unfolding Fine
+  declined : (sw : ℕ) → ManagedFits (Declines sw)
+  unfolding ManagedFits
   declined sw = record { items = tt; seat = fits }
 
-  answered-fits : (o : Option ℕ) (d : Accepted) → (o ≡ None → Fine (Accepts d)) → Fine (answered o d)
+  answered-fits : (o : Option ℕ) (d : Accepted) → (o ≡ None → ManagedFits (Accepts d)) → ManagedFits (answered o d)
   answered-fits (Some sw) d h = declined sw
   answered-fits None d h = h refl
 
-  select-by : (a : ApduParts) (o : Option App) → lookup c.apps a.body ≡ o → Fine (Accepts (select_done seat a o))
-  unfolding Fine
+  select-by : (a : ApduParts) (o : Option App) → lookup c.apps a.body ≡ o → ManagedFits (Accepts (select_done seat a o))
+  unfolding ManagedFits
   select-by a None e = record { items = tt; seat = fits }
   select-by a (Some app) e =
       let size : length (zeros app.session) ≡ app.session = length-replicate {A = ℕ} app.session 0 in
@@ -105,7 +106,7 @@ module _ (c : Card) (seat : Seat) (fits : SeatFits c.apps seat) where
         seat = record { selected = subst (λ (o : Option App). AsManySession (size_of o) (length (zeros app.session))) (sym e) size; load = fits.load };
       }
 
-  select-fits : (a : ApduParts) → Fine (select c.apps seat a)
+  select-fits : (a : ApduParts) → ManagedFits (select c.apps seat a)
   select-fits a = answered-fits (first_status (select_refusals c.apps a)) (select_done seat a (lookup c.apps a.body)) (λ e. select-by a (lookup c.apps a.body) refl)
 
   -- ---- OPEN
@@ -124,22 +125,22 @@ module _ (c : Card) (seat : Seat) (fits : SeatFits c.apps seat) where
       let to-a = and_parts a (nat_le s.fixed most_static) to-b.0 in
       (leb-true s.fixed most_static to-a.1, leb-true s.init s.fixed to-b.1)
 
-  opened-by : (a : ApduParts) (x y z v : Bool) → fits_limits (sizes_in a) ≡ z → Fine (answered (cond x (Some 0x6A86) (cond y (Some 0x6700) (cond (not z) (Some 0x6A80) (cond v (Some 0x6A84) None)))) (open_done (room_on c) seat a))
-  unfolding Fine
+  opened-by : (a : ApduParts) (x y z v : Bool) → fits_limits (sizes_in a) ≡ z → ManagedFits (answered (cond x (Some 0x6A86) (cond y (Some 0x6700) (cond (not z) (Some 0x6A80) (cond v (Some 0x6A84) None)))) (open_done (room_on c) seat a))
+  unfolding ManagedFits
   opened-by a true y z v h = declined 0x6A86
   opened-by a false true z v h = declined 0x6700
   opened-by a false false false v h = declined 0x6A80
   opened-by a false false true true h = declined 0x6A84
   opened-by a false false true false h = record { items = tt; seat = record { selected = fits.selected; load = limits-are (sizes_in a) h } }
 
-  open-fits : (a : ApduParts) → Fine (open_load (room_on c) c.apps seat a)
+  open-fits : (a : ApduParts) → ManagedFits (open_load (room_on c) c.apps seat a)
   open-fits a =
       opened-by a (nat_lt 15 (p1p2 a)) (not (length a.body == 12)) (fits_limits (sizes_in a)) (nat_le 32 (length c.apps) || is_none (room_on c (sizes_in a))) refl
 
   -- ---- LOAD
 
-  loaded-by : (p : Part) (a : ApduParts) (o : Option Open) → seat.load ≡ o → Fine (Accepts (load_done seat o p a))
-  unfolding Fine
+  loaded-by : (p : Part) (a : ApduParts) (o : Option Open) → seat.load ≡ o → ManagedFits (Accepts (load_done seat o p a))
+  unfolding ManagedFits
   loaded-by p a None e = record { items = tt; seat = fits }
   loaded-by p a (Some o) e =
       let cs = word_parts _ a.body in
@@ -149,7 +150,7 @@ module _ (c : Card) (seat : Seat) (fits : SeatFits c.apps seat) where
             (record { selected = fits.selected; load = subst LoadFits e fits.load });
       }
 
-  load-fits : (p : Part) (a : ApduParts) → Fine (load_part p seat a)
+  load-fits : (p : Part) (a : ApduParts) → ManagedFits (load_part p seat a)
   load-fits p a = answered-fits (first_status (load_refusals seat.load p a)) (load_done seat seat.load p a) (λ e. loaded-by p a seat.load refl)
 
   -- ---- CREATE
@@ -183,8 +184,8 @@ module _ (c : Card) (seat : Seat) (fits : SeatFits c.apps seat) where
   not-taken (Some a) h = absurd (cc h)
 
   created-by : (a : ApduParts) (o : Open) (r : Result (List ℕ) AidFault) (x y z v : Bool) → seat.load ≡ Some o → is_complete o ≡ z → is_taken c.apps r ≡ v
-      → Fine (answered (cond x (Some 0x6A86) (cond y (Some 0x6700) (cond (not z) (Some 0x6985) (cond (not (is_ok r)) (Some 0x6A80) (cond v (Some 0x6A89) None))))) (create_done seat (Some o) r))
-  unfolding Fine
+      → ManagedFits (answered (cond x (Some 0x6A86) (cond y (Some 0x6700) (cond (not z) (Some 0x6985) (cond (not (is_ok r)) (Some 0x6A80) (cond v (Some 0x6A89) None))))) (create_done seat (Some o) r))
+  unfolding ManagedFits
   created-by a o r true y z v e h t = declined 0x6A86
   created-by a o r false true z v e h t = declined 0x6700
   created-by a o r false false false v e h t = declined 0x6985
@@ -201,13 +202,13 @@ module _ (c : Card) (seat : Seat) (fits : SeatFits c.apps seat) where
       }
 
   create-by : (a : ApduParts) (o : Option Open) (x y : Bool) → seat.load ≡ o
-      → Fine (answered (cond x (Some 0x6A86) (cond y (Some 0x6700) (cond (not (can_create o)) (Some 0x6985) (cond (not (is_ok (name_of (dir_in o)))) (Some 0x6A80) (cond (is_taken c.apps (name_of (dir_in o))) (Some 0x6A89) None))))) (create_done seat o (name_of (dir_in o))))
+      → ManagedFits (answered (cond x (Some 0x6A86) (cond y (Some 0x6700) (cond (not (can_create o)) (Some 0x6985) (cond (not (is_ok (name_of (dir_in o)))) (Some 0x6A80) (cond (is_taken c.apps (name_of (dir_in o))) (Some 0x6A89) None))))) (create_done seat o (name_of (dir_in o))))
   create-by a None true y e = declined 0x6A86
   create-by a None false true e = declined 0x6700
   create-by a None false false e = declined 0x6985
   create-by a (Some o) x y e = created-by a o (name_of o.got.dir) x y (is_complete o) (is_taken c.apps (name_of o.got.dir)) e refl refl
 
-  create-fits : (a : ApduParts) → Fine (create c.apps seat a)
+  create-fits : (a : ApduParts) → ManagedFits (create c.apps seat a)
   create-fits a = create-by a seat.load (not (p1p2 a == 0)) (not (is_empty a.body)) refl
 
   -- ---- DELETE
@@ -222,22 +223,22 @@ module _ (c : Card) (seat : Seat) (fits : SeatFits c.apps seat) where
           absurd (cc (sym same ∙ e))
       by false is = same-selected c.apps (remove c.apps n) s (ap size_of (lookup-left c.apps n s.name is)) h
 
-  deleted-by : (a : ApduParts) (x y z v : Bool) → is_selected seat.selected a.body ≡ v → Fine (answered (cond x (Some 0x6A86) (cond y (Some 0x6700) (cond z (Some 0x6A82) (cond v (Some 0x6985) None)))) (delete_done seat a))
-  unfolding Fine
+  deleted-by : (a : ApduParts) (x y z v : Bool) → is_selected seat.selected a.body ≡ v → ManagedFits (answered (cond x (Some 0x6A86) (cond y (Some 0x6700) (cond z (Some 0x6A82) (cond v (Some 0x6985) None)))) (delete_done seat a))
+  unfolding ManagedFits
   deleted-by a true y z v h = declined 0x6A86
   deleted-by a false true z v h = declined 0x6700
   deleted-by a false false true v h = declined 0x6A82
   deleted-by a false false false true h = declined 0x6985
   deleted-by a false false false false h = record { items = (tt, tt); seat = record { selected = unselected seat.selected a.body h fits.selected; load = tt } }
 
-  delete-fits : (a : ApduParts) → Fine (delete c.apps seat a)
+  delete-fits : (a : ApduParts) → ManagedFits (delete c.apps seat a)
   delete-fits a = deleted-by a (not (p1p2 a == 0)) (is_empty a.body) (is_none (lookup c.apps a.body)) (is_selected seat.selected a.body) refl
 
-  either : (b : Bool) (m n : Managed) → Fine m → Fine n → Fine (cond b m n)
+  either : (b : Bool) (m n : Managed) → ManagedFits m → ManagedFits n → ManagedFits (cond b m n)
   either true m n h k = h
   either false m n h k = k
 
-  manage-fits : (a : ApduParts) → Fine (manage (room_on c) c.apps seat a)
+  manage-fits : (a : ApduParts) → ManagedFits (manage (room_on c) c.apps seat a)
   unfolding manage
   manage-fits a =
       either (a.ins == 0x12) _ _ (open-fits a) (
@@ -279,7 +280,7 @@ passed-fits c seat (Some s) a budget e h =
 -- ---- a command
 
 routed-fits : (c : Card) (seat : Seat) (budget : ℕ) (r : Route) → SeatFits c.apps seat → CommandFits c.apps (by_route c seat budget r)
-unfolding Fine
+unfolding ManagedFits
 routed-fits c seat budget WrongLength h = record { items = tt; seat = h }
 routed-fits c seat budget WrongClass h = record { items = tt; seat = h }
 routed-fits c seat budget (ToSelect a) h = select-fits c seat h a

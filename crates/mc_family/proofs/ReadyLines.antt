@@ -56,9 +56,9 @@ at_stop-owed (Atomic w c ∷ is) k x a =
 -- ---- what is kept from line to line
 
 -- a base that is a card
-abbrev IsCard : Base → Type 0
-IsCard (OnCard c) = ⊤
-IsCard (AtFault cause p) = ⊥
+abbrev IsCardBase : Base → Type 0
+IsCardBase (OnCard c) = ⊤
+IsCardBase (AtFault cause p) = ⊥
 
 -- where a card is sure to be there, the image has no fault
 abbrev SureImage : Bool → List (List ℕ) → Type 0
@@ -67,7 +67,7 @@ SureImage false m = ⊤
 
 -- and the base is a card
 abbrev SureBase : Bool → Base → Type 0
-SureBase true b = IsCard b
+SureBase true b = IsCardBase b
 SureBase false b = ⊤
 
 record SureCold (sure : Bool) (m : List (List ℕ)) : Type 0 where
@@ -83,7 +83,7 @@ abbrev Sure : Bool → State → Type 0
 Sure sure (Cold m b a) = SureCold sure m
 Sure sure (Hot s) = SureWarm sure s
 
-record Keeps (sure : Bool) (t : Step) : Type 0 where
+record KeepsReady (sure : Bool) (t : Step) : Type 0 where
   says : ReadyLine sure t
   next : Sure (sure_after sure t) t.after
 
@@ -122,7 +122,7 @@ migration-most (OnCard c) = cond-most (c.layout == 1) 6 0 6 (omega arith) (omega
 migration-most (AtFault cause p) = omega arith
 
 -- a power line that no stop hits
-power-none : (sure : Bool) (n : ℕ) (before : State) (b : Base) (o : ℕ) (j : Journal) (v : Live) (g : ℕ) (a : Armed) → SureWarm sure (hot b o j v g a) → Keeps sure (power_step n before (hot b o j v g a) None)
+power-none : (sure : Bool) (n : ℕ) (before : State) (b : Base) (o : ℕ) (j : Journal) (v : Live) (g : ℕ) (a : Armed) → SureWarm sure (hot b o j v g a) → KeepsReady sure (power_step n before (hot b o j v g a) None)
 power-none sure n before (OnCard c) o j v g a h =
     let t = power_step n before (hot (OnCard c) o j v g a) None in
     let most : migration (OnCard c) ≤ 6 = migration-most (OnCard c) in
@@ -131,7 +131,7 @@ power-none sure n before (OnCard c) o j v g a h =
 power-none true n before (AtFault cause p) o j v g a h = absurd h.base
 power-none false n before (AtFault cause p) o j v g a h = record { says = tt; next = record { owed = omega arith; base = tt } }
 
-power-sure : (sure : Bool) (n : ℕ) (before : State) (s : Warm) (t : Option StopAt) → SureWarm sure s → Keeps sure (power_step n before s t)
+power-sure : (sure : Bool) (n : ℕ) (before : State) (s : Warm) (t : Option StopAt) → SureWarm sure s → KeepsReady sure (power_step n before s t)
 power-sure sure n before s None h = power-none sure n before s.base s.owed s.by s.live s.budget s.armed h
 power-sure sure n before s (Some t) h =
     record {
@@ -153,7 +153,7 @@ module _ (sure : Bool) (n : ℕ) (l : DeckLine) (other : (o : Option StopAt) (r 
   sure-still : (before : State) (found : Bool) → found ≡ false → (found || (not (is_poke l && is_cold before) && sure)) ≡ sure
   sure-still before found e = ap (λ (b : Bool). b || (not (is_poke l && is_cold before) && sure)) e ∙ unspoiled before
 
-  command-sure : (s : Warm) (c : Card) (r : Command) (t : Option StopAt) → AllByRecursion FitsJournal r.items → SureWarm sure s → Keeps sure (command_step n l s c r t)
+  command-sure : (s : Warm) (c : Card) (r : Command) (t : Option StopAt) → AllByRecursion FitsJournal r.items → SureWarm sure s → KeepsReady sure (command_step n l s c r t)
   command-sure s c r None fits h =
       record {
         says = says-ready sure (command_step n l s c r None) (other None (Some (line_says r None)));
@@ -167,7 +167,7 @@ module _ (sure : Bool) (n : ℕ) (l : DeckLine) (other : (o : Option StopAt) (r 
       }
 
   -- a line that changes neither the base nor what is owed
-  quiet-sure : (s t : Warm) (r : Option LineResult) → is_found r ≡ false → t.base ≡ s.base → t.owed ≡ s.owed → SureWarm sure s → Keeps sure (quiet n l (Hot s) r (Hot t))
+  quiet-sure : (s t : Warm) (r : Option LineResult) → is_found r ≡ false → t.base ≡ s.base → t.owed ≡ s.owed → SureWarm sure s → KeepsReady sure (quiet n l (Hot s) r (Hot t))
   quiet-sure s t r e b o h =
       record {
         says = says-ready sure (quiet n l (Hot s) r (Hot t)) (other None r);
@@ -175,7 +175,7 @@ module _ (sure : Bool) (n : ℕ) (l : DeckLine) (other : (o : Option StopAt) (r 
       }
 
   -- a line before the first power line that leaves the image
-  cold-sure : (m : List (List ℕ)) (b c : ℕ) (a d : Armed) (r : Option LineResult) → is_found r ≡ false → SureCold sure m → Keeps sure (quiet n l (Cold m b a) r (Cold m c d))
+  cold-sure : (m : List (List ℕ)) (b c : ℕ) (a d : Armed) (r : Option LineResult) → is_found r ≡ false → SureCold sure m → KeepsReady sure (quiet n l (Cold m b a) r (Cold m c d))
   cold-sure m b c a d r e h =
       record {
         says = says-ready sure (quiet n l (Cold m b a) r (Cold m c d)) (other None r);
@@ -198,7 +198,7 @@ dumped-not_found Unpowered b x = refl
 dumped-not_found Muted b x = refl
 
 card_line-sure : (sure : Bool) (n : ℕ) (l : DeckLine) → ((o : Option StopAt) (r : Option LineResult) → PowerIsReady l o r) → is_poke l ≡ false
-    → (b : Base) (o : ℕ) (j : Journal) (v : Live) (g : ℕ) (a : Armed) (w : Option WornAt) → let s = hot b o j v g a in AllByRecursion FitsJournal (card_line n l s v b w).items → SureWarm sure s → Keeps sure (card_line n l s v b w)
+    → (b : Base) (o : ℕ) (j : Journal) (v : Live) (g : ℕ) (a : Armed) (w : Option WornAt) → let s = hot b o j v g a in AllByRecursion FitsJournal (card_line n l s v b w).items → SureWarm sure s → KeepsReady sure (card_line n l s v b w)
 card_line-sure sure n l other unpoked (OnCard c) o j (Running seat) g a w fits h =
     let s = hot (OnCard c) o j (Running seat) g a in
     let r = line_command c seat g l in
@@ -212,7 +212,7 @@ card_line-sure sure n l other unpoked b o j Muted g a w fits h =
 
 -- ---- every line
 
-hot-sure : (sure : Bool) (n : ℕ) (l : DeckLine) (s : Warm) (w : Option WornAt) → AllByRecursion FitsJournal (hot_step n l s w).items → SureWarm sure s → Keeps sure (hot_step n l s w)
+hot-sure : (sure : Bool) (n : ℕ) (l : DeckLine) (s : Warm) (w : Option WornAt) → AllByRecursion FitsJournal (hot_step n l s w).items → SureWarm sure s → KeepsReady sure (hot_step n l s w)
 hot-sure sure n line.Format s w fits h = quiet-sure sure n line.Format (λ o r. tt) refl s s None refl refl refl h
 hot-sure sure n (line.Poke at x) s w fits h = record { says = says-ready sure (quiet n (line.Poke at x) (Hot s) None (Hot s)) tt; next = h }
 hot-sure sure n line.Named s w fits h = quiet-sure sure n line.Named (λ o r. tt) refl s s None refl refl refl h
@@ -228,7 +228,7 @@ hot-sure sure n (line.Apdu x) s w fits h = card_line-sure sure n (line.Apdu x) (
 
 -- what the first power line finds
 based-sure : (sure : Bool) (m : List (List ℕ)) → SureImage sure m → SureBase sure (base_of (fault m) m)
-based-sure true m h = subst (λ (f : Option (Cause × ℕ)). IsCard (base_of f m)) (sym h) tt
+based-sure true m h = subst (λ (f : Option (Cause × ℕ)). IsCardBase (base_of f m)) (sym h) tt
 based-sure false m h = tt
 
 warmed-sure : (sure : Bool) (m : List (List ℕ)) (b : ℕ) (a : Armed) → SureCold sure m → SureWarm sure (warmed m b a)
@@ -245,7 +245,7 @@ formatted-sure m sure h =
     let same : length (formatted m) ≡ length m = formatted_size m h.low in
     record { low = subst (λ (k : ℕ). 256 ≤ k) (sym same) h.low; high = subst (λ (k : ℕ). k ≤ 16384) (sym same) h.high; sound = formatted_sound m h.low h.high }
 
-cold_line-sure : (sure : Bool) (n : ℕ) (l : DeckLine) (m : List (List ℕ)) (b : ℕ) (a : Armed) (w : Option WornAt) → SureCold sure m → Keeps sure (cold_step n l m b a w)
+cold_line-sure : (sure : Bool) (n : ℕ) (l : DeckLine) (m : List (List ℕ)) (b : ℕ) (a : Armed) (w : Option WornAt) → SureCold sure m → KeepsReady sure (cold_step n l m b a w)
 cold_line-sure sure n line.Format m b a w h = record { says = says-ready sure (cold_step n line.Format m b a w) tt; next = formatted-sure m sure h }
 cold_line-sure sure n (line.Poke at x) m b a w h = record { says = says-ready sure (cold_step n (line.Poke at x) m b a w) tt; next = poked-size m at x sure h }
 cold_line-sure sure n line.Named m b a w h = cold-sure sure n line.Named (λ o r. tt) refl m b b a a None refl h
@@ -259,7 +259,7 @@ cold_line-sure sure n (line.Select x) m b a w h = cold-sure sure n (line.Select 
 cold_line-sure sure n (line.Delete x) m b a w h = cold-sure sure n (line.Delete x) (λ o r. tt) refl m b b a _ _ refl h
 cold_line-sure sure n (line.Apdu x) m b a w h = cold-sure sure n (line.Apdu x) (λ o r. tt) refl m b b a _ _ refl h
 
-step-sure : (sure : Bool) (z : State) (l : ℕ × DeckLine) (w : Option WornAt) → AllByRecursion FitsJournal (step z l w).items → Sure sure z → Keeps sure (step z l w)
+step-sure : (sure : Bool) (z : State) (l : ℕ × DeckLine) (w : Option WornAt) → AllByRecursion FitsJournal (step z l w).items → Sure sure z → KeepsReady sure (step z l w)
 unfolding step
 step-sure sure (Cold m b a) l w fits h = cold_line-sure sure l.0 l.1 m b a w h
 step-sure sure (Hot s) l w fits h = hot-sure sure l.0 l.1 s w fits h
@@ -270,7 +270,7 @@ ready_from zero sure z ls ws h fits = tt
 ready_from (suc n) sure z [] ws h fits = tt
 ready_from (suc n) sure z (l ∷ ls) ws h fits =
     let u : Step = step z l (first_worn ws) in
-    let k : Keeps sure u = step-sure sure z l (first_worn ws) fits.0 h in
+    let k : KeepsReady sure u = step-sure sure z l (first_worn ws) fits.0 h in
     (k.says, ready_from n (sure_after sure u) u.after ls (drop 1 ws) k.next fits.1)
 
 -- of a play from an image on, for every front of it

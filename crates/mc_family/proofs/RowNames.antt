@@ -135,14 +135,14 @@ effect-name (ins.Orn tag off n) f public x = written-name f public _ _
 effect-name (ins.Xorn tag off n) f public x = written-name f public _ _
 
 -- where a row is done, its frame has this name
-abbrev pub KeepsName : List ℕ → RowEnd → Type 0
-KeepsName n (Abends c) = ⊤
-KeepsName n (Does d) = d.effect.frame.name ≡ n
+abbrev pub RowKeepsName : List ℕ → RowEnd → Type 0
+RowKeepsName n (Abends c) = ⊤
+RowKeepsName n (Does d) = d.effect.frame.name ≡ n
 
-judged-name : (o : Option Abend) (d : Done) (n : List ℕ) → d.effect.frame.name ≡ n → KeepsName n (judged o d)
+judged-name : (o : Option Abend) (d : Done) (n : List ℕ) → d.effect.frame.name ≡ n → RowKeepsName n (judged o d)
 judged-name (Some a) d n h = tt
 judged-name None d n h = h
 
-pub row-name : (i : Ins) (f : Frame) (public : List ℕ) (x : Around) → KeepsName f.name (row i f public x)
+pub row-name : (i : Ins) (f : Frame) (public : List ℕ) (x : Around) → RowKeepsName f.name (row i f public x)
 unfolding row
 row-name i f public x = judged-name (first_cause (causes i f public x)) (effect i f public x) f.name (effect-name i f public x)

@@ -8,7 +8,7 @@ use Rattle.mc_model.specs.Frame.{Frame, Effect, Place, Static, Dynamic, Public, 
 use Rattle.mc_model.specs.Primitives.{framed, effect_flagged, looked_up, delegator_told}
 use Rattle.mc_model.proofs.ImageLemmas.{all-append}
 use Rattle.mc_model.proofs.ListLemmas.{length-splice, splice-longer}
-use Rattle.mc_family.specs.FewWords.{Inside, words_in}
+use Rattle.mc_family.specs.FewWords.{PiecesWithin, words_in}
 use Rattle.mc_family.proofs.TouchedWords.{one-piece, shorter-piece, empty-piece}
 
 -- ---- pieces that lie inside
@@ -16,14 +16,14 @@ use Rattle.mc_family.proofs.TouchedWords.{one-piece, shorter-piece, empty-piece}
 -- a change whose pieces lie in a list of this length
 abbrev pub InsideChange : ℕ → Option (List (ℕ × List ℕ)) → Type 0
 InsideChange n None = ⊤
-InsideChange n (Some ps) = Inside n ps
+InsideChange n (Some ps) = PiecesWithin n ps
 
 -- pieces that lie inside keep the length
-pub length-laid : (ps : List (ℕ × List ℕ)) (l : List ℕ) → Inside (length l) ps → length (laid_pieces l ps) ≡ length l
+pub length-laid : (ps : List (ℕ × List ℕ)) (l : List ℕ) → PiecesWithin (length l) ps → length (laid_pieces l ps) ≡ length l
 length-laid [] l a = refl
 length-laid (p ∷ ps) l a =
     let same : length (splice l p.0 p.1) ≡ length l = length-splice l p.0 p.1 a.0 in
-    length-laid ps (splice l p.0 p.1) (subst (λ (n : ℕ). Inside n ps) (sym same) a.1) ∙ same
+    length-laid ps (splice l p.0 p.1) (subst (λ (n : ℕ). PiecesWithin n ps) (sym same) a.1) ∙ same
 
 -- What an effect leaves of a frame with these parts: the sizes, where its pieces lie inside, how many words it touches, where P is known
 -- and a change of 64 words finds no more pending, and how many stay pending.
@@ -31,9 +31,9 @@ pub record KeptSizes (known : List ℕ) (bytes size room : ℕ) (pieces : List (
   pub name : e.frame.name ≡ known
   pub session : e.frame.session ≡ bytes
   pub dyn : room ≤ length e.frame.dyn
-  pub fixed : Inside size pieces → length e.frame.fixed ≡ size
-  pub inside : Inside size pieces → Inside size e.frame.pieces
-  pub changes : Inside size pieces → InsideChange size e.changes
+  pub fixed : PiecesWithin size pieces → length e.frame.fixed ≡ size
+  pub inside : PiecesWithin size pieces → PiecesWithin size e.frame.pieces
+  pub changes : PiecesWithin size pieces → InsideChange size e.changes
   pub words : P → (most ≡ 64 → length (touched pieces) ≤ 64) → words_in e.changes ≤ most
   pub few : P → size ≤ 4096 → length (touched pieces) ≤ 64 → length (touched e.frame.pieces) ≤ 64
 
@@ -132,7 +132,7 @@ module _ (f : Frame) (P : Type 0) where
         session = session;
         dyn = dyn;
         fixed = λ h. ap (λ (l : List ℕ). length l) fixed;
-        inside = λ h. subst (λ (ps : List (ℕ × List ℕ)). Inside (length f.fixed) ps) (sym pieces) h;
+        inside = λ h. subst (λ (ps : List (ℕ × List ℕ)). PiecesWithin (length f.fixed) ps) (sym pieces) h;
         changes = λ h. tt;
         words = λ p few. omega arith;
         few = λ p small few. subst (λ (ps : List (ℕ × List ℕ)). length (touched ps) ≤ 64) (sym pieces) few;
@@ -191,7 +191,7 @@ module _ (f : Frame) (P : Type 0) where
   pub flagged-few : (most : ℕ) (e : Effect) (c z : Bool) → KeepsSizes f P most e → KeepsSizes f P most (effect_flagged e c z)
   flagged-few most e c z k = record { name = k.name; session = k.session; fixed = k.fixed; dyn = k.dyn; inside = k.inside; changes = k.changes; words = k.words; few = k.few }
 
-  committed-inside : (ps : List (ℕ × List ℕ)) → Inside (length f.fixed) ps → InsideChange (length f.fixed) (committed f ps)
+  committed-inside : (ps : List (ℕ × List ℕ)) → PiecesWithin (length f.fixed) ps → InsideChange (length f.fixed) (committed f ps)
   committed-inside [] a = tt
   committed-inside (p ∷ ps) a = a
 

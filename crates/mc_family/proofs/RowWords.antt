@@ -16,7 +16,7 @@ use Rattle.mc_model.specs.Primitives.{Around, Exits, Delegates, framed, effect_f
 use Rattle.mc_model.specs.Blocks.{shift_left_block, shift_right_block, add_blocks, sub_blocks, inc_block, dec_block, and_blocks, or_blocks, xor_blocks, not_block}
 use Rattle.mc_model.specs.Row.{on_stack, indexed, holds, gone, called, target, operand, known, writes, immediate_writes, pair_writes, place_of, value_of, first_of, causes, effect, first_cause, judged, row}
 use Rattle.mc_model.proofs.ListLemmas.{splice-longer}
-use Rattle.mc_family.specs.FewWords.{Inside, HoldsFew, IsTold, most_of, most_words, EndsFew, EndsWithin, FewWordsLaw, FewWritesLaw}
+use Rattle.mc_family.specs.FewWords.{PiecesWithin, HoldsFew, IsToldName, most_of, most_words, EndsFew, EndsWithin, FewWordsLaw, FewWritesLaw}
 use Rattle.mc_family.proofs.BlockLengths.{worked-short, each-short, map-short, zeros-short, stacked-short, at-short, enciphered-message, deciphered-message, signature-short, length-sha1}
 use Rattle.mc_family.proofs.RowSizes.{KeepsSizes, WriteFacts, still, pushes-few, tops-few, writes-few, flagged-few, protects-few, looks-few, tells-few}
 
@@ -37,9 +37,9 @@ none_holds (c ∷ cs) e =
     (parts.0, none_holds cs parts.1)
 
 -- what is known of a row that is done
-pub record RowFacts (i : Ins) (f : Frame) (public : List ℕ) (x : Around) : Type 0 where
+pub record DoneRowFacts (i : Ins) (f : Frame) (public : List ℕ) (x : Around) : Type 0 where
   pub shaped : Shaped i
-  pub told : IsTold i x.delegator
+  pub told : IsToldName i x.delegator
   pub none : NoneHolds (causes i f public x)
 
 -- ---- tested writes
@@ -205,7 +205,7 @@ imm-facts f tag off n b none short small = operand-facts f (operand f tag off n)
 pair-facts : (f : Frame) (tag : ℕ) (off : ℤ) (n : ℕ) (b : List ℕ) → NoneHolds (pair_writes f tag off n) → length b ≤ n → n < 256 → WriteFacts f (place_of f tag off (2 * n)) n b
 pair-facts f tag off n b none short small = operand-facts f (operand f tag off (2 * n)) n b none.1 short (byte-most n small)
 
-prim-facts : (set number : ℕ) (args : List ℕ) (f : Frame) (public : List ℕ) (x : Around) (p : Primitive) → primitive set number ≡ Some p → RowFacts (ins.Prim set number args) f public x → PrimFacts p args f public x
+prim-facts : (set number : ℕ) (args : List ℕ) (f : Frame) (public : List ℕ) (x : Around) (p : Primitive) → primitive set number ≡ Some p → DoneRowFacts (ins.Prim set number args) f public x → PrimFacts p args f public x
 unfolding causes
 prim-facts set number args f public x p is h =
     let none : NoneHolds (prim_causes (Some p) args f public x) = subst (λ (o : Option Primitive). NoneHolds (prim_causes o args f public x)) is h.none in
@@ -213,41 +213,41 @@ prim-facts set number args f public x p is h =
 
 module _ (f : Frame) (public : List ℕ) (x : Around) where
   -- rows that write nothing
-  row-still : (i : Ins) (g : Frame) (segment : List ℕ) → g.name ≡ f.name → g.session ≡ f.session → g.fixed ≡ f.fixed → g.pieces ≡ f.pieces → length f.dyn ≤ length g.dyn → KeepsSizes f (RowFacts i f public x) 33 (framed g segment)
-  row-still i g segment = still f (RowFacts i f public x) g segment 33
+  row-still : (i : Ins) (g : Frame) (segment : List ℕ) → g.name ≡ f.name → g.session ≡ f.session → g.fixed ≡ f.fixed → g.pieces ≡ f.pieces → length f.dyn ≤ length g.dyn → KeepsSizes f (DoneRowFacts i f public x) 33 (framed g segment)
+  row-still i g segment = still f (DoneRowFacts i f public x) g segment 33
 
-  row-same : (i : Ins) (segment : List ℕ) → KeepsSizes f (RowFacts i f public x) 33 (framed f segment)
+  row-same : (i : Ins) (segment : List ℕ) → KeepsSizes f (DoneRowFacts i f public x) 33 (framed f segment)
   row-same i segment = row-still i f segment refl refl refl refl (omega arith)
 
-  row-pushes : (i : Ins) (dt : ℕ) (b : List ℕ) → KeepsSizes f (RowFacts i f public x) 33 (framed (pushed (record f { dt = dt }) b) public)
-  row-pushes i dt b = pushes-few f (RowFacts i f public x) 33 dt b public
+  row-pushes : (i : Ins) (dt : ℕ) (b : List ℕ) → KeepsSizes f (DoneRowFacts i f public x) 33 (framed (pushed (record f { dt = dt }) b) public)
+  row-pushes i dt b = pushes-few f (DoneRowFacts i f public x) 33 dt b public
 
-  row-flags : (i : Ins) (c z : Bool) → KeepsSizes f (RowFacts i f public x) 33 (framed (flagged f c z) public)
+  row-flags : (i : Ins) (c z : Bool) → KeepsSizes f (DoneRowFacts i f public x) 33 (framed (flagged f c z) public)
   row-flags i c z = row-still i (flagged f c z) public refl refl refl refl (omega arith)
 
-  row-writes : (i : Ins) (dt a n : ℕ) (b : List ℕ) → (RowFacts i f public x → WriteFacts (record f { dt = dt }) a n b) → KeepsSizes f (RowFacts i f public x) 33 (written (record f { dt = dt }) public a b)
-  row-writes i dt a n b w = writes-few f (RowFacts i f public x) dt a n public b w
+  row-writes : (i : Ins) (dt a n : ℕ) (b : List ℕ) → (DoneRowFacts i f public x → WriteFacts (record f { dt = dt }) a n b) → KeepsSizes f (DoneRowFacts i f public x) 33 (written (record f { dt = dt }) public a b)
+  row-writes i dt a n b w = writes-few f (DoneRowFacts i f public x) dt a n public b w
 
   -- a result written to a place, which sets flags
-  row-becomes : (i : Ins) (a n : ℕ) (b : List ℕ) (c z : Bool) → (RowFacts i f public x → WriteFacts f a n b) → KeepsSizes f (RowFacts i f public x) 33 (effect_flagged (written f public a b) c z)
-  row-becomes i a n b c z w = flagged-few f (RowFacts i f public x) 33 (written f public a b) c z (row-writes i f.dt a n b w)
+  row-becomes : (i : Ins) (a n : ℕ) (b : List ℕ) (c z : Bool) → (DoneRowFacts i f public x → WriteFacts f a n b) → KeepsSizes f (DoneRowFacts i f public x) 33 (effect_flagged (written f public a b) c z)
+  row-becomes i a n b c z w = flagged-few f (DoneRowFacts i f public x) 33 (written f public a b) c z (row-writes i f.dt a n b w)
 
-  row-gone : (i : Ins) (b on : Bool) (to : ℕ) → KeepsSizes f (RowFacts i f public x) 33 (framed (gone b (cond on (popped f 2) f) to) public)
+  row-gone : (i : Ins) (b on : Bool) (to : ℕ) → KeepsSizes f (DoneRowFacts i f public x) 33 (framed (gone b (cond on (popped f 2) f) to) public)
   row-gone i true true to = row-still i _ public refl refl refl refl (omega arith)
   row-gone i true false to = row-still i _ public refl refl refl refl (omega arith)
   row-gone i false true to = row-still i _ public refl refl refl refl (omega arith)
   row-gone i false false to = row-still i _ public refl refl refl refl (omega arith)
 
-  row-called : (i : Ins) (b on : Bool) (to : ℕ) → KeepsSizes f (RowFacts i f public x) 33 (framed (called b (cond on (popped f 2) f) to) public)
+  row-called : (i : Ins) (b on : Bool) (to : ℕ) → KeepsSizes f (DoneRowFacts i f public x) 33 (framed (called b (cond on (popped f 2) f) to) public)
   row-called i true true to = row-still i _ public refl refl refl refl (splice-longer f.dyn (f.dt - 2 - dynamic_base) (bytes2 f.lb ++ bytes2 f.at))
   row-called i true false to = row-still i _ public refl refl refl refl (splice-longer f.dyn (f.dt - dynamic_base) (bytes2 f.lb ++ bytes2 f.at))
   row-called i false true to = row-still i _ public refl refl refl refl (omega arith)
   row-called i false false to = row-still i _ public refl refl refl refl (omega arith)
 
-  row-returns : (i : Ins) (less more : ℕ) → KeepsSizes f (RowFacts i f public x) 33 (framed (come_back f less more) public)
+  row-returns : (i : Ins) (less more : ℕ) → KeepsSizes f (DoneRowFacts i f public x) 33 (framed (come_back f less more) public)
   row-returns i less more = row-still i (come_back f less more) public refl refl refl refl (splice-longer f.dyn (f.lb - 4 - less - dynamic_base) (top f more))
 
-  pub row-few : (i : Ins) → KeepsSizes f (RowFacts i f public x) (most_words i) (effect i f public x).effect
+  pub row-few : (i : Ins) → KeepsSizes f (DoneRowFacts i f public x) (most_words i) (effect i f public x).effect
   unfolding effect causes
   row-few ins.Nop = row-same ins.Nop public
   row-few (ins.Setsw sw) = row-same (ins.Setsw sw) _
@@ -267,7 +267,7 @@ module _ (f : Frame) (public : List ℕ) (x : Around) where
   row-few ins.Popb = row-still ins.Popb (popped f 1) public refl refl refl refl (omega arith)
   row-few ins.Popw = row-still ins.Popw (popped f 2) public refl refl refl refl (omega arith)
   row-few (ins.Prim set number args) =
-      prim_done-few args f public x (primitive set number) (RowFacts (ins.Prim set number args) f public x) (λ q is p. prim-facts set number args f public x q is p)
+      prim_done-few args f public x (primitive set number) (DoneRowFacts (ins.Prim set number args) f public x) (λ q is p. prim-facts set number args f public x q is p)
   row-few ins.Ret = row-returns ins.Ret 0 0
   row-few (ins.Reti i) = row-returns (ins.Reti i) i 0
   row-few (ins.Reto o) = row-returns (ins.Reto o) 0 o
@@ -347,28 +347,28 @@ exit-none i f public x e = absurd (cc e)
 -- ---- the law
 
 -- the frame that a row leaves is within the limits
-pub held-after : (i : Ins) (f : Frame) (public : List ℕ) (x : Around) → RowFacts i f public x → HoldsFew f → HoldsFew (effect i f public x).effect.frame
+pub held-after : (i : Ins) (f : Frame) (public : List ℕ) (x : Around) → DoneRowFacts i f public x → HoldsFew f → HoldsFew (effect i f public x).effect.frame
 held-after i f public x p held =
     let k = row-few f public x i in
     let same : length (effect i f public x).effect.frame.fixed ≡ length f.fixed = k.fixed held.inside in
     record {
       fixed = subst (λ (n : ℕ). n ≤ 4096) (sym same) held.fixed;
-      inside = subst (λ (n : ℕ). Inside n (effect i f public x).effect.frame.pieces) (sym same) (k.inside held.inside);
+      inside = subst (λ (n : ℕ). PiecesWithin n (effect i f public x).effect.frame.pieces) (sym same) (k.inside held.inside);
       few = k.few p held.fixed held.few;
     }
 
 -- a name that every row may tell
-pub told-any : (i : Ins) (o : Option (List ℕ)) → IfSome o (λ n. length n ≤ 16) → IsTold i o
+pub told-any : (i : Ins) (o : Option (List ℕ)) → IfSome o (λ n. length n ≤ 16) → IsToldName i o
 told-any (ins.Prim set number args) o h = h
 told-any i o h = tt
 
 -- the words that a row changes, whatever its frame is like: a row that may change more than 33 changes what is pending
-judged-words : (i : Ins) (f : Frame) (public : List ℕ) (x : Around) → Shaped i → IsTold i x.delegator → (most_words i ≡ 64 → length (touched f.pieces) ≤ 64) → (o : Option Abend) → first_cause (causes i f public x) ≡ o
+judged-words : (i : Ins) (f : Frame) (public : List ℕ) (x : Around) → Shaped i → IsToldName i x.delegator → (most_words i ≡ 64 → length (touched f.pieces) ≤ 64) → (o : Option Abend) → first_cause (causes i f public x) ≡ o
     → EndsWithin (most_words i) (judged o (effect i f public x))
 judged-words i f public x shaped told few (Some a) e = tt
 judged-words i f public x shaped told few None e = (row-few f public x i).words (record { shaped = shaped; told = told; none = none_holds (causes i f public x) e }) few
 
-pub row-words : (i : Ins) (f : Frame) (public : List ℕ) (x : Around) → Shaped i → IsTold i x.delegator → (most_words i ≡ 64 → length (touched f.pieces) ≤ 64) → EndsWithin (most_words i) (row i f public x)
+pub row-words : (i : Ins) (f : Frame) (public : List ℕ) (x : Around) → Shaped i → IsToldName i x.delegator → (most_words i ≡ 64 → length (touched f.pieces) ≤ 64) → EndsWithin (most_words i) (row i f public x)
 unfolding row
 row-words i f public x shaped told few = judged-words i f public x shaped told few (first_cause (causes i f public x)) refl
 
@@ -376,7 +376,7 @@ judged-few : (i : Ins) (f : Frame) (public : List ℕ) (x : Around) → Shaped i
     → EndsFew (most_words i) (judged o (effect i f public x))
 judged-few i f public x shaped told held (Some a) e = tt
 judged-few i f public x shaped told held None e =
-    let p : RowFacts i f public x = record { shaped = shaped; told = told-any i x.delegator told; none = none_holds (causes i f public x) e } in
+    let p : DoneRowFacts i f public x = record { shaped = shaped; told = told-any i x.delegator told; none = none_holds (causes i f public x) e } in
     record { words = (row-few f public x i).words p (λ e. held.few); frame = held-after i f public x p held; exit = exit-none i f public x }
 
 -- a name that a row delegates to has at most 16 bytes

@@ -13,8 +13,8 @@ use Rattle.mc_model.specs.Primitives.{Then, Goes, Exits, Delegates, Done}
 use Rattle.mc_model.specs.Row.{RowEnd, Abends, Does, row}
 use Rattle.mc_model.specs.Chain.{Outcome, Write, Chain, Ran, Acted, Follows, Continues, Ends, code_in, map_changed, write_of, settled, is_active, depth_of, entered_app, called_app, called, exited, follows, pair_of, done_turn, row_turn, fetched, stepped, around, acted, ends_with, goes_on, ran_on, chain_session, ran, start_app, start, no_app, run}
 use Rattle.mc_model.specs.Family.{ClosedPairs}
-use Rattle.mc_family.proofs.Agreement.{bare, Agree, Agree-map_changed}
-use Rattle.mc_family.proofs.RowNames.{KeepsName, row-name}
+use Rattle.mc_family.proofs.Agreement.{bare, MapsAgree, Agree-map_changed}
+use Rattle.mc_family.proofs.RowNames.{RowKeepsName, row-name}
 
 -- ---- sides
 
@@ -39,7 +39,7 @@ WritesOn K x (w ∷ ws) = (has_name w.name K ≡ x) × WritesOn K x ws
 pub record Continue (K : List (List ℕ)) (x : Bool) (ch d : Chain) : Type 0 where
   pub map : List (List ℕ × App)
   pub same : d ≡ over ch map
-  pub agree : Agree K x ch.map map
+  pub agree : MapsAgree K x ch.map map
   pub on : On K x ch
 
 abbrev pub FollowAlike : List (List ℕ) → Bool → Follows → Follows → Type 0
@@ -83,12 +83,12 @@ module _ (K : List (List ℕ)) (x : Bool) where
 
   -- ---- what follows a turn
 
-  called_app-alike : (b : Bool) (ch : Chain) (m : List (List ℕ × App)) (n : List ℕ) (a c : App) → placed 0 a ≡ placed 0 c → Agree K x ch.map m → On K x ch → has_name n K ≡ x → Continue K x (called_app b ch n a) (called_app b (over ch m) n c)
+  called_app-alike : (b : Bool) (ch : Chain) (m : List (List ℕ × App)) (n : List ℕ) (a c : App) → placed 0 a ≡ placed 0 c → MapsAgree K x ch.map m → On K x ch → has_name n K ≡ x → Continue K x (called_app b ch n a) (called_app b (over ch m) n c)
   called_app-alike true ch m n a c e h on is = record { map = m; same = refl; agree = h; on = record { running = on.running; below = on.below } }
   called_app-alike false ch m n a c e h on is =
       record { map = m; same = ap (λ (z : App). entered_app (over ch m) n z) (sym e); agree = h; on = record { running = is; below = (on.running, on.below) } }
 
-  called-alike : (ch : Chain) (m : List (List ℕ × App)) (n : List ℕ) (o p : Option App) → bare o ≡ bare p → Agree K x ch.map m → On K x ch → has_name n K ≡ x → Continue K x (called ch n o) (called (over ch m) n p)
+  called-alike : (ch : Chain) (m : List (List ℕ × App)) (n : List ℕ) (o p : Option App) → bare o ≡ bare p → MapsAgree K x ch.map m → On K x ch → has_name n K ≡ x → Continue K x (called ch n o) (called (over ch m) n p)
   called-alike ch m n None None e h on is = record { map = m; same = refl; agree = h; on = record { running = on.running; below = on.below } }
   called-alike ch m n None (Some c) e h on is = absurd (cc e)
   called-alike ch m n (Some a) None e h on is = absurd (cc e)
@@ -100,11 +100,11 @@ module _ (K : List (List ℕ)) (x : Bool) where
   last-alike true o p = refl
   last-alike false o p = refl
 
-  exited-alike : (ch : Chain) (m : List (List ℕ × App)) (fs : List Frame) → AllOn K x fs → Agree K x ch.map m → FollowAlike K x (exited ch fs) (exited (over ch m) fs)
+  exited-alike : (ch : Chain) (m : List (List ℕ × App)) (fs : List Frame) → AllOn K x fs → MapsAgree K x ch.map m → FollowAlike K x (exited ch fs) (exited (over ch m) fs)
   exited-alike ch m [] all h = last-alike (nat_lt 1024 (la_of ch.public)) _ _
   exited-alike ch m (f ∷ fs) all h = record { map = m; same = refl; agree = h; on = record { running = all.0; below = all.1 } }
 
-  follows-alike : (ch : Chain) (m : List (List ℕ × App)) (t : Then) → ClosedPairs K (pair_of ch.frame.name t) → Agree K x ch.map m → On K x ch → FollowAlike K x (follows ch t) (follows (over ch m) t)
+  follows-alike : (ch : Chain) (m : List (List ℕ × App)) (t : Then) → ClosedPairs K (pair_of ch.frame.name t) → MapsAgree K x ch.map m → On K x ch → FollowAlike K x (follows ch t) (follows (over ch m) t)
   follows-alike ch m Goes closed h on = record { map = m; same = refl; agree = h; on = on }
   follows-alike ch m Exits closed h on = exited-alike ch m ch.below on.below h
   follows-alike ch m (Delegates n) closed h on =
@@ -119,7 +119,7 @@ module _ (K : List (List ℕ)) (x : Bool) where
   turn-alike ch i e (Ends o) (Continues d) ps h = absurd h
   turn-alike ch i e (Continues c) (Ends p) ps h = absurd h
 
-  done-alike : (ch : Chain) (m : List (List ℕ × App)) (i : Ins) (d : Done) → d.effect.frame.name ≡ ch.frame.name → ClosedPairs K (pair_of ch.frame.name d.next) → Agree K x ch.map m → On K x ch → ActAlike K x (row_turn ch i (Does d)) (row_turn (over ch m) i (Does d))
+  done-alike : (ch : Chain) (m : List (List ℕ × App)) (i : Ins) (d : Done) → d.effect.frame.name ≡ ch.frame.name → ClosedPairs K (pair_of ch.frame.name d.next) → MapsAgree K x ch.map m → On K x ch → ActAlike K x (row_turn ch i (Does d)) (row_turn (over ch m) i (Does d))
   done-alike ch m i d name closed h on =
       let s = settled ch d.effect in
       let n = map_changed m ch.frame.name d.effect.changes in
@@ -134,11 +134,11 @@ module _ (K : List (List ℕ)) (x : Bool) where
         mine = write_of-on ch.frame.name d.effect.changes on.running;
       }
 
-  row_turn-alike : (ch : Chain) (m : List (List ℕ × App)) (i : Ins) (e : RowEnd) → KeepsName ch.frame.name e → ClosedPairs K (row_turn ch i e).pairs → Agree K x ch.map m → On K x ch → ActAlike K x (row_turn ch i e) (row_turn (over ch m) i e)
+  row_turn-alike : (ch : Chain) (m : List (List ℕ × App)) (i : Ins) (e : RowEnd) → RowKeepsName ch.frame.name e → ClosedPairs K (row_turn ch i e).pairs → MapsAgree K x ch.map m → On K x ch → ActAlike K x (row_turn ch i e) (row_turn (over ch m) i e)
   row_turn-alike ch m i (Abends c) name closed h on = record { same = refl; follows = refl; mine = tt }
   row_turn-alike ch m i (Does d) name closed h on = done-alike ch m i d name closed h on
 
-  fetched-alike : (ch : Chain) (m : List (List ℕ × App)) (r : Result (Ins × ℕ) DecodeFault) → ClosedPairs K (fetched ch r).pairs → Agree K x ch.map m → On K x ch → ActAlike K x (fetched ch r) (fetched (over ch m) r)
+  fetched-alike : (ch : Chain) (m : List (List ℕ × App)) (r : Result (Ins × ℕ) DecodeFault) → ClosedPairs K (fetched ch r).pairs → MapsAgree K x ch.map m → On K x ch → ActAlike K x (fetched ch r) (fetched (over ch m) r)
   fetched-alike ch m (Err Undefined) closed h on = record { same = refl; follows = refl; mine = tt }
   fetched-alike ch m (Err Past) closed h on = record { same = refl; follows = refl; mine = tt }
   fetched-alike ch m (Ok i) closed h on =
@@ -148,7 +148,7 @@ module _ (K : List (List ℕ)) (x : Bool) where
   code-bare None = refl
   code-bare (Some a) = refl
 
-  acted-alike : (ch : Chain) (m : List (List ℕ × App)) → ClosedPairs K (acted ch).pairs → Agree K x ch.map m → On K x ch → ActAlike K x (acted ch) (acted (over ch m))
+  acted-alike : (ch : Chain) (m : List (List ℕ × App)) → ClosedPairs K (acted ch).pairs → MapsAgree K x ch.map m → On K x ch → ActAlike K x (acted ch) (acted (over ch m))
   unfolding acted
   acted-alike ch m closed h on =
       let n = ch.frame.name in
@@ -160,7 +160,7 @@ module _ (K : List (List ℕ)) (x : Bool) where
 
   ran_on-alike : (a b : Acted) (s : List ℕ) (f g : Follows) (rest : Chain → Ran)
       → b ≡ record a { follows = b.follows } → WritesOn K x a.writes → FollowAlike K x f g
-      → ((ch : Chain) (m : List (List ℕ × App)) → ClosedPairs K (rest ch).pairs → Agree K x ch.map m → On K x ch → RunAlike K x (rest ch) (rest (over ch m)))
+      → ((ch : Chain) (m : List (List ℕ × App)) → ClosedPairs K (rest ch).pairs → MapsAgree K x ch.map m → On K x ch → RunAlike K x (rest ch) (rest (over ch m)))
       → ClosedPairs K (ran_on a s f rest).pairs → RunAlike K x (ran_on a s f rest) (ran_on b s g rest)
   ran_on-alike a b s (Ends o) (Ends p) rest same mine h again closed =
       record { same = ap (λ (z : Acted). ends_with z s p) same ∙ ap (λ (z : Outcome). ends_with a s z) (sym h); mine = mine }
@@ -174,7 +174,7 @@ module _ (K : List (List ℕ)) (x : Bool) where
   ran_on-alike a b s (Continues c) (Ends p) rest same mine h again closed = absurd h
 
   -- over maps that agree on the side of its frames, a chain runs alike, and writes on that side alone
-  pub ran-alike : (n : ℕ) (ch : Chain) (m : List (List ℕ × App)) → ClosedPairs K (ran n ch).pairs → Agree K x ch.map m → On K x ch → RunAlike K x (ran n ch) (ran n (over ch m))
+  pub ran-alike : (n : ℕ) (ch : Chain) (m : List (List ℕ × App)) → ClosedPairs K (ran n ch).pairs → MapsAgree K x ch.map m → On K x ch → RunAlike K x (ran n ch) (ran n (over ch m))
   unfolding ran
   ran-alike zero ch m closed h on = record { same = refl; mine = tt }
   ran-alike (suc n) ch m closed h on =
@@ -190,7 +190,7 @@ module _ (K : List (List ℕ)) (x : Bool) where
 
   -- The run lemma: two maps that agree on one side of a closed family, and a first name of that side, give the same run,
   -- all of whose writes belong to that side.
-  pub run-alike : (m d : List (List ℕ × App)) (first session : List ℕ) (a : ApduParts) (budget : ℕ) → ClosedPairs K (run m first session a budget).pairs → Agree K x m d → has_name first K ≡ x → RunAlike K x (run m first session a budget) (run d first session a budget)
+  pub run-alike : (m d : List (List ℕ × App)) (first session : List ℕ) (a : ApduParts) (budget : ℕ) → ClosedPairs K (run m first session a budget).pairs → MapsAgree K x m d → has_name first K ≡ x → RunAlike K x (run m first session a budget) (run d first session a budget)
   run-alike m d first session a budget closed h is =
       let e = found-alike (lookup m first) (lookup d first) (h first is) in
       let same : start d first session a ≡ over (start m first session a) d = ap (λ (z : App). start_app d first session a z) (sym e) in

@@ -16,9 +16,9 @@ use Rattle.mc_model.specs.Primitives.{Then, Goes, Exits, Delegates, Done}
 use Rattle.mc_model.specs.Row.{Does, causes, effect, first_cause, judged, row}
 use Rattle.mc_model.specs.Chain.{Outcome, Chain, Ran, Acted, Follows, Continues, Ends, code_in, first_frame, chain_session, map_changed, write_of, settled, is_active, depth_of, called_app, called, reply_of, exited, follows, row_turn, fetched, stepped, around, acted, ran_on, ran, start_app, start, no_app, run}
 use Rattle.mc_model.proofs.ImageLemmas.{all-append}
-use Rattle.mc_family.specs.FewWords.{Inside, most_words}
+use Rattle.mc_family.specs.FewWords.{PiecesWithin, most_words}
 use Rattle.mc_family.proofs.RowSizes.{KeepsSizes, InsideChange}
-use Rattle.mc_family.proofs.RowWords.{RowFacts, row-few}
+use Rattle.mc_family.proofs.RowWords.{DoneRowFacts, row-few}
 use Rattle.mc_family.proofs.AppSizes.{size_of, size_in, SameSizes, InsideApp, changed-sizes, WriteFits, moved-writes}
 
 -- ---- frames
@@ -30,28 +30,28 @@ AsMany (Some s) n = s.0 ≡ n
 
 pub record FrameFits (m : List (List ℕ × App)) (f : Frame) : Type 0 where
   pub fixed : AsMany (size_in m f.name) (length f.fixed)
-  pub inside : Inside (length f.fixed) f.pieces
+  pub inside : PiecesWithin (length f.fixed) f.pieces
   pub session : f.session ≤ length f.dyn
 
-abbrev pub AllFit : List (List ℕ × App) → List Frame → Type 0
-AllFit m [] = ⊤
-AllFit m (f ∷ fs) = FrameFits m f × AllFit m fs
+abbrev pub FramesFit : List (List ℕ × App) → List Frame → Type 0
+FramesFit m [] = ⊤
+FramesFit m (f ∷ fs) = FrameFits m f × FramesFit m fs
 
 pub record ChainFits (ch : Chain) : Type 0 where
   pub frame : FrameFits ch.map ch.frame
-  pub below : AllFit ch.map ch.below
+  pub below : FramesFit ch.map ch.below
 
 moved-frame : (m d : List (List ℕ × App)) (f : Frame) → SameSizes m d → FrameFits m f → FrameFits d f
 moved-frame m d f same h = record { fixed = subst (λ (s : Option (ℕ × ℕ)). AsMany s (length f.fixed)) (sym (same f.name)) h.fixed; inside = h.inside; session = h.session }
 
-moved-frames : (m d : List (List ℕ × App)) (fs : List Frame) → SameSizes m d → AllFit m fs → AllFit d fs
+moved-frames : (m d : List (List ℕ × App)) (fs : List Frame) → SameSizes m d → FramesFit m fs → FramesFit d fs
 moved-frames m d [] same a = tt
 moved-frames m d (f ∷ fs) same a = (moved-frame m d f same a.0, moved-frames m d fs same a.1)
 
 -- the pieces of a change lie in the application
-change-fits : (s : Option (ℕ × ℕ)) (n : ℕ) (ps : List (ℕ × List ℕ)) → AsMany s n → Inside n ps → InsideApp s ps
+change-fits : (s : Option (ℕ × ℕ)) (n : ℕ) (ps : List (ℕ × List ℕ)) → AsMany s n → PiecesWithin n ps → InsideApp s ps
 change-fits None n ps h a = tt
-change-fits (Some s) n ps h a = subst (λ (k : ℕ). Inside k ps) (sym h) a
+change-fits (Some s) n ps h a = subst (λ (k : ℕ). PiecesWithin k ps) (sym h) a
 
 -- ---- turns
 
@@ -73,39 +73,39 @@ new-fits m n a session h =
     record { fixed = h; inside = tt; session = omega (arith, length-append session (zeros (512 - length session))) }
 
 -- the parts of what goes on
-record GoesOn (ch s : Chain) : Type 0 where
+record ChainGoesOn (ch s : Chain) : Type 0 where
   same : SameSizes ch.map s.map
   fits : ChainFits s
   session : (first_frame s.frame s.below).session ≡ (first_frame ch.frame ch.below).session
 
-going-on : (ch s : Chain) → GoesOn ch s → NextFits ch (Continues s)
+going-on : (ch s : Chain) → ChainGoesOn ch s → NextFits ch (Continues s)
 going-on ch s g = (g.same, g.fits, g.session)
 
 cond-ends : (ch : Chain) (b : Bool) (o p : Outcome) → NextFits ch (cond b (Ends o) (Ends p))
 cond-ends ch true o p = tt
 cond-ends ch false o p = tt
 
-exited-fits : (ch s : Chain) (fs : List Frame) → GoesOn ch s → s.below ≡ fs → NextFits ch (exited s fs)
+exited-fits : (ch s : Chain) (fs : List Frame) → ChainGoesOn ch s → s.below ≡ fs → NextFits ch (exited s fs)
 exited-fits ch s [] g e = cond-ends ch (nat_lt 1024 (la_of s.public)) _ (reply_of s)
 exited-fits ch s (f ∷ fs) g e =
-    let all : AllFit s.map (f ∷ fs) = subst (AllFit s.map) e g.fits.below in
+    let all : FramesFit s.map (f ∷ fs) = subst (FramesFit s.map) e g.fits.below in
     let same : first_frame s.frame (f ∷ fs) ≡ first_frame s.frame s.below = ap (first_frame s.frame) (sym e) in
     (g.same, record { frame = all.0; below = all.1 }, ap (λ (h : Frame). h.session) same ∙ g.session)
 
-public-fits : (ch s : Chain) (public : List ℕ) → GoesOn ch s → NextFits ch (Continues (record s { public = public }))
+public-fits : (ch s : Chain) (public : List ℕ) → ChainGoesOn ch s → NextFits ch (Continues (record s { public = public }))
 public-fits ch s public g = (g.same, record { frame = g.fits.frame; below = g.fits.below }, g.session)
 
-called-by : (ch s : Chain) (n : List ℕ) (b : Bool) (a : App) → lookup s.map n ≡ Some a → GoesOn ch s → NextFits ch (Continues (called_app b s n a))
+called-by : (ch s : Chain) (n : List ℕ) (b : Bool) (a : App) → lookup s.map n ≡ Some a → ChainGoesOn ch s → NextFits ch (Continues (called_app b s n a))
 called-by ch s n true a e g = public-fits ch s _ g
 called-by ch s n false a e g =
     let many : AsMany (size_in s.map n) (length a.fixed) = subst (λ (o : Option App). AsMany (size_of o) (length a.fixed)) (sym e) refl in
     (g.same, record { frame = new-fits s.map n a (zeros a.session) many; below = (g.fits.frame, g.fits.below) }, g.session)
 
-called-fits : (ch s : Chain) (n : List ℕ) (o : Option App) → lookup s.map n ≡ o → GoesOn ch s → NextFits ch (Continues (called s n o))
+called-fits : (ch s : Chain) (n : List ℕ) (o : Option App) → lookup s.map n ≡ o → ChainGoesOn ch s → NextFits ch (Continues (called s n o))
 called-fits ch s n None e g = public-fits ch s _ g
 called-fits ch s n (Some a) e g = called-by ch s n (is_active n s.frame s.below || nat_le 4 (depth_of s)) a e g
 
-follows-fits : (ch s : Chain) (t : Then) → GoesOn ch s → NextFits ch (follows s t)
+follows-fits : (ch s : Chain) (t : Then) → ChainGoesOn ch s → NextFits ch (follows s t)
 follows-fits ch s Goes g = going-on ch s g
 follows-fits ch s Exits g = exited-fits ch s s.below g refl
 follows-fits ch s (Delegates n) g = called-fits ch s n (lookup s.map n) refl g
@@ -132,8 +132,8 @@ done-fits ch i d P most h k =
     let session : e.frame.session ≡ ch.frame.session = k.session in
     let before : ch.frame.session ≤ length ch.frame.dyn = h.frame.session in
     let room : length ch.frame.dyn ≤ length e.frame.dyn = k.dyn in
-    let frame : FrameFits ch.map e.frame = record { fixed = named; inside = subst (λ (x : ℕ). Inside x e.frame.pieces) (sym (k.fixed inside)) (k.inside inside); session = omega arith } in
-    let g : GoesOn ch (settled ch e) =
+    let frame : FrameFits ch.map e.frame = record { fixed = named; inside = subst (λ (x : ℕ). PiecesWithin x e.frame.pieces) (sym (k.fixed inside)) (k.inside inside); session = omega arith } in
+    let g : ChainGoesOn ch (settled ch e) =
     record {
       same = same;
       fits = record { frame = moved-frame ch.map m e.frame same frame; below = moved-frames ch.map m ch.below same h.below };
@@ -146,7 +146,7 @@ judged-fits : (ch : Chain) (i : Ins) (at : ℕ) (o : Option Abend) → ChainFits
 judged-fits ch i at (Some a) h = record { writes = tt; next = tt }
 judged-fits ch i at None h =
     let f = stepped ch.frame at in
-    done-fits ch i (effect i f ch.public (around ch)) (RowFacts i f ch.public (around ch)) (most_words i) h (row-few f ch.public (around ch) i)
+    done-fits ch i (effect i f ch.public (around ch)) (DoneRowFacts i f ch.public (around ch)) (most_words i) h (row-few f ch.public (around ch) i)
 
 row-fits : (ch : Chain) (i : Ins) (at : ℕ) → ChainFits ch → ActFits ch (row_turn ch i (row i (stepped ch.frame at) ch.public (around ch)))
 unfolding row
@@ -167,7 +167,7 @@ pub record RanFits (m : List (List ℕ × App)) (bytes : ℕ) (r : Ran) : Type 0
   pub writes : AllByRecursion (WriteFits m) r.writes
   pub session : length r.session ≡ bytes
 
-first-fits : (m : List (List ℕ × App)) (f : Frame) (fs : List Frame) → FrameFits m f → AllFit m fs → FrameFits m (first_frame f fs)
+first-fits : (m : List (List ℕ × App)) (f : Frame) (fs : List Frame) → FrameFits m f → FramesFit m fs → FrameFits m (first_frame f fs)
 first-fits m f [] h a = h
 first-fits m f (g ∷ fs) h a = first-fits m g fs a.0 a.1
 

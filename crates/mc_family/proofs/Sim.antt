@@ -12,7 +12,7 @@ use Rattle.mc_model.specs.Given.{Event, Leaves, apps_in, events_of}
 use Rattle.mc_model.specs.Solo.{Solo, Heard, silent, hears, heard_before, hears_all}
 use Rattle.mc_model.specs.View.{is_seen, seen_if, rest_of, work_if}
 use Rattle.mc_family.proofs.MapLemmas.{name_is_itself}
-use Rattle.mc_family.proofs.Agreement.{bare, Agree}
+use Rattle.mc_family.proofs.Agreement.{bare, MapsAgree}
 
 -- ---- the relation
 
@@ -39,20 +39,20 @@ IsWarm (Cold m b a) = ⊥
 IsWarm (Hot s) = IsRunnable s.live s.base
 
 -- The card of its own has the family's applications of the play's card, and the selection where it is the family's.
-pub record Sim (K : List (List ℕ)) (s : State) (t : Solo) : Type 0 where
+pub record Simulates (K : List (List ℕ)) (s : State) (t : Solo) : Type 0 where
   pub warm : IsWarm s
-  pub map : Agree K true (apps_in s) t.map
+  pub map : MapsAgree K true (apps_in s) t.map
   pub selected : t.selected ≡ own_selected K (live_in s)
 
 -- What a line keeps that gives these events, where its result is seen and it is the family's own as these tests say:
 -- the relation, and that both sides tell and work alike.
-pub record Keeps (K : List (List ℕ)) (t : Solo) (u : Step) (es : List Event) (seen own : Bool) : Type 0 where
-  pub sim : Sim K u.after (hears_all t es).after
+pub record KeepsSimulation (K : List (List ℕ)) (t : Solo) (u : Step) (es : List Event) (seen own : Bool) : Type 0 where
+  pub sim : Simulates K u.after (hears_all t es).after
   pub answer : (hears_all t es).answer ≡ seen_if seen u.result
   pub work : (hears_all t es).work ≡ work_if own u
 
-abbrev pub Kept : List (List ℕ) → Solo → Step → Type 0
-Kept K t u = Keeps K t u (events_of K u u.line) (is_seen K u u.line) (is_own K u)
+abbrev pub LineKeepsSimulation : List (List ℕ) → Solo → Step → Type 0
+LineKeepsSimulation K t u = KeepsSimulation K t u (events_of K u u.line) (is_seen K u u.line) (is_own K u)
 
 -- ---- events in a row
 
@@ -88,7 +88,7 @@ or_true : (x y : Bool) → y ≡ true → (x || y) ≡ true
 or_true true y h = refl
 or_true false y h = h
 
-rest_from : (ks : List (List ℕ)) (m d : List (List ℕ × App)) → Agree ks true m d → rest_of ks m ≡ rest_of ks d
+rest_from : (ks : List (List ℕ)) (m d : List (List ℕ × App)) → MapsAgree ks true m d → rest_of ks m ≡ rest_of ks d
 rest_from [] m d h = refl
 rest_from (k ∷ ks) m d h =
     let first : static_of (lookup m k) ≡ static_of (lookup d k) = static_alike (lookup m k) (lookup d k) (h k (ap (λ (b : Bool). b || has_name k ks) (name_is_itself k))) in
@@ -96,5 +96,5 @@ rest_from (k ∷ ks) m d h =
     ap (λ (z : LineResult). z ∷ rest_of ks m) first ∙ ap (λ (z : List LineResult). static_of (lookup d k) ∷ z) others
 
 -- the static bytes of the family are the same where the maps agree
-pub rest-alike : (K : List (List ℕ)) (m d : List (List ℕ × App)) → Agree K true m d → rest_of K m ≡ rest_of K d
+pub rest-alike : (K : List (List ℕ)) (m d : List (List ℕ × App)) → MapsAgree K true m d → rest_of K m ≡ rest_of K d
 rest-alike K m d h = rest_from K m d h

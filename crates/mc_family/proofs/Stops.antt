@@ -13,7 +13,7 @@ use Rattle.mc_model.specs.Manager.{Selected}
 use Rattle.mc_model.specs.Play.{Armed, Unarmed, ArmedCut, ArmedFail, WornAt, hit_of, write_items}
 use Rattle.mc_model.specs.Given.{Event, Arrives, Departs, given_stop, told}
 use Rattle.mc_model.specs.Solo.{Solo, Heard, silent, hears, heard_before, hears_all, hits}
-use Rattle.mc_family.proofs.Agreement.{Agree, Agree-inserted, Agree-removed, Agree-beside, Agree-left, Agree-changed_app, Agree-joined}
+use Rattle.mc_family.proofs.Agreement.{MapsAgree, Agree-inserted, Agree-removed, Agree-beside, Agree-left, Agree-changed_app, Agree-joined}
 use Rattle.mc_family.proofs.RunLemma.{WritesOn}
 
 -- ---- the stop that is given
@@ -85,10 +85,10 @@ whole-others K (Atomic w c ∷ is) k x h =
 -- ---- the lone card is told of creations and deletions
 
 -- after what was told the map still agrees, and nothing else has changed
-pub record Told (K : List (List ℕ)) (t : Solo) (m : List (List ℕ × App)) (es : List Event) : Type 0 where
+pub record StillAgrees (K : List (List ℕ)) (t : Solo) (m : List (List ℕ × App)) (es : List Event) : Type 0 where
   pub map : List (List ℕ × App)
   pub heard : hears_all t es ≡ silent (record t { map = map })
-  pub agree : Agree K true m map
+  pub agree : MapsAgree K true m map
 
 hears-first : (t s : Solo) (e : Event) (es : List Event) (d : List (List ℕ × App)) → hears t e ≡ silent s → hears_all s es ≡ silent (record s { map = d }) → hears_all t (e ∷ es) ≡ silent (record s { map = d })
 unfolding hears_all
@@ -103,7 +103,7 @@ unfolding hears
 hears_departure t n = refl
 
 -- one creation or deletion, of the family or not, and what is told after it
-then-told : (K : List (List ℕ)) (t : Solo) (s : Solo) (m : List (List ℕ × App)) (e : Event) (es : List Event) → hears t e ≡ silent s → s.selected ≡ t.selected → Told K s m es → Told K t m (e ∷ es)
+then-told : (K : List (List ℕ)) (t : Solo) (s : Solo) (m : List (List ℕ × App)) (e : Event) (es : List Event) → hears t e ≡ silent s → s.selected ≡ t.selected → StillAgrees K s m es → StillAgrees K t m (e ∷ es)
 then-told K t s m e es f same r =
     record {
       map = r.map;
@@ -111,15 +111,15 @@ then-told K t s m e es f same r =
       agree = r.agree;
     }
 
-creation-told : (K : List (List ℕ)) (b : Bool) (t : Solo) (m : List (List ℕ × App)) (n : List ℕ) (a : App) (es : List Event) (last : List (List ℕ × App)) → has_name n K ≡ b → Agree K true m t.map
-    → ((s : Solo) → Agree K true (insert m n a) s.map → Told K s last es) → Told K t last (cond b (Arrives n (placed 0 a) ∷ []) [] ++ es)
+creation-told : (K : List (List ℕ)) (b : Bool) (t : Solo) (m : List (List ℕ × App)) (n : List ℕ) (a : App) (es : List Event) (last : List (List ℕ × App)) → has_name n K ≡ b → MapsAgree K true m t.map
+    → ((s : Solo) → MapsAgree K true (insert m n a) s.map → StillAgrees K s last es) → StillAgrees K t last (cond b (Arrives n (placed 0 a) ∷ []) [] ++ es)
 creation-told K true t m n a es last is h again =
     then-told K t (record t { map = insert t.map n (placed 0 a) }) last (Arrives n (placed 0 a)) es (hears_arrival t n (placed 0 a)) refl
     (again (record t { map = insert t.map n (placed 0 a) }) (Agree-inserted K true m t.map n a (placed 0 a) refl h))
 creation-told K false t m n a es last is h again = again t (Agree-joined K true (insert m n a) m t.map (Agree-beside K true m n a is) h)
 
-deletion-told : (K : List (List ℕ)) (b : Bool) (t : Solo) (m : List (List ℕ × App)) (n : List ℕ) (es : List Event) (last : List (List ℕ × App)) → has_name n K ≡ b → Agree K true m t.map
-    → ((s : Solo) → Agree K true (remove m n) s.map → Told K s last es) → Told K t last (cond b (Departs n ∷ []) [] ++ es)
+deletion-told : (K : List (List ℕ)) (b : Bool) (t : Solo) (m : List (List ℕ × App)) (n : List ℕ) (es : List Event) (last : List (List ℕ × App)) → has_name n K ≡ b → MapsAgree K true m t.map
+    → ((s : Solo) → MapsAgree K true (remove m n) s.map → StillAgrees K s last es) → StillAgrees K t last (cond b (Departs n ∷ []) [] ++ es)
 deletion-told K true t m n es last is h again =
     then-told K t (record t { map = remove t.map n }) last (Departs n) es (hears_departure t n) refl
     (again (record t { map = remove t.map n }) (Agree-removed K true m t.map n h))
@@ -129,7 +129,7 @@ nothing-told : (t : Solo) → hears_all t [] ≡ silent t
 unfolding hears_all
 nothing-told t = refl
 
-pub told-alike : (K : List (List ℕ)) (is : List Item) (t : Solo) (m : List (List ℕ × App)) → AreOthers K is → Agree K true m t.map → Told K t (done m is) (told K is)
+pub told-alike : (K : List (List ℕ)) (is : List Item) (t : Solo) (m : List (List ℕ × App)) → AreOthers K is → MapsAgree K true m t.map → StillAgrees K t (done m is) (told K is)
 told-alike K [] t m o h = record { map = t.map; heard = nothing-told t; agree = h }
 told-alike K (Plain ∷ is) t m o h = told-alike K is t m o.1 h
 told-alike K (Atomic w (Fixed n ps) ∷ is) t m o h =

@@ -26,13 +26,13 @@ no-fewer n [] = omega arith
 no-fewer n (k ∷ ks) = no-fewer-cond (n == k) (nat_lt n k) n k ks (with_number n ks) (no-fewer n ks)
 
 -- a number that is there
-abbrev Has : ℕ → List ℕ → Type 0
-Has n ks = with_number n ks ≡ ks
+abbrev HasNumber : ℕ → List ℕ → Type 0
+HasNumber n ks = with_number n ks ≡ ks
 
-has-first : (n : ℕ) (ks : List ℕ) → Has n (n ∷ ks)
+has-first : (n : ℕ) (ks : List ℕ) → HasNumber n (n ∷ ks)
 has-first n ks = ap (λ (b : Bool). cond b (n ∷ ks) (cond (nat_lt n n) (n ∷ n ∷ ks) (n ∷ with_number n ks))) (eq-eqb n n refl)
 
-has-by : (n k : ℕ) (ks : List ℕ) (b c : Bool) → (n == k) ≡ b → nat_lt n k ≡ c → Has n (with_number n ks) → Has n (cond b (k ∷ ks) (cond c (n ∷ k ∷ ks) (k ∷ with_number n ks)))
+has-by : (n k : ℕ) (ks : List ℕ) (b c : Bool) → (n == k) ≡ b → nat_lt n k ≡ c → HasNumber n (with_number n ks) → HasNumber n (cond b (k ∷ ks) (cond c (n ∷ k ∷ ks) (k ∷ with_number n ks)))
 has-by n k ks true c e l h = ap (λ (b : Bool). cond b (k ∷ ks) (cond (nat_lt n k) (n ∷ k ∷ ks) (k ∷ with_number n ks))) e
 has-by n k ks false true e l h = has-first n (k ∷ ks)
 has-by n k ks false false e l h =
@@ -41,7 +41,7 @@ has-by n k ks false false e l h =
     ∙ ap (λ (b : Bool). cond b (n ∷ k ∷ ms) (k ∷ with_number n ms)) l
     ∙ ap (λ (l : List ℕ). k ∷ l) h
 
-has-added : (n : ℕ) (ks : List ℕ) → Has n (with_number n ks)
+has-added : (n : ℕ) (ks : List ℕ) → HasNumber n (with_number n ks)
 has-added n [] = has-first n []
 has-added n (k ∷ ks) = has-by n k ks (n == k) (nat_lt n k) refl refl (has-added n ks)
 
@@ -66,10 +66,10 @@ fewer-zeros (suc m) zero at ns h = absurd (omega (arith, h))
 fewer-zeros (suc m) (suc n) at ns h = fewer-zeros m n (at + 1) (with_number (down at 8) ns) (omega arith)
 
 -- the words of so many bytes behind some, of which the last holds the byte before `at`
-abbrev Few : ℕ → ℕ → List ℕ → List ℕ → Type 0
-Few q at b ns = Has q ns → 8 * q + 1 ≤ at → at ≤ 8 * q + 8 → length (with_words at b ns) + q + 1 ≤ length ns + (at + length b + 7) / 8
+abbrev FewTouched : ℕ → ℕ → List ℕ → List ℕ → Type 0
+FewTouched q at b ns = HasNumber q ns → 8 * q + 1 ≤ at → at ≤ 8 * q + 8 → length (with_words at b ns) + q + 1 ≤ length ns + (at + length b + 7) / 8
 
-words-by : (q at : ℕ) (c : ℕ) (b ns : List ℕ) (t : Bool) → (down at 8 == q) ≡ t → ((p : ℕ) (ms : List ℕ) → Few p (at + 1) b ms) → Few q at (c ∷ b) ns
+words-by : (q at : ℕ) (c : ℕ) (b ns : List ℕ) (t : Bool) → (down at 8 == q) ≡ t → ((p : ℕ) (ms : List ℕ) → FewTouched p (at + 1) b ms) → FewTouched q at (c ∷ b) ns
 words-by q at c b ns true e next h low high =
     let is : at / 8 ≡ q = eqb-true (down at 8) q e in
     let same : with_number (down at 8) ns ≡ ns = ap (λ (k : ℕ). with_number k ns) is ∙ h in
@@ -79,12 +79,12 @@ words-by q at c b ns false e next h low high =
     let apart : at / 8 ≡ q → ⊥ = eqb-false (down at 8) q e in
     let is : at / 8 ≡ q + 1 = omega (arith, apart) in
     let ms = with_number (down at 8) ns in
-    let has : Has (q + 1) ms = subst (λ (k : ℕ). Has k ms) is (has-added (down at 8) ns) in
+    let has : HasNumber (q + 1) ms = subst (λ (k : ℕ). HasNumber k ms) is (has-added (down at 8) ns) in
     let more : length ms ≤ length ns + 1 = more-number (down at 8) ns in
     let rest : length (with_words (at + 1) b ms) + (q + 1) + 1 ≤ length ms + (at + 1 + length b + 7) / 8 = next (q + 1) ms has (omega (arith, is)) (omega (arith, is)) in
     omega arith
 
-words-from : (q at : ℕ) (b : List ℕ) (ns : List ℕ) → Few q at b ns
+words-from : (q at : ℕ) (b : List ℕ) (ns : List ℕ) → FewTouched q at b ns
 words-from q at [] ns h low high = omega arith
 words-from q at (c ∷ b) ns h low high = words-by q at c b ns (down at 8 == q) refl (λ p ms. words-from p (at + 1) b ms) h low high
 

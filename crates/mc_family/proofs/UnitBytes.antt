@@ -24,30 +24,30 @@ if-ok true e r P h = tt
 if-ok false e r P h = h
 
 -- bytes, and the bytes after them
-Both : List ℕ × List ℕ → Type 0
-Both p = AreBytes p.0 × AreBytes p.1
+BothBytes : List ℕ × List ℕ → Type 0
+BothBytes p = AreBytes p.0 × AreBytes p.1
 
-After : ℕ × List ℕ → Type 0
-After p = AreBytes p.1
+BytesBehind : ℕ × List ℕ → Type 0
+BytesBehind p = AreBytes p.1
 
-bytes-ok : (n : ℕ) (b : List ℕ) → AreBytes b → IfOk (bytes_at n b) Both
-unfolding Both
-bytes-ok n b h = if-ok (nat_lt (length b) n) Short (Ok (take n b, drop n b)) Both (all-take (λ x. x < 256) n b h, all-drop (λ x. x < 256) n b h)
+bytes-ok : (n : ℕ) (b : List ℕ) → AreBytes b → IfOk (bytes_at n b) BothBytes
+unfolding BothBytes
+bytes-ok n b h = if-ok (nat_lt (length b) n) Short (Ok (take n b, drop n b)) BothBytes (all-take (λ x. x < 256) n b h, all-drop (λ x. x < 256) n b h)
 
-length-ok : (b : List ℕ) → AreBytes b → IfOk (length_at b) After
-unfolding After
-length-ok b h = if-ok (nat_lt (length b) 2) Short (Ok (be2 b 0, drop 2 b)) After (all-drop (λ x. x < 256) 2 b h)
+length-ok : (b : List ℕ) → AreBytes b → IfOk (length_at b) BytesBehind
+unfolding BytesBehind
+length-ok b h = if-ok (nat_lt (length b) 2) Short (Ok (be2 b 0, drop 2 b)) BytesBehind (all-drop (λ x. x < 256) 2 b h)
 
-field-ok : (most : ℕ) (b : List ℕ) → AreBytes b → IfOk (field_at most b) Both
-unfolding field_at After
+field-ok : (most : ℕ) (b : List ℕ) → AreBytes b → IfOk (field_at most b) BothBytes
+unfolding field_at BytesBehind
 field-ok most b h =
-    then-ok (length_at b) (λ n. if nat_lt most n.0 then Err TooLarge else bytes_at n.0 n.1) After Both (length-ok b h) (λ n k. if-ok (nat_lt most n.0) TooLarge (bytes_at n.0 n.1) Both (bytes-ok n.0 n.1 k))
+    then-ok (length_at b) (λ n. if nat_lt most n.0 then Err TooLarge else bytes_at n.0 n.1) BytesBehind BothBytes (length-ok b h) (λ n k. if-ok (nat_lt most n.0) TooLarge (bytes_at n.0 n.1) BothBytes (bytes-ok n.0 n.1 k))
 
-code-ok : (b : List ℕ) → AreBytes b → IfOk (code_at b) Both
-unfolding code_at After
+code-ok : (b : List ℕ) → AreBytes b → IfOk (code_at b) BothBytes
+unfolding code_at BytesBehind
 code-ok b h =
-    then-ok (length_at b) (λ n. if n.0 == 0 then Err NoCode else (if nat_lt 8192 n.0 then Err TooLarge else bytes_at n.0 n.1)) After Both (length-ok b h)
-    (λ n k. if-ok (n.0 == 0) NoCode (if nat_lt 8192 n.0 then Err TooLarge else bytes_at n.0 n.1) Both (if-ok (nat_lt 8192 n.0) TooLarge (bytes_at n.0 n.1) Both (bytes-ok n.0 n.1 k)))
+    then-ok (length_at b) (λ n. if n.0 == 0 then Err NoCode else (if nat_lt 8192 n.0 then Err TooLarge else bytes_at n.0 n.1)) BytesBehind BothBytes (length-ok b h)
+    (λ n k. if-ok (n.0 == 0) NoCode (if nat_lt 8192 n.0 then Err TooLarge else bytes_at n.0 n.1) BothBytes (if-ok (nat_lt 8192 n.0) TooLarge (bytes_at n.0 n.1) BothBytes (bytes-ok n.0 n.1 k)))
 
 -- ---- the fields in turn
 
@@ -84,11 +84,11 @@ fci-ok number code init dir fci c i d f =
 
 -- a unit that was read of bytes
 pub unit-ok : (b : List ℕ) → AreBytes b → IfOk (unit_read b) UnitBytes
-unfolding unit_read Both
+unfolding unit_read BothBytes
 unit-ok b bytes =
-    then-ok (bytes_at 8 b) (λ number. from_number number) Both UnitBytes (bytes-ok 8 b bytes)
-    (λ number n. then-ok (code_at number.1) (λ code. from_code number code) Both UnitBytes (code-ok number.1 n.1)
-    (λ code c. then-ok (field_at 4096 code.1) (λ init. from_init number code init) Both UnitBytes (field-ok 4096 code.1 c.1)
-    (λ init i. then-ok (field_at 128 init.1) (λ dir. from_dir number code init dir) Both UnitBytes (field-ok 128 init.1 i.1)
-    (λ dir d. then-ok (field_at 128 dir.1) (λ fci. from_fci number code init dir fci) Both UnitBytes (field-ok 128 dir.1 d.1)
+    then-ok (bytes_at 8 b) (λ number. from_number number) BothBytes UnitBytes (bytes-ok 8 b bytes)
+    (λ number n. then-ok (code_at number.1) (λ code. from_code number code) BothBytes UnitBytes (code-ok number.1 n.1)
+    (λ code c. then-ok (field_at 4096 code.1) (λ init. from_init number code init) BothBytes UnitBytes (field-ok 4096 code.1 c.1)
+    (λ init i. then-ok (field_at 128 init.1) (λ dir. from_dir number code init dir) BothBytes UnitBytes (field-ok 128 init.1 i.1)
+    (λ dir d. then-ok (field_at 128 dir.1) (λ fci. from_fci number code init dir fci) BothBytes UnitBytes (field-ok 128 dir.1 d.1)
     (λ fci f. fci-ok number code init dir fci c.0 i.0 d.0 f.0)))))

@@ -6,7 +6,8 @@ use Rattle.mc_model.specs.Card.{App, Card}
 use Rattle.mc_model.specs.Chain.{Chain}
 use Rattle.mc_model.specs.Chain.{start as begun}
 use Rattle.mc_model.specs.Items.{card_done}
-use Rattle.mc_model.specs.Manager.{most_static, Selected, Seat, Route, WrongLength, WrongClass, ToSelect, ToManager, ToApplication, route}
+use Rattle.mc_model.specs.Limits.{most_static}
+use Rattle.mc_model.specs.Manager.{Selected, Seat, Route, WrongLength, WrongClass, ToSelect, ToManager, ToApplication, route}
 use Rattle.mc_model.specs.DeckGrammar.{DeckLine}
 use Rattle.mc_model.specs.Play.{WornAt, Live, Running, Unpowered, Muted, Base, OnCard, AtFault, State, Cold, Hot, Step, command, is_done, plays, start}
 use Rattle.mc_model.specs.Laws.{bytes_of}

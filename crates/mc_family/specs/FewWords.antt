@@ -10,16 +10,16 @@ use Rattle.mc_model.specs.Pieces.{touched}
 use Rattle.mc_model.specs.Frame.{Frame}
 use Rattle.mc_model.specs.Primitives.{Around, Exits, Done, Primitive, SetProtection, primitive}
 use Rattle.mc_model.specs.Row.{RowEnd, Abends, Does, row}
-use Rattle.mc_model.specs.Manager.{most_static}
+use Rattle.mc_model.specs.Limits.{most_static}
 
 -- pieces that lie in a list of this length
-abbrev pub Inside : ℕ → List (ℕ × List ℕ) → Type 0
-Inside n ps = AllByRecursion (λ p. p.0 + length p.1 ≤ n) ps
+abbrev pub PiecesWithin : ℕ → List (ℕ × List ℕ) → Type 0
+PiecesWithin n ps = AllByRecursion (λ p. p.0 + length p.1 ≤ n) ps
 
 -- a frame within the limits: its pending pieces lie in its static bytes and touch at most 64 words
 pub record HoldsFew (f : Frame) : Type 0 where
   pub fixed : length f.fixed ≤ most_static
-  pub inside : Inside (length f.fixed) f.pieces
+  pub inside : PiecesWithin (length f.fixed) f.pieces
   pub few : length (touched f.pieces) ≤ 64
 
 -- the words that a change touches
@@ -49,9 +49,9 @@ EndsWithin most (Abends a) = ⊤
 EndsWithin most (Does d) = words_in d.effect.changes ≤ most
 
 -- the name that an instruction may tell: a primitive tells that of the delegator, and it has at most 16 bytes
-abbrev pub IsTold : Ins → Option (List ℕ) → Type 0
-IsTold (ins.Prim set number args) delegator = IfSome delegator (λ n. length n ≤ 16)
-IsTold _ delegator = ⊤
+abbrev pub IsToldName : Ins → Option (List ℕ) → Type 0
+IsToldName (ins.Prim set number args) delegator = IfSome delegator (λ n. length n ≤ 16)
+IsToldName _ delegator = ⊤
 
 -- a row that is done does
 abbrev pub EndsFew : ℕ → RowEnd → Type 0

@@ -22,8 +22,8 @@ ended good (Ok u) = good
 ended good (Err f) = WriteFault
 
 -- how a job ends that is not done: its line was written, or nothing
-abbrev pub Ends : Rejection → Sunk → Status → Sunk → Type 0
-Ends (rejection.Refusal line) before s after =
+abbrev pub RejectionEnds : Rejection → Sunk → Status → Sunk → Type 0
+RejectionEnds (rejection.Refusal line) before s after =
     (result : Result (Unit {0}) Fault) × (s ≡ ended Failed result) × Puts before line.items result after
-Ends rejection.ReadFault before s after = (s ≡ ReadFault) × (after ≡ before)
-Ends rejection.NoMemory before s after = (s ≡ NoMemory) × (after ≡ before)
+RejectionEnds rejection.ReadFault before s after = (s ≡ ReadFault) × (after ≡ before)
+RejectionEnds rejection.NoMemory before s after = (s ≡ NoMemory) × (after ≡ before)

@@ -1,7 +1,7 @@
 // What is written of a job at its end.
 ghost use Rattle.std.specs.Prelude.{◌≡◌};
 ghost use Rattle.mc_text.specs.Texts.{sunk_in};
-ghost use Rattle.mc_filter.specs.Statuses.{ended, Ends};
+ghost use Rattle.mc_filter.specs.Statuses.{ended, RejectionEnds};
 
 use crate::rejection::Rejection;
 use crate::status::Status;
@@ -19,7 +19,7 @@ pub fn ended(good: Status, written: Result<(), WriteFault>) -> Status
 
 /// Ends a job that is not done: writes the line that refuses its input, and nothing for another cause.
 pub fn reject<T: Sink>(out: &mut T, rejection: &Rejection) -> Status
-    ensures { Ends rejection.now (sunk_in T.taken T.faults out.old) result (sunk_in T.taken T.faults out.new) }
+    ensures { RejectionEnds rejection.now (sunk_in T.taken T.faults out.old) result (sunk_in T.taken T.faults out.new) }
 {
     match rejection {
         Rejection::Refusal(line) => ended(Status::Failed, put_all(out, line.as_slice())),

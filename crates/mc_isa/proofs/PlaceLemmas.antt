@@ -3,18 +3,19 @@ use Rattle.std.proofs.Common.{◌≡◌, ℕ, zero, suc, ◌+◌, ◌<◌, ◌�
 use Rattle.std.specs.Prelude.{nat_le, option_map, slice_index}
 use Rattle.std.specs.Int.{w8}
 use Rattle.std.proofs.lemmas.List.{take-append-drop}
-use Rattle.mc_model.specs.Code.{Form, made, made_of, operands, total, form, spell, front, decoded, IsUndefined, IsPast, Stands, kinds, from_place, Kind}
+use Rattle.mc_model.specs.Code.{Form, made, made_of, operands, total, form, spell, front, decoded, IsUndefined, IsPast, DecodesTo, kinds, from_place, Kind}
 use Rattle.mc_model.specs.declared.instruction.DecodeFault.{DecodeFault}
 use Rattle.mc_model.specs.declared.instruction.DecodeFault.TheVariants.{Undefined, Past}
 use Rattle.mc_model.specs.declared.instruction.Ins.{Ins}
 use Rattle.mc_model.specs.declared.instruction.Ins.TheVariants.{Prim}
 use Rattle.std.proofs.Common.{Fits, get_or}
-use Rattle.mc_isa.proofs.RowLemmas.{AllBytes, Good, GoodRow, good_form, made_good}
+use Rattle.mc_isa.proofs.RowLemmas.{Good, GoodRow, good_form, made_good}
+use Rattle.mc_model.specs.Bytes.{AreBytes}
 use Rattle.mc_isa.proofs.SpellingLemmas.{front_spell}
 
 -- ---- what stands at a place
 
-bytes_at : (code : List ℕ) (at : ℕ) → AllBytes code → AllBytes (drop at code)
+bytes_at : (code : List ℕ) (at : ℕ) → AreBytes code → AreBytes (drop at code)
 bytes_at code zero all = all
 bytes_at [] (suc at) all = tt
 bytes_at (b ∷ code) (suc at) all = bytes_at code at all.1
@@ -41,7 +42,7 @@ le_of m n h = grind (arith, h)
 gt_of : (m n : ℕ) → nat_le m n ≡ false → n < m
 gt_of m n h = grind (arith, h)
 
-made_stands : (code : List ℕ) (at b : ℕ) (bs : List ℕ) (f : Form) → drop at code ≡ b ∷ bs → AllBytes bs → form b ≡ Some f → Good b f → (t : Bool) → nat_le (total (operands f)) (length bs) ≡ t → Stands code at (from_place at (cond t (Ok (made f bs, total (operands f) + 1)) (Err Past)))
+made_stands : (code : List ℕ) (at b : ℕ) (bs : List ℕ) (f : Form) → drop at code ≡ b ∷ bs → AreBytes bs → form b ≡ Some f → Good b f → (t : Bool) → nat_le (total (operands f)) (length bs) ≡ t → DecodesTo code at (from_place at (cond t (Ok (made f bs, total (operands f) + 1)) (Err Past)))
 made_stands code at b bs f e all o g true le =
     let m = made_good b f bs g all le in
     let fits = le_of (total (operands f)) (length bs) le in
@@ -59,22 +60,22 @@ made_stands code at b bs f e all o g false le =
     let whole = length_at code at b bs e in
     inr (operands f, rw (byte_at code at b bs e, o) refl, omega arith)
 
-row_stands : (code : List ℕ) (at b : ℕ) (bs : List ℕ) (o : Option Form) → drop at code ≡ b ∷ bs → AllBytes bs → form b ≡ o → GoodRow b o → Stands code at (from_place at (made_of o bs))
+row_stands : (code : List ℕ) (at b : ℕ) (bs : List ℕ) (o : Option Form) → drop at code ≡ b ∷ bs → AreBytes bs → form b ≡ o → GoodRow b o → DecodesTo code at (from_place at (made_of o bs))
 row_stands code at b bs None e all o g =
     let whole = length_at code at b bs e in
     record { inside = omega arith; byte = rw (byte_at code at b bs e, o) refl }
 row_stands code at b bs (Some f) e all o g = made_stands code at b bs f e all o g (nat_le (total (operands f)) (length bs)) refl
 
-place_stands : (code : List ℕ) (at : ℕ) (l : List ℕ) → drop at code ≡ l → AllBytes l → Stands code at (from_place at (front l))
+place_stands : (code : List ℕ) (at : ℕ) (l : List ℕ) → drop at code ≡ l → AreBytes l → DecodesTo code at (from_place at (front l))
 place_stands code at [] e all = inl (none_at code at e)
 place_stands code at (b ∷ bs) e all = row_stands code at b bs (form b) e all.1 refl (good_form b)
 
-pub all_bytes : (code : List ℕ) → ((i : ℕ) → Fits w8 (get_or code i 0)) → AllBytes code
+pub all_bytes : (code : List ℕ) → ((i : ℕ) → Fits w8 (get_or code i 0)) → AreBytes code
 all_bytes [] h = tt
 all_bytes (b ∷ code) h = (omega (arith, h 0), all_bytes code (λ i. h (suc i)))
 
 -- the computed answer holds
-pub decoded_stands : (code : List ℕ) (at : ℕ) → AllBytes code → Stands code at (decoded code at)
+pub decoded_stands : (code : List ℕ) (at : ℕ) → AreBytes code → DecodesTo code at (decoded code at)
 decoded_stands code at all = place_stands code at (drop at code) refl (bytes_at code at all)
 
 kinds_none : (o : Option Form) → option_map operands o ≡ None → o ≡ None
@@ -104,7 +105,7 @@ past_only code at (b ∷ bs) e (inr p) =
     ap (from_place at) (past_row at bs (form b) p.0 k long)
 
 -- an answer that holds is the computed one
-pub decoded_only : (code : List ℕ) (at : ℕ) (r : Result (Ins × ℕ) DecodeFault) → Stands code at r → decoded code at ≡ r
+pub decoded_only : (code : List ℕ) (at : ℕ) (r : Result (Ins × ℕ) DecodeFault) → DecodesTo code at r → decoded code at ≡ r
 decoded_only code at (Ok p) d =
     let e : spell p.0 ++ drop (length (spell p.0)) (drop at code) ≡ drop at code = ap (λ l. l ++ drop (length (spell p.0)) (drop at code)) (sym d.bytes) ∙ take-append-drop (length (spell p.0)) (drop at code) in
     let f = front_spell p.0 (drop (length (spell p.0)) (drop at code)) d.shaped in

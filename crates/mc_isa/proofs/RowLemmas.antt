@@ -4,7 +4,7 @@ use Rattle.std.specs.Prelude.{nat_le, nat_eq, option_and_then, ℤ, FitsSigned, 
 use Rattle.std.specs.List.{AllByRecursion}
 use Rattle.std.specs.Int.{w8, cast_signed, cast_unsigned}
 use Rattle.std.proofs.lemmas.Int.{ints}
-use Rattle.mc_model.specs.Bytes.{bytes2}
+use Rattle.mc_model.specs.Bytes.{bytes2, AreBytes}
 use Rattle.mc_model.specs.Code.{Form, Plain, OneByte, TwoBytes, Word, TwoWords, Near, Target, Primitive, Offset, ByteOffset, WordOffset, made, operands, total, behind, U16, I16, row_at, rows, form, register_rows, stack_rows, call_rows, Shaped, IsTarget, IsAddress, spell, offset, target, offset_in, target_in}
 use Rattle.mc_model.specs.declared.instruction.Ins.TheVariants.{Branch, Prim}
 use Rattle.mc_isa.proofs.ReadingLemmas.{bytes2_of, unsigned8, unsigned16, fits8, fits16}
@@ -149,15 +149,12 @@ good_form b =
 
 -- ---- what a row makes of bytes
 
-abbrev pub AllBytes : List ℕ → Type 0
-AllBytes bs = AllByRecursion (λ b. b < 256) bs
-
 -- the offset in bytes is in its range, and is spelled as these bytes
 record OffsetIn (tag : ℕ) (bs : List ℕ) : Type 0 where
   range : IsAddress tag (offset_in tag bs 0)
   bytes : offset tag (offset_in tag bs 0) ≡ take (total (behind tag I16)) bs
 
-offset_at : (tag : ℕ) (bs : List ℕ) → tag < 8 → AllBytes bs → nat_le (total (behind tag I16)) (length bs) ≡ true → (b : Bool) → nat_eq tag 0 ≡ b → OffsetIn tag bs
+offset_at : (tag : ℕ) (bs : List ℕ) → tag < 8 → AreBytes bs → nat_le (total (behind tag I16)) (length bs) ≡ true → (b : Bool) → nat_eq tag 0 ≡ b → OffsetIn tag bs
 offset_at tag bs h all le true e = record {
   range = record { register = h; offset = rw e (search (rules, ints)); top = λ z. rw e refl };
   bytes = rw e refl;
@@ -175,7 +172,7 @@ record TargetIn (c : ℕ) (bs : List ℕ) : Type 0 where
   range : IsTarget c (target_in c bs)
   bytes : target c (target_in c bs) ≡ take (total (behind c U16)) bs
 
-target_at : (c : ℕ) (bs : List ℕ) → c < 8 → AllBytes bs → nat_le (total (behind c U16)) (length bs) ≡ true → (b : Bool) → nat_eq c 0 ≡ b → TargetIn c bs
+target_at : (c : ℕ) (bs : List ℕ) → c < 8 → AreBytes bs → nat_le (total (behind c U16)) (length bs) ≡ true → (b : Bool) → nat_eq c 0 ≡ b → TargetIn c bs
 target_at c bs h all le true e = record { range = record { condition = h; address = rw e (omega arith); stack = λ z. rw e refl }; bytes = rw e refl }
 target_at c [] h all le false e = absurd (grind (arith, e, le))
 target_at c (x ∷ []) h all le false e = absurd (grind (arith, e, le))
@@ -189,10 +186,10 @@ take_one_more n x xs = grind arith
 take_two_more : (n x y : ℕ) (xs : List ℕ) → take (2 + n) (x ∷ y ∷ xs) ≡ x ∷ y ∷ take n xs
 take_two_more n x y xs = grind arith
 
-abbrev pub Made : ℕ → Form → List ℕ → Type 0
-Made b f bs = Shaped (made f bs) × (spell (made f bs) ≡ b ∷ take (total (operands f)) bs)
+abbrev pub IsSpelledForm : ℕ → Form → List ℕ → Type 0
+IsSpelledForm b f bs = Shaped (made f bs) × (spell (made f bs) ≡ b ∷ take (total (operands f)) bs)
 
-made_primitive : (set : ℕ) (bs : List ℕ) → set < 4 → AllBytes bs → nat_le (total (operands (Primitive set))) (length bs) ≡ true → Made (40 + set) (Primitive set) bs
+made_primitive : (set : ℕ) (bs : List ℕ) → set < 4 → AreBytes bs → nat_le (total (operands (Primitive set))) (length bs) ≡ true → IsSpelledForm (40 + set) (Primitive set) bs
 made_primitive zero [] h all le = absurd (grind (arith, le))
 made_primitive zero (x ∷ bs) h all le = (record { sets = h; byte = all.0; three = refl; bytes = (omega arith, (omega arith, (omega arith, tt))); rest = refl }, refl)
 made_primitive (suc zero) [] h all le = absurd (grind (arith, le))
@@ -209,7 +206,7 @@ made_primitive (suc (suc (suc zero))) (x ∷ y ∷ z ∷ []) h all le = absurd (
 made_primitive (suc (suc (suc zero))) (x ∷ y ∷ z ∷ w ∷ bs) h all le = (record { sets = h; byte = all.0; three = refl; bytes = (all.1.0, (all.1.1.0, (all.1.1.1.0, tt))); rest = refl }, refl)
 made_primitive (suc (suc (suc (suc n)))) bs h all le = absurd (omega arith)
 
-pub made_good : (b : ℕ) (f : Form) (bs : List ℕ) → Good b f → AllBytes bs → nat_le (total (operands f)) (length bs) ≡ true → Made b f bs
+pub made_good : (b : ℕ) (f : Form) (bs : List ℕ) → Good b f → AreBytes bs → nat_le (total (operands f)) (length bs) ≡ true → IsSpelledForm b f bs
 made_good b (Plain i) bs g all le = (g.0, g.1)
 made_good b (OneByte f) [] g all le = absurd (grind (arith, le))
 made_good b (OneByte f) (x ∷ bs) g all le = g x all.0
@@ -238,7 +235,7 @@ made_good b (Target c f) bs g all le =
     let t = target_at c bs g.0 all le (nat_eq c 0) refl in
     let r = g.1 (target_in c bs) t.range in
     (r.0, r.1 ∙ ap (λ l. b ∷ l) t.bytes)
-made_good b (Primitive set) bs g all le = subst (λ k. Made k (Primitive set) bs) (sym g.1) (made_primitive set bs g.0 all le)
+made_good b (Primitive set) bs g all le = subst (λ k. IsSpelledForm k (Primitive set) bs) (sym g.1) (made_primitive set bs g.0 all le)
 made_good b (Offset tag f) bs g all le =
     let t = offset_at tag bs g.0 all le (nat_eq tag 0) refl in
     let r = g.1 (offset_in tag bs 0) t.range in

@@ -4,6 +4,6 @@ use Rattle.mc_model.specs.declared.instruction.DecodeFault.{DecodeFault}
 use Rattle.mc_model.specs.declared.instruction.DecodeFault.TheVariants.{Past}
 
 -- the value is read where the n bytes that it takes are there
-abbrev pub Reads : {V : Type 0} → Result V DecodeFault → ℕ → List ℕ → V → Type 0
-Reads (Ok v) n bs w = (nat_le n (length bs) ≡ true) × (v ≡ w)
-Reads (Err e) n bs w = (nat_le n (length bs) ≡ false) × (e ≡ Past)
+abbrev pub ReadsOperand : {V : Type 0} → Result V DecodeFault → ℕ → List ℕ → V → Type 0
+ReadsOperand (Ok v) n bs w = (nat_le n (length bs) ≡ true) × (v ≡ w)
+ReadsOperand (Err e) n bs w = (nat_le n (length bs) ≡ false) × (e ≡ Past)

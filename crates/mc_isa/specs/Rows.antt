@@ -37,15 +37,15 @@ line_of name (WithByte tag off n) = operand_line name tag off (decimal n)
 line_of name (WithWord tag off w) = operand_line name tag off (hex_word w)
 
 -- conditions, tags and sets are in their ranges
-abbrev pub InRange : Operands → Type 0
-InRange Plain = Unit {0}
-InRange (Byte n) = Unit {0}
-InRange (Bytes a b) = Unit {0}
-InRange (Word w) = Unit {0}
-InRange (Words v w) = Unit {0}
-InRange (Near c d) = (0 < c) × (c < 8)
-InRange (Target c to) = c < 8
-InRange (Primitive set number args) = set < 4
-InRange (Address tag off) = tag < 8
-InRange (WithByte tag off n) = tag < 8
-InRange (WithWord tag off w) = tag < 8
+abbrev pub OperandsInRange : Operands → Type 0
+OperandsInRange Plain = Unit {0}
+OperandsInRange (Byte n) = Unit {0}
+OperandsInRange (Bytes a b) = Unit {0}
+OperandsInRange (Word w) = Unit {0}
+OperandsInRange (Words v w) = Unit {0}
+OperandsInRange (Near c d) = (0 < c) × (c < 8)
+OperandsInRange (Target c to) = c < 8
+OperandsInRange (Primitive set number args) = set < 4
+OperandsInRange (Address tag off) = tag < 8
+OperandsInRange (WithByte tag off n) = tag < 8
+OperandsInRange (WithWord tag off w) = tag < 8

@@ -1,7 +1,9 @@
 // From bytes to instructions: the table of machine rows, by op and tag. A row answers the instruction and its length.
 ghost use Rattle.std.specs.Prelude.{◌≡◌, ℕ, ◌+◌, ◌*◌, ◌/◌, ◌%◌, ◌<◌, ◌≤◌, length, take, drop, ◌++◌};
 ghost use Rattle.mc_model.specs.declared.instruction.Ins.TheVariants.{Branch, Jump, Call};
-ghost use Rattle.mc_model.specs.Code.{made_of, row_at, row_of, register_rows, stack_rows, call_rows, near_row, target_row, form, front, decoded, Stands};
+ghost use Rattle.mc_model.specs.Limits.{most_code};
+ghost use Rattle.mc_model.specs.Code.{made_of, row_at, row_of, register_rows, stack_rows, call_rows, near_row};
+ghost use Rattle.mc_model.specs.Code.{target_row, form, front, decoded, DecodesTo};
 
 use crate::reading::{
     arguments, byte, byte_and_offset, bytes, displacement, offset, offset_size, target,
@@ -195,9 +197,9 @@ fn instruction(byte: u8, rest: &[u8]) -> Result<(Ins, u16), DecodeFault>
 /// or the instruction ends behind the code's end.
 #[inline(always)]
 pub fn decode(code: &[u8], at: u16) -> Result<(Ins, u16), DecodeFault>
-    requires { length code.now ≤ 8192 }
+    requires { length code.now ≤ most_code }
     ensures exact { result ≡ decoded code.now at }
-    ensures stands { Stands code.now at result }
+    ensures stands { DecodesTo code.now at result }
 {
     if at as usize >= code.len() {
         return Err(DecodeFault::Past);

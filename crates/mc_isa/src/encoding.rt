@@ -3,7 +3,7 @@ ghost use Rattle.std.specs.Prelude.{◌≡◌, ◌+◌, ◌<◌, ◌≤◌, ◌+
 ghost use Rattle.arrayvec.specs.ArrayVec.{array_vec_len};
 ghost use Rattle.mc_model.specs.Bytes.{bytes2};
 ghost use Rattle.mc_model.specs.Code.{Shaped, spell, target, offset};
-ghost use Rattle.mc_isa.specs.Rows.{operand_bytes, InRange};
+ghost use Rattle.mc_isa.specs.Rows.{operand_bytes, OperandsInRange};
 
 use crate::rows::{Operands, row_of};
 use arrayvec::ArrayVec;
@@ -50,7 +50,7 @@ fn put_arguments(bytes: &mut ArrayVec<u8, 6>, set: u8, args: [u8; 3])
 // The operands, in their order.
 fn put_operands(bytes: &mut ArrayVec<u8, 6>, operands: Operands)
     requires room { array_vec_len bytes.old ≤ 1 }
-    requires range { InRange operands }
+    requires range { OperandsInRange operands }
     ensures { bytes.new.items ≡ bytes.old.items ++ operand_bytes operands }
 {
     match operands {

@@ -1,14 +1,15 @@
 // What the table, the spelling and the decoder have to do with each other.
 ghost use Rattle.std.specs.Prelude.{◌≡◌, ◌+◌, ◌<◌, ℕ, List, [], ◌++◌, length, Result};
 ghost use Rattle.std.specs.List.{AllByRecursion};
-ghost use Rattle.mc_model.specs.Code.{Shaped, spell, decoded, Stands};
+ghost use Rattle.mc_model.specs.Code.{Shaped, spell, decoded, DecodesTo};
 ghost use Rattle.mc_model.specs.declared.instruction.DecodeFault.{DecodeFault};
 ghost use Rattle.mc_model.specs.declared.instruction.Ins.{Ins};
 
 /// At each place of code exactly one answer holds: one instruction with one next place, `Undefined`, or `Past`.
 pub fn one_answer_at_each_place()
-    ensures holds { (code : List ℕ) (at : ℕ) → AllByRecursion (λ b. b < 256) code → Stands code at (decoded code at) }
-    ensures only { (code : List ℕ) (at : ℕ) (answer : Result (Ins × ℕ) DecodeFault) → Stands code at answer
+    ensures holds { (code : List ℕ) (at : ℕ) → AllByRecursion (λ b. b < 256) code → DecodesTo code at
+        (decoded code at) }
+    ensures only { (code : List ℕ) (at : ℕ) (answer : Result (Ins × ℕ) DecodeFault) → DecodesTo code at answer
         → decoded code at ≡ answer }
 {}
 

@@ -4,7 +4,7 @@ ghost use Rattle.std.specs.Fmt.{signed_decimal};
 ghost use Rattle.arrayvec.specs.ArrayVec.{array_vec_len};
 ghost use Rattle.mc_model.specs.Code.{Shaped};
 ghost use Rattle.mc_model.specs.Listing.{text_of, hex_digit, hex_word, condition_name, register_name, address_text, address_line, arguments_text, byte_line, target_line, words_line};
-ghost use Rattle.mc_isa.specs.Rows.{line_of, InRange};
+ghost use Rattle.mc_isa.specs.Rows.{line_of, OperandsInRange};
 
 use crate::rows::{Operands, row_of};
 use arrayvec::ArrayVec;
@@ -145,7 +145,7 @@ fn put_arguments(line: &mut Line, args: &[u8])
 // The operands behind the name that the line has.
 fn put_operands(line: &mut Line, operands: Operands)
     requires room { array_vec_len line.old ≤ 8 }
-    requires range { InRange operands }
+    requires range { OperandsInRange operands }
     ensures { line.new.items ≡ line_of line.old.items operands }
 {
     match operands {

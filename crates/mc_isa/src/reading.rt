@@ -3,14 +3,14 @@ ghost use Rattle.std.specs.Prelude.{◌≡◌, ◌+◌, ◌<◌, ◌≤◌, leng
 ghost use Rattle.std.specs.Int.{w8, cast_signed};
 ghost use Rattle.mc_model.specs.Bytes.{be2, zeros};
 ghost use Rattle.mc_model.specs.Code.{offset_in, target_in, behind, total, U8, U16, I16};
-ghost use Rattle.mc_isa.specs.Reading.{Reads};
+ghost use Rattle.mc_isa.specs.Reading.{ReadsOperand};
 
 use mc_model::DecodeFault;
 
 // One byte.
 #[inline(always)]
 pub fn byte(rest: &[u8]) -> Result<u8, DecodeFault>
-    ensures { Reads result 1 rest.now (slice_index rest.now 0) }
+    ensures { ReadsOperand result 1 rest.now (slice_index rest.now 0) }
 {
     match rest {
         [b, ..] => Ok(*b),
@@ -21,7 +21,7 @@ pub fn byte(rest: &[u8]) -> Result<u8, DecodeFault>
 // Two bytes.
 #[inline(always)]
 pub fn bytes(rest: &[u8]) -> Result<(u8, u8), DecodeFault>
-    ensures { Reads result 2 rest.now (slice_index rest.now 0, slice_index rest.now 1) }
+    ensures { ReadsOperand result 2 rest.now (slice_index rest.now 0, slice_index rest.now 1) }
 {
     match rest {
         [a, b, ..] => Ok((*a, *b)),
@@ -32,7 +32,7 @@ pub fn bytes(rest: &[u8]) -> Result<(u8, u8), DecodeFault>
 // A word.
 #[inline(always)]
 pub fn word(rest: &[u8]) -> Result<u16, DecodeFault>
-    ensures { Reads result 2 rest.now (be2 rest.now 0) }
+    ensures { ReadsOperand result 2 rest.now (be2 rest.now 0) }
 {
     match rest {
         [high, low, ..] => Ok(256 * *high as u16 + *low as u16),
@@ -43,7 +43,7 @@ pub fn word(rest: &[u8]) -> Result<u16, DecodeFault>
 // Two words.
 #[inline(always)]
 pub fn words(rest: &[u8]) -> Result<(u16, u16), DecodeFault>
-    ensures { Reads result 4 rest.now (be2 rest.now 0, be2 rest.now 2) }
+    ensures { ReadsOperand result 4 rest.now (be2 rest.now 0, be2 rest.now 2) }
 {
     match rest {
         [a, b, c, d, ..] => Ok((256 * *a as u16 + *b as u16, 256 * *c as u16 + *d as u16)),
@@ -54,7 +54,7 @@ pub fn words(rest: &[u8]) -> Result<(u16, u16), DecodeFault>
 // A displacement.
 #[inline(always)]
 pub fn displacement(rest: &[u8]) -> Result<i8, DecodeFault>
-    ensures { Reads result 1 rest.now (cast_signed w8 (slice_index rest.now 0)) }
+    ensures { ReadsOperand result 1 rest.now (cast_signed w8 (slice_index rest.now 0)) }
 {
     match rest {
         [b, ..] => Ok(b.cast_signed()),
@@ -65,7 +65,7 @@ pub fn displacement(rest: &[u8]) -> Result<i8, DecodeFault>
 // The address of a jump or call: none with condition 0.
 #[inline(always)]
 pub fn target(condition: u8, rest: &[u8]) -> Result<u16, DecodeFault>
-    ensures { Reads result (total (behind condition U16)) rest.now (target_in condition rest.now) }
+    ensures { ReadsOperand result (total (behind condition U16)) rest.now (target_in condition rest.now) }
 {
     if condition == 0 {
         return Ok(0);
@@ -84,7 +84,7 @@ pub fn target_size(condition: u8) -> u16
 // The offset of an address: none with tag 0.
 #[inline(always)]
 pub fn offset(tag: u8, rest: &[u8]) -> Result<i16, DecodeFault>
-    ensures { Reads result (total (behind tag I16)) rest.now (offset_in tag rest.now 0) }
+    ensures { ReadsOperand result (total (behind tag I16)) rest.now (offset_in tag rest.now 0) }
 {
     if tag == 0 {
         return Ok(0);
@@ -98,7 +98,7 @@ pub fn offset(tag: u8, rest: &[u8]) -> Result<i16, DecodeFault>
 // The number of a primitive and its arguments, of which those past the set's number are 0.
 pub fn arguments(set: u8, rest: &[u8]) -> Result<(u8, [u8; 3]), DecodeFault>
     requires { set < 4 }
-    ensures { Reads result (total (U8 ∷ replicate set U8)) rest.now
+    ensures { ReadsOperand result (total (U8 ∷ replicate set U8)) rest.now
         (slice_index rest.now 0, take set (drop 1 rest.now) ++ zeros (3 - set)) }
 {
     match (set, rest) {
@@ -121,7 +121,8 @@ pub fn offset_size(tag: u8) -> u16
 // A byte, and the offset behind it.
 #[inline(always)]
 pub fn byte_and_offset(tag: u8, rest: &[u8]) -> Result<(u8, i16), DecodeFault>
-    ensures { Reads result (total (U8 ∷ behind tag I16)) rest.now (slice_index rest.now 0, offset_in tag rest.now 1) }
+    ensures { ReadsOperand result (total (U8 ∷ behind tag I16)) rest.now
+        (slice_index rest.now 0, offset_in tag rest.now 1) }
 {
     match (tag, rest) {
         (0, [b, ..]) => Ok((*b, 0)),
@@ -133,7 +134,7 @@ pub fn byte_and_offset(tag: u8, rest: &[u8]) -> Result<(u8, i16), DecodeFault>
 // A word, and the offset behind it.
 #[inline(always)]
 pub fn word_and_offset(tag: u8, rest: &[u8]) -> Result<(u16, i16), DecodeFault>
-    ensures { Reads result (total (U16 ∷ behind tag I16)) rest.now (be2 rest.now 0, offset_in tag rest.now 2) }
+    ensures { ReadsOperand result (total (U16 ∷ behind tag I16)) rest.now (be2 rest.now 0, offset_in tag rest.now 2) }
 {
     match (tag, rest) {
         (0, [a, b, ..]) => Ok((256 * *a as u16 + *b as u16, 0)),

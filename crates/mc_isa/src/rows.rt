@@ -2,7 +2,7 @@
 ghost use Rattle.std.specs.Prelude.{◌≡◌, ◌≤◌, ◌∷◌, length};
 ghost use Rattle.mc_model.specs.Code.{Shaped, spell};
 ghost use Rattle.mc_model.specs.Listing.{text_of};
-ghost use Rattle.mc_isa.specs.Rows.{operand_bytes, line_of, InRange};
+ghost use Rattle.mc_isa.specs.Rows.{operand_bytes, line_of, OperandsInRange};
 
 use Operands::{
     Address, Byte, Bytes, Near, Plain, Primitive, Target, WithByte, WithWord, Word, Words,
@@ -52,7 +52,7 @@ pub fn row_of(ins: &Ins) -> Row
     ensures spelling { result.byte ∷ operand_bytes result.operands ≡ spell ins.now }
     ensures text { line_of result.name.now result.operands ≡ text_of ins.now }
     ensures short { length result.name.now ≤ 8 }
-    ensures range { InRange result.operands }
+    ensures range { OperandsInRange result.operands }
 {
     match *ins {
         Ins::Nop => row!("NOP", 0x00, Plain),

@@ -1,7 +1,7 @@
 ghost use Rattle.std.specs.Prelude.{◌≡◌, ◌≤◌, true, length};
 ghost use Rattle.mc_model.specs.Device.{Makes};
 ghost use Rattle.mc_model.specs.Image.{One, look_j};
-ghost use Rattle.mc_model.specs.Stopped.{owed_writes, outcome_answer, Follows, RecoverEnds};
+ghost use Rattle.mc_model.specs.Stopped.{owed_writes, outcome_answer, LookAllows, RecoverEnds};
 ghost use Rattle.mc_journal.specs.Recovery.{outcome_of};
 
 use crate::fault::Recover;
@@ -27,7 +27,7 @@ fn make_replay<N: Nvm>(device: &mut N) -> Result<u16, Recover>
     requires power { (N.state device.old).on ≡ true }
     ensures makes { Makes N.wrote device.old (owed_writes (look_j One (N.state device.old).words))
         (outcome_answer (outcome_of result)) device.new }
-    ensures follows { Follows (look_j One (N.state device.old).words) (outcome_of result) }
+    ensures follows { LookAllows (look_j One (N.state device.old).words) (outcome_of result) }
     ensures low { 256 ≤ length (N.state device.old).words }
 {
     let _size = device.len();

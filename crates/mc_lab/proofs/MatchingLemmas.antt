@@ -39,13 +39,13 @@ some_rest-again test (c ∷ t) = subst (λ (b : Bool). ((test (c ∷ t) || some_
 -- ---- walks
 
 -- where a walk is: the pattern matches exactly where what is left of it does, and further on at most there
-pub record Walked (p t ps ts : List ℕ) : Type 0 where
+pub record PatternWalked (p t ps ts : List ℕ) : Type 0 where
   pub same : matches p t ≡ matches ps ts
   pub later : some_rest (matches p) t ≡ true → some_rest (matches ps) ts ≡ true
 
 -- the same of lists that are equal
-walked-along : (p t x y u v : List ℕ) → x ≡ u → y ≡ v → Walked p t x y → Walked p t u v
-walked-along p t x y u v i j w = subst (λ (a : List ℕ). Walked p t a v) i (subst (λ (b : List ℕ). Walked p t x b) j w)
+walked-along : (p t x y u v : List ℕ) → x ≡ u → y ≡ v → PatternWalked p t x y → PatternWalked p t u v
+walked-along p t x y u v i j w = subst (λ (a : List ℕ). PatternWalked p t a v) i (subst (λ (b : List ℕ). PatternWalked p t x b) j w)
 
 false-true : {A : Type 0} → false ≡ true → A
 false-true h = absurd (cc h)
@@ -87,23 +87,23 @@ unfolding matches
 sign-apart p ps c t e h = grind (arith, e, h)
 
 -- a sign that stands for a character
-pub walked-step : (p t x y : List ℕ) (s : ℕ) (ps : List ℕ) (c : ℕ) (ts : List ℕ) → x ≡ s ∷ ps → y ≡ c ∷ ts → is_star s ≡ false → (is_any s || (c == s)) ≡ true → Walked p t x y → Walked p t ps ts
+pub walked-step : (p t x y : List ℕ) (s : ℕ) (ps : List ℕ) (c : ℕ) (ts : List ℕ) → x ≡ s ∷ ps → y ≡ c ∷ ts → is_star s ≡ false → (is_any s || (c == s)) ≡ true → PatternWalked p t x y → PatternWalked p t ps ts
 walked-step p t x y s ps c ts i j e h v =
-    let w : Walked p t (s ∷ ps) (c ∷ ts) = walked-along p t x y (s ∷ ps) (c ∷ ts) i j v in
+    let w : PatternWalked p t (s ∷ ps) (c ∷ ts) = walked-along p t x y (s ∷ ps) (c ∷ ts) i j v in
     record { same = w.same ∙ sign-same s ps c ts e h; later = λ m. step-rest s ps c ts e (w.later m) }
 
 -- a sign that does not
-pub walked-apart : (p t x y : List ℕ) (s : ℕ) (ps : List ℕ) (c : ℕ) (ts : List ℕ) → x ≡ s ∷ ps → y ≡ c ∷ ts → is_star s ≡ false → (is_any s || (c == s)) ≡ false → Walked p t x y → matches p t ≡ false
+pub walked-apart : (p t x y : List ℕ) (s : ℕ) (ps : List ℕ) (c : ℕ) (ts : List ℕ) → x ≡ s ∷ ps → y ≡ c ∷ ts → is_star s ≡ false → (is_any s || (c == s)) ≡ false → PatternWalked p t x y → matches p t ≡ false
 walked-apart p t x y s ps c ts i j e h v =
-    let w : Walked p t (s ∷ ps) (c ∷ ts) = walked-along p t x y (s ∷ ps) (c ∷ ts) i j v in
+    let w : PatternWalked p t (s ∷ ps) (c ∷ ts) = walked-along p t x y (s ∷ ps) (c ∷ ts) i j v in
     w.same ∙ sign-apart s ps c ts e h
 
 -- a sign at the end of a text
-pub walked-short : (p t x y : List ℕ) (s : ℕ) (ps : List ℕ) → x ≡ s ∷ ps → y ≡ [] → is_star s ≡ false → Walked p t x y → matches p t ≡ false
+pub walked-short : (p t x y : List ℕ) (s : ℕ) (ps : List ℕ) → x ≡ s ∷ ps → y ≡ [] → is_star s ≡ false → PatternWalked p t x y → matches p t ≡ false
 walked-short p t x y s ps i j e v = (walked-along p t x y (s ∷ ps) [] i j v).same ∙ sign-none s ps e
 
 -- the end of a pattern
-pub walked-end : (p t x y ts : List ℕ) → x ≡ [] → y ≡ ts → Walked p t x y → matches p t ≡ is_empty ts
+pub walked-end : (p t x y ts : List ℕ) → x ≡ [] → y ≡ ts → PatternWalked p t x y → matches p t ≡ is_empty ts
 unfolding matches
 walked-end p t x y ts i j v = (walked-along p t x y [] ts i j v).same
 
@@ -124,9 +124,9 @@ both-ways false true f g = g refl
 both-ways false false f g = refl
 
 -- a star
-pub walked-star : (p t x : List ℕ) (s : ℕ) (ps ts : List ℕ) → x ≡ s ∷ ps → is_star s ≡ true → Walked p t x ts → Parts p t ps ts
+pub walked-star : (p t x : List ℕ) (s : ℕ) (ps ts : List ℕ) → x ≡ s ∷ ps → is_star s ≡ true → PatternWalked p t x ts → Parts p t ps ts
 walked-star p t x s ps ts i e v =
-    let w : Walked p t (s ∷ ps) ts = walked-along p t x ts (s ∷ ps) ts i refl v in
+    let w : PatternWalked p t (s ∷ ps) ts = walked-along p t x ts (s ∷ ps) ts i refl v in
     let here : matches p t ≡ some_rest (matches ps) ts = w.same ∙ star-matches s ps e ts in
     let whole : some_rest (matches (s ∷ ps)) ts ≡ some_rest (matches ps) ts = some_rest-same (matches (s ∷ ps)) (some_rest (matches ps)) (star-matches s ps e) ts ∙ some_rest-again (matches ps) ts in
     record {

@@ -7,7 +7,7 @@ use Rattle.mc_model.specs.declared.deck.DeckCause.TheVariants as causes
 use Rattle.mc_model.specs.Bytes.{lookup}
 use Rattle.mc_model.specs.Units.{UnitParts, unit_read}
 use Rattle.mc_model.specs.Text.{◌>>=◌, ok_as, err_as, only_if, begins, fields, lines, numbered}
-use Rattle.mc_model.specs.DeckGrammar.{DeckLine, Named, Context, Section, Stated, Says, Opens, Word, FormatWord, PowerWord, UnitWord, AppWord, LoadWord, SelectWord, DeleteWord, DumpWord, ApduWord, BudgetWord, CutWord, FailWord, PokeWord, Mode, Between, Within, Turn, stated, early, deck_words, turn_of, between, within, turn_in, turn_at, ended, deck_lines, deck_read, section_unit, with_unit, is_end, name_field, hex_field, aid_field, fill_field, number_field, new_name}
+use Rattle.mc_model.specs.DeckGrammar.{DeckLine, Named, Context, Section, Stated, Says, Opens, Word, FormatWord, PowerWord, UnitWord, AppWord, LoadWord, SelectWord, DeleteWord, DumpWord, ApduWord, BudgetWord, CutWord, FailWord, PokeWord, Mode, Between, Within, LineTurn, stated, early, deck_words, turn_of, between, within, turn_in, turn_at, ended, deck_lines, deck_read, section_unit, with_unit, is_end, name_field, hex_field, aid_field, fill_field, number_field, new_name}
 use Rattle.mc_model.specs.DeckGrammar as line
 use Rattle.mc_lab.specs.Rising.{Rising}
 use Rattle.mc_lab.specs.Expectations.{line_number}
@@ -95,11 +95,11 @@ lowest n (Between c) = n
 lowest n (Within s c) = s.first
 
 -- a turn at line n: its lines stand before those behind it
-record Rises (n : ℕ) (m : Mode) (u : Turn) : Type 0 where
+record Rises (n : ℕ) (m : Mode) (u : LineTurn) : Type 0 where
   pub before : IsBefore (suc n) u.mode
   pub lines : (r : List (ℕ × DeckLine)) → Rising line_number (lowest (suc n) u.mode) r → Rising line_number (lowest n m) (u.lines ++ r)
 
-abbrev RisesBy : ℕ → Mode → Result Turn (ℕ × DeckCause) → Type 0
+abbrev RisesBy : ℕ → Mode → Result LineTurn (ℕ × DeckCause) → Type 0
 RisesBy n m (Err e) = Unit {0}
 RisesBy n m (Ok u) = Rises n m u
 
@@ -115,7 +115,7 @@ rises-word : (n : ℕ) (c : Context) (w : Option Word) (fs : List (List ℕ)) �
 rises-word n c None fs = tt
 rises-word n c (Some w) fs = rises-stated n c (λ e. (n, e)) (stated c n w fs) (opens-at c n w fs)
 
-rises-comment : (n : ℕ) (c : Context) (b : Bool) (r : Result Turn (ℕ × DeckCause)) → RisesBy n (Between c) r → RisesBy n (Between c) (cond b (Ok (record { lines = []; mode = Between c })) r)
+rises-comment : (n : ℕ) (c : Context) (b : Bool) (r : Result LineTurn (ℕ × DeckCause)) → RisesBy n (Between c) r → RisesBy n (Between c) (cond b (Ok (record { lines = []; mode = Between c })) r)
 rises-comment n c true r h = rises-skipped n c
 rises-comment n c false r h = h
 
@@ -147,12 +147,12 @@ ended-rising n (Between c) ls e = let e2 : [] ≡ ls = cc e in subst (λ (ls : L
 ended-rising n (Within s c) ls e = absurd (cc e)
 
 -- the rest of some lines, where the whole is there
-rest-rising : (n : ℕ) (m : Mode) (u : Turn) (q : Result (List (ℕ × DeckLine)) (ℕ × DeckCause)) (ls : List (ℕ × DeckLine)) → Rises n m u → ((r : List (ℕ × DeckLine)) → q ≡ Ok r → Rising line_number (lowest (suc n) u.mode) r) → ok_as (λ rest. u.lines ++ rest) q ≡ Ok ls → Rising line_number (lowest n m) ls
+rest-rising : (n : ℕ) (m : Mode) (u : LineTurn) (q : Result (List (ℕ × DeckLine)) (ℕ × DeckCause)) (ls : List (ℕ × DeckLine)) → Rises n m u → ((r : List (ℕ × DeckLine)) → q ≡ Ok r → Rising line_number (lowest (suc n) u.mode) r) → ok_as (λ rest. u.lines ++ rest) q ≡ Ok ls → Rising line_number (lowest n m) ls
 rest-rising n m u (Err e) ls h f k = absurd (cc k)
 rest-rising n m u (Ok r) ls h f k = let e : u.lines ++ r ≡ ls = cc k in subst (λ (ls : List (ℕ × DeckLine)). Rising line_number (lowest n m) ls) e (h.lines r (f r refl))
 
-turn-rising : (n : ℕ) (m : Mode) (t : Result Turn (ℕ × DeckCause)) (ts : List (ℕ × List ℕ)) (ls : List (ℕ × DeckLine)) → RisesBy n m t
-    → ((u : Turn) → IsBefore (suc n) u.mode → (r : List (ℕ × DeckLine)) → deck_lines u.mode ts ≡ Ok r → Rising line_number (lowest (suc n) u.mode) r)
+turn-rising : (n : ℕ) (m : Mode) (t : Result LineTurn (ℕ × DeckCause)) (ts : List (ℕ × List ℕ)) (ls : List (ℕ × DeckLine)) → RisesBy n m t
+    → ((u : LineTurn) → IsBefore (suc n) u.mode → (r : List (ℕ × DeckLine)) → deck_lines u.mode ts ≡ Ok r → Rising line_number (lowest (suc n) u.mode) r)
     → (t >>= λ u. ok_as (λ rest. u.lines ++ rest) (deck_lines u.mode ts)) ≡ Ok ls → Rising line_number (lowest n m) ls
 turn-rising n m (Err e) ts ls h f k = absurd (cc k)
 turn-rising n m (Ok u) ts ls h f k = rest-rising n m u (deck_lines u.mode ts) ls h (f u h.before) k

@@ -7,7 +7,7 @@ use Rattle.mc_model.specs.DeckGrammar.{DeckLine}
 use Rattle.mc_model.specs.Play.{State, Step, WornAt, armed_in, moves_of, plays, start, steady_at, steady_worn, step}
 use Rattle.mc_script.specs.declared.answer.Answer.{Answer}
 use Rattle.mc_script.specs.declared.player.Player.{Player}
-use Rattle.mc_script.specs.Players.{answer_value, device_of, IsAt, IsPlaying}
+use Rattle.mc_script.specs.Players.{answer_value, device_of, IsPlayerAt, IsPlaying}
 use Rattle.mc_script.specs.Lines.{LineDone}
 use Rattle.mc_script.proofs.PlayLemmas.{step_number}
 use Rattle.mc_lab.specs.Rising.{Rising, count_below, last_of}
@@ -82,7 +82,7 @@ next-of (y ∷ xs) (suc i) x r e =
 
 module _ {N : Type 0} (state : N → DeviceState) (bench : N → BenchState) where
   -- no line was played
-  pub staged-start : (ls : List (ℕ × DeckLine)) (d : N) (p : Player N) (text : List ℕ) → IsAt state bench p (start (state d).words) → device_of p ≡ d → (bench d).steady ≡ true → text ≡ [] → Staged state bench (steady_steps (state d).words ls) ls p 0 text
+  pub staged-start : (ls : List (ℕ × DeckLine)) (d : N) (p : Player N) (text : List ℕ) → IsPlayerAt state bench p (start (state d).words) → device_of p ≡ d → (bench d).steady ≡ true → text ≡ [] → Staged state bench (steady_steps (state d).words ls) ls p 0 text
   staged-start ls d p text at device steady none =
       record { here = start (state d).words; at = at; steady = ap (λ (d : N). (bench d).steady) device ∙ steady; rest = refl; last = none }
 

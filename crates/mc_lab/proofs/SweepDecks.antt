@@ -18,8 +18,8 @@ use Rattle.mc_lab.specs.declared.sweep_trial.Place.{Place}
 use Rattle.mc_lab.specs.declared.sweep_text.Sums.{Sums}
 use Rattle.mc_lab.specs.declared.sweep_word.Word.{Word}
 use Rattle.mc_lab.specs.Sweeps.{played, played_from, count_from, is_unarmed, is_swept, swept, swept_if, swept_text, swept_texts, Swept, plays_of, sweep, sweep_behind, sweep_text, sums_text, text_of, names_from, total, writes_behind}
-use Rattle.mc_lab.specs.SweepBodies.{line_at, front_of, line_in, names_in, tried_in, writes_in, IsOpen}
-use Rattle.mc_lab.specs.SweepEnds.{free_behind, is_open, is_open_at, swept_in, left_from, Adds, AtMost}
+use Rattle.mc_lab.specs.SweepBodies.{line_at, front_of, line_in, names_in, tried_in, writes_in, IsUnarmedLine}
+use Rattle.mc_lab.specs.SweepEnds.{free_behind, is_open, is_open_at, swept_in, left_from, AddsSums, AtMost}
 use Rattle.mc_lab.proofs.SweepPlays.{played-one}
 use Rattle.mc_lab.proofs.SweepNames.{next-line}
 use Rattle.mc_lab.proofs.SweepPlayers.{take-one}
@@ -85,7 +85,7 @@ free-on ls i n l free here is =
 
 -- ---- lines that may be swept
 
-pub open-is : (p : Place) → is_open_at p.deck.now p.at ≡ true → IsOpen p
+pub open-is : (p : Place) → is_open_at p.deck.now p.at ≡ true → IsUnarmedLine p
 open-is p h =
     let q = both (is_card_line (line_in p).1) (is_unarmed (armed_in (played (front_of p)))) h in
     record { card = q.0; unarmed = q.1 }
@@ -107,7 +107,7 @@ shut-armed front l h = ap (λ (b : Bool). is_card_line l.1 && b) h ∙ and-false
 pub open-both : (front : List (ℕ × DeckLine)) (l : ℕ × DeckLine) → is_card_line l.1 ≡ true → is_unarmed (armed_in (played front)) ≡ true → is_open front l ≡ true
 open-both front l card free = and-true (is_card_line l.1) (is_unarmed (armed_in (played front))) card free
 
-swept-true : (p : Place) → IsOpen p → 1 ≤ writes_in p → is_swept (front_of p) (line_in p) ≡ true
+swept-true : (p : Place) → IsUnarmedLine p → 1 ≤ writes_in p → is_swept (front_of p) (line_in p) ≡ true
 swept-true p o some = and-true (is_open (front_of p) (line_in p)) (nat_le 1 (writes_in p)) (open-both (front_of p) (line_in p) o.card o.unarmed) (le-leb 1 (writes_in p) some)
 
 swept-false : (p : Place) → writes_in p ≡ 0 → is_swept (front_of p) (line_in p) ≡ false
@@ -136,14 +136,14 @@ most-more ls n most w new so_far here old now i lt is_open_there = elim (cases_l
 
 -- ---- sums
 
-pub adds-none : (a : Sums) (ss : List Swept) → [] ≡ ss → Adds a ss a
-adds-none a ss none = subst (λ (ts : List Swept). Adds a ts a) none (record { lines = omega arith; writes = omega arith; plays = omega arith })
+pub adds-none : (a : Sums) (ss : List Swept) → [] ≡ ss → AddsSums a ss a
+adds-none a ss none = subst (λ (ts : List Swept). AddsSums a ts a) none (record { lines = omega arith; writes = omega arith; plays = omega arith })
 
 total-append : (f : Swept → ℕ) (xs ys : List Swept) → total f (xs ++ ys) ≡ total f xs + total f ys
 total-append f [] ys = omega arith
 total-append f (x ∷ xs) ys = let e = total-append f xs ys in omega (arith, e)
 
-pub adds-on : (a b c : Sums) (xs ys : List Swept) → Adds a xs b → Adds b ys c → Adds a (xs ++ ys) c
+pub adds-on : (a b c : Sums) (xs ys : List Swept) → AddsSums a xs b → AddsSums b ys c → AddsSums a (xs ++ ys) c
 adds-on a b c xs ys one rest =
     let long = length-append xs ys in
     let words = total-append (λ s. length s.words) xs ys in
@@ -162,7 +162,7 @@ unfolding swept
 swept-is p = refl
 
 -- the swept line, by its number, its words and its plays
-one-swept : (p : Place) (number n : ℕ) (words : List Word) (plays : ℕ) → number ≡ (line_in p).0 → SweptAs p n words plays → IsOpen p → 1 ≤ n
+one-swept : (p : Place) (number n : ℕ) (words : List Word) (plays : ℕ) → number ≡ (line_in p).0 → SweptAs p n words plays → IsUnarmedLine p → 1 ≤ n
     → swept_in p ≡ record { number = number; words = take n words; plays = plays } ∷ []
 one-swept p number n words plays is s o some =
     let made : 1 ≤ writes_in p = (let e = s.writes in omega (arith, e)) in
@@ -174,7 +174,7 @@ one-swept p number n words plays is s o some =
     ∙ ap (λ (k : ℕ). record { number = number; words = take n words; plays = k }) (sym s.plays_are)
     )
 
-pub place-text : (p : Place) (number n : ℕ) (words : List Word) (plays : ℕ) → number ≡ (line_in p).0 → SweptAs p n words plays → IsOpen p → 1 ≤ n
+pub place-text : (p : Place) (number n : ℕ) (words : List Word) (plays : ℕ) → number ≡ (line_in p).0 → SweptAs p n words plays → IsUnarmedLine p → 1 ≤ n
     → swept_text (record { number = number; words = take n words; plays = plays }) ≡ swept_texts (swept_in p)
 place-text p number n words plays is s o some =
     sym (append-nil (swept_text (record { number = number; words = take n words; plays = plays }))) ∙ ap swept_texts (sym (one-swept p number n words plays is s o some))
@@ -183,11 +183,11 @@ taken-length : (p : Place) (n : ℕ) (words : List Word) (plays : ℕ) → Swept
 taken-length p n words plays s =
     ap length s.words_are ∙ map-length (λ t. t.word) (map (tried_in p) (count_from 1 (writes_in p))) ∙ counted-length (tried_in p) (writes_in p) ∙ sym s.writes
 
-pub place-adds : (p : Place) (number n : ℕ) (words : List Word) (plays : ℕ) (a b : Sums) → number ≡ (line_in p).0 → SweptAs p n words plays → IsOpen p → 1 ≤ n
-    → b.lines ≡ a.lines + 1 → b.writes ≡ a.writes + n → b.plays ≡ a.plays + plays → Adds a (swept_in p) b
+pub place-adds : (p : Place) (number n : ℕ) (words : List Word) (plays : ℕ) (a b : Sums) → number ≡ (line_in p).0 → SweptAs p n words plays → IsUnarmedLine p → 1 ≤ n
+    → b.lines ≡ a.lines + 1 → b.writes ≡ a.writes + n → b.plays ≡ a.plays + plays → AddsSums a (swept_in p) b
 place-adds p number n words plays a b is s o some x y z =
     let long = taken-length p n words plays s in
-    subst (λ (ss : List Swept). Adds a ss b) (sym (one-swept p number n words plays is s o some))
+    subst (λ (ss : List Swept). AddsSums a ss b) (sym (one-swept p number n words plays is s o some))
     (record { lines = omega (arith, x); writes = omega (arith, y, long); plays = omega (arith, z) })
 
 -- ---- the lines that are left
@@ -247,7 +247,7 @@ pub text-whole : (ls : List (ℕ × DeckLine)) (names : List (List ℕ)) → nam
 unfolding sweep_text sweep
 text-whole ls names is = ap (λ (ns : List (List ℕ)). text_of (sweep_behind ns [] ls)) is
 
-pub text-is : (ls : List (ℕ × DeckLine)) (names : List (List ℕ)) (a b : Sums) → names ≡ names_from [] ls → a.lines ≡ 0 → a.writes ≡ 0 → a.plays ≡ 0 → Adds a (left_from names ls 0) b
+pub text-is : (ls : List (ℕ × DeckLine)) (names : List (List ℕ)) (a b : Sums) → names ≡ names_from [] ls → a.lines ≡ 0 → a.writes ≡ 0 → a.plays ≡ 0 → AddsSums a (left_from names ls 0) b
     → swept_texts (left_from names ls 0) ++ sums_text b.lines b.writes b.plays ≡ sweep_text ls
 unfolding sweep_text sweep
 text-is ls names a b is x y z adds =

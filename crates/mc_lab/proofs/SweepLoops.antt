@@ -5,11 +5,11 @@ use Rattle.std.proofs.lemmas.Bool.{leb-true}
 use Rattle.std.proofs.lemmas.Bool.Decides.{nat_tests}
 use Rattle.mc_model.specs.Play.{Armed, Unarmed, ArmedCut, ArmedFail, Hot, armed_in}
 use Rattle.mc_model.proofs.ListLemmas.{length-map as map-length}
-use Rattle.mc_lab.specs.Sweeps.{Tried, plays_of, played, Told, is_same, all_same, count_from, cut, power, under_cut, ones, tried, is_unarmed}
+use Rattle.mc_lab.specs.Sweeps.{Tried, plays_of, played, ToldState, is_same, all_same, count_from, cut, power, under_cut, ones, tried, is_unarmed}
 use Rattle.mc_model.specs.Bytes.{zeros}
 use Rattle.std.proofs.Common.{length-append}
 use Rattle.mc_lab.specs.declared.sweep_word.Word.{Word}
-use Rattle.mc_lab.specs.SweepBodies.{word_with, tried_in, IsOpen, Shuts, front_of, line_in, hit_in, told_in, writes_in, again_in, recovered_in}
+use Rattle.mc_lab.specs.SweepBodies.{word_with, tried_in, IsUnarmedLine, OpensNoGate, front_of, line_in, hit_in, told_in, writes_in, again_in, recovered_in}
 use Rattle.mc_lab.specs.declared.sweep_trial.Place.{Place}
 use Rattle.mc_lab.specs.declared.sweep_trial.Behind.TheVariants as behind
 use Rattle.mc_lab.proofs.SweepPlays.{played-two, line-cut}
@@ -20,7 +20,7 @@ unarmed-is Unarmed h = refl
 unarmed-is (ArmedCut k fill) h = absurd (cc h)
 unarmed-is (ArmedFail k) h = absurd (cc h)
 
-module _ (p : Place) (open_line : IsOpen p) where
+module _ (p : Place) (open_line : IsUnarmedLine p) where
   at_front : armed_in (played (front_of p)) ≡ Unarmed
   at_front = unarmed-is (armed_in (played (front_of p))) open_line.unarmed
 
@@ -29,7 +29,7 @@ module _ (p : Place) (open_line : IsOpen p) where
   hit-cut k fill low = line-hit (played (front_of p)) (line_in p) (line_in p).0 k fill at_front open_line.card low
 
   -- and one in the recovery behind it exactly the writes of that
-  pub hit-again : (k : ℕ) (fill : List ℕ) (j : ℕ) → 1 ≤ k → k ≤ writes_in p → Shuts fill → 1 ≤ j → hit_in p (behind.Twice k fill j) ≡ nat_le j (again_in p k fill)
+  pub hit-again : (k : ℕ) (fill : List ℕ) (j : ℕ) → 1 ≤ k → k ≤ writes_in p → OpensNoGate fill → 1 ≤ j → hit_in p (behind.Twice k fill j) ≡ nat_le j (again_in p k fill)
   hit-again k fill j low high shuts first =
       let l = line_in p in
       let c = line-cut (played (front_of p)) l l.0 k fill at_front open_line.card shuts low high in
@@ -73,19 +73,19 @@ and-swap true false = refl
 and-swap false true = refl
 and-swap false false = refl
 
-pub same-append : (t : Told) (xs ys : List Told) → all_same t (xs ++ ys) ≡ (all_same t xs && all_same t ys)
+pub same-append : (t : ToldState) (xs ys : List ToldState) → all_same t (xs ++ ys) ≡ (all_same t xs && all_same t ys)
 same-append t [] ys = refl
 same-append t (x ∷ xs) ys = ap (λ (b : Bool). is_same x t && b) (same-append t xs ys) ∙ and-assoc (is_same x t) (all_same t xs) (all_same t ys)
 
 -- the states of the recoveries so far
-pub record Recovering (p : Place) (k : ℕ) (fill : List ℕ) (first : Told) (made : ℕ) (same : Bool) : Type 0 where
+pub record Recovering (p : Place) (k : ℕ) (fill : List ℕ) (first : ToldState) (made : ℕ) (same : Bool) : Type 0 where
   pub within : made ≤ again_in p k fill
   pub is : same ≡ all_same first (map (λ j. told_in p (behind.Twice k fill j)) (count_from 1 made))
 
-pub recovering-none : (p : Place) (k : ℕ) (fill : List ℕ) (first : Told) → Recovering p k fill first 0 true
+pub recovering-none : (p : Place) (k : ℕ) (fill : List ℕ) (first : ToldState) → Recovering p k fill first 0 true
 recovering-none p k fill first = record { within = omega arith; is = refl }
 
-pub recovering-more : (p : Place) (k : ℕ) (fill : List ℕ) (first now : Told) (made : ℕ) (same now_same hit : Bool) → Recovering p k fill first made same
+pub recovering-more : (p : Place) (k : ℕ) (fill : List ℕ) (first now : ToldState) (made : ℕ) (same now_same hit : Bool) → Recovering p k fill first made same
     → hit ≡ nat_le (made + 1) (again_in p k fill) → hit ≡ true → now ≡ told_in p (behind.Twice k fill (made + 1)) → now_same ≡ is_same now first
     → Recovering p k fill first (made + 1) (now_same && same)
 recovering-more p k fill first now made same now_same hit r test is_hit is test_same =
@@ -93,34 +93,34 @@ recovering-more p k fill first now made same now_same hit r test is_hit is test_
     record {
       within = leb-true (made + 1) (again_in p k fill) (sym test ∙ is_hit);
       is =
-          ap (λ (b : Bool). b && same) (test_same ∙ ap (λ (t : Told). is_same t first) is)
+          ap (λ (b : Bool). b && same) (test_same ∙ ap (λ (t : ToldState). is_same t first) is)
           ∙ ap (λ (b : Bool). is_same (f (made + 1)) first && b) r.is
           ∙ and-swap (is_same (f (made + 1)) first) (all_same first (map f (count_from 1 made)))
           ∙ ap (λ (b : Bool). all_same first (map f (count_from 1 made)) && b) (sym (and-last (is_same (f (made + 1)) first)))
           ∙ sym (same-append first (map f (count_from 1 made)) (f (made + 1) ∷ []))
-          ∙ ap (λ (l : List Told). all_same first l) (sym (map-more f made));
+          ∙ ap (λ (l : List ToldState). all_same first l) (sym (map-more f made));
     }
 
 -- a cut that hit no more, or the last number
-pub record Recovered (p : Place) (k : ℕ) (fill : List ℕ) (first : Told) (made : ℕ) (same : Bool) : Type 0 where
+pub record Recovered (p : Place) (k : ℕ) (fill : List ℕ) (first : ToldState) (made : ℕ) (same : Bool) : Type 0 where
   pub same_as : same ≡ all_same first (recovered_in p k fill)
   pub count : made ≡ length (recovered_in p k fill)
 
-recovered-all : (p : Place) (k : ℕ) (fill : List ℕ) (first : Told) (made : ℕ) (same : Bool) → Recovering p k fill first made same → made ≡ again_in p k fill → Recovered p k fill first made same
+recovered-all : (p : Place) (k : ℕ) (fill : List ℕ) (first : ToldState) (made : ℕ) (same : Bool) → Recovering p k fill first made same → made ≡ again_in p k fill → Recovered p k fill first made same
 recovered-all p k fill first made same r e =
     record {
       same_as = r.is ∙ ap (λ (n : ℕ). all_same first (map (λ j. told_in p (behind.Twice k fill j)) (count_from 1 n))) e;
       count = e ∙ sym (counted-length (λ j. told_in p (behind.Twice k fill j)) (again_in p k fill));
     }
 
-pub recovered-missed : (p : Place) (k : ℕ) (fill : List ℕ) (first : Told) (made : ℕ) (same hit : Bool) → Recovering p k fill first made same
+pub recovered-missed : (p : Place) (k : ℕ) (fill : List ℕ) (first : ToldState) (made : ℕ) (same hit : Bool) → Recovering p k fill first made same
     → hit ≡ nat_le (made + 1) (again_in p k fill) → hit ≡ false → Recovered p k fill first made same
 recovered-missed p k fill first made same hit r test missed =
     let past : again_in p k fill < made + 1 = (let no : nat_le (made + 1) (again_in p k fill) ≡ false = sym test ∙ missed in grind (arith, nat_tests)) in
     let within = r.within in
     recovered-all p k fill first made same r (omega arith)
 
-pub recovered-last : (p : Place) (k : ℕ) (fill : List ℕ) (first : Told) (made : ℕ) (same : Bool) → Recovering p k fill first made same → made ≡ 65535 → again_in p k fill ≤ 65535 → Recovered p k fill first made same
+pub recovered-last : (p : Place) (k : ℕ) (fill : List ℕ) (first : ToldState) (made : ℕ) (same : Bool) → Recovering p k fill first made same → made ≡ 65535 → again_in p k fill ≤ 65535 → Recovered p k fill first made same
 recovered-last p k fill first made same r last few =
     let within = r.within in
     recovered-all p k fill first made same r (omega arith)
@@ -132,7 +132,7 @@ pub record TriedAs (p : Place) (k : ℕ) (w : Word) (n : ℕ) : Type 0 where
   pub word : w ≡ (tried_in p k).word
   pub plays : n ≡ (tried_in p k).plays
 
-pub tried-as : (p : Place) (k : ℕ) (first before after now : Told) (zeros_same ones_first ones_same : Bool) (n m : ℕ)
+pub tried-as : (p : Place) (k : ℕ) (first before after now : ToldState) (zeros_same ones_first ones_same : Bool) (n m : ℕ)
     → first ≡ told_in p (behind.Cut k (zeros 8)) → before ≡ told_in p behind.Nothing → after ≡ told_in p behind.Whole → now ≡ told_in p (behind.Cut k ones)
     → zeros_same ≡ all_same first (recovered_in p k (zeros 8)) → ones_first ≡ is_same now first → ones_same ≡ all_same first (recovered_in p k ones)
     → n ≡ length (recovered_in p k (zeros 8)) → m ≡ length (recovered_in p k ones)
@@ -151,19 +151,19 @@ tried-as p k first before after now zeros_same ones_first ones_same n m first_is
           ap (λ (c : Bool). word_with (c && (ones_first && ones_same)) (is_same first before) (is_same first after)) zs
           ∙ ap (λ (c : Bool). word_with (all_same first xs && (c && ones_same)) (is_same first before) (is_same first after)) o
           ∙ ap (λ (c : Bool). word_with (all_same first xs && (is_same now first && c)) (is_same first before) (is_same first after)) os
-          ∙ ap (λ (f : Told). word_with (all_same f xs && (is_same now f && all_same f ys)) (is_same f before) (is_same f after)) first_is
-          ∙ ap (λ (f : Told). word_with (all_same t xs && (is_same f t && all_same t ys)) (is_same t before) (is_same t after)) now_is
-          ∙ ap (λ (f : Told). word_with (all_same t xs && (is_same u t && all_same t ys)) (is_same t f) (is_same t after)) before_is
-          ∙ ap (λ (f : Told). word_with (all_same t xs && (is_same u t && all_same t ys)) (is_same t b) (is_same t f)) after_is
+          ∙ ap (λ (f : ToldState). word_with (all_same f xs && (is_same now f && all_same f ys)) (is_same f before) (is_same f after)) first_is
+          ∙ ap (λ (f : ToldState). word_with (all_same t xs && (is_same f t && all_same t ys)) (is_same t before) (is_same t after)) now_is
+          ∙ ap (λ (f : ToldState). word_with (all_same t xs && (is_same u t && all_same t ys)) (is_same t f) (is_same t after)) before_is
+          ∙ ap (λ (f : ToldState). word_with (all_same t xs && (is_same u t && all_same t ys)) (is_same t b) (is_same t f)) after_is
           ∙ ap (λ (c : Bool). word_with c (is_same t b) (is_same t a)) (sym (same-append t xs (u ∷ ys)));
       plays = (let e : 2 + n + m ≡ length xs + (1 + length ys) + 1 = omega (arith, zn, on) in e) ∙ ap (λ (i : ℕ). i + 1) (sym long);
     }
 
 -- a cut that hit, and one that did not
-pub hit-within : (p : Place) (k : ℕ) (hit : Bool) → IsOpen p → 1 ≤ k → (fill : List ℕ) → hit ≡ hit_in p (behind.Cut k fill) → hit ≡ true → k ≤ writes_in p
+pub hit-within : (p : Place) (k : ℕ) (hit : Bool) → IsUnarmedLine p → 1 ≤ k → (fill : List ℕ) → hit ≡ hit_in p (behind.Cut k fill) → hit ≡ true → k ≤ writes_in p
 hit-within p k hit open_line low fill is hits_it = leb-true k (writes_in p) (sym (is ∙ hit-cut p open_line k fill low) ∙ hits_it)
 
-pub missed-past : (p : Place) (k : ℕ) (hit : Bool) → IsOpen p → 1 ≤ k → (fill : List ℕ) → hit ≡ hit_in p (behind.Cut k fill) → hit ≡ false → writes_in p < k
+pub missed-past : (p : Place) (k : ℕ) (hit : Bool) → IsUnarmedLine p → 1 ≤ k → (fill : List ℕ) → hit ≡ hit_in p (behind.Cut k fill) → hit ≡ false → writes_in p < k
 missed-past p k hit open_line low fill is misses_it =
     let past : nat_le k (writes_in p) ≡ false = sym (is ∙ hit-cut p open_line k fill low) ∙ misses_it in
     grind (arith, nat_tests)

@@ -18,7 +18,7 @@ use Rattle.mc_script.specs.declared.player.Power.TheVariants as power
 use Rattle.mc_script.specs.declared.player.Player.{Player}
 use Rattle.mc_card.specs.declared.card.Card.{Card}
 use Rattle.mc_card.specs.Parts.{card_in, device_in}
-use Rattle.mc_script.specs.Players.{answer_value, device_of, dump_value, statics_by, statics_in, LiveIs, StateIs, IsAt, IsPlaying}
+use Rattle.mc_script.specs.Players.{answer_value, device_of, dump_value, statics_by, statics_in, LiveIs, StateIs, IsPlayerAt, IsPlaying}
 use Rattle.mc_script.specs.Lines.{LineDone}
 use Rattle.mc_model.proofs.ImageLemmas.{length-laid as laid-size}
 use Rattle.mc_lab.specs.Sweeps.{blank, played, played_from, told, told_by, Holds, held_under, running_apps, running_in, cut, under_cut}
@@ -186,7 +186,7 @@ module _ {N : Type 0} (state : N → DeviceState) (bench : N → BenchState) whe
       let st = d.1.stepped in
       let worn : d.0 ≡ steady_at (armed_in s) l (moves_of s (n, l)) = st.played.steady h.steady in
       record {
-        at = record { at = subst (λ (w : Option WornAt). IsAt state bench q (step s (n, l) w).after) worn st.at; steady = st.played.counts.counts.steady ∙ h.steady };
+        at = record { at = subst (λ (w : Option WornAt). IsPlayerAt state bench q (step s (n, l) w).after) worn st.at; steady = st.played.counts.counts.steady ∙ h.steady };
         answers = st.answers ∙ ap (λ (w : Option WornAt). (step s (n, l) w).result) worn;
       }
 
@@ -208,11 +208,11 @@ module _ {N : Type 0} (state : N → DeviceState) (bench : N → BenchState) whe
 
   -- ---- the lines before a line
 
-  pub front-start : (d : N) (p : Player N) → IsAt state bench p (start (state d).words) → device_of p ≡ d → (bench d).steady ≡ true → (state d).words ≡ blank → (ls : List (ℕ × DeckLine)) → IsSteadyAt state bench p (played (take 0 ls))
+  pub front-start : (d : N) (p : Player N) → IsPlayerAt state bench p (start (state d).words) → device_of p ≡ d → (bench d).steady ≡ true → (state d).words ≡ blank → (ls : List (ℕ × DeckLine)) → IsSteadyAt state bench p (played (take 0 ls))
   unfolding played_from plays steady_worn
   front-start d p at device steady words ls =
       record {
-        at = subst (λ (m : List (List ℕ)). IsAt state bench p (start m)) words at;
+        at = subst (λ (m : List (List ℕ)). IsPlayerAt state bench p (start m)) words at;
         steady = ap (λ (e : N). (bench e).steady) device ∙ steady;
       }
 

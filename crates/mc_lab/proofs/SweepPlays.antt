@@ -12,7 +12,8 @@ use Rattle.mc_model.specs.Given.{apps_in}
 use Rattle.mc_model.specs.Play.{Armed, Unarmed, ArmedCut, ArmedFail, Live, Running, Unpowered, Muted, Base, OnCard, AtFault, Warm, State, Cold, Hot, Command, step, plays, steady_worn, steady_at, moves_of, armed_in, is_card_line, warmed, migrated, power_moves, power_step, power_after, stopped_power, hit_of, WornAt, card_line, command_step, stopped_line, line_command}
 use Rattle.mc_model.specs.DeckGrammar.{DeckLine}
 use Rattle.mc_model.specs.DeckGrammar as line
-use Rattle.mc_lab.specs.Sweeps.{stepped, played_from, played, Told, Holds, NoCard, held_under, told_of, told, ones, cut, power}
+use Rattle.mc_lab.specs.Sweeps.{stepped, played_from, played, ToldState, Holds, NoCard, held_under, told_of, told, ones, cut, power}
+use Rattle.mc_lab.specs.SweepBodies.{OpensNoGate}
 
 -- ---- plays, line by line
 
@@ -47,7 +48,7 @@ base_in (Cold m b a) = (warmed m b a).base
 base_in (Hot s) = s.base
 
 -- what is told of a base
-abbrev pub shown : List (List ℕ) → Base → Told
+abbrev pub shown : List (List ℕ) → Base → ToldState
 shown names (OnCard c) = Holds (held_under names c.apps)
 shown names (AtFault cause place) = NoCard cause place
 
@@ -88,25 +89,21 @@ pub shown-none : (names : List (List ℕ)) (b : Base) → shown names (base_done
 shown-none names (OnCard c) = refl
 shown-none names (AtFault cause place) = refl
 
--- a word that opens no gate
-abbrev pub Shuts : List ℕ → Type 0
-Shuts x = bytes_eq x (opening Two) ≡ false
-
-pub zeros-shut : Shuts (zeros 8)
+pub zeros-shut : OpensNoGate (zeros 8)
 zeros-shut = refl
 
-pub ones-shut : Shuts ones
+pub ones-shut : OpensNoGate ones
 ones-shut = refl
 
 -- which items are whole does not depend on such a word
-stands-same : (w k : ℕ) (x y : List ℕ) → Shuts x → Shuts y → stands Two w k x ≡ stands Two w k y
+stands-same : (w k : ℕ) (x y : List ℕ) → OpensNoGate x → OpensNoGate y → stands Two w k x ≡ stands Two w k y
 stands-same w k x y hx hy = ap (λ (b : Bool). nat_lt (opens_at Two w) k || ((k == opens_at Two w) && b)) (hx ∙ sym hy)
 
 either-whole : (b : Bool) (s t u v : Stopped) → s.whole ≡ u.whole → t.whole ≡ v.whole → (cond b s t).whole ≡ (cond b u v).whole
 either-whole true s t u v first second = first
 either-whole false s t u v first second = second
 
-pub whole-same : (is : List Item) (k : ℕ) (x y : List ℕ) → Shuts x → Shuts y → (at_stop is k x).whole ≡ (at_stop is k y).whole
+pub whole-same : (is : List Item) (k : ℕ) (x y : List ℕ) → OpensNoGate x → OpensNoGate y → (at_stop is k x).whole ≡ (at_stop is k y).whole
 whole-same [] k x y hx hy = refl
 whole-same (Plain ∷ is) k x y hx hy = either-whole (k == 1) _ _ _ _ refl (ap (λ (js : List Item). Plain ∷ js) (whole-same is (k - 1) x y hx hy))
 whole-same (Atomic w c ∷ is) k x y hx hy =
@@ -128,7 +125,7 @@ cut_at k x = record { kind = stop.Off; at = k; left = x }
 abbrev hot : Base → ℕ → Journal → Live → ℕ → Armed → Warm
 hot b o j v g a = record { base = b; owed = o; by = j; live = v; budget = g; armed = a }
 
-command-cut : (n : ℕ) (l : DeckLine) (c : Card) (o : ℕ) (j : Journal) (v : Live) (g k : ℕ) (x : List ℕ) (r : Command) → Shuts x → (b : Bool) → b ≡ true
+command-cut : (n : ℕ) (l : DeckLine) (c : Card) (o : ℕ) (j : Journal) (v : Live) (g k : ℕ) (x : List ℕ) (r : Command) → OpensNoGate x → (b : Bool) → b ≡ true
     → CutTo (Hot (hot (OnCard c) o j v g Unarmed)) (at_stop r.items k (zeros 8)).whole (command_step n l (hot (OnCard c) o j v g (ArmedCut k x)) c r (cond b (Some (cut_at k x)) None)).after
 command-cut n l c o j v g k x r shuts true is =
     record {
@@ -139,7 +136,7 @@ command-cut n l c o j v g k x r shuts true is =
     }
 command-cut n l c o j v g k x r shuts false is = absurd (cc is)
 
-card-cut : (n : ℕ) (l : DeckLine) (b : Base) (o : ℕ) (j : Journal) (v : Live) (g k : ℕ) (x : List ℕ) → Shuts x → 1 ≤ k → k ≤ moves (card_line n l (hot b o j v g Unarmed) v b None).items
+card-cut : (n : ℕ) (l : DeckLine) (b : Base) (o : ℕ) (j : Journal) (v : Live) (g k : ℕ) (x : List ℕ) → OpensNoGate x → 1 ≤ k → k ≤ moves (card_line n l (hot b o j v g Unarmed) v b None).items
     → CutTo (Hot (hot b o j v g Unarmed)) (at_stop (card_line n l (hot b o j v g Unarmed) v b None).items k (zeros 8)).whole (card_line n l (hot b o j v g (ArmedCut k x)) v b None).after
 card-cut n l (OnCard c) o j (Running seat) g k x shuts low high =
     let r = line_command c seat g l in
@@ -181,7 +178,7 @@ warmed-base : (m : List (List ℕ)) (b : ℕ) (a c : Armed) → (warmed m b a).b
 unfolding warmed
 warmed-base m b a c = refl
 
-cold-cut : (n i : ℕ) (l : DeckLine) (m : List (List ℕ)) (b k : ℕ) (x : List ℕ) → is_card_line l ≡ true → Shuts x → 1 ≤ k → k ≤ moves_of (Cold m b Unarmed) (n, l)
+cold-cut : (n i : ℕ) (l : DeckLine) (m : List (List ℕ)) (b k : ℕ) (x : List ℕ) → is_card_line l ≡ true → OpensNoGate x → 1 ≤ k → k ≤ moves_of (Cold m b Unarmed) (n, l)
     → CutTo (Cold m b Unarmed) (at_stop (step (Cold m b Unarmed) (n, l) None).items k (zeros 8)).whole (next (next (Cold m b Unarmed) (cut i k x)) (n, l))
 unfolding step moves_of
 cold-cut n i line.Power m b k x is shuts low high =
@@ -201,7 +198,7 @@ cold-cut n i (line.Delete a) m b k x is shuts low high = absurd (omega arith)
 cold-cut n i (line.Apdu a) m b k x is shuts low high = absurd (omega arith)
 
 -- a line from the first power line on
-hot-cut : (n i : ℕ) (l : DeckLine) (b : Base) (o : ℕ) (j : Journal) (v : Live) (g k : ℕ) (x : List ℕ) → is_card_line l ≡ true → Shuts x → 1 ≤ k → k ≤ moves_of (Hot (hot b o j v g Unarmed)) (n, l)
+hot-cut : (n i : ℕ) (l : DeckLine) (b : Base) (o : ℕ) (j : Journal) (v : Live) (g k : ℕ) (x : List ℕ) → is_card_line l ≡ true → OpensNoGate x → 1 ≤ k → k ≤ moves_of (Hot (hot b o j v g Unarmed)) (n, l)
     → CutTo (Hot (hot b o j v g Unarmed)) (at_stop (step (Hot (hot b o j v g Unarmed)) (n, l) None).items k (zeros 8)).whole (next (next (Hot (hot b o j v g Unarmed)) (cut i k x)) (n, l))
 unfolding step moves_of
 hot-cut n i line.Power b o j v g k x is shuts low high =
@@ -219,14 +216,14 @@ hot-cut n i (line.Select a) b o j v g k x is shuts low high = card-cut n (line.S
 hot-cut n i (line.Delete a) b o j v g k x is shuts low high = card-cut n (line.Delete a) b o j v g k x shuts low (omega arith)
 hot-cut n i (line.Apdu a) b o j v g k x is shuts low high = card-cut n (line.Apdu a) b o j v g k x shuts low (omega arith)
 
-armed-cut : (n i : ℕ) (l : DeckLine) (b : Base) (o : ℕ) (j : Journal) (v : Live) (g : ℕ) (a : Armed) (k : ℕ) (x : List ℕ) → a ≡ Unarmed → is_card_line l ≡ true → Shuts x → 1 ≤ k → k ≤ moves_of (Hot (hot b o j v g a)) (n, l)
+armed-cut : (n i : ℕ) (l : DeckLine) (b : Base) (o : ℕ) (j : Journal) (v : Live) (g : ℕ) (a : Armed) (k : ℕ) (x : List ℕ) → a ≡ Unarmed → is_card_line l ≡ true → OpensNoGate x → 1 ≤ k → k ≤ moves_of (Hot (hot b o j v g a)) (n, l)
     → CutTo (Hot (hot b o j v g a)) (at_stop (step (Hot (hot b o j v g a)) (n, l) None).items k (zeros 8)).whole (next (next (Hot (hot b o j v g a)) (cut i k x)) (n, l))
 armed-cut n i l b o j v g Unarmed k x is card shuts low high = hot-cut n i l b o j v g k x card shuts low high
 armed-cut n i l b o j v g (ArmedCut h y) k x is card shuts low high = absurd (cc is)
 armed-cut n i l b o j v g (ArmedFail h) k x is card shuts low high = absurd (cc is)
 
 -- any line for which no stop is armed, with its write k cut
-pub line-cut : (s : State) (l : ℕ × DeckLine) (i k : ℕ) (x : List ℕ) → armed_in s ≡ Unarmed → is_card_line l.1 ≡ true → Shuts x → 1 ≤ k → k ≤ moves_of s l
+pub line-cut : (s : State) (l : ℕ × DeckLine) (i k : ℕ) (x : List ℕ) → armed_in s ≡ Unarmed → is_card_line l.1 ≡ true → OpensNoGate x → 1 ≤ k → k ≤ moves_of s l
     → CutTo s (at_stop (step s l None).items k (zeros 8)).whole (next (next s (cut i k x)) l)
 line-cut (Cold m b Unarmed) l i k x is card shuts low high = cold-cut l.0 i l.1 m b k x card shuts low high
 line-cut (Cold m b (ArmedCut h y)) l i k x is card shuts low high = absurd (cc is)

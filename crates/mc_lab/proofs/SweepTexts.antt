@@ -50,8 +50,8 @@ before-other j k w v [] h = apart-if k w (record { first = j; last = j; word = v
 before-other j k w v (r ∷ rs) h = other-by j k w v r rs h (is_word v r.word) refl
 
 -- what stands behind so many words is another word, or nothing
-abbrev pub Ends : List Word → ℕ → Word → Type 0
-Ends ws n w = (length ws ≤ n) ⊎ (is_word w (get_or ws n Before) ≡ false)
+abbrev pub RunEnds : List Word → ℕ → Word → Type 0
+RunEnds ws n w = (length ws ≤ n) ⊎ (is_word w (get_or ws n Before) ≡ false)
 
 -- so many words at the front are one
 abbrev pub Fronts : List Word → ℕ → Word → Type 0
@@ -68,23 +68,23 @@ pub fronts-one : (ws : List Word) → Fronts ws 1 (get_or ws 0 Before)
 fronts-one ws zero lt = word-itself (get_or ws 0 Before)
 fronts-one ws (suc i) lt = absurd (omega arith)
 
-first-run : (k : ℕ) (w : Word) (ws : List Word) → Ends (w ∷ ws) 1 w → runs k (w ∷ ws) ≡ record { first = k; last = k; word = w } ∷ runs (k + 1) ws
+first-run : (k : ℕ) (w : Word) (ws : List Word) → RunEnds (w ∷ ws) 1 w → runs k (w ∷ ws) ≡ record { first = k; last = k; word = w } ∷ runs (k + 1) ws
 first-run k w [] h = refl
 first-run k w (v ∷ vs) (inl short) = absurd (omega arith)
 first-run k w (v ∷ vs) (inr other) = before-other (k + 1) k w v (runs (k + 1 + 1) vs) other
 
-later : (vs : List Word) (n : ℕ) (w v : Word) → Ends (v ∷ vs) (suc (suc n)) w → Ends vs (suc n) w
+later : (vs : List Word) (n : ℕ) (w v : Word) → RunEnds (v ∷ vs) (suc (suc n)) w → RunEnds vs (suc n) w
 later vs n w v (inl short) = inl (omega arith)
 later vs n w v (inr other) = inr other
 
 -- n words at the front are one, and no more
-pub runs-front : (n k : ℕ) (w : Word) (ws : List Word) → suc n ≤ length ws → Fronts ws (suc n) w → Ends ws (suc n) w
+pub runs-front : (n k : ℕ) (w : Word) (ws : List Word) → suc n ≤ length ws → Fronts ws (suc n) w → RunEnds ws (suc n) w
     → runs k ws ≡ record { first = k; last = k + n; word = w } ∷ runs (k + suc n) (drop (suc n) ws)
 runs-front n k w [] in_list same ends = absurd (omega arith)
 runs-front zero k w (v ∷ vs) in_list same ends =
     let e : w ≡ v = one-word w v (same 0 (omega arith)) in
     subst (λ (x : Word). runs k (x ∷ vs) ≡ record { first = k; last = k + 0; word = w } ∷ runs (k + 1) vs) e
-    (first-run k w vs (subst (λ (x : Word). Ends (x ∷ vs) 1 w) (sym e) ends) ∙ ap (λ (i : ℕ). record { first = k; last = i; word = w } ∷ runs (k + 1) vs) (let f : k ≡ k + 0 = omega arith in f))
+    (first-run k w vs (subst (λ (x : Word). RunEnds (x ∷ vs) 1 w) (sym e) ends) ∙ ap (λ (i : ℕ). record { first = k; last = i; word = w } ∷ runs (k + 1) vs) (let f : k ≡ k + 0 = omega arith in f))
 runs-front (suc n) k w (v ∷ vs) in_list same ends =
     let e : w ≡ v = one-word w v (same 0 (omega arith)) in
     ap (λ (rs : List Run). with_write k v rs) (runs-front n (k + 1) w vs (omega arith) (λ i h. same (suc i) (omega arith)) (later vs n w v ends))
@@ -93,7 +93,7 @@ runs-front (suc n) k w (v ∷ vs) in_list same ends =
     ∙ ap (λ (i : ℕ). record { first = k; last = k + suc n; word = w } ∷ runs i (drop (suc n) vs)) (let f : k + 1 + suc n ≡ k + suc (suc n) = omega arith in f)
 
 -- the same by a length
-pub runs-len : (n k : ℕ) (ws : List Word) → 1 ≤ n → n ≤ length ws → Fronts ws n (get_or ws 0 Before) → Ends ws n (get_or ws 0 Before)
+pub runs-len : (n k : ℕ) (ws : List Word) → 1 ≤ n → n ≤ length ws → Fronts ws n (get_or ws 0 Before) → RunEnds ws n (get_or ws 0 Before)
     → runs k ws ≡ record { first = k; last = k + n - 1; word = get_or ws 0 Before } ∷ runs (k + n) (drop n ws)
 runs-len zero k ws low high same ends = absurd (omega arith)
 runs-len (suc n) k ws low high same ends =

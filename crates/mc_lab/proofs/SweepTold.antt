@@ -14,24 +14,25 @@ use Rattle.mc_model.specs.Transcript.{cause_text}
 use Rattle.mc_model.specs.Play.{Armed, Unarmed, ArmedCut, ArmedFail, Base, OnCard, State, Hot, moves_of, armed_in, is_card_line}
 use Rattle.mc_model.specs.DeckGrammar.{DeckLine}
 use Rattle.mc_model.proofs.ListLemmas.{and-true as both-true}
-use Rattle.mc_lab.specs.Sweeps.{played, Told, Holds, NoCard, held_under, are_same_held, told, is_same, word_by, word_if, word_of, all_same, ones, cut, power, under_cut, under_cuts, writes_behind, recovered, tried, is_unarmed, is_swept}
+use Rattle.mc_lab.specs.Sweeps.{played, ToldState, Holds, NoCard, held_under, are_same_held, told, is_same, word_by, word_if, word_of, all_same, ones, cut, power, under_cut, under_cuts, writes_behind, recovered, tried, is_unarmed, is_swept}
 use Rattle.mc_lab.specs.declared.sweep_word.Word.{Word}
 use Rattle.mc_lab.specs.declared.sweep_word.Word.TheVariants.{Before, After, Same}
 use Rattle.mc_lab.specs.SweepLaws.{changing, opening, items_behind, changing_behind, opening_behind}
-use Rattle.mc_lab.proofs.SweepPlays.{next, played-one, played-two, base_in, shown, told-lines, base_done, shown-none, Shuts, zeros-shut, ones-shut, CutTo, line-cut, line-whole, power-items, items-on}
+use Rattle.mc_lab.proofs.SweepPlays.{next, played-one, played-two, base_in, shown, told-lines, base_done, shown-none, zeros-shut, ones-shut, CutTo, line-cut, line-whole, power-items, items-on}
+use Rattle.mc_lab.specs.SweepBodies.{OpensNoGate}
 use Rattle.mc_lab.proofs.SweepChanges.{all-held-itself, apart-turned, none-stopped, none-done, Splits, one-splits}
 use Rattle.mc_lab.proofs.SweepRuns.{all-counted}
 
 -- ---- the same is told
 
-told-itself : (t : Told) → is_same t t ≡ true
+told-itself : (t : ToldState) → is_same t t ≡ true
 told-itself (Holds a) = all-held-itself a
 told-itself (NoCard c p) = both-true (bytes_eq (cause_text c) (cause_text c)) (p == p) ((bytes_eq-Decides (cause_text c) (cause_text c)).1 refl) (eq-eqb p p refl)
 
-all-the-same : (t : Told) (ts : List Told) → AllByRecursion (λ u. u ≡ t) ts → all_same t ts ≡ true
+all-the-same : (t : ToldState) (ts : List ToldState) → AllByRecursion (λ u. u ≡ t) ts → all_same t ts ≡ true
 all-the-same t [] all = refl
 all-the-same t (u ∷ us) all =
-    both-true (is_same u t) (all_same t us) (subst (λ (x : Told). is_same x t ≡ true) (sym all.0) (told-itself t)) (all-the-same t us all.1)
+    both-true (is_same u t) (all_same t us) (subst (λ (x : ToldState). is_same x t ≡ true) (sym all.0) (told-itself t)) (all-the-same t us all.1)
 
 -- ---- a line that is swept
 
@@ -56,7 +57,7 @@ module _ (names : List (List ℕ)) (front : List (ℕ × DeckLine)) (l : ℕ × 
   state = played front
 
   -- what is told once these items are whole
-  abbrev shown_with : List Item → Told
+  abbrev shown_with : List Item → ToldState
   shown_with is = shown names (base_done (base_in state) is)
 
   -- the items that are whole after a cut
@@ -72,17 +73,17 @@ module _ (names : List (List ℕ)) (front : List (ℕ × DeckLine)) (l : ℕ × 
       told-lines names (front ++ l ∷ []) (Hot c.warm) (played-one front l ∙ c.state) c.unarmed ∙ c.told names
 
   module _ (k : ℕ) (low : 1 ≤ k) (high : k ≤ writes_behind front l) where
-    cut-line : (x : List ℕ) → Shuts x → CutTo state (whole_at k) (next (next state (cut l.0 k x)) l)
+    cut-line : (x : List ℕ) → OpensNoGate x → CutTo state (whole_at k) (next (next state (cut l.0 k x)) l)
     cut-line x shuts = line-cut state l l.0 k x at.unarmed at.card shuts low high
 
-    cut-state : (x : List ℕ) (shuts : Shuts x) → played (under_cut front l k x) ≡ Hot (cut-line x shuts).warm
+    cut-state : (x : List ℕ) (shuts : OpensNoGate x) → played (under_cut front l k x) ≡ Hot (cut-line x shuts).warm
     cut-state x shuts = played-two front (cut l.0 k x) l ∙ (cut-line x shuts).state
 
-    cut-told : (x : List ℕ) → Shuts x → told names (under_cut front l k x) ≡ shown_with (whole_at k)
+    cut-told : (x : List ℕ) → OpensNoGate x → told names (under_cut front l k x) ≡ shown_with (whole_at k)
     cut-told x shuts = let c = cut-line x shuts in told-lines names (under_cut front l k x) (Hot c.warm) (cut-state x shuts) c.unarmed ∙ c.told names
 
     -- the recovery is cut too
-    cuts-told : (x : List ℕ) → Shuts x → (j : ℕ) → 1 ≤ j → j ≤ writes_behind (under_cut front l k x) (power l.0) → told names (under_cuts front l k x j) ≡ shown_with (whole_at k)
+    cuts-told : (x : List ℕ) → OpensNoGate x → (j : ℕ) → 1 ≤ j → j ≤ writes_behind (under_cut front l k x) (power l.0) → told names (under_cuts front l k x j) ≡ shown_with (whole_at k)
     cuts-told x shuts j first last =
         let c = cut-line x shuts in
         let d = line-cut (Hot c.warm) (power l.0) l.0 j x c.unarmed refl shuts first (subst (λ (s : State). j ≤ moves_of s (power l.0)) (cut-state x shuts) last) in
@@ -93,12 +94,12 @@ module _ (names : List (List ℕ)) (front : List (ℕ × DeckLine)) (l : ℕ × 
         ∙ shown-none names c.warm.base
         ∙ c.told names
 
-    recovered-all : (x : List ℕ) → Shuts x → AllByRecursion (λ u. u ≡ shown_with (whole_at k)) (recovered names front l k x)
+    recovered-all : (x : List ℕ) → OpensNoGate x → AllByRecursion (λ u. u ≡ shown_with (whole_at k)) (recovered names front l k x)
     recovered-all x shuts =
         all-counted (λ u. u ≡ shown_with (whole_at k)) (λ j. told names (under_cuts front l k x j)) 1 (writes_behind (under_cut front l k x) (power l.0))
         (λ j first last. cuts-told x shuts j first (omega arith))
 
-    others : List Told
+    others : List ToldState
     others = recovered names front l k (zeros 8) ++ told names (under_cut front l k ones) ∷ recovered names front l k ones
 
     others-all : AllByRecursion (λ u. u ≡ shown_with (whole_at k)) others
@@ -108,9 +109,9 @@ module _ (names : List (List ℕ)) (front : List (ℕ × DeckLine)) (l : ℕ × 
         (recovered-all (zeros 8) zeros-shut) (cut-told ones ones-shut, recovered-all ones ones-shut)
 
     -- the states of one write do not differ
-    word-same : (before after t u : Told) (ts : List Told) → t ≡ u → all_same u ts ≡ true → word_of before after t ts ≡ word_by (is_same u before) (is_same u after)
+    word-same : (before after t u : ToldState) (ts : List ToldState) → t ≡ u → all_same u ts ≡ true → word_of before after t ts ≡ word_by (is_same u before) (is_same u after)
     word-same before after t u ts e all =
-        ap (λ (x : Told). word_of before after x ts) e ∙ ap (λ (b : Bool). word_if b (word_by (is_same u before) (is_same u after))) all
+        ap (λ (x : ToldState). word_of before after x ts) e ∙ ap (λ (b : Bool). word_if b (word_by (is_same u before) (is_same u after))) all
 
     -- the word of a write: by its whole items, and those of before and after
     pub word-told : (tried names front l (told names front) (told names (front ++ l ∷ [])) k).word
@@ -119,8 +120,8 @@ module _ (names : List (List ℕ)) (front : List (ℕ × DeckLine)) (l : ℕ × 
     word-told =
         word-same (told names front) (told names (front ++ l ∷ [])) (told names (under_cut front l k (zeros 8))) (shown_with (whole_at k)) others
         (cut-told (zeros 8) zeros-shut) (all-the-same (shown_with (whole_at k)) others others-all)
-        ∙ ap (λ (b : Told). word_by (is_same (shown_with (whole_at k)) b) (is_same (shown_with (whole_at k)) (told names (front ++ l ∷ [])))) before-told
-        ∙ ap (λ (a : Told). word_by (is_same (shown_with (whole_at k)) (shown_with [])) (is_same (shown_with (whole_at k)) a)) after-told
+        ∙ ap (λ (b : ToldState). word_by (is_same (shown_with (whole_at k)) b) (is_same (shown_with (whole_at k)) (told names (front ++ l ∷ [])))) before-told
+        ∙ ap (λ (a : ToldState). word_by (is_same (shown_with (whole_at k)) (shown_with [])) (is_same (shown_with (whole_at k)) a)) after-told
 
   -- ---- by the items that change what is told
 
@@ -155,9 +156,9 @@ module _ (names : List (List ℕ)) (front : List (ℕ × DeckLine)) (l : ℕ × 
         → word_at k ≡ word_by (are_same_held (held_with (whole_at k)) (held_with [])) (are_same_held (held_with (whole_at k)) (held_with (items_behind front l)))
     word-held k low high =
         word-told k low high
-        ∙ ap (λ (t : Told). word_by (is_same t (shown_with [])) (is_same t (shown_with (items_behind front l)))) (on-card (whole_at k))
-        ∙ ap (λ (t : Told). word_by (is_same (Holds (held_with (whole_at k))) t) (is_same (Holds (held_with (whole_at k))) (shown_with (items_behind front l)))) (on-card [])
-        ∙ ap (λ (t : Told). word_by (are_same_held (held_with (whole_at k)) (held_with [])) (is_same (Holds (held_with (whole_at k))) t)) (on-card (items_behind front l))
+        ∙ ap (λ (t : ToldState). word_by (is_same t (shown_with [])) (is_same t (shown_with (items_behind front l)))) (on-card (whole_at k))
+        ∙ ap (λ (t : ToldState). word_by (is_same (Holds (held_with (whole_at k))) t) (is_same (Holds (held_with (whole_at k))) (shown_with (items_behind front l)))) (on-card [])
+        ∙ ap (λ (t : ToldState). word_by (are_same_held (held_with (whole_at k)) (held_with [])) (is_same (Holds (held_with (whole_at k))) t)) (on-card (items_behind front l))
 
     -- none of its items does
     card-same : (k : ℕ) → 1 ≤ k → k ≤ writes_behind front l → changing_behind names front l ≡ 0 → word_at k ≡ Same

@@ -3,7 +3,7 @@ use Rattle.std.proofs.Common.{◌≡◌, ◌+◌, ◌<◌, ◌≤◌, refl, sym,
 use Rattle.std.specs.Prelude.{nat_lt}
 use Rattle.mc_model.specs.DeckGrammar.{DeckLine, deck_read}
 use Rattle.mc_model.specs.declared.deck.DeckCause.{DeckCause}
-use Rattle.mc_deck.specs.Refused.{Refused}
+use Rattle.mc_deck.specs.Refused.{DeckRefuses}
 use Rattle.mc_deck.specs.declared.refusal.DeckRefusal.{DeckRefusal}
 use Rattle.mc_deck.specs.declared.refusal.DeckRefusal.TheVariants as deck
 use Rattle.mc_lab.specs.Trials.{refusal_of, RefusesTrial}
@@ -13,8 +13,8 @@ use Rattle.mc_lab.proofs.RisingLemmas.{rising-lower}
 use Rattle.mc_lab.proofs.BelowLemmas.{count-on, last-is}
 
 -- so many lines stand above some number, and no expectation that is left is below it
-abbrev pub Above : List (ℕ × DeckLine) → ℕ → List (ℕ × List ℕ) → Type 0
-Above ls count left = (m : ℕ) × (count ≡ count_below line_number m ls) × Rising line_number m left
+abbrev pub LinesAbove : List (ℕ × DeckLine) → ℕ → List (ℕ × List ℕ) → Type 0
+LinesAbove ls count left = (m : ℕ) × (count ≡ count_below line_number m ls) × Rising line_number m left
 
 count-zero : (ls : List (ℕ × DeckLine)) → 0 ≡ count_below line_number 0 ls
 count-zero [] = refl
@@ -22,16 +22,16 @@ count-zero (l ∷ ls) =
     let no : nat_lt l.0 0 ≡ false = grind arith in
     sym (ap (λ b. cond b (suc (count_below line_number 0 ls)) 0) no)
 
-pub above-start : (ls : List (ℕ × DeckLine)) (es : List (ℕ × List ℕ)) → Rising line_number 1 es → Above ls 0 es
+pub above-start : (ls : List (ℕ × DeckLine)) (es : List (ℕ × List ℕ)) → Rising line_number 1 es → LinesAbove ls 0 es
 above-start ls es h = (0, count-zero ls, rising-lower line_number 0 1 es (omega arith) h)
 
 -- those above an expectation are counted on
-pub above-from : (ls : List (ℕ × DeckLine)) (count : ℕ) (left : List (ℕ × List ℕ)) (e : ℕ × List ℕ) (es : List (ℕ × List ℕ)) → left ≡ e ∷ es → Above ls count left → count + count_below line_number e.0 (drop count ls) ≡ count_below line_number e.0 ls
+pub above-from : (ls : List (ℕ × DeckLine)) (count : ℕ) (left : List (ℕ × List ℕ)) (e : ℕ × List ℕ) (es : List (ℕ × List ℕ)) → left ≡ e ∷ es → LinesAbove ls count left → count + count_below line_number e.0 (drop count ls) ≡ count_below line_number e.0 ls
 above-from ls count left e es i h =
     let rises : Rising line_number h.0 (e ∷ es) = subst (λ (l : List (ℕ × List ℕ)). Rising line_number h.0 l) i h.2 in
     subst (λ (k : ℕ). k + count_below line_number e.0 (drop k ls) ≡ count_below line_number e.0 ls) (sym h.1) (count-on line_number h.0 e.0 ls rises.0)
 
-pub above-on : (ls : List (ℕ × DeckLine)) (count now : ℕ) (left : List (ℕ × List ℕ)) (e : ℕ × List ℕ) (es : List (ℕ × List ℕ)) → left ≡ e ∷ es → now ≡ count_below line_number e.0 ls → Above ls count left → Above ls now es
+pub above-on : (ls : List (ℕ × DeckLine)) (count now : ℕ) (left : List (ℕ × List ℕ)) (e : ℕ × List ℕ) (es : List (ℕ × List ℕ)) → left ≡ e ∷ es → now ≡ count_below line_number e.0 ls → LinesAbove ls count left → LinesAbove ls now es
 above-on ls count now left e es i k h =
     let rises : Rising line_number h.0 (e ∷ es) = subst (λ (l : List (ℕ × List ℕ)). Rising line_number h.0 l) i h.2 in
     (e.0, k, rising-lower line_number e.0 (suc e.0) es (omega arith) rises.1)
@@ -71,6 +71,6 @@ pub read-trial : (text : List ℕ) (ls : List (ℕ × DeckLine)) (es : List (ℕ
 read-trial text ls es o e h w = read-as text es (Ok ls) e h ∙ ap (trial_unless (record { lines = ls; expected = es })) (sym w)
 
 -- a deck that is refused refuses the trial
-pub refused-deck : (text : List ℕ) (e : DeckRefusal) → Refused (deck_read text) e → RefusesTrial (trial_read text) (refusal_of e)
+pub refused-deck : (text : List ℕ) (e : DeckRefusal) → DeckRefuses (deck_read text) e → RefusesTrial (trial_read text) (refusal_of e)
 refused-deck text (deck.At n c) h = read-deck text n c h
 refused-deck text deck.NoMemory h = tt

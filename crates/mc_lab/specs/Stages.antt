@@ -4,7 +4,7 @@ use Rattle.mc_model.specs.Device.{DeviceState, BenchState}
 use Rattle.mc_model.specs.DeckGrammar.{DeckLine}
 use Rattle.mc_model.specs.Play.{State, Step}
 use Rattle.mc_script.specs.declared.player.Player.{Player}
-use Rattle.mc_script.specs.Players.{device_of, IsAt}
+use Rattle.mc_script.specs.Players.{device_of, IsPlayerAt}
 use Rattle.mc_lab.specs.Rising.{last_of}
 use Rattle.mc_lab.specs.Expectations.{steady_from, step_text}
 
@@ -12,7 +12,7 @@ module _ {N : Type 0} (state : N → DeviceState) (bench : N → BenchState) whe
   -- the first of some lines were played on a steady bench, as the steps of the whole play; the text is the result of the last of them
   pub record Staged (whole : List Step) (ls : List (ℕ × DeckLine)) (p : Player N) (count : ℕ) (text : List ℕ) : Type 0 where
     pub here : State
-    pub at : IsAt state bench p here
+    pub at : IsPlayerAt state bench p here
     pub steady : (bench (device_of p)).steady ≡ true
     pub rest : drop count whole ≡ steady_from here (drop count ls)
     pub last : text ≡ step_text (last_of count whole)

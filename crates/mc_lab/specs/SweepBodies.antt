@@ -7,7 +7,7 @@ use Rattle.mc_model.specs.Play.{State, armed_in, is_card_line}
 use Rattle.mc_model.specs.DeckGrammar.{DeckLine}
 use Rattle.mc_model.specs.DeckGrammar as line
 use Rattle.mc_lab.specs.declared.sweep_word.Word.{Word}
-use Rattle.mc_lab.specs.Sweeps.{word_if, word_by, recovered, told, Tried, tried, stepped, played, cut, power, under_cut, under_cuts, writes_behind, is_unarmed, Told, Holds, NoCard}
+use Rattle.mc_lab.specs.Sweeps.{word_if, word_by, recovered, told, Tried, tried, stepped, played, cut, power, under_cut, under_cuts, writes_behind, is_unarmed, ToldState, Holds, NoCard}
 use Rattle.mc_lab.specs.SweepLaws.{is_off}
 use Rattle.mc_lab.specs.declared.sweep_account.Account.{Account}
 use Rattle.mc_lab.specs.declared.sweep_trial.Behind.{Behind}
@@ -23,12 +23,12 @@ abbrev pub held_value : Option (ArrayVec ℕ) → Option (List ℕ)
 held_value h = option_map (λ b. b.items) h
 
 -- what is told, by the fault and by what is held
-abbrev pub told_with : Option Unusable → List (Option (List ℕ)) → Told
+abbrev pub told_with : Option Unusable → List (Option (List ℕ)) → ToldState
 told_with None h = Holds h
 told_with (Some u) h = NoCard u.cause u.place
 
 -- what an account tells
-abbrev pub account_value : Account → Told
+abbrev pub account_value : Account → ToldState
 account_value a = told_with a.fault (map held_value a.held.items)
 
 -- ---- plays
@@ -81,7 +81,7 @@ abbrev pub IsPlace : Place → Type 0
 IsPlace p = p.at < length p.deck.now
 
 -- what is told of a play of a place
-abbrev pub told_in : Place → Behind → Told
+abbrev pub told_in : Place → Behind → ToldState
 told_in p b = told (names_in p) (lines_behind (front_of p) (line_in p) b)
 
 -- whether the last cut of a play of a place hit its line
@@ -104,7 +104,7 @@ IsFewBehind p (behind.Cut k fill) = again_in p k fill ≤ 65535
 IsFewBehind p (behind.Twice k fill again) = Unit {0}
 
 -- the states where the recovery behind a cut is cut too
-abbrev pub recovered_in : Place → ℕ → List ℕ → List Told
+abbrev pub recovered_in : Place → ℕ → List ℕ → List ToldState
 recovered_in p k fill = recovered (names_in p) (front_of p) (line_in p) k fill
 
 -- one write of the line
@@ -112,24 +112,24 @@ abbrev pub tried_in : Place → ℕ → Tried
 tried_in p k = tried (names_in p) (front_of p) (line_in p) (told_in p behind.Nothing) (told_in p behind.Whole) k
 
 -- an account has room for the names
-abbrev pub Fits : Account → Place → Type 0
-Fits a p = length a.held.items ≡ length p.names.now
+abbrev pub AccountFits : Account → Place → Type 0
+AccountFits a p = length a.held.items ≡ length p.names.now
 
 -- each account has room for so many names
-pub record HasRoom (e : Ends) (p : Pair) (n : ℕ) : Type 0 where
+pub record AccountsHaveRoom (e : Ends) (p : Pair) (n : ℕ) : Type 0 where
   pub before : length e.before.held.items ≡ n
   pub after : length e.after.held.items ≡ n
   pub first : length p.first.held.items ≡ n
   pub now : length p.now.held.items ≡ n
 
 -- a line to the card for which no stop is armed
-pub record IsOpen (p : Place) : Type 0 where
+pub record IsUnarmedLine (p : Place) : Type 0 where
   pub card : is_card_line (line_in p).1 ≡ true
   pub unarmed : is_unarmed (armed_in (played (front_of p))) ≡ true
 
 -- a word that opens no gate
-abbrev pub Shuts : List ℕ → Type 0
-Shuts x = bytes_eq x (opening Two) ≡ false
+abbrev pub OpensNoGate : List ℕ → Type 0
+OpensNoGate x = bytes_eq x (opening Two) ≡ false
 
 -- ---- the writes of a line
 

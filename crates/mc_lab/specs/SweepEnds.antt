@@ -11,7 +11,7 @@ use Rattle.mc_lab.specs.declared.sweep_line.Ends.{Ends}
 use Rattle.mc_lab.specs.declared.sweep_line.Pair.{Pair}
 use Rattle.mc_lab.specs.declared.sweeping.SweepFault.{SweepFault}
 use Rattle.mc_lab.specs.declared.sweeping.SweepFault.TheVariants as fault
-use Rattle.mc_lab.specs.SweepBodies.{line_at, front_of, line_in, names_in, HasRoom}
+use Rattle.mc_lab.specs.SweepBodies.{line_at, front_of, line_in, names_in, AccountsHaveRoom}
 
 -- ---- lines
 
@@ -49,7 +49,7 @@ left_from names ls i = sweep_behind names (take i ls) (drop i ls)
 -- ---- sums
 
 -- sums with those of swept lines
-pub record Adds (a : Sums) (ss : List Swept) (b : Sums) : Type 0 where
+pub record AddsSums (a : Sums) (ss : List Swept) (b : Sums) : Type 0 where
   pub lines : b.lines ≡ a.lines + length ss
   pub writes : b.writes ≡ a.writes + total (λ s. length s.words) ss
   pub plays : b.plays ≡ a.plays + total (λ s. s.plays) ss
@@ -65,12 +65,12 @@ pub record IsSmall (a : Sums) (n : ℕ) : Type 0 where
 -- there is room for a sweep of a deck
 pub record IsRoom (ls : List (ℕ × DeckLine)) (names : List (List ℕ)) (e : Ends) (p : Pair) (words : ℕ) : Type 0 where
   pub names_are : names ≡ names_from [] ls
-  pub accounts : HasRoom e p (length names)
+  pub accounts : AccountsHaveRoom e p (length names)
   pub most : AtMost ls (length ls) words
   pub few : words ≤ 4294967295
 
 -- a text was told, by the result; nothing was where there was no room
-abbrev pub Tells : Sunk → List ℕ → Result (Unit {0}) SweepFault → Sunk → Type 0
-Tells a text (Ok u) b = Writes a text b
-Tells a text (Err fault.WriteFault) b = Fails a text b
-Tells a text (Err fault.NoMemory) b = b ≡ a
+abbrev pub TellsSweep : Sunk → List ℕ → Result (Unit {0}) SweepFault → Sunk → Type 0
+TellsSweep a text (Ok u) b = Writes a text b
+TellsSweep a text (Err fault.WriteFault) b = Fails a text b
+TellsSweep a text (Err fault.NoMemory) b = b ≡ a

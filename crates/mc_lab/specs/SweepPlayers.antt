@@ -7,7 +7,7 @@ use Rattle.mc_model.specs.DeckGrammar.{DeckLine}
 use Rattle.mc_script.specs.declared.answer.Answer.{Answer}
 use Rattle.mc_script.specs.declared.answer.Answer.TheVariants as answer
 use Rattle.mc_script.specs.declared.player.Player.{Player}
-use Rattle.mc_script.specs.Players.{answer_value, device_of, IsAt}
+use Rattle.mc_script.specs.Players.{answer_value, device_of, IsPlayerAt}
 use Rattle.mc_lab.specs.Sweeps.{stepped, played, cut}
 use Rattle.mc_lab.specs.SweepLaws.{is_off}
 use Rattle.mc_lab.specs.declared.sweep_trial.Behind.{Behind}
@@ -26,7 +26,7 @@ fault_in r = None
 module _ {N : Type 0} (state : N → DeviceState) (bench : N → BenchState) where
   -- a player stands for a state, and its bench refuses no write by itself
   pub record IsSteadyAt (p : Player N) (s : State) : Type 0 where
-    pub at : IsAt state bench p s
+    pub at : IsPlayerAt state bench p s
     pub steady : (bench (device_of p)).steady ≡ true
 
   -- a line was played from a state, with its result

@@ -49,9 +49,9 @@ names_from names [] = names
 names_from names (l ∷ ls) = names_from (with_names names (mentioned l.1)) ls
 
 -- the state behind a whole power line: the static bytes under each name, none where it is absent; or why the words are no card
-pub data Told : Type 0 where
-  Holds : (held : List (Option (List ℕ))) → Told
-  NoCard : (cause : Cause) (place : ℕ) → Told
+pub data ToldState : Type 0 where
+  Holds : (held : List (Option (List ℕ))) → ToldState
+  NoCard : (cause : Cause) (place : ℕ) → ToldState
 
 -- the static bytes under each name
 abbrev pub held_under : List (List ℕ) → List (List ℕ × App) → List (Option (List ℕ))
@@ -68,16 +68,16 @@ running_in (Cold m b a) = []
 running_in (Hot s) = running_apps s.live s.base
 
 -- what is told of a whole power line by its result
-abbrev pub told_by : List (List ℕ) → Option LineResult → State → Told
+abbrev pub told_by : List (List ℕ) → Option LineResult → State → ToldState
 told_by names (Some (Unusable cause place)) s = NoCard cause place
 told_by names r s = Holds (held_under names (running_in s))
 
 -- what is told of a power line that was played
-abbrev pub told_of : List (List ℕ) → Step → Told
+abbrev pub told_of : List (List ℕ) → Step → ToldState
 told_of names t = told_by names t.result t.after
 
 -- what is told behind lines and a whole power line
-unfoldable pub told : List (List ℕ) → List (ℕ × DeckLine) → Told
+unfoldable pub told : List (List ℕ) → List (ℕ × DeckLine) → ToldState
 unfolding played_from
 told names ls = told_of names (stepped (played ls) (0, line.Power))
 
@@ -96,7 +96,7 @@ are_same_held [] (y ∷ ys) = false
 are_same_held (x ∷ xs) [] = false
 
 -- the same is told
-abbrev pub is_same : Told → Told → Bool
+abbrev pub is_same : ToldState → ToldState → Bool
 is_same (Holds a) (Holds b) = are_same_held a b
 is_same (NoCard c p) (NoCard d q) = bytes_eq (cause_text c) (cause_text d) && (p == q)
 is_same (Holds a) (NoCard d q) = false
@@ -112,7 +112,7 @@ word_by true true = Same
 word_by false false = Between
 
 -- whether all are the same as the first
-abbrev pub all_same : Told → List Told → Bool
+abbrev pub all_same : ToldState → List ToldState → Bool
 all_same t [] = true
 all_same t (u ∷ us) = is_same u t && all_same t us
 
@@ -122,7 +122,7 @@ word_if true w = w
 word_if false w = Torn
 
 -- the word of the states of one write, the first and the others
-abbrev pub word_of : Told → Told → Told → List Told → Word
+abbrev pub word_of : ToldState → ToldState → ToldState → List ToldState → Word
 word_of before after t ts = word_if (all_same t ts) (word_by (is_same t before) (is_same t after))
 
 -- ---- the plays of a swept line
@@ -157,7 +157,7 @@ abbrev pub writes_behind : List (ℕ × DeckLine) → ℕ × DeckLine → ℕ
 writes_behind front l = moves_of (played front) l
 
 -- the state behind a cut, and those where the recovery behind it is cut too, in each of its writes
-abbrev pub recovered : List (List ℕ) → List (ℕ × DeckLine) → ℕ × DeckLine → ℕ → List ℕ → List Told
+abbrev pub recovered : List (List ℕ) → List (ℕ × DeckLine) → ℕ × DeckLine → ℕ → List ℕ → List ToldState
 recovered names front l k fill =
     map (λ j. told names (under_cuts front l k fill j)) (count_from 1 (writes_behind (under_cut front l k fill) (power l.0)))
 
@@ -167,11 +167,11 @@ pub record Tried : Type 0 where
   pub plays : ℕ
 
 -- the states of a write, the first and the others
-abbrev pub tried_by : Told → Told → Told → List Told → Tried
+abbrev pub tried_by : ToldState → ToldState → ToldState → List ToldState → Tried
 tried_by before after t ts = record { word = word_of before after t ts; plays = length ts + 1 }
 
 -- one write of a line that is cut, with eight bytes 00 and with eight bytes FF
-unfoldable pub tried : List (List ℕ) → List (ℕ × DeckLine) → ℕ × DeckLine → Told → Told → ℕ → Tried
+unfoldable pub tried : List (List ℕ) → List (ℕ × DeckLine) → ℕ × DeckLine → ToldState → ToldState → ℕ → Tried
 unfolding told played_from
 tried names front l before after k =
     tried_by before after (told names (under_cut front l k (zeros 8)))

@@ -1,7 +1,9 @@
 // One line of a sweep: each of its writes is cut, and each of the recovery behind it.
 ghost use Rattle.std.specs.Prelude.{◌≡◌, ◌&&◌, ◌+◌, ◌≤◌, ◌<◌, ◌*◌, length, map, take, IfOk, IfSome, MatchOption};
 ghost use Rattle.mc_lab.specs.Sweeps.{all_same, count_from, plays_of};
-ghost use Rattle.mc_lab.specs.SweepBodies.{account_value, again_in, recovered_in, told_in, tried_in, word_with, writes_in, Fits, HasRoom, IsOpen, IsPlace, Shuts};
+ghost use Rattle.mc_lab.specs.SweepBodies.{account_value, again_in, recovered_in, told_in, tried_in, word_with};
+ghost use Rattle.mc_lab.specs.SweepBodies.{writes_in, AccountFits, AccountsHaveRoom, IsUnarmedLine, IsPlace};
+ghost use Rattle.mc_lab.specs.SweepBodies.{OpensNoGate};
 ghost use Rattle.mc_lab.specs.declared.sweep_trial.Behind.TheVariants as behind;
 
 use crate::sweep_account::Account;
@@ -82,16 +84,16 @@ fn recoveries<D: Trials, L: Ledger>(
     steps: &mut Steps<L>,
 ) -> (bool, u16)
     requires at { IsPlace place.now }
-    requires open { IsOpen place.now }
+    requires open { IsUnarmedLine place.now }
     requires low { 1 ≤ k }
     requires high { k ≤ writes_in place.now }
-    requires shuts { Shuts fill }
+    requires shuts { OpensNoGate fill }
     requires few { again_in place.now k fill ≤ 65535 }
-    requires room { Fits pair.old.now place.now }
+    requires room { AccountFits pair.old.now place.now }
     ensures same { result.0 ≡ all_same (account_value pair.old.first) (recovered_in place.now k fill) }
     ensures count { result.1 ≡ length (recovered_in place.now k fill) }
     ensures first { pair.new.first ≡ pair.old.first }
-    ensures room { Fits pair.new.now place.now }
+    ensures room { AccountFits pair.new.now place.now }
 {
     let mut same = true;
     for made in 0..u16::MAX {
@@ -119,18 +121,18 @@ fn try_write<D: Trials, L: Ledger>(
     steps: &mut Steps<L>,
 ) -> Option<Tried>
     requires at { IsPlace place.now }
-    requires open { IsOpen place.now }
+    requires open { IsUnarmedLine place.now }
     requires low { 1 ≤ k }
     requires before { account_value ends.now.before ≡ told_in place.now behind.Nothing }
     requires after { account_value ends.now.after ≡ told_in place.now behind.Whole }
-    requires first { Fits pair.old.first place.now }
-    requires now { Fits pair.old.now place.now }
+    requires first { AccountFits pair.old.first place.now }
+    requires now { AccountFits pair.old.now place.now }
     ensures tried { MatchOption result (writes_in place.now < k)
         (λ t. (k ≤ writes_in place.now) × (t.word ≡ (tried_in place.now k).word)
         × (t.plays ≡ (tried_in place.now k).plays)) }
     ensures few_plays { IfSome result (λ t. t.plays ≤ 131072) }
-    ensures first { Fits pair.new.first place.now }
-    ensures now { Fits pair.new.now place.now }
+    ensures first { AccountFits pair.new.first place.now }
+    ensures now { AccountFits pair.new.now place.now }
 {
     if !trials.tell(
         place,
@@ -158,7 +160,7 @@ fn try_write<D: Trials, L: Ledger>(
 impl<D: Trials + Drop> Bench<D> {
     /// A bench for so many names.
     pub fn new(alloc: Global, trials: D, names: usize) -> Result<Bench<D>, NoMemory>
-        ensures { IfOk result (λ bench. HasRoom bench.ends bench.pair names) }
+        ensures { IfOk result (λ bench. AccountsHaveRoom bench.ends bench.pair names) }
     {
         Ok(Bench {
             trials,
@@ -176,10 +178,10 @@ impl<D: Trials + Drop> Bench<D> {
     /// How many device writes a line makes, or `None` where they are more than a `cut` can name.
     pub fn writes<L: Ledger>(&mut self, place: &Place<'_>, steps: &mut Steps<L>) -> Option<u32>
         requires at { IsPlace place.now }
-        requires open { IsOpen place.now }
-        requires room { HasRoom self.old.ends self.old.pair (length place.now.names.now) }
+        requires open { IsUnarmedLine place.now }
+        requires room { AccountsHaveRoom self.old.ends self.old.pair (length place.now.names.now) }
         ensures writes { IfSome result (λ n. n ≡ writes_in place.now) }
-        ensures room { HasRoom self.new.ends self.new.pair (length place.now.names.now) }
+        ensures room { AccountsHaveRoom self.new.ends self.new.pair (length place.now.names.now) }
     {
         for made in 0..u32::MAX {
             let behind = Behind::Cut {
@@ -201,8 +203,8 @@ impl<D: Trials + Drop> Bench<D> {
         steps: &mut Steps<L>,
     ) -> Swept
         requires at { IsPlace place.now }
-        requires open { IsOpen place.now }
-        requires room { HasRoom self.old.ends self.old.pair (length place.now.names.now) }
+        requires open { IsUnarmedLine place.now }
+        requires room { AccountsHaveRoom self.old.ends self.old.pair (length place.now.names.now) }
         requires words { writes_in place.now ≤ length words.old }
         requires most { length words.old ≤ 4294967295 }
         ensures writes { result.writes ≡ writes_in place.now }
@@ -211,7 +213,7 @@ impl<D: Trials + Drop> Bench<D> {
         ensures plays { result.plays ≡ plays_of (map (tried_in place.now) (count_from 1 (writes_in place.now))) }
         ensures few_plays { result.plays ≤ 131072 * result.writes }
         ensures size { length words.new ≡ length words.old }
-        ensures room { HasRoom self.new.ends self.new.pair (length place.now.names.now) }
+        ensures room { AccountsHaveRoom self.new.ends self.new.pair (length place.now.names.now) }
     {
         let _hit = self
             .trials

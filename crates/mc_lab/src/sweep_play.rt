@@ -5,7 +5,8 @@ ghost use Rattle.mc_model.specs.DeckGrammar.{DeckLine};
 ghost use Rattle.mc_deck.specs.Lines.{line_of, GoodLine};
 ghost use Rattle.mc_script.specs.Players.{device_of, statics_in, IsPlaying, IsUnfused};
 ghost use Rattle.mc_lab.specs.Sweeps.{blank, played};
-ghost use Rattle.mc_lab.specs.SweepBodies.{account_value, held_value, hit_in, told_in, CanCut, Fits, IsFewBehind, IsPlace};
+ghost use Rattle.mc_lab.specs.SweepBodies.{account_value, held_value, hit_in, told_in, CanCut, AccountFits};
+ghost use Rattle.mc_lab.specs.SweepBodies.{IsFewBehind, IsPlace};
 ghost use Rattle.mc_lab.specs.declared.sweep_trial.Behind.TheVariants as behind;
 ghost use Rattle.mc_lab.specs.SweepPlayers.{fault_in, off_in, BehindOn, CutOn, IsSteadyAt, LineOn};
 
@@ -229,12 +230,12 @@ fn play_trial<N: Bench, L: Ledger>(
     requires steady { (N.bench device).steady ≡ true }
     requires words { (N.state device).words ≡ blank }
     requires at { IsPlace place.now }
-    requires room { Fits into.old place.now }
+    requires room { AccountFits into.old place.now }
     requires cuts { CanCut behind }
     ensures told { account_value into.new ≡ told_in place.now behind }
     ensures hit { result.1 ≡ hit_in place.now behind }
     ensures few { IsFewBehind place.now behind }
-    ensures room { Fits into.new place.now }
+    ensures room { AccountFits into.new place.now }
     ensures size { length (N.state result.0).words ≡ length (N.state device).words }
     ensures lent { N.same device result.0 }
 {
@@ -256,12 +257,12 @@ fn play_blank<L: Ledger>(
 ) -> bool
     requires size { length device.old.words ≡ 8192 }
     requires at { IsPlace place.now }
-    requires room { Fits into.old place.now }
+    requires room { AccountFits into.old place.now }
     requires cuts { CanCut behind }
     ensures told { account_value into.new ≡ told_in place.now behind }
     ensures hit { result ≡ hit_in place.now behind }
     ensures few { IsFewBehind place.now behind }
-    ensures room { Fits into.new place.now }
+    ensures room { AccountFits into.new place.now }
     ensures size { length device.new.words ≡ 8192 }
 {
     device.erase();

@@ -1,6 +1,6 @@
 // The plays of a sweep, and who plays them.
 ghost use Rattle.std.specs.Prelude.{◌≡◌};
-ghost use Rattle.mc_lab.specs.SweepBodies.{account_value, hit_in, told_in, CanCut, Fits, IsFewBehind, IsPlace};
+ghost use Rattle.mc_lab.specs.SweepBodies.{account_value, hit_in, told_in, CanCut, AccountFits, IsFewBehind, IsPlace};
 
 use crate::sweep_account::Account;
 use mc_base::{Aid, Steps, Word};
@@ -37,10 +37,10 @@ pub trait Trials {
         steps: &mut Steps<L>,
     ) -> bool
         requires at { IsPlace place.now }
-        requires room { Fits into.old place.now }
+        requires room { AccountFits into.old place.now }
         requires cuts { CanCut behind }
         ensures told { account_value into.new ≡ told_in place.now behind }
         ensures hit { result ≡ hit_in place.now behind }
         ensures few { IsFewBehind place.now behind }
-        ensures room { Fits into.new place.now };
+        ensures room { AccountFits into.new place.now };
 }

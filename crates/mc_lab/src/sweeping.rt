@@ -5,8 +5,9 @@ ghost use Rattle.mc_deck.specs.Lines.{line_of};
 ghost use Rattle.mc_text.specs.Texts.{sunk_in, Puts};
 ghost use Rattle.mc_lab.specs.Judged.{done_of};
 ghost use Rattle.mc_lab.specs.Sweeps.{is_unarmed, names_from, played, sweep_text, swept_texts};
-ghost use Rattle.mc_lab.specs.SweepBodies.{line_at, writes_in, HasRoom, IsOpen, IsPlace};
-ghost use Rattle.mc_lab.specs.SweepEnds.{free_behind, is_open_at, left_from, swept_in, Adds, AtMost, IsRoom, IsSmall, Tells};
+ghost use Rattle.mc_lab.specs.SweepBodies.{line_at, writes_in, AccountsHaveRoom, IsUnarmedLine, IsPlace};
+ghost use Rattle.mc_lab.specs.SweepEnds.{free_behind, is_open_at, left_from, swept_in, AddsSums, AtMost, IsRoom};
+ghost use Rattle.mc_lab.specs.SweepEnds.{IsSmall, TellsSweep};
 
 use crate::sweep_line::Bench;
 use crate::sweep_names::names_of;
@@ -100,9 +101,9 @@ fn writes_at<D: Trials + Drop, L: Ledger>(
     steps: &mut Steps<L>,
 ) -> Option<u32>
     requires at { IsPlace place.now }
-    requires room { HasRoom bench.old.ends bench.old.pair (length place.now.names.now) }
+    requires room { AccountsHaveRoom bench.old.ends bench.old.pair (length place.now.names.now) }
     ensures writes { IfSome result (λ n. is_open_at place.now.deck.now place.now.at ≡ true → writes_in place.now ≤ n) }
-    ensures room { HasRoom bench.new.ends bench.new.pair (length place.now.names.now) }
+    ensures room { AccountsHaveRoom bench.new.ends bench.new.pair (length place.now.names.now) }
 {
     match open_number(place.deck, place.at) {
         None => Some(0),
@@ -117,9 +118,9 @@ fn most_writes<D: Trials + Drop, L: Ledger>(
     names: &[Aid],
     steps: &mut Steps<L>,
 ) -> Option<u32>
-    requires room { HasRoom bench.old.ends bench.old.pair (length names.now) }
+    requires room { AccountsHaveRoom bench.old.ends bench.old.pair (length names.now) }
     ensures most { IfSome result (λ n. AtMost deck.now (length deck.now) n) }
-    ensures room { HasRoom bench.new.ends bench.new.pair (length names.now) }
+    ensures room { AccountsHaveRoom bench.new.ends bench.new.pair (length names.now) }
 {
     let mut most = 0;
     for at in 0..deck.len() {
@@ -141,18 +142,18 @@ fn sweep_place<D: Trials + Drop, T: Sink, L: Ledger>(
     steps: &mut Steps<L>,
 ) -> Result<(), WriteFault>
     requires at { IsPlace place.now }
-    requires open { IsOpen place.now }
+    requires open { IsUnarmedLine place.now }
     requires number { number ≡ (line_at place.now.deck.now place.now.at).0 }
     requires words { writes_in place.now ≤ length words.old }
     requires most { length words.old ≤ 4294967295 }
     requires sums { IsSmall sums.old place.now.at }
-    requires room { HasRoom bench.old.ends bench.old.pair (length place.now.names.now) }
+    requires room { AccountsHaveRoom bench.old.ends bench.old.pair (length place.now.names.now) }
     ensures told { Puts (sunk_in T.taken T.faults out.old) (swept_texts (swept_in place.now)) result
         (sunk_in T.taken T.faults out.new) }
-    ensures adds { OnOk result (Adds sums.old (swept_in place.now) sums.new) }
+    ensures adds { OnOk result (AddsSums sums.old (swept_in place.now) sums.new) }
     ensures small { OnOk result (IsSmall sums.new (place.now.at + 1)) }
     ensures size { length words.new ≡ length words.old }
-    ensures room { HasRoom bench.new.ends bench.new.pair (length place.now.names.now) }
+    ensures room { AccountsHaveRoom bench.new.ends bench.new.pair (length place.now.names.now) }
 {
     let swept = bench.sweep_line(place, words, steps);
     if swept.writes == 0 {
@@ -178,13 +179,13 @@ fn sweep_at<D: Trials + Drop, T: Sink, L: Ledger>(
     requires words { AtMost place.now.deck.now (length place.now.deck.now) (length words.old) }
     requires most { length words.old ≤ 4294967295 }
     requires sums { IsSmall sums.old place.now.at }
-    requires room { HasRoom bench.old.ends bench.old.pair (length place.now.names.now) }
+    requires room { AccountsHaveRoom bench.old.ends bench.old.pair (length place.now.names.now) }
     ensures told { Puts (sunk_in T.taken T.faults out.old) (swept_texts (swept_in place.now)) result
         (sunk_in T.taken T.faults out.new) }
-    ensures adds { OnOk result (Adds sums.old (swept_in place.now) sums.new) }
+    ensures adds { OnOk result (AddsSums sums.old (swept_in place.now) sums.new) }
     ensures small { OnOk result (IsSmall sums.new (place.now.at + 1)) }
     ensures size { length words.new ≡ length words.old }
-    ensures room { HasRoom bench.new.ends bench.new.pair (length place.now.names.now) }
+    ensures room { AccountsHaveRoom bench.new.ends bench.new.pair (length place.now.names.now) }
 {
     match open_number(place.deck, place.at) {
         None => Ok(()),
@@ -219,10 +220,10 @@ fn sweep_lines<D: Trials + Drop, T: Sink, L: Ledger>(
     requires words { AtMost deck.now (length deck.now) (length words.old) }
     requires most { length words.old ≤ 4294967295 }
     requires sums { IsSmall sums.old 0 }
-    requires room { HasRoom bench.old.ends bench.old.pair (length names.now) }
+    requires room { AccountsHaveRoom bench.old.ends bench.old.pair (length names.now) }
     ensures told { Puts (sunk_in T.taken T.faults out.old) (swept_texts (left_from names.now deck.now 0)) result
         (sunk_in T.taken T.faults out.new) }
-    ensures adds { OnOk result (Adds sums.old (left_from names.now deck.now 0) sums.new) }
+    ensures adds { OnOk result (AddsSums sums.old (left_from names.now deck.now 0) sums.new) }
 {
     for at in 0..deck.len() {
         let place = Place { deck, at, names };
@@ -285,7 +286,8 @@ pub fn sweep<T: Sink, L: Ledger>(
     out: &mut T,
     steps: &mut Steps<L>,
 ) -> Result<(), SweepFault>
-    ensures { Tells (sunk_in T.taken T.faults out.old) (sweep_text deck.now) result (sunk_in T.taken T.faults out.new) }
+    ensures { TellsSweep (sunk_in T.taken T.faults out.old) (sweep_text deck.now) result
+        (sunk_in T.taken T.faults out.new) }
 {
     let mut room = match room_for(alloc, deck, steps) {
         Ok(room) => room,

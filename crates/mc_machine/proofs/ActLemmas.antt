@@ -18,9 +18,9 @@ use Rattle.mc_segs.specs.declared.ends.Halt.{Halt}
 use Rattle.mc_segs.specs.declared.ends.Halt.TheVariants as halt
 use Rattle.mc_segs.specs.declared.ends.Next.{Next}
 use Rattle.mc_segs.specs.HeldFrames.{Held, Seen, shown, seen, app_under}
-use Rattle.mc_segs.specs.Ends.{Acts as CallActs, Left, scene, then_of}
+use Rattle.mc_segs.specs.Ends.{EndActs as CallActs, EffectDone, scene, then_of}
 use Rattle.mc_machine.specs.Alike.{SameEffect, SameRowEnd, KeepsEffect, KeepsRow}
-use Rattle.mc_machine.specs.Chains.{Chained, Runs, FitsChain, Wrote, first_held, session_in}
+use Rattle.mc_machine.specs.Chains.{Chained, RunsAs, FitsChain, ChainWrote, first_held, session_in}
 use Rattle.mc_machine.specs.Turns.{ActDone, Followed, advanced, halted, told_of, delegator_of, end_value, step_value}
 use Rattle.mc_machine.specs.declared.outcome.End.TheVariants as end
 use Rattle.mc_machine.specs.declared.outcome.Step.{Step}
@@ -70,7 +70,7 @@ row_count ch i (Abends a) = refl
 row_count ch i (Does d) = refl
 
 module _ {B : Type 0} (did : B → BankItem → Answer → B → Type 0) (state : B → BankState) (named : B → ℕ → Option (List ℕ)) where
-  pub turned : (b : B) (c : Chained) (ch : Chain) (found : Result (Ins × ℕ) DecodeFault) → Runs (state b) (named b) c ch → c.left ≢ 0
+  pub turned : (b : B) (c : Chained) (ch : Chain) (found : Result (Ins × ℕ) DecodeFault) → RunsAs (state b) (named b) c ch → c.left ≢ 0
       → found ≡ decoded (app_under (state b) (named b) c.running).code c.running.frame.at → turn_of c.left ch ≡ fetched ch found
   turned b c ch found r some is =
       let map : lookup ch.map ch.frame.name ≡ Some (app_under (state b) (named b) c.running) =
@@ -79,11 +79,11 @@ module _ {B : Type 0} (did : B → BankItem → Answer → B → Type 0) (state 
       ∙ ap (λ (at : ℕ). fetched ch (decoded (app_under (state b) (named b) c.running).code at)) (sym (ap (λ (t : Seen). t.at) r.running.same)) ∙ ap (λ (x : Result (Ins × ℕ) DecodeFault). fetched ch x) (sym is)
 
   -- the running frame's static bytes are those of its application
-  pub own_fixed : (b : B) (c : Chained) (ch : Chain) → Runs (state b) (named b) c ch → (app_under (state b) (named b) c.running).fixed ≡ (app_of (state b).apps (Some ch.frame.name)).fixed
+  pub own_fixed : (b : B) (c : Chained) (ch : Chain) → RunsAs (state b) (named b) c ch → (app_under (state b) (named b) c.running).fixed ≡ (app_of (state b).apps (Some ch.frame.name)).fixed
   own_fixed b c ch r = ap (λ (o : Option (List ℕ)). (app_of (state b).apps o).fixed) (name_is (state b) (named b) c.running ch.frame r.running)
 
   -- the turn tells the frame as it was
-  told_old : (b : B) (c : Chained) (ch : Chain) (o : Option Outcome) (i : Option Ins) (w : Option ℕ) → Runs (state b) (named b) c ch
+  told_old : (b : B) (c : Chained) (ch : Chain) (o : Option Outcome) (i : Option Ins) (w : Option ℕ) → RunsAs (state b) (named b) c ch
       → ◌≡◌ {A = Turn} (record { depth = length ch.below + 1; at = ch.frame.at; ins = i; dt = ch.frame.dt; c = ch.frame.c; z = ch.frame.z; end = o; wrote = w })
       (record { depth = length c.below + 1; at = c.running.frame.at; ins = i; dt = c.running.frame.dt; c = c.running.frame.c; z = c.running.frame.z; end = o; wrote = w })
   told_old b c ch o i w r =
@@ -93,7 +93,7 @@ module _ {B : Type 0} (did : B → BankItem → Answer → B → Type 0) (state 
       (ap (λ (t : Seen). t.at) seen_so) (ap (λ (t : Seen). t.dt) seen_so) (ap (λ (t : Seen). t.c) seen_so) (ap (λ (t : Seen). t.z) seen_so) refl
 
   -- an abend, with which no byte was written
-  pub abends_done : (b e : B) (c d : Chained) (ch : Chain) (i : Option Ins) (count : ℕ) (a : Abend) (step : Step) → Runs (state b) (named b) c ch → (state b).stopped ≡ false → e ≡ b → session_in d ≡ session_in c → d.left + count ≡ c.left
+  pub abends_done : (b e : B) (c d : Chained) (ch : Chain) (i : Option Ins) (count : ℕ) (a : Abend) (step : Step) → RunsAs (state b) (named b) c ch → (state b).stopped ≡ false → e ≡ b → session_in d ≡ session_in c → d.left + count ≡ c.left
       → step ≡ told_of c.running i (Some (end.Abend a)) → ActDone did state named b e c d ch (abends_at ch i count a) (Ok step)
   abends_done b e c d ch i count a step r going same session left is = (
     record {
@@ -107,7 +107,7 @@ module _ {B : Type 0} (did : B → BankItem → Answer → B → Type 0) (state 
 
   -- ---- from the row of the code's frame to that of the definitions'
 
-  pub row_related : (b : B) (c : Chained) (ch : Chain) (next : ℕ) (i : Ins) → Runs (state b) (named b) c ch
+  pub row_related : (b : B) (c : Chained) (ch : Chain) (next : ℕ) (i : Ins) → RunsAs (state b) (named b) c ch
       → SameRowEnd (app_under (state b) (named b) c.running).fixed
       (row i (shown (state b) (named b) (advanced c next).running) c.public (record { case = c.case; delegator = delegator_of (named b) c.below }))
       (row i (stepped ch.frame next) ch.public (around ch))
@@ -123,7 +123,7 @@ module _ {B : Type 0} (did : B → BankItem → Answer → B → Type 0) (state 
       subst (λ (p : List ℕ). SameRowEnd fixed (row i f c.public x) (row i g p x)) r.public (rows_end_alike i f g c.public x (guarded_seen g f (sym same) r.running.guarded) same)
       )
 
-  module _ (laws : BankLaws did state named) (b e : B) (c mid : Chained) (ch : Chain) (next : ℕ) (i : Ins) (r : Runs (state b) (named b) c ch) (others : mid ≡ record (advanced c next) { running = mid.running; public = mid.public }) where
+  module _ (laws : BankLaws did state named) (b e : B) (c mid : Chained) (ch : Chain) (next : ℕ) (i : Ins) (r : RunsAs (state b) (named b) c ch) (others : mid ≡ record (advanced c next) { running = mid.running; public = mid.public }) where
     -- ---- the instruction abends
 
     performed_abends : (going : (state b).stopped ≡ false) (some : c.left ≢ 0) (step : Step) (a : Abend) (x y : RowEnd) → SameRowEnd (app_under (state b) (named b) c.running).fixed x y
@@ -145,7 +145,7 @@ module _ {B : Type 0} (did : B → BankItem → Answer → B → Type 0) (state 
     -- ---- the bank stops in its change
 
     performed_stops : (stop : Stop) (x y : RowEnd) → SameRowEnd (app_under (state b) (named b) c.running).fixed x y
-        → CallActs did state named (scene b e (advanced c next).running mid.running c.public mid.public) x (Err (halt.Stop stop)) → InOrder (Wrote did state) b (row_turn ch i y).writes (Err stop) e
+        → CallActs did state named (scene b e (advanced c next).running mid.running c.public mid.public) x (Err (halt.Stop stop)) → InOrder (ChainWrote did state) b (row_turn ch i y).writes (Err stop) e
     performed_stops stop (Abends p) (Abends q) same acts = absurd acts
     performed_stops stop (Abends p) (Does d) same acts = absurd same
     performed_stops stop (Does d) (Abends q) same acts = absurd same
@@ -161,9 +161,9 @@ module _ {B : Type 0} (did : B → BankItem → Answer → B → Type 0) (state 
     -- ---- the instruction is done
 
     pub mid_runs : (d x : Effect) → SameEffect (app_under (state b) (named b) c.running).fixed d x → KeepsEffect (stepped ch.frame next) ch.public x
-        → Left did state named (scene b e (advanced c next).running mid.running c.public mid.public) d → Runs (state e) (named e) mid (settled ch x)
+        → EffectDone did state named (scene b e (advanced c next).running mid.running c.public mid.public) d → RunsAs (state e) (named e) mid (settled ch x)
     mid_runs d x same keeps left =
-        subst (λ (k : Chained). Runs (state e) (named e) k (settled ch x)) (sym others) (
+        subst (λ (k : Chained). RunsAs (state e) (named e) k (settled ch x)) (sym others) (
         settled_runs did state named laws b e (advanced c next) (record ch { frame = stepped ch.frame next }) mid.running mid.public d x (advanced_runs (state b) (named b) c ch next r) same keeps left
         )
 
@@ -175,7 +175,7 @@ module _ {B : Type 0} (did : B → BankItem → Answer → B → Type 0) (state 
     performed_fits nx (Does d) (Does k) same keeps acts = (settled ch k.effect, mid_runs d.effect k.effect same.effect keeps acts.1)
 
     -- the turn tells the frame as it is then
-    told_mid : (y : Effect) (o p : Option Outcome) (it : Option Ins) (w : Option ℕ) → Runs (state e) (named e) mid (settled ch y) → o ≡ p
+    told_mid : (y : Effect) (o p : Option Outcome) (it : Option Ins) (w : Option ℕ) → RunsAs (state e) (named e) mid (settled ch y) → o ≡ p
         → ◌≡◌ {A = Turn} (record { depth = length ch.below + 1; at = ch.frame.at; ins = it; dt = y.frame.dt; c = y.frame.c; z = y.frame.z; end = o; wrote = w })
         (record { depth = length c.below + 1; at = c.running.frame.at; ins = it; dt = mid.running.frame.dt; c = mid.running.frame.c; z = mid.running.frame.z; end = p; wrote = w })
     told_mid y o p it w mr same =
@@ -185,7 +185,7 @@ module _ {B : Type 0} (did : B → BankItem → Answer → B → Type 0) (state 
         (sym (ap (λ (t : Seen). t.at) r.running.same)) (ap (λ (t : Seen). t.dt) seen_so) (ap (λ (t : Seen). t.c) seen_so) (ap (λ (t : Seen). t.z) seen_so) same
 
     -- what followed
-    finish : (y : Effect) (d : Chained) (step : Step) (pairs : List (List ℕ × List ℕ)) (t : Follows) → Runs (state e) (named e) mid (settled ch y) → InOrder (Wrote did state) b (write_of ch.frame.name y.changes) (Ok tt) e
+    finish : (y : Effect) (d : Chained) (step : Step) (pairs : List (List ℕ × List ℕ)) (t : Follows) → RunsAs (state e) (named e) mid (settled ch y) → InOrder (ChainWrote did state) b (write_of ch.frame.name y.changes) (Ok tt) e
         → (state e).stopped ≡ false → d.left + 1 ≡ c.left → d.le ≡ mid.le → ((o : Outcome) → t ≡ Ends o → session_in mid ≡ chain_session ch)
         → Followed (state e) (named e) mid d i (told_of c.running (Some i) None) step t → ActDone did state named b e c d ch (done_turn ch i y t pairs) (Ok step)
     finish y d step pairs (Continues k) mr writes going left le session fol = (
@@ -210,7 +210,7 @@ module _ {B : Type 0} (did : B → BankItem → Answer → B → Type 0) (state 
     pub performed_done : (d : Chained) (step : Step) (nx : Next) (x y : RowEnd) → c.left ≢ 0 → d.left ≡ mid.left → d.le ≡ mid.le
         → SameRowEnd (app_under (state b) (named b) c.running).fixed x y → KeepsRow (stepped ch.frame next) ch.public y → ExitKeeps (stepped ch.frame next) y
         → CallActs did state named (scene b e (advanced c next).running mid.running c.public mid.public) x (Ok nx)
-        → ((k : Chain) → Runs (state e) (named e) mid k → Followed (state e) (named e) mid d i (told_of c.running (Some i) None) step (follows k (then_of nx)))
+        → ((k : Chain) → RunsAs (state e) (named e) mid k → Followed (state e) (named e) mid d i (told_of c.running (Some i) None) step (follows k (then_of nx)))
         → ActDone did state named b e c d ch (row_turn ch i y) (Ok step)
     performed_done d step nx (Abends p) (Abends q) some left le same keeps exits acts followed = absurd acts
     performed_done d step nx (Abends p) (Does k) some left le same keeps exits acts followed = absurd same

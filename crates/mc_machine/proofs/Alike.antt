@@ -10,7 +10,7 @@ use Rattle.mc_model.specs.Row.{RowEnd, Abends, Does, causes, effect, first_cause
 use Rattle.mc_model.specs.Orders.{Answer}
 use Rattle.mc_model.specs.Items.{BankItem}
 use Rattle.mc_segs.specs.HeldFrames.{Seen, seen}
-use Rattle.mc_segs.specs.Ends.{Committed, changed_bytes}
+use Rattle.mc_segs.specs.Ends.{IsOneCommit, changed_bytes}
 use Rattle.mc_machine.specs.Alike.{seen_end, seen_change, IsGuarded, SameDone, SameRowEnd}
 use Rattle.mc_machine.proofs.AlikeBytes.{SamePieces, with_pieces}
 use Rattle.mc_machine.proofs.AlikeCauses.{causes_same}
@@ -97,7 +97,7 @@ hold_seen fixed ps qs ws words laid held = record {
 }
 
 pub committed_seen : {B : Type 0} (did : B → BankItem → Answer → B → Type 0) (name fixed : List ℕ) (c d : Option (List (ℕ × List ℕ))) (b : B) (a : Answer) (e : B)
-    → seen_change fixed c ≡ seen_change fixed d → Committed did name fixed c b a e → Committed did name fixed d b a e
+    → seen_change fixed c ≡ seen_change fixed d → IsOneCommit did name fixed c b a e → IsOneCommit did name fixed d b a e
 committed_seen did name fixed None None b a e s done = done
 committed_seen did name fixed None (Some qs) b a e s done = absurd (cc s)
 committed_seen did name fixed (Some ps) None b a e s done = absurd (cc s)

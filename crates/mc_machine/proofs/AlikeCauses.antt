@@ -11,22 +11,22 @@ use Rattle.mc_model.specs.Primitives.{Around, Primitive, CheckCase, LoadCcr, Sto
 use Rattle.mc_model.specs.Row.{causes, holds, no_place, known, operand, on_stack, writes, immediate_writes, pair_writes}
 use Rattle.mc_machine.proofs.AlikeBytes.{SamePieces, with_pieces, bytes_same, too_many_same}
 
-abbrev Pieces : Type 0
+abbrev pub Pieces : Type 0
 Pieces = List (ℕ × List ℕ)
 
-abbrev Same : Frame → Pieces → Type 0
-Same f qs = SamePieces f.fixed f.pieces qs
+abbrev pub HasSamePieces : Frame → Pieces → Type 0
+HasSamePieces f qs = SamePieces f.fixed f.pieces qs
 
 -- ---- primitives
 
-told_same : (f : Frame) (qs : Pieces) (a : ℕ) (o : Option (List ℕ)) → Same f qs → told_causes (with_pieces qs f) a o ≡ told_causes f a o
+told_same : (f : Frame) (qs : Pieces) (a : ℕ) (o : Option (List ℕ)) → HasSamePieces f qs → told_causes (with_pieces qs f) a o ≡ told_causes f a o
 told_same f qs a None s = refl
 told_same f qs a (Some name) s = ap (λ (b : Bool). (A03, is_outside f a (1 + length name)) ∷ (A08, b) ∷ []) (too_many_same f qs a (1 + length name) s)
 
-cipher_same : (c : Cipher) (n : ℕ) (f : Frame) (qs : Pieces) → Same f qs → cipher_causes c n (with_pieces qs f) ≡ cipher_causes c n f
+cipher_same : (c : Cipher) (n : ℕ) (f : Frame) (qs : Pieces) → HasSamePieces f qs → cipher_causes c n (with_pieces qs f) ≡ cipher_causes c n f
 cipher_same c n f qs s = rw (too_many_same (popped f 6) qs (named f 4) n s) refl
 
-later_same : (p : Primitive) (args : List ℕ) (f : Frame) (qs : Pieces) (public : List ℕ) (x : Around) → Same f qs → later_causes p args (with_pieces qs f) public x ≡ later_causes p args f public x
+later_same : (p : Primitive) (args : List ℕ) (f : Frame) (qs : Pieces) (public : List ℕ) (x : Around) → HasSamePieces f qs → later_causes p args (with_pieces qs f) public x ≡ later_causes p args f public x
 unfolding later_causes
 later_same CheckCase args f qs public x s = refl
 later_same LoadCcr args f qs public x s = refl
@@ -48,19 +48,19 @@ later_same ShiftLeft args f qs public x s = refl
 later_same ShiftRight args f qs public x s = refl
 later_same BitWord args f qs public x s = refl
 
-prim_same : (p : Option Primitive) (args : List ℕ) (f : Frame) (qs : Pieces) (public : List ℕ) (x : Around) → Same f qs → prim_causes p args (with_pieces qs f) public x ≡ prim_causes p args f public x
+prim_same : (p : Option Primitive) (args : List ℕ) (f : Frame) (qs : Pieces) (public : List ℕ) (x : Around) → HasSamePieces f qs → prim_causes p args (with_pieces qs f) public x ≡ prim_causes p args f public x
 prim_same None args f qs public x s = refl
 prim_same (Some p) args f qs public x s = ap (λ (l : List (Abend × Bool)). (A06, has_bad_argument p args) ∷ (A0A, is_denied f.deny p) ∷ l) (later_same p args f qs public x s)
 
 -- ---- rows that write
 
-writes_same : (f : Frame) (qs : Pieces) (a : Option ℕ) (n : ℕ) → Same f qs → writes (with_pieces qs f) a n ≡ writes f a n
+writes_same : (f : Frame) (qs : Pieces) (a : Option ℕ) (n : ℕ) → HasSamePieces f qs → writes (with_pieces qs f) a n ≡ writes f a n
 writes_same f qs a n s = ap (λ (b : Bool). (A03, no_access f a n) ∷ (A08, b) ∷ []) (too_many_same f qs (known a) n s)
 
-immediate_same : (f : Frame) (qs : Pieces) (tag : ℕ) (off : ℤ) (n : ℕ) → Same f qs → immediate_writes (with_pieces qs f) tag off n ≡ immediate_writes f tag off n
+immediate_same : (f : Frame) (qs : Pieces) (tag : ℕ) (off : ℤ) (n : ℕ) → HasSamePieces f qs → immediate_writes (with_pieces qs f) tag off n ≡ immediate_writes f tag off n
 immediate_same f qs tag off n s = ap (λ (l : List (Abend × Bool)). (A04, (tag == 0) && is_under f n) ∷ l) (writes_same f qs (operand f tag off n) n s)
 
-pair_same : (f : Frame) (qs : Pieces) (tag : ℕ) (off : ℤ) (n : ℕ) → Same f qs → pair_writes (with_pieces qs f) tag off n ≡ pair_writes f tag off n
+pair_same : (f : Frame) (qs : Pieces) (tag : ℕ) (off : ℤ) (n : ℕ) → HasSamePieces f qs → pair_writes (with_pieces qs f) tag off n ≡ pair_writes f tag off n
 pair_same f qs tag off n s = ap (λ (l : List (Abend × Bool)). (A04, is_under f (on_stack tag (2 * n) n)) ∷ l) (writes_same f qs (operand f tag off (2 * n)) n s)
 
 -- with a test of the row's own before
@@ -77,7 +77,7 @@ call_same k to f qs false = refl
 
 -- ---- all rows
 
-pub causes_same : (i : Ins) (f : Frame) (qs : Pieces) (public : List ℕ) (x : Around) → Same f qs → causes i (with_pieces qs f) public x ≡ causes i f public x
+pub causes_same : (i : Ins) (f : Frame) (qs : Pieces) (public : List ℕ) (x : Around) → HasSamePieces f qs → causes i (with_pieces qs f) public x ≡ causes i f public x
 unfolding causes
 causes_same ins.Nop f qs public x s = refl
 causes_same (ins.Setsw sw) f qs public x s = refl

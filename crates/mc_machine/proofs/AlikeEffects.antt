@@ -13,29 +13,24 @@ use Rattle.mc_model.specs.Row.{effect, exiting, known, on_stack, indexed, holds,
 use Rattle.mc_segs.specs.HeldFrames.{Seen, seen, no_pieces}
 use Rattle.mc_machine.specs.Alike.{seen_change, IsGuarded, SameEffect, SameDone}
 use Rattle.mc_machine.proofs.AlikeBytes.{SamePieces, with_pieces, same_pushed, bytes_same}
-
-abbrev Pieces : Type 0
-Pieces = List (ℕ × List ℕ)
-
-abbrev Same : Frame → Pieces → Type 0
-Same f qs = SamePieces f.fixed f.pieces qs
+use Rattle.mc_machine.proofs.AlikeCauses.{Pieces, HasSamePieces}
 
 goes : {fixed : List ℕ} {d e : Effect} → SameEffect fixed d e → SameDone fixed (going d) (going e)
 goes s = record { effect = s; next = refl }
 
 -- ---- effects by kind
 
-seen_same : (f : Frame) (qs : Pieces) → Same f qs → seen (with_pieces qs f) ≡ seen f
+seen_same : (f : Frame) (qs : Pieces) → HasSamePieces f qs → seen (with_pieces qs f) ≡ seen f
 seen_same f qs s = rw (s.laid, s.words, s.none) refl
 
-framed_same : (f : Frame) (qs : Pieces) (public : List ℕ) → Same f qs → SameEffect f.fixed (framed (with_pieces qs f) public) (framed f public)
+framed_same : (f : Frame) (qs : Pieces) (public : List ℕ) → HasSamePieces f qs → SameEffect f.fixed (framed (with_pieces qs f) public) (framed f public)
 framed_same f qs public s = record { frame = seen_same f qs s; public = refl; changes = refl }
 
 none_is : (ps : Pieces) → no_pieces ps ≡ true → ps ≡ []
 none_is [] e = refl
 none_is (p ∷ ps) e = absurd (cc e)
 
-static_same : (b : Bool) (f : Frame) (qs : Pieces) (public : List ℕ) (i : ℕ) (bytes : List ℕ) → Same f qs → (b ≡ false → no_pieces f.pieces ≡ true) → SameEffect f.fixed (static_written b (with_pieces qs f) public i bytes) (static_written b f public i bytes)
+static_same : (b : Bool) (f : Frame) (qs : Pieces) (public : List ℕ) (i : ℕ) (bytes : List ℕ) → HasSamePieces f qs → (b ≡ false → no_pieces f.pieces ≡ true) → SameEffect f.fixed (static_written b (with_pieces qs f) public i bytes) (static_written b f public i bytes)
 static_same true f qs public i bytes s guard = record {
   frame = seen_same (record f { pieces = f.pieces ++ (i, bytes) ∷ [] }) (qs ++ (i, bytes) ∷ []) (same_pushed f.fixed f.pieces qs (i, bytes) s);
   public = refl;
@@ -50,23 +45,23 @@ static_same false f qs public i bytes s guard =
       changes = refl;
     }
 
-written_in_same : (f : Frame) (qs : Pieces) (public bytes : List ℕ) (place : Option Place) → Same f qs → IsGuarded f → SameEffect f.fixed (written_in (with_pieces qs f) public bytes place) (written_in f public bytes place)
+written_in_same : (f : Frame) (qs : Pieces) (public bytes : List ℕ) (place : Option Place) → HasSamePieces f qs → IsGuarded f → SameEffect f.fixed (written_in (with_pieces qs f) public bytes place) (written_in f public bytes place)
 written_in_same f qs public bytes None s guard = framed_same f qs public s
 written_in_same f qs public bytes (Some (Static i)) s guard = static_same f.protected f qs public i bytes s guard
 written_in_same f qs public bytes (Some (Dynamic i)) s guard = framed_same (record f { dyn = splice f.dyn i bytes }) qs public s
 written_in_same f qs public bytes (Some (Public i)) s guard = framed_same f qs (splice public i bytes) s
 
-written_same : (f : Frame) (qs : Pieces) (public : List ℕ) (a : ℕ) (bytes : List ℕ) → Same f qs → IsGuarded f → SameEffect f.fixed (written (with_pieces qs f) public a bytes) (written f public a bytes)
+written_same : (f : Frame) (qs : Pieces) (public : List ℕ) (a : ℕ) (bytes : List ℕ) → HasSamePieces f qs → IsGuarded f → SameEffect f.fixed (written (with_pieces qs f) public a bytes) (written f public a bytes)
 unfolding written
 written_same f qs public a bytes s guard = written_in_same f qs public bytes (where_is f a (length bytes)) s guard
 
 flagged_same : (fixed : List ℕ) (d e : Effect) (c z : Bool) → SameEffect fixed d e → SameEffect fixed (effect_flagged d c z) (effect_flagged e c z)
 flagged_same fixed d e c z s = record { frame = ap (λ (t : Seen). record t { c = c; z = z }) s.frame; public = s.public; changes = s.changes }
 
-becomes_same : (f : Frame) (qs : Pieces) (public : List ℕ) (a : ℕ) (w : Worked) → Same f qs → IsGuarded f → SameDone f.fixed (becomes (with_pieces qs f) public a w) (becomes f public a w)
+becomes_same : (f : Frame) (qs : Pieces) (public : List ℕ) (a : ℕ) (w : Worked) → HasSamePieces f qs → IsGuarded f → SameDone f.fixed (becomes (with_pieces qs f) public a w) (becomes f public a w)
 becomes_same f qs public a w s guard = goes (flagged_same f.fixed (written (with_pieces qs f) public a w.value) (written f public a w.value) w.c w.z (written_same f qs public a w.value s guard))
 
-bits_same : (f : Frame) (qs : Pieces) (public : List ℕ) (a : ℕ) (b : List ℕ) → Same f qs → IsGuarded f → SameDone f.fixed (becomes_bits (with_pieces qs f) public a b) (becomes_bits f public a b)
+bits_same : (f : Frame) (qs : Pieces) (public : List ℕ) (a : ℕ) (b : List ℕ) → HasSamePieces f qs → IsGuarded f → SameDone f.fixed (becomes_bits (with_pieces qs f) public a b) (becomes_bits f public a b)
 bits_same f qs public a b s guard = goes (flagged_same f.fixed (written (with_pieces qs f) public a b) (written f public a b) f.c (is_zero b) (written_same f qs public a b s guard))
 
 -- ---- protection
@@ -79,7 +74,7 @@ cond_same : (fixed : List ℕ) (b : Bool) (d e k l : Effect) → SameEffect fixe
 cond_same fixed true d e k l s t = s
 cond_same fixed false d e k l s t = t
 
-protect_same : (f : Frame) (qs : Pieces) (public : List ℕ) (mode : ℕ) → Same f qs → SameEffect f.fixed (protect (with_pieces qs f) public mode) (protect f public mode)
+protect_same : (f : Frame) (qs : Pieces) (public : List ℕ) (mode : ℕ) → HasSamePieces f qs → SameEffect f.fixed (protect (with_pieces qs f) public mode) (protect f public mode)
 protect_same f qs public mode s =
     let on = nat_le 2 mode in
     let changes : seen_change f.fixed (committed (with_pieces qs f) qs) ≡ seen_change f.fixed (committed f f.pieces) =
@@ -92,21 +87,21 @@ protect_same f qs public mode s =
 
 -- ---- primitives
 
-looked_same : (f : Frame) (qs : Pieces) (public : List ℕ) (o : Option ℕ) → Same f qs → SameEffect f.fixed (looked_up (with_pieces qs f) public o) (looked_up f public o)
+looked_same : (f : Frame) (qs : Pieces) (public : List ℕ) (o : Option ℕ) → HasSamePieces f qs → SameEffect f.fixed (looked_up (with_pieces qs f) public o) (looked_up f public o)
 looked_same f qs public (Some i) s = framed_same (flagged (pushed f (i ∷ [])) f.c true) qs public s
 looked_same f qs public None s = framed_same (flagged (pushed f (0 ∷ [])) f.c false) qs public s
 
-told_same : (f : Frame) (qs : Pieces) (public : List ℕ) (a : ℕ) (o : Option (List ℕ)) → Same f qs → IsGuarded f → SameEffect f.fixed (delegator_told (with_pieces qs f) public a o) (delegator_told f public a o)
+told_same : (f : Frame) (qs : Pieces) (public : List ℕ) (a : ℕ) (o : Option (List ℕ)) → HasSamePieces f qs → IsGuarded f → SameEffect f.fixed (delegator_told (with_pieces qs f) public a o) (delegator_told f public a o)
 told_same f qs public a None s guard = framed_same (flagged f f.c true) qs public s
 told_same f qs public a (Some name) s guard =
     flagged_same f.fixed (written (with_pieces qs f) public a (length name ∷ name)) (written f public a (length name ∷ name)) f.c false (written_same f qs public a (length name ∷ name) s guard)
 
-cipher_same : (cipher : List ℕ → List ℕ → List ℕ) (c : Cipher) (n : ℕ) (f : Frame) (qs : Pieces) (public : List ℕ) → Same f qs → IsGuarded f → SameEffect f.fixed (cipher_done cipher c n (with_pieces qs f) public) (cipher_done cipher c n f public)
+cipher_same : (cipher : List ℕ → List ℕ → List ℕ) (c : Cipher) (n : ℕ) (f : Frame) (qs : Pieces) (public : List ℕ) → HasSamePieces f qs → IsGuarded f → SameEffect f.fixed (cipher_done cipher c n (with_pieces qs f) public) (cipher_done cipher c n f public)
 cipher_same cipher c n f qs public s guard =
     let g = popped f 6 in
     rw (bytes_same g qs public (named f 2) (key_len c) s, bytes_same g qs public (named f 6) n s) (written_same g qs public (named f 4) (ecb (cipher (bytes_at g public (named f 2) (key_len c))) (block_len c) (bytes_at g public (named f 6) n)) s guard)
 
-prim_effect_same : (p : Primitive) (args : List ℕ) (f : Frame) (qs : Pieces) (public : List ℕ) (x : Around) → Same f qs → IsGuarded f → SameDone f.fixed (prim_effect p args (with_pieces qs f) public x) (prim_effect p args f public x)
+prim_effect_same : (p : Primitive) (args : List ℕ) (f : Frame) (qs : Pieces) (public : List ℕ) (x : Around) → HasSamePieces f qs → IsGuarded f → SameDone f.fixed (prim_effect p args (with_pieces qs f) public x) (prim_effect p args f public x)
 unfolding prim_effect
 prim_effect_same CheckCase args f qs public x s guard = goes (framed_same (flagged (popped f 1) f.c (num (top f 1) == x.case)) qs public s)
 prim_effect_same LoadCcr args f qs public x s guard = goes (framed_same (pushed f ((cond f.c 2 0 + cond f.z 1 0) ∷ [])) qs public s)
@@ -149,36 +144,36 @@ prim_effect_same ShiftLeft args f qs public x s guard = goes (framed_same _ qs p
 prim_effect_same ShiftRight args f qs public x s guard = goes (framed_same _ qs public s)
 prim_effect_same BitWord args f qs public x s guard = goes (framed_same _ qs public s)
 
-prim_done_same : (p : Option Primitive) (args : List ℕ) (f : Frame) (qs : Pieces) (public : List ℕ) (x : Around) → Same f qs → IsGuarded f → SameDone f.fixed (prim_done p args (with_pieces qs f) public x) (prim_done p args f public x)
+prim_done_same : (p : Option Primitive) (args : List ℕ) (f : Frame) (qs : Pieces) (public : List ℕ) (x : Around) → HasSamePieces f qs → IsGuarded f → SameDone f.fixed (prim_done p args (with_pieces qs f) public x) (prim_done p args f public x)
 prim_done_same None args f qs public x s guard = goes (framed_same f qs public s)
 prim_done_same (Some p) args f qs public x s guard = prim_effect_same p args f qs public x s guard
 
 -- ---- jumps
 
-gone_same : (b : Bool) (f : Frame) (qs : Pieces) (public : List ℕ) (to : ℕ) → Same f qs → SameDone f.fixed (going (framed (gone b (with_pieces qs f) to) public)) (going (framed (gone b f to) public))
+gone_same : (b : Bool) (f : Frame) (qs : Pieces) (public : List ℕ) (to : ℕ) → HasSamePieces f qs → SameDone f.fixed (going (framed (gone b (with_pieces qs f) to) public)) (going (framed (gone b f to) public))
 gone_same true f qs public to s = goes (framed_same (record f { at = to }) qs public s)
 gone_same false f qs public to s = goes (framed_same f qs public s)
 
-jump_same : (b on : Bool) (f : Frame) (qs : Pieces) (public : List ℕ) (to : ℕ) → Same f qs
+jump_same : (b on : Bool) (f : Frame) (qs : Pieces) (public : List ℕ) (to : ℕ) → HasSamePieces f qs
     → SameDone f.fixed (going (framed (gone b (cond on (popped (with_pieces qs f) 2) (with_pieces qs f)) to) public)) (going (framed (gone b (cond on (popped f 2) f) to) public))
 jump_same b true f qs public to s = gone_same b (popped f 2) qs public to s
 jump_same b false f qs public to s = gone_same b f qs public to s
 
-called_same : (b : Bool) (f : Frame) (qs : Pieces) (public : List ℕ) (to : ℕ) → Same f qs → SameDone f.fixed (going (framed (called b (with_pieces qs f) to) public)) (going (framed (called b f to) public))
+called_same : (b : Bool) (f : Frame) (qs : Pieces) (public : List ℕ) (to : ℕ) → HasSamePieces f qs → SameDone f.fixed (going (framed (called b (with_pieces qs f) to) public)) (going (framed (called b f to) public))
 called_same true f qs public to s = goes (framed_same (entered f to) qs public s)
 called_same false f qs public to s = goes (framed_same f qs public s)
 
-call_same : (b on : Bool) (f : Frame) (qs : Pieces) (public : List ℕ) (to : ℕ) → Same f qs
+call_same : (b on : Bool) (f : Frame) (qs : Pieces) (public : List ℕ) (to : ℕ) → HasSamePieces f qs
     → SameDone f.fixed (going (framed (called b (cond on (popped (with_pieces qs f) 2) (with_pieces qs f)) to) public)) (going (framed (called b (cond on (popped f 2) f) to) public))
 call_same b true f qs public to s = called_same b (popped f 2) qs public to s
 call_same b false f qs public to s = called_same b f qs public to s
 
 -- ---- all rows
 
-exits_same : (f : Frame) (qs : Pieces) (public : List ℕ) → Same f qs → SameDone f.fixed (exiting (with_pieces qs f) public) (exiting f public)
+exits_same : (f : Frame) (qs : Pieces) (public : List ℕ) → HasSamePieces f qs → SameDone f.fixed (exiting (with_pieces qs f) public) (exiting f public)
 exits_same f qs public s = record { effect = framed_same f qs public s; next = refl }
 
-pub effect_same : (i : Ins) (f : Frame) (qs : Pieces) (public : List ℕ) (x : Around) → Same f qs → IsGuarded f → SameDone f.fixed (effect i (with_pieces qs f) public x) (effect i f public x)
+pub effect_same : (i : Ins) (f : Frame) (qs : Pieces) (public : List ℕ) (x : Around) → HasSamePieces f qs → IsGuarded f → SameDone f.fixed (effect i (with_pieces qs f) public x) (effect i f public x)
 unfolding effect
 effect_same ins.Nop f qs public x s guard = goes (framed_same f qs public s)
 effect_same (ins.Setsw sw) f qs public x s guard = goes (framed_same f qs _ s)

@@ -5,7 +5,7 @@ use Rattle.std.proofs.Math.Seq.{take-append_seam}
 use Rattle.mc_model.specs.declared.instruction.DecodeFault.{DecodeFault}
 use Rattle.mc_model.specs.declared.instruction.DecodeFault.TheVariants.{Undefined, Past}
 use Rattle.mc_model.specs.declared.instruction.Ins.{Ins}
-use Rattle.mc_model.specs.Code.{Form, Plain, OneByte, TwoBytes, Word, TwoWords, Near, Target, Primitive, Offset, ByteOffset, WordOffset, Kind, U8, U16, I16, operands, total, form, kinds, spell, Stands, from_place}
+use Rattle.mc_model.specs.Code.{Form, Plain, OneByte, TwoBytes, Word, TwoWords, Near, Target, Primitive, Offset, ByteOffset, WordOffset, Kind, U8, U16, I16, operands, total, form, kinds, spell, DecodesTo, from_place}
 use Rattle.mc_isa.proofs.RowLemmas.{Good, GoodRow, good_form}
 
 -- ---- lengths
@@ -65,7 +65,7 @@ window_len : (code : List ℕ) (at n : ℕ) → n ≤ length code - at → lengt
 window_len code at n h = let d = length-drop at code in let t = length-take n (drop at code) in omega (arith, h, d, t)
 
 -- what stands at the front of n bytes of the code that is left stands at their place
-pub stands_there : (code : List ℕ) (at n : ℕ) (r : Result (Ins × ℕ) DecodeFault) → at < length code → n ≡ min (length code - at) 6 → Stands (take n (drop at code)) 0 r → Stands code at (from_place at r)
+pub stands_there : (code : List ℕ) (at n : ℕ) (r : Result (Ins × ℕ) DecodeFault) → at < length code → n ≡ min (length code - at) 6 → DecodesTo (take n (drop at code)) 0 r → DecodesTo code at (from_place at r)
 stands_there code at n (Ok p) within size d =
     let len = window_len code at n (omega (arith, size)) in
     let place = d.place in
@@ -92,7 +92,7 @@ stands_there code at n (Err Past) within size (inr past) =
     inr (past.0, is, omega (arith, few, long, len, size, within))
 
 -- bytes that were read from a place on, in front of what was in an array of six
-pub stands_read : (code into zeros : List ℕ) (at n tested code_len : ℕ) (r : Result (Ins × ℕ) DecodeFault) → at < tested → tested ≡ code_len → code_len ≡ length code → length zeros ≡ 6 → n ≡ min (code_len - at) 6 → into ≡ take (length (take n zeros)) (drop at code) → Stands (take n (into ++ drop n zeros)) 0 r → Stands code at (from_place at r)
+pub stands_read : (code into zeros : List ℕ) (at n tested code_len : ℕ) (r : Result (Ins × ℕ) DecodeFault) → at < tested → tested ≡ code_len → code_len ≡ length code → length zeros ≡ 6 → n ≡ min (code_len - at) 6 → into ≡ take (length (take n zeros)) (drop at code) → DecodesTo (take n (into ++ drop n zeros)) 0 r → DecodesTo code at (from_place at r)
 stands_read code into zeros at n tested code_len r within is len six size read stands =
     let few : n ≤ length code - at = omega (arith, len, size) in
     let taken = length-take n zeros in
@@ -100,9 +100,9 @@ stands_read code into zeros at n tested code_len r within is len six size read s
     let front : length into ≡ n = ap length read ∙ ap (λ (k : ℕ). length (take k (drop at code))) same ∙ window_len code at n few in
     let window : take n (into ++ drop n zeros) ≡ take n (drop at code) =
     ap (λ (k : ℕ). take k (into ++ drop n zeros)) (sym front) ∙ take-append_seam into (drop n zeros) ∙ read ∙ ap (λ (k : ℕ). take k (drop at code)) same in
-    stands_there code at n r (omega (arith, within, is, len)) (size ∙ ap (λ (k : ℕ). min (k - at) 6) len) (subst (λ (w : List ℕ). Stands w 0 r) window stands)
+    stands_there code at n r (omega (arith, within, is, len)) (size ∙ ap (λ (k : ℕ). min (k - at) 6) len) (subst (λ (w : List ℕ). DecodesTo w 0 r) window stands)
 
 -- the same where six bytes are left, which the whole array holds
-pub stands_whole : (code into : List ℕ) (at tested code_len : ℕ) (r : Result (Ins × ℕ) DecodeFault) → at < tested → tested ≡ code_len → code_len ≡ length code → 6 ≤ code_len - at → into ≡ take 6 (drop at code) → Stands into 0 r → Stands code at (from_place at r)
+pub stands_whole : (code into : List ℕ) (at tested code_len : ℕ) (r : Result (Ins × ℕ) DecodeFault) → at < tested → tested ≡ code_len → code_len ≡ length code → 6 ≤ code_len - at → into ≡ take 6 (drop at code) → DecodesTo into 0 r → DecodesTo code at (from_place at r)
 stands_whole code into at tested code_len r within is len six read stands =
-    stands_there code at 6 r (omega (arith, within, is, len)) (omega (arith, len, six)) (subst (λ (w : List ℕ). Stands w 0 r) read stands)
+    stands_there code at 6 r (omega (arith, within, is, len)) (omega (arith, len, six)) (subst (λ (w : List ℕ). DecodesTo w 0 r) read stands)

@@ -15,12 +15,12 @@ use Rattle.mc_model.specs.Frame.{Frame}
 use Rattle.mc_model.specs.Primitives.{Around}
 use Rattle.mc_model.specs.Row.{RowEnd, Abends, Does, causes, effect, first_cause, judged, row}
 use Rattle.mc_model.specs.Chain.{Chain, Write, abends_at, delegator_in, around, write_of, row_turn, stepped}
-use Rattle.mc_family.specs.FewWords.{words_in, most_words, EndsWithin, IsTold}
+use Rattle.mc_family.specs.FewWords.{words_in, most_words, EndsWithin, IsToldName}
 use Rattle.mc_family.proofs.MapLemmas.{same_name}
 use Rattle.mc_family.proofs.RowWords.{row-words, told-any, most-is}
-use Rattle.mc_bank.specs.Bank.{BankState, IsEntry, AreApps}
+use Rattle.mc_bank.specs.Bank.{BankState, IsApplication, AreApps}
 use Rattle.mc_segs.specs.HeldFrames.{Held}
-use Rattle.mc_machine.specs.Chains.{Chained, ReadAll, Runs, Wrote}
+use Rattle.mc_machine.specs.Chains.{Chained, ReadAll, RunsAs, ChainWrote}
 use Rattle.mc_machine.specs.Turns.{ActDone, WritesFew, is_exit}
 use Rattle.mc_machine.specs.declared.outcome.Step.{Step}
 use Rattle.mc_machine.proofs.ReadsLemmas.{app_is}
@@ -74,11 +74,11 @@ abend_writes ch a = record { one = omega arith; words = tt; exit = tt }
 
 -- ---- names
 
-short_by : (e : List ℕ × App) (es : List (List ℕ × App)) (n : List ℕ) (a : App) (b : Bool) → bytes_eq e.0 n ≡ b → IsEntry e → (lookup es n ≡ Some a → length n ≤ 16) → cond b (Some e.1) (lookup es n) ≡ Some a → length n ≤ 16
+short_by : (e : List ℕ × App) (es : List (List ℕ × App)) (n : List ℕ) (a : App) (b : Bool) → bytes_eq e.0 n ≡ b → IsApplication e → (lookup es n ≡ Some a → length n ≤ 16) → cond b (Some e.1) (lookup es n) ≡ Some a → length n ≤ 16
 short_by e es n a true is entry rest h = subst (λ (k : List ℕ). length k ≤ 16) (same_name e.0 n is) entry.name.1
 short_by e es n a false is entry rest h = rest h
 
-short_name : (apps : List (List ℕ × App)) (n : List ℕ) (a : App) → AllByRecursion IsEntry apps → lookup apps n ≡ Some a → length n ≤ 16
+short_name : (apps : List (List ℕ × App)) (n : List ℕ) (a : App) → AllByRecursion IsApplication apps → lookup apps n ≡ Some a → length n ≤ 16
 short_name [] n a each h = absurd (cc h)
 short_name (e ∷ es) n a each h = short_by e es n a (bytes_eq e.0 n) refl each.0 (short_name es n a each.1) h
 
@@ -90,23 +90,23 @@ delegator_short s named (h ∷ hs) (f ∷ fs) apps r = short_name s.apps f.name 
 -- ---- turns
 
 module _ {B : Type 0} (did : B → BankItem → Answer → B → Type 0) (state : B → BankState) (named : B → ℕ → Option (List ℕ)) where
-  begun_words : (b : B) (n : List ℕ) (o : Option (List (ℕ × List ℕ))) (a : Answer) (e : B) → InOrder (Wrote did state) b (write_of n o) a e → words_in o ≤ 64
+  begun_words : (b : B) (n : List ℕ) (o : Option (List (ℕ × List ℕ))) (a : Answer) (e : B) → InOrder (ChainWrote did state) b (write_of n o) a e → words_in o ≤ 64
   begun_words b n None a e h = omega arith
   begun_words b n (Some ps) a e h = elim h [ inl done ↦ (done.1).3 | inr stop ↦ (stop.1).3 ]
 
-  begun_row : (b : B) (ch : Chain) (i : Ins) (y : RowEnd) (a : Answer) (e : B) → InOrder (Wrote did state) b (row_turn ch i y).writes a e → EndsWithin 64 y
+  begun_row : (b : B) (ch : Chain) (i : Ins) (y : RowEnd) (a : Answer) (e : B) → InOrder (ChainWrote did state) b (row_turn ch i y).writes a e → EndsWithin 64 y
   begun_row b ch i (Abends c) a e h = tt
   begun_row b ch i (Does d) a e h = begun_words b ch.frame.name d.effect.changes a e h
 
   -- a turn whose writes were begun
-  turn_writes : (b : B) (c : Chained) (ch : Chain) (i : Ins) (next : ℕ) (a : Answer) (e : B) → Runs (state b) (named b) c ch → AreApps (state b).apps → Shaped i
-      → InOrder (Wrote did state) b (row_turn ch i (row i (stepped ch.frame next) ch.public (around ch))).writes a e
+  turn_writes : (b : B) (c : Chained) (ch : Chain) (i : Ins) (next : ℕ) (a : Answer) (e : B) → RunsAs (state b) (named b) c ch → AreApps (state b).apps → Shaped i
+      → InOrder (ChainWrote did state) b (row_turn ch i (row i (stepped ch.frame next) ch.public (around ch))).writes a e
       → WritesFew (row_turn ch i (row i (stepped ch.frame next) ch.public (around ch)))
   turn_writes b c ch i next a e r apps shaped done =
       let f = stepped ch.frame next in
       let x = around ch in
       let y = row i f ch.public x in
-      let told : IsTold i x.delegator = told-any i x.delegator (delegator_short (state b) (named b) c.below ch.below apps r.below) in
+      let told : IsToldName i x.delegator = told-any i x.delegator (delegator_short (state b) (named b) c.below ch.below apps r.below) in
       row_writes ch i y (quiet_exit i f ch.public x) (
       elim (most-is i) [
         | inl most ↦ subst (λ (n : ℕ). EndsWithin n y) (sym most) (begun_row b ch i y a e done)
@@ -115,7 +115,7 @@ module _ {B : Type 0} (did : B → BankItem → Answer → B → Type 0) (state 
       )
 
   -- a turn by its result
-  pub act_writes : (b e : B) (c d : Chained) (ch : Chain) (i : Ins) (next : ℕ) (result : Result Step Stop) → Runs (state b) (named b) c ch → AreApps (state b).apps → Shaped i
+  pub act_writes : (b e : B) (c d : Chained) (ch : Chain) (i : Ins) (next : ℕ) (result : Result Step Stop) → RunsAs (state b) (named b) c ch → AreApps (state b).apps → Shaped i
       → ActDone did state named b e c d ch (row_turn ch i (row i (stepped ch.frame next) ch.public (around ch))) result
       → WritesFew (row_turn ch i (row i (stepped ch.frame next) ch.public (around ch)))
   act_writes b e c d ch i next (Ok step) r apps shaped done = turn_writes b c ch i next (Ok tt) e r apps shaped done.0.writes
@@ -124,6 +124,6 @@ module _ {B : Type 0} (did : B → BankItem → Answer → B → Type 0) (state 
 -- ---- runs
 
 -- the writes of a run that was done
-pub all_few : {B : Type 0} (did : B → BankItem → Answer → B → Type 0) (state : B → BankState) (ws : List Write) (b e : B) → InOrder (Wrote did state) b ws (Ok tt) e → AllByRecursion (λ (w : Write). w.words ≤ 64) ws
+pub all_few : {B : Type 0} (did : B → BankItem → Answer → B → Type 0) (state : B → BankState) (ws : List Write) (b e : B) → InOrder (ChainWrote did state) b ws (Ok tt) e → AllByRecursion (λ (w : Write). w.words ≤ 64) ws
 all_few did state [] b e h = tt
 all_few did state (w ∷ ws) b e h = elim h [ inl done ↦ ((done.1).3, all_few did state ws done.0 e done.2) | inr stop ↦ absurd (cc stop.2) ]

@@ -31,12 +31,12 @@ record KeepsFacts (app : AppFacts) (guard : Type 0) (fixed public : List ℕ) (e
   fixed_kept : e.frame.fixed ≡ changed_bytes fixed e.changes
   public_kept : length public ≡ 1041 → length e.public ≡ 1041
 
-abbrev Keeps : Frame → List ℕ → Effect → Type 0
-Keeps f public e = KeepsFacts (facts f) (IsGuarded f) f.fixed public e
+abbrev KeepsFactsOf : Frame → List ℕ → Effect → Type 0
+KeepsFactsOf f public e = KeepsFacts (facts f) (IsGuarded f) f.fixed public e
 
 -- ---- effects by kind
 
-framed_kept : (f : Frame) (public : List ℕ) → Keeps f public (framed f public)
+framed_kept : (f : Frame) (public : List ℕ) → KeepsFactsOf f public (framed f public)
 framed_kept f public = record { app_kept = refl; guard_kept = λ g. g; fixed_kept = refl; public_kept = λ e. e }
 
 public_fits : (s d p : Bool) (a n i : ℕ) (j k : ℕ) → p ≡ (nat_le public_base a && nat_le (a + n) public_end)
@@ -48,11 +48,11 @@ public_fits false false true a n i j k test e =
     grind (arith, nat_tests)
 public_fits false false false a n i j k test e = absurd (cc e)
 
-static_kept : (b : Bool) (f : Frame) (public : List ℕ) (i : ℕ) (bytes : List ℕ) → f.protected ≡ b → Keeps f public (static_written b f public i bytes)
+static_kept : (b : Bool) (f : Frame) (public : List ℕ) (i : ℕ) (bytes : List ℕ) → f.protected ≡ b → KeepsFactsOf f public (static_written b f public i bytes)
 static_kept true f public i bytes on = record { app_kept = refl; guard_kept = λ g off. absurd (cc (on, off)); fixed_kept = refl; public_kept = λ e. e }
 static_kept false f public i bytes on = record { app_kept = refl; guard_kept = λ g. g; fixed_kept = refl; public_kept = λ e. e }
 
-written_in_kept : (f : Frame) (public : List ℕ) (a : ℕ) (bytes : List ℕ) (place : Option Place) → where_is f a (length bytes) ≡ place → Keeps f public (written_in f public bytes place)
+written_in_kept : (f : Frame) (public : List ℕ) (a : ℕ) (bytes : List ℕ) (place : Option Place) → where_is f a (length bytes) ≡ place → KeepsFactsOf f public (written_in f public bytes place)
 written_in_kept f public a bytes None is = framed_kept f public
 written_in_kept f public a bytes (Some (Static i)) is = static_kept f.protected f public i bytes refl
 written_in_kept f public a bytes (Some (Dynamic i)) is = record { app_kept = refl; guard_kept = λ g. g; fixed_kept = refl; public_kept = λ e. e }
@@ -60,7 +60,7 @@ written_in_kept f public a bytes (Some (Public i)) is =
     let fits : i + length bytes ≤ 1041 = public_fits _ _ _ a (length bytes) i _ _ refl is in
     record { app_kept = refl; guard_kept = λ g. g; fixed_kept = refl; public_kept = λ e. length-splice public i bytes (omega arith) ∙ e }
 
-written_kept : (f : Frame) (public : List ℕ) (a : ℕ) (bytes : List ℕ) → Keeps f public (written f public a bytes)
+written_kept : (f : Frame) (public : List ℕ) (a : ℕ) (bytes : List ℕ) → KeepsFactsOf f public (written f public a bytes)
 unfolding written
 written_kept f public a bytes = written_in_kept f public a bytes (where_is f a (length bytes)) refl
 
@@ -68,10 +68,10 @@ flagged_kept : (app : AppFacts) (guard : Type 0) (fixed public : List ℕ) (e : 
 flagged_kept app guard fixed public e c z k = record { app_kept = k.app_kept; guard_kept = k.guard_kept; fixed_kept = k.fixed_kept; public_kept = k.public_kept }
 
 -- the frame is one with the same application and the same pieces
-moved_kept : (f : Frame) (public : List ℕ) (g : Frame) → facts g ≡ facts f → g.fixed ≡ f.fixed → (IsGuarded f → IsGuarded g) → Keeps f public (framed g public)
+moved_kept : (f : Frame) (public : List ℕ) (g : Frame) → facts g ≡ facts f → g.fixed ≡ f.fixed → (IsGuarded f → IsGuarded g) → KeepsFactsOf f public (framed g public)
 moved_kept f public g app fixed guard = record { app_kept = app; guard_kept = guard; fixed_kept = fixed; public_kept = λ e. e }
 
-cond_kept : (f : Frame) (public : List ℕ) (b : Bool) (d e : Effect) → Keeps f public d → Keeps f public e → Keeps f public (cond b d e)
+cond_kept : (f : Frame) (public : List ℕ) (b : Bool) (d e : Effect) → KeepsFactsOf f public d → KeepsFactsOf f public e → KeepsFactsOf f public (cond b d e)
 cond_kept f public true d e s t = s
 cond_kept f public false d e s t = t
 
@@ -79,7 +79,7 @@ committed_fixed : (f : Frame) (ps : List (ℕ × List ℕ)) → laid_pieces f.fi
 committed_fixed f [] = refl
 committed_fixed f (p ∷ ps) = refl
 
-protect_kept : (f : Frame) (public : List ℕ) (mode : ℕ) → Keeps f public (protect f public mode)
+protect_kept : (f : Frame) (public : List ℕ) (mode : ℕ) → KeepsFactsOf f public (protect f public mode)
 protect_kept f public mode =
     let on = nat_le 2 mode in
     let kept : Effect = record { frame = record f { fixed = static_bytes f; pieces = []; protected = on }; public = public; changes = committed f f.pieces } in
@@ -88,15 +88,15 @@ protect_kept f public mode =
 
 -- ---- primitives
 
-looked_kept : (f : Frame) (public : List ℕ) (o : Option ℕ) → Keeps f public (looked_up f public o)
+looked_kept : (f : Frame) (public : List ℕ) (o : Option ℕ) → KeepsFactsOf f public (looked_up f public o)
 looked_kept f public (Some i) = record { app_kept = refl; guard_kept = λ g. g; fixed_kept = refl; public_kept = λ e. e }
 looked_kept f public None = record { app_kept = refl; guard_kept = λ g. g; fixed_kept = refl; public_kept = λ e. e }
 
-told_kept : (f : Frame) (public : List ℕ) (a : ℕ) (o : Option (List ℕ)) → Keeps f public (delegator_told f public a o)
+told_kept : (f : Frame) (public : List ℕ) (a : ℕ) (o : Option (List ℕ)) → KeepsFactsOf f public (delegator_told f public a o)
 told_kept f public a None = record { app_kept = refl; guard_kept = λ g. g; fixed_kept = refl; public_kept = λ e. e }
 told_kept f public a (Some name) = flagged_kept (facts f) (IsGuarded f) f.fixed public (written f public a (length name ∷ name)) f.c false (written_kept f public a (length name ∷ name))
 
-prim_effect_kept : (p : Primitive) (args : List ℕ) (f : Frame) (public : List ℕ) (x : Around) → Keeps f public (prim_effect p args f public x).effect
+prim_effect_kept : (p : Primitive) (args : List ℕ) (f : Frame) (public : List ℕ) (x : Around) → KeepsFactsOf f public (prim_effect p args f public x).effect
 unfolding prim_effect
 prim_effect_kept CheckCase args f public x = moved_kept f public _ refl refl (λ g. g)
 prim_effect_kept LoadCcr args f public x = moved_kept f public _ refl refl (λ g. g)
@@ -118,19 +118,19 @@ prim_effect_kept ShiftLeft args f public x = moved_kept f public _ refl refl (λ
 prim_effect_kept ShiftRight args f public x = moved_kept f public _ refl refl (λ g. g)
 prim_effect_kept BitWord args f public x = moved_kept f public _ refl refl (λ g. g)
 
-prim_kept : (p : Option Primitive) (args : List ℕ) (f : Frame) (public : List ℕ) (x : Around) → Keeps f public (prim_done p args f public x).effect
+prim_kept : (p : Option Primitive) (args : List ℕ) (f : Frame) (public : List ℕ) (x : Around) → KeepsFactsOf f public (prim_done p args f public x).effect
 prim_kept None args f public x = framed_kept f public
 prim_kept (Some p) args f public x = prim_effect_kept p args f public x
 
 -- ---- jumps
 
-gone_kept : (b on : Bool) (f : Frame) (public : List ℕ) (to : ℕ) → Keeps f public (framed (gone b (cond on (popped f 2) f) to) public)
+gone_kept : (b on : Bool) (f : Frame) (public : List ℕ) (to : ℕ) → KeepsFactsOf f public (framed (gone b (cond on (popped f 2) f) to) public)
 gone_kept true true f public to = moved_kept f public _ refl refl (λ g. g)
 gone_kept true false f public to = moved_kept f public _ refl refl (λ g. g)
 gone_kept false true f public to = moved_kept f public _ refl refl (λ g. g)
 gone_kept false false f public to = moved_kept f public _ refl refl (λ g. g)
 
-called_kept : (b on : Bool) (f : Frame) (public : List ℕ) (to : ℕ) → Keeps f public (framed (called b (cond on (popped f 2) f) to) public)
+called_kept : (b on : Bool) (f : Frame) (public : List ℕ) (to : ℕ) → KeepsFactsOf f public (framed (called b (cond on (popped f 2) f) to) public)
 called_kept true true f public to = moved_kept f public _ refl refl (λ g. g)
 called_kept true false f public to = moved_kept f public _ refl refl (λ g. g)
 called_kept false true f public to = moved_kept f public _ refl refl (λ g. g)
@@ -145,13 +145,13 @@ la_kept : (public : List ℕ) (la : ℕ) → length public ≡ 1041 → length (
 la_kept public la e = length-splice public 1037 (bytes2 la) (omega arith) ∙ e
 
 -- only the public segment changes
-public_set : (f : Frame) (public to : List ℕ) → (length public ≡ 1041 → length to ≡ 1041) → Keeps f public (framed f to)
+public_set : (f : Frame) (public to : List ℕ) → (length public ≡ 1041 → length to ≡ 1041) → KeepsFactsOf f public (framed f to)
 public_set f public to len = record { app_kept = refl; guard_kept = λ g. g; fixed_kept = refl; public_kept = len }
 
-becomes_kept : (f : Frame) (public : List ℕ) (a : ℕ) (b : List ℕ) (c z : Bool) → Keeps f public (effect_flagged (written f public a b) c z)
+becomes_kept : (f : Frame) (public : List ℕ) (a : ℕ) (b : List ℕ) (c z : Bool) → KeepsFactsOf f public (effect_flagged (written f public a b) c z)
 becomes_kept f public a b c z = flagged_kept (facts f) (IsGuarded f) f.fixed public (written f public a b) c z (written_kept f public a b)
 
-effect_kept : (i : Ins) (f : Frame) (public : List ℕ) (x : Around) → Keeps f public (effect i f public x).effect
+effect_kept : (i : Ins) (f : Frame) (public : List ℕ) (x : Around) → KeepsFactsOf f public (effect i f public x).effect
 unfolding effect
 effect_kept ins.Nop f public x = framed_kept f public
 effect_kept (ins.Setsw sw) f public x = public_set f public _ (sw_kept public sw)

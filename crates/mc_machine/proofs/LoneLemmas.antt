@@ -16,9 +16,9 @@ use Rattle.mc_segs.specs.declared.ends.Next.{Next}
 use Rattle.mc_segs.specs.declared.ends.Halt.{Halt}
 use Rattle.mc_segs.specs.declared.ends.Halt.TheVariants as halt
 use Rattle.mc_segs.specs.HeldFrames.{Held, app_under}
-use Rattle.mc_segs.specs.Ends.{Acts as CallActs, scene, then_of}
+use Rattle.mc_segs.specs.Ends.{EndActs as CallActs, scene, then_of}
 use Rattle.mc_machine.specs.Alike.{SameRowEnd, KeepsRow}
-use Rattle.mc_machine.specs.Chains.{Chained, ReadAll, Runs}
+use Rattle.mc_machine.specs.Chains.{Chained, ReadAll, RunsAs}
 use Rattle.mc_machine.specs.Turns.{ActDone, Followed, advanced, told_of, last_end, end_value}
 use Rattle.mc_machine.specs.Lone.{lone_chain, lone_halt_of, lone_next_of, EndDone, Delegated, LoneDone}
 use Rattle.mc_machine.specs.declared.outcome.End.{End}
@@ -39,7 +39,7 @@ exit_end : (old new : Held) (i : Ins) (o : End) → (exit_step old new i o).end 
 exit_end old new i end.Reply = refl
 exit_end old new i (end.Abend a) = refl
 
-module _ (s : BankState) (named : ℕ → Option (List ℕ)) (old h : Held) (public : List ℕ) (case le left : ℕ) (k : Chain) (i : Ins) (r : Runs s named (lone_chain h public case le left) k) where
+module _ (s : BankState) (named : ℕ → Option (List ℕ)) (old h : Held) (public : List ℕ) (case le left : ℕ) (k : Chain) (i : Ins) (r : RunsAs s named (lone_chain h public case le left) k) where
   exited_is : (fs : List Frame) → ReadAll s named [] fs → exited k fs ≡ last_exit k
   exited_is [] all = refl
   exited_is (f ∷ fs) all = absurd all
@@ -69,7 +69,7 @@ module _ {B : Type 0} (did : B → BankItem → Answer → B → Type 0) (state 
   pub lone_abends : (b e : B) (c d : Chained) (ch : Chain) (t : Acted) (h : Held) (i : Option Ins) (a : Abend) → ActDone did state named b e c d ch t (Ok (told_of h i (Some (end.Abend a)))) → EndDone did state named b e c d ch t (Some (end.Abend a))
   lone_abends b e c d ch t h i a done = ended b e c d ch t (told_of h i (Some (end.Abend a))) (Some (end.Abend a)) refl done
 
-  module _ (laws : BankLaws did state named) (b e : B) (old h : Held) (public segment : List ℕ) (case le left : ℕ) (ch : Chain) (next : ℕ) (i : Ins) (r : Runs (state b) (named b) (lone_chain old public case le left) ch) where
+  module _ (laws : BankLaws did state named) (b e : B) (old h : Held) (public segment : List ℕ) (case le left : ℕ) (ch : Chain) (next : ℕ) (i : Ins) (r : RunsAs (state b) (named b) (lone_chain old public case le left) ch) where
     abbrev from : Chained
     from = lone_chain old public case le left
 

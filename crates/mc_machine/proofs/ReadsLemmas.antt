@@ -9,8 +9,8 @@ use Rattle.mc_model.specs.Frame.{Frame, session_of, new_frame}
 use Rattle.mc_model.specs.Chain.{Chain, delegator_in, first_frame, chain_session, is_active, stepped}
 use Rattle.mc_segs.specs.HeldFrames.{Held, Seen, seen, app_under, new_held}
 use Rattle.mc_bank.proofs.LeftLemmas.{some_name}
-use Rattle.mc_machine.specs.Chains.{Chained, Reads, ReadAll, Runs, first_held, session_in}
-use Rattle.mc_machine.specs.Turns.{AllFit, delegator_of, has_frame, advanced}
+use Rattle.mc_machine.specs.Chains.{Chained, FrameReadsAs, ReadAll, RunsAs, first_held, session_in}
+use Rattle.mc_machine.specs.Turns.{AllFitBank, delegator_of, has_frame, advanced}
 
 -- ---- one frame
 
@@ -23,14 +23,14 @@ app_by apps o n is = subst (λ (p : Option (List ℕ)). IsSome (lookup apps (nam
 
 module _ (s : BankState) (named : ℕ → Option (List ℕ)) where
   -- a frame's slot has its name
-  pub name_is : (h : Held) (f : Frame) → Reads s named h f → named h.slot ≡ Some f.name
+  pub name_is : (h : Held) (f : Frame) → FrameReadsAs s named h f → named h.slot ≡ Some f.name
   name_is h f r = some_name (named h.slot) r.fits.there ∙ ap Some (ap (λ (t : Seen). t.name) r.same)
 
   -- and its application is there
-  pub app_is : (h : Held) (f : Frame) → Reads s named h f → lookup s.apps f.name ≡ Some (app_under s named h)
+  pub app_is : (h : Held) (f : Frame) → FrameReadsAs s named h f → lookup s.apps f.name ≡ Some (app_under s named h)
   app_is h f r = app_by s.apps (named h.slot) f.name (name_is h f r) r.fits.app
 
-  session_is : (h : Held) (f : Frame) → Reads s named h f → session_of h.frame ≡ session_of f
+  session_is : (h : Held) (f : Frame) → FrameReadsAs s named h f → session_of h.frame ≡ session_of f
   session_is h f r = ap (λ (t : Seen). session_of (record h.frame { session = t.session; dyn = t.dyn })) r.same
 
   -- ---- the frames that wait
@@ -41,7 +41,7 @@ module _ (s : BankState) (named : ℕ → Option (List ℕ)) where
   as_many (h ∷ hs) [] r = absurd r
   as_many (h ∷ hs) (f ∷ fs) r = ap suc (as_many hs fs r.1)
 
-  pub all_fit : (hs : List Held) (fs : List Frame) → ReadAll s named hs fs → AllFit s named hs
+  pub all_fit : (hs : List Held) (fs : List Frame) → ReadAll s named hs fs → AllFitBank s named hs
   all_fit [] [] r = tt
   all_fit [] (f ∷ fs) r = absurd r
   all_fit (h ∷ hs) [] r = absurd r
@@ -53,18 +53,18 @@ module _ (s : BankState) (named : ℕ → Option (List ℕ)) where
   delegators (h ∷ hs) [] r = absurd r
   delegators (h ∷ hs) (f ∷ fs) r = name_is h f r.0
 
-  first_session : (h : Held) (f : Frame) (hs : List Held) (fs : List Frame) → Reads s named h f → ReadAll s named hs fs → session_of (first_held h hs).frame ≡ session_of (first_frame f fs)
+  first_session : (h : Held) (f : Frame) (hs : List Held) (fs : List Frame) → FrameReadsAs s named h f → ReadAll s named hs fs → session_of (first_held h hs).frame ≡ session_of (first_frame f fs)
   first_session h f [] [] r rs = session_is h f r
   first_session h f [] (g ∷ fs) r rs = absurd rs
   first_session h f (k ∷ hs) [] r rs = absurd rs
   first_session h f (k ∷ hs) (g ∷ fs) r rs = first_session k g hs fs rs.0 rs.1
 
-  pub session_runs : (c : Chained) (ch : Chain) → Runs s named c ch → session_in c ≡ chain_session ch
+  pub session_runs : (c : Chained) (ch : Chain) → RunsAs s named c ch → session_in c ≡ chain_session ch
   session_runs c ch r = first_session c.running ch.frame c.below ch.below r.running r.below
 
   -- ---- names of frames
 
-  active_is : (n : List ℕ) (h : Held) (f : Frame) (hs : List Held) (fs : List Frame) → Reads s named h f → ReadAll s named hs fs → has_frame named n (h ∷ hs) ≡ is_active n f fs
+  active_is : (n : List ℕ) (h : Held) (f : Frame) (hs : List Held) (fs : List Frame) → FrameReadsAs s named h f → ReadAll s named hs fs → has_frame named n (h ∷ hs) ≡ is_active n f fs
   active_is n h f [] [] r rs = or_false (bytes_eq (name_or (named h.slot)) n) ∙ ap (λ (o : Option (List ℕ)). bytes_eq (name_or o) n) (name_is h f r)
     where
       or_false : (b : Bool) → (b || false) ≡ b
@@ -74,19 +74,19 @@ module _ (s : BankState) (named : ℕ → Option (List ℕ)) where
   active_is n h f (k ∷ hs) [] r rs = absurd rs
   active_is n h f (k ∷ hs) (g ∷ fs) r rs = ap (λ (o : Option (List ℕ)). bytes_eq (name_or o) n || has_frame named n (k ∷ hs)) (name_is h f r) ∙ ap (λ (b : Bool). bytes_eq f.name n || b) (active_is n k g hs fs rs.0 rs.1)
 
-  pub active_runs : (c : Chained) (ch : Chain) (n : List ℕ) → Runs s named c ch → has_frame named n (c.running ∷ c.below) ≡ is_active n ch.frame ch.below
+  pub active_runs : (c : Chained) (ch : Chain) (n : List ℕ) → RunsAs s named c ch → has_frame named n (c.running ∷ c.below) ≡ is_active n ch.frame ch.below
   active_runs c ch n r = active_is n c.running ch.frame c.below ch.below r.running r.below
 
   -- ---- one instruction of the budget
 
-  pub advanced_reads : (h : Held) (f : Frame) (next : ℕ) → Reads s named h f → Reads s named (record h { frame = record h.frame { at = next } }) (stepped f next)
+  pub advanced_reads : (h : Held) (f : Frame) (next : ℕ) → FrameReadsAs s named h f → FrameReadsAs s named (record h { frame = record h.frame { at = next } }) (stepped f next)
   advanced_reads h f next r = record {
     fits = record { there = r.fits.there; app = r.fits.app; code = r.fits.code; fixed = r.fits.fixed; deny = r.fits.deny; session = r.fits.session };
     same = ap (λ (t : Seen). record t { at = next }) r.same;
     guarded = r.guarded;
   }
 
-  pub advanced_runs : (c : Chained) (ch : Chain) (next : ℕ) → Runs s named c ch → Runs s named (advanced c next) (record ch { frame = stepped ch.frame next })
+  pub advanced_runs : (c : Chained) (ch : Chain) (next : ℕ) → RunsAs s named c ch → RunsAs s named (advanced c next) (record ch { frame = stepped ch.frame next })
   advanced_runs c ch next r = record {
     map = r.map;
     running = advanced_reads c.running ch.frame next r.running;
@@ -100,7 +100,7 @@ module _ (s : BankState) (named : ℕ → Option (List ℕ)) where
 
   -- ---- a frame on another state of the bank that has its application as it is
 
-  pub moved_reads : (t : BankState) (names : ℕ → Option (List ℕ)) (h : Held) (f : Frame) → names h.slot ≡ Some f.name → lookup t.apps f.name ≡ lookup s.apps f.name → Reads s named h f → Reads t names h f
+  pub moved_reads : (t : BankState) (names : ℕ → Option (List ℕ)) (h : Held) (f : Frame) → names h.slot ≡ Some f.name → lookup t.apps f.name ≡ lookup s.apps f.name → FrameReadsAs s named h f → FrameReadsAs t names h f
   moved_reads t names h f there app r =
       let old = name_is h f r in
       let name : names h.slot ≡ named h.slot = there ∙ sym old in
@@ -121,7 +121,7 @@ module _ (s : BankState) (named : ℕ → Option (List ℕ)) where
 
   -- ---- a new frame
 
-  pub entered_reads : (slot : ℕ) (n : List ℕ) (a : App) → named slot ≡ Some n → lookup s.apps n ≡ Some a → Reads s named (new_held slot (sizes_of a) (zeros a.session)) (new_frame n (length a.code) a.deny a.fixed (zeros a.session))
+  pub entered_reads : (slot : ℕ) (n : List ℕ) (a : App) → named slot ≡ Some n → lookup s.apps n ≡ Some a → FrameReadsAs s named (new_held slot (sizes_of a) (zeros a.session)) (new_frame n (length a.code) a.deny a.fixed (zeros a.session))
   entered_reads slot n a there app =
       let is : app_of s.apps (named slot) ≡ a = ap (λ (o : Option (List ℕ)). app_of s.apps o) there ∙ ap (λ (l : Option App). unwrap_or l no_app) app in
       record {

@@ -9,14 +9,14 @@ use Rattle.mc_model.specs.Row.{effect, causes, first_cause, judged, row, RowEnd,
 use Rattle.mc_rows.specs.Families.{IsNoPrimitive}
 
 -- an instruction that exits keeps its frame's session bytes
-abbrev pub KeepsSession : Frame → Done → Type 0
-KeepsSession f d = d.next ≡ Exits → session_of d.effect.frame ≡ session_of f
+abbrev pub ExitKeepsSession : Frame → Done → Type 0
+ExitKeepsSession f d = d.next ≡ Exits → session_of d.effect.frame ≡ session_of f
 
 abbrev pub ExitKeeps : Frame → RowEnd → Type 0
 ExitKeeps f (Abends a) = Unit {0}
-ExitKeeps f (Does d) = KeepsSession f d
+ExitKeeps f (Does d) = ExitKeepsSession f d
 
-prim_effect_exits : (p : Primitive) (args : List ℕ) (f : Frame) (public : List ℕ) (x : Around) → KeepsSession f (prim_effect p args f public x)
+prim_effect_exits : (p : Primitive) (args : List ℕ) (f : Frame) (public : List ℕ) (x : Around) → ExitKeepsSession f (prim_effect p args f public x)
 unfolding prim_effect
 prim_effect_exits CheckCase args f public x e = absurd (cc e)
 prim_effect_exits LoadCcr args f public x e = absurd (cc e)
@@ -38,11 +38,11 @@ prim_effect_exits ShiftLeft args f public x e = absurd (cc e)
 prim_effect_exits ShiftRight args f public x e = absurd (cc e)
 prim_effect_exits BitWord args f public x e = absurd (cc e)
 
-prim_exits : (p : Option Primitive) (args : List ℕ) (f : Frame) (public : List ℕ) (x : Around) → KeepsSession f (prim_done p args f public x)
+prim_exits : (p : Option Primitive) (args : List ℕ) (f : Frame) (public : List ℕ) (x : Around) → ExitKeepsSession f (prim_done p args f public x)
 prim_exits None args f public x e = absurd (cc e)
 prim_exits (Some p) args f public x e = prim_effect_exits p args f public x e
 
-effect_exits : (i : Ins) (f : Frame) (public : List ℕ) (x : Around) → KeepsSession f (effect i f public x)
+effect_exits : (i : Ins) (f : Frame) (public : List ℕ) (x : Around) → ExitKeepsSession f (effect i f public x)
 unfolding effect
 effect_exits ins.Nop f public x e = absurd (cc e)
 effect_exits (ins.Setsw sw) f public x e = absurd (cc e)
@@ -92,7 +92,7 @@ effect_exits (ins.Andn tag off n) f public x e = absurd (cc e)
 effect_exits (ins.Orn tag off n) f public x e = absurd (cc e)
 effect_exits (ins.Xorn tag off n) f public x e = absurd (cc e)
 
-judged_exits : (f : Frame) (o : Option Abend) (d : Done) → KeepsSession f d → ExitKeeps f (judged o d)
+judged_exits : (f : Frame) (o : Option Abend) (d : Done) → ExitKeepsSession f d → ExitKeeps f (judged o d)
 judged_exits f (Some a) d k = tt
 judged_exits f None d k = k
 

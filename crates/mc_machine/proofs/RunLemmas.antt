@@ -18,41 +18,41 @@ use Rattle.mc_bank.specs.Bank.{BankState}
 use Rattle.mc_segs.specs.HeldFrames.{Held, Seen}
 use Rattle.mc_machine.specs.declared.outcome.End.{End}
 use Rattle.mc_machine.specs.declared.outcome.Step.{Step}
-use Rattle.mc_machine.specs.Chains.{Chained, Reads, ReadAll, Runs, Wrote, first_held, session_in}
-use Rattle.mc_machine.specs.Lone.{EndDone, Delegated, Finished, Halted, RanDone}
+use Rattle.mc_machine.specs.Chains.{Chained, FrameReadsAs, ReadAll, RunsAs, ChainWrote, first_held, session_in}
+use Rattle.mc_machine.specs.Lone.{EndDone, Delegated, Finished, HaltedRun, RanDone}
 use Rattle.mc_machine.specs.declared.outcome.Outcome.{Outcome as CodeOutcome}
-use Rattle.mc_machine.specs.Turns.{Follow, Acts, ActDone, end_value, outcome_value}
+use Rattle.mc_machine.specs.Turns.{Follow, TurnActs, ActDone, end_value, outcome_value}
 
 -- ---- turns of the definition
 
 -- a turn that goes on counts one
-abbrev Counts : Follows → ℕ → Type 0
-Counts (Continues c) n = n ≡ 1
-Counts (Ends o) n = n ≤ 1
+abbrev CountsOne : Follows → ℕ → Type 0
+CountsOne (Continues c) n = n ≡ 1
+CountsOne (Ends o) n = n ≤ 1
 
 -- a turn tells its end, and counts one where it goes on
-record Told (t : Acted) : Type 0 where
+record TellsEnd (t : Acted) : Type 0 where
   end : t.turn.end ≡ end_of t.follows
-  count : Counts t.follows t.count
+  count : CountsOne t.follows t.count
 
-counts_one : (f : Follows) → Counts f 1
+counts_one : (f : Follows) → CountsOne f 1
 counts_one (Continues c) = refl
 counts_one (Ends o) = omega arith
 
-row_told : (ch : Chain) (i : Ins) (r : RowEnd) → Told (row_turn ch i r)
+row_told : (ch : Chain) (i : Ins) (r : RowEnd) → TellsEnd (row_turn ch i r)
 row_told ch i (Abends a) = record { end = refl; count = omega arith }
 row_told ch i (Does d) = record { end = refl; count = counts_one _ }
 
-fetched_told : (ch : Chain) (r : Result (Ins × ℕ) DecodeFault) → Told (fetched ch r)
+fetched_told : (ch : Chain) (r : Result (Ins × ℕ) DecodeFault) → TellsEnd (fetched ch r)
 fetched_told ch (Err Undefined) = record { end = refl; count = omega arith }
 fetched_told ch (Err Past) = record { end = refl; count = omega arith }
 fetched_told ch (Ok i) = row_told ch i.0 (row i.0 (stepped ch.frame i.1) ch.public (around ch))
 
-acted_told : (ch : Chain) → Told (acted ch)
+acted_told : (ch : Chain) → TellsEnd (acted ch)
 unfolding acted
 acted_told ch = fetched_told ch (decoded (code_in (lookup ch.map ch.frame.name)) ch.frame.at)
 
-turn_told : (n : ℕ) (ch : Chain) → Told (turn_of n ch)
+turn_told : (n : ℕ) (ch : Chain) → TellsEnd (turn_of n ch)
 turn_told zero ch = record { end = refl; count = omega arith }
 turn_told (suc n) ch = acted_told ch
 
@@ -88,17 +88,17 @@ turn_count n ch (Continues next) e =
 
 -- ---- session bytes of the first frame
 
-session_read : (s : BankState) (named : ℕ → Option (List ℕ)) (h : Held) (f : Frame) → Reads s named h f → session_of h.frame ≡ session_of f
+session_read : (s : BankState) (named : ℕ → Option (List ℕ)) (h : Held) (f : Frame) → FrameReadsAs s named h f → session_of h.frame ≡ session_of f
 session_read s named h f r = ap (λ (x : Seen). take x.session x.dyn) r.same
 
-session_first : (s : BankState) (named : ℕ → Option (List ℕ)) (h : Held) (hs : List Held) (f : Frame) (fs : List Frame) → Reads s named h f → ReadAll s named hs fs → session_of (first_held h hs).frame ≡ session_of (first_frame f fs)
+session_first : (s : BankState) (named : ℕ → Option (List ℕ)) (h : Held) (hs : List Held) (f : Frame) (fs : List Frame) → FrameReadsAs s named h f → ReadAll s named hs fs → session_of (first_held h hs).frame ≡ session_of (first_frame f fs)
 session_first s named h [] f [] r all = session_read s named h f r
 session_first s named h [] f (g ∷ fs) r all = absurd all
 session_first s named h (k ∷ hs) f [] r all = absurd all
 session_first s named h (k ∷ hs) f (g ∷ fs) r all = session_first s named k hs g fs all.0 all.1
 
 -- the code's session bytes are the definition's
-session_runs : (s : BankState) (named : ℕ → Option (List ℕ)) (c : Chained) (ch : Chain) → Runs s named c ch → session_in c ≡ chain_session ch
+session_runs : (s : BankState) (named : ℕ → Option (List ℕ)) (c : Chained) (ch : Chain) → RunsAs s named c ch → session_in c ≡ chain_session ch
 session_runs s named c ch r = session_first s named c.running c.below ch.frame ch.below r.running r.below
 
 -- ---- a run that is underway
@@ -107,17 +107,17 @@ session_runs s named c ch r = session_first s named c.running c.below ch.frame c
 -- by the whole from the start.
 pub record Underway {B : Type 0} (did : B → BankItem → Answer → B → Type 0) (state : B → BankState) (named : B → ℕ → Option (List ℕ)) (start : B) (whole : Ran) (ticks budget turn : ℕ) (here : B) (c : Chained) (steps : ℕ) : Type 0 where
   pub chain : Chain
-  pub runs : Runs (state here) (named here) c chain
+  pub runs : RunsAs (state here) (named here) c chain
   pub going : (state here).stopped ≡ false
   pub left : c.left + turn ≡ budget
-  pub writes : (a : Answer) (e : B) → InOrder (Wrote did state) here (ran c.left chain).writes a e → InOrder (Wrote did state) start whole.writes a e
+  pub writes : (a : Answer) (e : B) → InOrder (ChainWrote did state) here (ran c.left chain).writes a e → InOrder (ChainWrote did state) start whole.writes a e
   pub count : steps + (ran c.left chain).count ≡ ticks + whole.count
   pub session : (ran c.left chain).session ≡ whole.session
   pub outcome : (ran c.left chain).outcome ≡ whole.outcome
 
 module _ {B : Type 0} (did : B → BankItem → Answer → B → Type 0) (state : B → BankState) (named : B → ℕ → Option (List ℕ)) where
   -- a chain before its first turn
-  pub underway : (start : B) (c : Chained) (ch : Chain) (budget steps : ℕ) → (state start).stopped ≡ false → Runs (state start) (named start) c ch → c.left ≡ budget → Underway did state named start (ran budget ch) steps budget 0 start c steps
+  pub underway : (start : B) (c : Chained) (ch : Chain) (budget steps : ℕ) → (state start).stopped ≡ false → RunsAs (state start) (named start) c ch → c.left ≡ budget → Underway did state named start (ran budget ch) steps budget 0 start c steps
   underway start c ch budget steps going runs left =
       let same : ran c.left ch ≡ ran budget ch = ap (λ (n : ℕ). ran n ch) left in
       record {
@@ -125,7 +125,7 @@ module _ {B : Type 0} (did : B → BankItem → Answer → B → Type 0) (state 
         runs = runs;
         going = going;
         left = omega (arith, left);
-        writes = λ a e w. subst (λ (r : Ran). InOrder (Wrote did state) start r.writes a e) same w;
+        writes = λ a e w. subst (λ (r : Ran). InOrder (ChainWrote did state) start r.writes a e) same w;
         count = ap (λ (r : Ran). steps + r.count) same;
         session = ap (λ (r : Ran). r.session) same;
         outcome = ap (λ (r : Ran). r.outcome) same;
@@ -133,11 +133,11 @@ module _ {B : Type 0} (did : B → BankItem → Answer → B → Type 0) (state 
 
   -- a turn after which the chain goes on
   module _ (start : B) (whole : Ran) (ticks budget turn : ℕ) (here e : B) (c d : Chained) (steps now : ℕ) (u : Underway did state named start whole ticks budget turn here c steps) where
-    goes_by : (f : Follows) → (turn_of c.left u.chain).follows ≡ f → end_of f ≡ None → Acts did state named here e c d u.chain (turn_of c.left u.chain) → now ≡ steps + (turn_of c.left u.chain).count → Underway did state named start whole ticks budget (turn + 1) e d now
+    goes_by : (f : Follows) → (turn_of c.left u.chain).follows ≡ f → end_of f ≡ None → TurnActs did state named here e c d u.chain (turn_of c.left u.chain) → now ≡ steps + (turn_of c.left u.chain).count → Underway did state named start whole ticks budget (turn + 1) e d now
     goes_by (Ends o) follows none acts count = absurd (cc none)
     goes_by (Continues next) follows none acts count =
         let t = turn_of c.left u.chain in
-        let one : t.count ≡ 1 = subst (λ (f : Follows). Counts f t.count) follows (turn_told c.left u.chain).count in
+        let one : t.count ≡ 1 = subst (λ (f : Follows). CountsOne f t.count) follows (turn_told c.left u.chain).count in
         let left = acts.left in
         let size : d.left + 1 ≡ c.left = omega (arith, left, one) in
         let same : ran c.left u.chain ≡ goes_on t (ran d.left next) = ran_goes c.left d.left u.chain next follows size in
@@ -148,7 +148,7 @@ module _ {B : Type 0} (did : B → BankItem → Answer → B → Type 0) (state 
           runs = subst (λ (f : Follows). Follow (state e) (named e) d u.chain f) follows acts.follows;
           going = acts.going;
           left = omega (arith, size, whole_left);
-          writes = λ a k w. u.writes a k (subst (λ (r : Ran). InOrder (Wrote did state) here r.writes a k) (sym same) (InOrder-append (Wrote did state) t.writes (ran d.left next).writes here e k a acts.writes w));
+          writes = λ a k w. u.writes a k (subst (λ (r : Ran). InOrder (ChainWrote did state) here r.writes a k) (sym same) (InOrder-append (ChainWrote did state) t.writes (ran d.left next).writes here e k a acts.writes w));
           count = omega (arith, count, whole_count);
           session = ap (λ (r : Ran). r.session) (sym same) ∙ u.session;
           outcome = ap (λ (r : Ran). r.outcome) (sym same) ∙ u.outcome;
@@ -171,7 +171,7 @@ module _ {B : Type 0} (did : B → BankItem → Answer → B → Type 0) (state 
         let ends = ended_of t.follows o told in
         let same : ran c.left u.chain ≡ ends_with t (chain_session u.chain) o = ran_ends c.left u.chain o ends in
         record {
-          writes = u.writes (Ok tt) e (subst (λ (r : Ran). InOrder (Wrote did state) here r.writes (Ok tt) e) (sym same) done.0.writes);
+          writes = u.writes (Ok tt) e (subst (λ (r : Ran). InOrder (ChainWrote did state) here r.writes (Ok tt) e) (sym same) done.0.writes);
           going = done.0.going;
           count = count ∙ ap (λ (r : Ran). steps + r.count) (sym same) ∙ u.count;
           session = subst (λ (f : Follows). Follow (state e) (named e) d u.chain f) ends done.0.follows ∙ ap (λ (r : Ran). r.session) (sym same) ∙ u.session;
@@ -190,7 +190,7 @@ module _ {B : Type 0} (did : B → BankItem → Answer → B → Type 0) (state 
       rest_is : ran c.left u.chain ≡ goes_on (turn_of c.left u.chain) (ran d.left next_chain)
       rest_is =
           let t = turn_of c.left u.chain in
-          let one : t.count ≡ 1 = subst (λ (f : Follows). Counts f t.count) g.follows (turn_told c.left u.chain).count in
+          let one : t.count ≡ 1 = subst (λ (f : Follows). CountsOne f t.count) g.follows (turn_told c.left u.chain).count in
           let left = g.left in
           ran_goes c.left d.left u.chain next_chain g.follows (omega (arith, left, one))
 
@@ -202,7 +202,7 @@ module _ {B : Type 0} (did : B → BankItem → Answer → B → Type 0) (state 
           let total : steps + (t.count + rest.count) ≡ ticks + whole.count = ap (λ (r : Ran). steps + r.count) (sym same) ∙ u.count in
           let more = f.count in
           record {
-            writes = u.writes (Ok tt) end (subst (λ (r : Ran). InOrder (Wrote did state) here r.writes (Ok tt) end) (sym same) (InOrder-append (Wrote did state) t.writes rest.writes here e end (Ok tt) g.writes f.writes));
+            writes = u.writes (Ok tt) end (subst (λ (r : Ran). InOrder (ChainWrote did state) here r.writes (Ok tt) end) (sym same) (InOrder-append (ChainWrote did state) t.writes rest.writes here e end (Ok tt) g.writes f.writes));
             going = f.going;
             count = omega (arith, count, total, more);
             session = f.session ∙ ap (λ (r : Ran). r.session) (sym same) ∙ u.session;
@@ -215,19 +215,19 @@ module _ {B : Type 0} (did : B → BankItem → Answer → B → Type 0) (state 
           let total : steps + (t.count + rest.count) ≡ ticks + whole.count = ap (λ (r : Ran). steps + r.count) (sym same) ∙ u.count in
           let more = h.count in
           record {
-            writes = u.writes (Err s) end (subst (λ (r : Ran). InOrder (Wrote did state) here r.writes (Err s) end) (sym same) (InOrder-append (Wrote did state) t.writes rest.writes here e end (Err s) g.writes h.writes));
+            writes = u.writes (Err s) end (subst (λ (r : Ran). InOrder (ChainWrote did state) here r.writes (Err s) end) (sym same) (InOrder-append (ChainWrote did state) t.writes rest.writes here e end (Err s) g.writes h.writes));
             count = omega (arith, count, total, more);
             session = h.session;
           }
 
-  stops_by : (n : ℕ) (ch : Chain) (b e : B) (s : Stop) (f : Follows) → (turn_of n ch).follows ≡ f → InOrder (Wrote did state) b (turn_of n ch).writes (Err s) e → InOrder (Wrote did state) b (ran n ch).writes (Err s) e
-  stops_by n ch b e s (Ends o) ends w = subst (λ (r : Ran). InOrder (Wrote did state) b r.writes (Err s) e) (sym (ran_ends n ch o ends)) w
+  stops_by : (n : ℕ) (ch : Chain) (b e : B) (s : Stop) (f : Follows) → (turn_of n ch).follows ≡ f → InOrder (ChainWrote did state) b (turn_of n ch).writes (Err s) e → InOrder (ChainWrote did state) b (ran n ch).writes (Err s) e
+  stops_by n ch b e s (Ends o) ends w = subst (λ (r : Ran). InOrder (ChainWrote did state) b r.writes (Err s) e) (sym (ran_ends n ch o ends)) w
   stops_by n ch b e s (Continues next) goes w =
       let t = turn_of n ch in
-      subst (λ (r : Ran). InOrder (Wrote did state) b r.writes (Err s) e) (sym (ran_goes n (n - 1) ch next goes (goes_some n ch next goes))) (InOrder-stopped (Wrote did state) t.writes (ran (n - 1) next).writes b e s w)
+      subst (λ (r : Ran). InOrder (ChainWrote did state) b r.writes (Err s) e) (sym (ran_goes n (n - 1) ch next goes (goes_some n ch next goes))) (InOrder-stopped (ChainWrote did state) t.writes (ran (n - 1) next).writes b e s w)
 
   -- a stop in a turn
-  pub underway_stops : (start : B) (whole : Ran) (ticks budget turn : ℕ) (here e : B) (c : Chained) (steps : ℕ) (u : Underway did state named start whole ticks budget turn here c steps) (s : Stop) → InOrder (Wrote did state) here (turn_of c.left u.chain).writes (Err s) e → InOrder (Wrote did state) start whole.writes (Err s) e
+  pub underway_stops : (start : B) (whole : Ran) (ticks budget turn : ℕ) (here e : B) (c : Chained) (steps : ℕ) (u : Underway did state named start whole ticks budget turn here c steps) (s : Stop) → InOrder (ChainWrote did state) here (turn_of c.left u.chain).writes (Err s) e → InOrder (ChainWrote did state) start whole.writes (Err s) e
   underway_stops start whole ticks budget turn here e c steps u s w = u.writes (Err s) e (stops_by c.left u.chain here e s (turn_of c.left u.chain).follows refl w)
 
   -- a turn counts no more than the run
@@ -245,7 +245,7 @@ module _ {B : Type 0} (did : B → BankItem → Answer → B → Type 0) (state 
       let same : ran c.left u.chain ≡ ends_with (spent u.chain) (chain_session u.chain) (Abended A07) = ap (λ (n : ℕ). ran n u.chain) none ∙ ran_ends 0 u.chain (Abended A07) refl in
       let all : steps + 0 ≡ ticks + whole.count = ap (λ (r : Ran). steps + r.count) (sym same) ∙ u.count in
       record {
-        writes = u.writes (Ok tt) here (subst (λ (r : Ran). InOrder (Wrote did state) here r.writes (Ok tt) here) (sym same) refl);
+        writes = u.writes (Ok tt) here (subst (λ (r : Ran). InOrder (ChainWrote did state) here r.writes (Ok tt) here) (sym same) refl);
         going = u.going;
         count = omega (arith, all);
         session = session_runs (state here) (named here) c u.chain u.runs ∙ ap (λ (r : Ran). r.session) (sym same) ∙ u.session;
@@ -261,7 +261,7 @@ pub lone_left : (n turn budget : ℕ) → n + turn ≡ budget → n ≡ budget -
 lone_left n turn budget e = omega (arith, e)
 
 module _ {B : Type 0} (did : B → BankItem → Answer → B → Type 0) (state : B → BankState) (b e : B) (bytes left : List ℕ) (ticks steps : ℕ) (whole : Ran) where
-  pub ran_writes : (r : Result CodeOutcome Stop) → RanDone did state b e bytes left ticks steps whole r → InOrder (Wrote did state) b whole.writes (answer_of r) e
+  pub ran_writes : (r : Result CodeOutcome Stop) → RanDone did state b e bytes left ticks steps whole r → InOrder (ChainWrote did state) b whole.writes (answer_of r) e
   ran_writes (Ok o) f = f.writes
   ran_writes (Err s) h = h.writes
 

@@ -18,20 +18,21 @@ use Rattle.mc_model.specs.Items.{done}
 use Rattle.mc_model.specs.Play.{write_items}
 use Rattle.mc_bank.specs.Bank.{no_app, app_of}
 use Rattle.mc_bank.specs.NameLaws.{same_name, lookup-inserted, lookup-beside}
-use Rattle.mc_machine.specs.Sound.{Within, IsSoundFrame, IsSound}
-use Rattle.mc_machine.proofs.SoundRows.{ChangesWithin, Keeps, RowKeeps, row_keeps, length-pieces}
+use Rattle.mc_machine.specs.Sound.{IsSoundFrame, IsSoundChain}
+use Rattle.mc_family.specs.FewWords.{PiecesWithin}
+use Rattle.mc_machine.proofs.SoundRows.{ChangesWithin, KeepsPartsOf, RowKeeps, row_keeps, length-pieces}
 
 -- ---- applications whose sizes stay
 
 -- each name has as many static and session bytes as before
-pub record SameSizes (apps now : List (List ℕ × App)) : Type 0 where
+pub record SameLengths (apps now : List (List ℕ × App)) : Type 0 where
   pub fixed : (n : List ℕ) → length (app_of now (Some n)).fixed ≡ length (app_of apps (Some n)).fixed
   pub session : (n : List ℕ) → (app_of now (Some n)).session ≡ (app_of apps (Some n)).session
 
-pub same_sizes : (apps : List (List ℕ × App)) → SameSizes apps apps
+pub same_sizes : (apps : List (List ℕ × App)) → SameLengths apps apps
 same_sizes apps = record { fixed = λ n. refl; session = λ n. refl }
 
-pub sizes_onward : (a b c : List (List ℕ × App)) → SameSizes a b → SameSizes b c → SameSizes a c
+pub sizes_onward : (a b c : List (List ℕ × App)) → SameLengths a b → SameLengths b c → SameLengths a c
 sizes_onward a b c first second = record { fixed = λ n. second.fixed n ∙ first.fixed n; session = λ n. second.session n ∙ first.session n }
 
 -- an application in the place of one with the same sizes
@@ -46,17 +47,17 @@ module _ (apps : List (List ℕ × App)) (n : List ℕ) (old new : App) (there :
       let then : app_of apps (Some m) ≡ old = ap (λ (k : List ℕ). app_of apps (Some k)) (sym name) ∙ ap (λ (o : Option App). unwrap_or o no_app) there in
       (ap (λ (a : App). length a.fixed) now ∙ fixed ∙ ap (λ (a : App). length a.fixed) (sym then), ap (λ (a : App). a.session) now ∙ session ∙ ap (λ (a : App). a.session) (sym then))
 
-  sizes_inserted : SameSizes apps (insert apps n new)
+  sizes_inserted : SameLengths apps (insert apps n new)
   sizes_inserted = record { fixed = λ m. (inserted_at m (bytes_eq n m) refl).0; session = λ m. (inserted_at m (bytes_eq n m) refl).1 }
 
-sizes_by : (apps : List (List ℕ × App)) (n : List ℕ) (ps : List (ℕ × List ℕ)) (o : Option App) → lookup apps n ≡ o → Within (length (app_of apps (Some n)).fixed) ps → SameSizes apps (map_changed apps n (Some ps))
-sizes_by apps n ps None is within = subst (λ (now : List (List ℕ × App)). SameSizes apps now) (sym (ap (λ (o : Option App). changed_app apps n ps o) is)) (same_sizes apps)
+sizes_by : (apps : List (List ℕ × App)) (n : List ℕ) (ps : List (ℕ × List ℕ)) (o : Option App) → lookup apps n ≡ o → PiecesWithin (length (app_of apps (Some n)).fixed) ps → SameLengths apps (map_changed apps n (Some ps))
+sizes_by apps n ps None is within = subst (λ (now : List (List ℕ × App)). SameLengths apps now) (sym (ap (λ (o : Option App). changed_app apps n ps o) is)) (same_sizes apps)
 sizes_by apps n ps (Some a) is within =
     let app : app_of apps (Some n) ≡ a = ap (λ (o : Option App). unwrap_or o no_app) is in
-    let long = length-pieces a.fixed ps (subst (λ (x : App). Within (length x.fixed) ps) app within) in
-    subst (λ (now : List (List ℕ × App)). SameSizes apps now) (sym (ap (λ (o : Option App). changed_app apps n ps o) is)) (sizes_inserted apps n a (with_pieces ps a) is long refl)
+    let long = length-pieces a.fixed ps (subst (λ (x : App). PiecesWithin (length x.fixed) ps) app within) in
+    subst (λ (now : List (List ℕ × App)). SameLengths apps now) (sym (ap (λ (o : Option App). changed_app apps n ps o) is)) (sizes_inserted apps n a (with_pieces ps a) is long refl)
 
-pub sizes_changed : (apps : List (List ℕ × App)) (n : List ℕ) (changes : Option (List (ℕ × List ℕ))) → ChangesWithin (length (app_of apps (Some n)).fixed) changes → SameSizes apps (map_changed apps n changes)
+pub sizes_changed : (apps : List (List ℕ × App)) (n : List ℕ) (changes : Option (List (ℕ × List ℕ))) → ChangesWithin (length (app_of apps (Some n)).fixed) changes → SameLengths apps (map_changed apps n changes)
 sizes_changed apps n None within = same_sizes apps
 sizes_changed apps n (Some ps) within = sizes_by apps n ps (lookup apps n) refl within
 
@@ -65,7 +66,7 @@ sizes_changed apps n (Some ps) within = sizes_by apps n ps (lookup apps n) refl 
 -- a write of as many words as its pieces touch, which lie in the static segment
 pub record IsSoundWrite (apps : List (List ℕ × App)) (w : Write) : Type 0 where
   pub words : w.words ≡ length (touched w.pieces)
-  pub within : Within (length (app_of apps (Some w.name)).fixed) w.pieces
+  pub within : PiecesWithin (length (app_of apps (Some w.name)).fixed) w.pieces
 
 -- each of some writes is one, on the applications after those before it
 abbrev pub AreSound : List (List ℕ × App) → List Write → Type 0
@@ -82,7 +83,7 @@ write_done apps n None = refl
 write_done apps n (Some ps) = refl
 
 -- the applications have the sizes of before
-pub sizes_done : (ws : List Write) (apps : List (List ℕ × App)) → AreSound apps ws → SameSizes apps (done apps (write_items ws))
+pub sizes_done : (ws : List Write) (apps : List (List ℕ × App)) → AreSound apps ws → SameLengths apps (done apps (write_items ws))
 sizes_done [] apps sound = same_sizes apps
 sizes_done (w ∷ ws) apps sound =
     let now = map_changed apps w.name (Some w.pieces) in
@@ -90,15 +91,15 @@ sizes_done (w ∷ ws) apps sound =
 
 -- ---- frames
 
-frame_stays : (apps now : List (List ℕ × App)) (f : Frame) → SameSizes apps now → IsSoundFrame apps f → IsSoundFrame now f
+frame_stays : (apps now : List (List ℕ × App)) (f : Frame) → SameLengths apps now → IsSoundFrame apps f → IsSoundFrame now f
 frame_stays apps now f same s = record { fixed = s.fixed ∙ sym (same.fixed f.name); pieces = s.pieces; session = s.session ∙ sym (same.session f.name); held = s.held }
 
-frames_stay : (apps now : List (List ℕ × App)) (fs : List Frame) → SameSizes apps now → AllByRecursion (IsSoundFrame apps) fs → AllByRecursion (IsSoundFrame now) fs
+frames_stay : (apps now : List (List ℕ × App)) (fs : List Frame) → SameLengths apps now → AllByRecursion (IsSoundFrame apps) fs → AllByRecursion (IsSoundFrame now) fs
 frames_stay apps now [] same all = tt
 frames_stay apps now (f ∷ fs) same all = (frame_stays apps now f same all.0, frames_stay apps now fs same all.1)
 
 -- the frame after an effect, on the applications after its change
-frame_kept : (apps now : List (List ℕ × App)) (f : Frame) (e : Effect) → SameSizes apps now → IsSoundFrame apps f → Keeps f e → IsSoundFrame now e.frame
+frame_kept : (apps now : List (List ℕ × App)) (f : Frame) (e : Effect) → SameLengths apps now → IsSoundFrame apps f → KeepsPartsOf f e → IsSoundFrame now e.frame
 frame_kept apps now f e same s k =
     let long = k.fixed s.pieces in
     let name : app_of now (Some e.frame.name) ≡ app_of now (Some f.name) = ap (λ (n : List ℕ). app_of now (Some n)) k.name in
@@ -107,7 +108,7 @@ frame_kept apps now f e same s k =
     let size = k.session in
     record {
       fixed = long ∙ s.fixed ∙ sym (same.fixed f.name) ∙ ap (λ (a : App). length a.fixed) (sym name);
-      pieces = subst (λ (n : ℕ). Within n e.frame.pieces) (sym long) (k.pieces s.pieces);
+      pieces = subst (λ (n : ℕ). PiecesWithin n e.frame.pieces) (sym long) (k.pieces s.pieces);
       session = k.session ∙ s.session ∙ sym (same.session f.name) ∙ ap (λ (a : App). a.session) (sym name);
       held = omega (arith, held, dyn, size);
     }
@@ -127,7 +128,7 @@ first_all apps f [] all = all.0
 first_all apps f (g ∷ fs) all = first_all apps g fs all.1
 
 -- a chain has as many session bytes as its first application
-pub session_size : (ch : Chain) → IsSound ch → length (chain_session ch) ≡ (app_of ch.map (Some (first_in ch).name)).session
+pub session_size : (ch : Chain) → IsSoundChain ch → length (chain_session ch) ≡ (app_of ch.map (Some (first_in ch).name)).session
 session_size ch sound =
     let first : IsSoundFrame ch.map (first_in ch) = first_all ch.map ch.frame ch.below sound in
     let held = first.held in
@@ -142,7 +143,7 @@ first_name f g (h ∷ fs) same = refl
 
 -- a chain that goes on is sound, stands on the applications after the writes, and its first frame has its name
 pub record GoesSound (ch : Chain) (apps : List (List ℕ × App)) (next : Chain) : Type 0 where
-  pub sound : IsSound next
+  pub sound : IsSoundChain next
   pub map : next.map ≡ apps
   pub first : (first_in next).name ≡ (first_in ch).name
 
@@ -154,7 +155,7 @@ last_sound : (ch : Chain) (b : Bool) (o p : Follows) → FollowsSound ch ch.map 
 last_sound ch true o p s t = s
 last_sound ch false o p s t = t
 
-exited_sound : (ch : Chain) (below : List Frame) → ch.below ≡ below → IsSound ch → FollowsSound ch ch.map (exited ch below)
+exited_sound : (ch : Chain) (below : List Frame) → ch.below ≡ below → IsSoundChain ch → FollowsSound ch ch.map (exited ch below)
 exited_sound ch [] is sound = last_sound ch (nat_lt 1024 (la_of ch.public)) _ _ tt tt
 exited_sound ch (f ∷ fs) is sound =
     record {
@@ -163,15 +164,15 @@ exited_sound ch (f ∷ fs) is sound =
       first = ap (λ (fs : List Frame). (first_frame ch.frame fs).name) (sym is);
     }
 
-called_app_sound : (b : Bool) (ch : Chain) (n : List ℕ) (a : App) → app_of ch.map (Some n) ≡ a → IsSound ch → GoesSound ch ch.map (called_app b ch n a)
+called_app_sound : (b : Bool) (ch : Chain) (n : List ℕ) (a : App) → app_of ch.map (Some n) ≡ a → IsSoundChain ch → GoesSound ch ch.map (called_app b ch n a)
 called_app_sound true ch n a is sound = record { sound = sound; map = refl; first = refl }
 called_app_sound false ch n a is sound = record { sound = (new_sound ch.map n a (zeros a.session) is (length-replicate a.session 0), sound); map = refl; first = refl }
 
-called_sound : (ch : Chain) (n : List ℕ) (o : Option App) → lookup ch.map n ≡ o → IsSound ch → GoesSound ch ch.map (called ch n o)
+called_sound : (ch : Chain) (n : List ℕ) (o : Option App) → lookup ch.map n ≡ o → IsSoundChain ch → GoesSound ch ch.map (called ch n o)
 called_sound ch n None is sound = record { sound = sound; map = refl; first = refl }
 called_sound ch n (Some a) is sound = called_app_sound (is_active n ch.frame ch.below || nat_le 4 (depth_of ch)) ch n a (ap (λ (o : Option App). unwrap_or o no_app) is) sound
 
-follows_sound : (ch : Chain) (t : Then) → IsSound ch → FollowsSound ch ch.map (follows ch t)
+follows_sound : (ch : Chain) (t : Then) → IsSoundChain ch → FollowsSound ch ch.map (follows ch t)
 follows_sound ch Goes sound = record { sound = sound; map = refl; first = refl }
 follows_sound ch Exits sound = exited_sound ch ch.below refl sound
 follows_sound ch (Delegates n) sound = called_sound ch n (lookup ch.map n) refl sound
@@ -187,15 +188,15 @@ onward : (ch now : Chain) (apps : List (List ℕ × App)) (r : Follows) → now.
 onward ch now apps (Ends o) map first s = tt
 onward ch now apps (Continues next) map first s = record { sound = s.sound; map = s.map ∙ map; first = s.first ∙ first }
 
-row_sound : (ch : Chain) (i : Ins) (f : Frame) (r : RowEnd) → IsSound ch → IsSoundFrame ch.map f → f.name ≡ ch.frame.name → RowKeeps f r → TurnSound ch (row_turn ch i r)
+row_sound : (ch : Chain) (i : Ins) (f : Frame) (r : RowEnd) → IsSoundChain ch → IsSoundFrame ch.map f → f.name ≡ ch.frame.name → RowKeeps f r → TurnSound ch (row_turn ch i r)
 row_sound ch i f (Abends a) sound stands name keeps = record { writes = tt; follows = tt }
 row_sound ch i f (Does d) sound stands name keeps =
     let e = d.effect in
     let own : length f.fixed ≡ length (app_of ch.map (Some ch.frame.name)).fixed = stands.fixed ∙ ap (λ (n : List ℕ). length (app_of ch.map (Some n)).fixed) name in
     let within : ChangesWithin (length (app_of ch.map (Some ch.frame.name)).fixed) e.changes = subst (λ (n : ℕ). ChangesWithin n e.changes) own (keeps.change stands.pieces) in
-    let same : SameSizes ch.map (map_changed ch.map ch.frame.name e.changes) = sizes_changed ch.map ch.frame.name e.changes within in
+    let same : SameLengths ch.map (map_changed ch.map ch.frame.name e.changes) = sizes_changed ch.map ch.frame.name e.changes within in
     let now = settled ch e in
-    let stays : IsSound now = (frame_kept ch.map now.map f e same stands keeps, frames_stay ch.map now.map ch.below same sound.1) in
+    let stays : IsSoundChain now = (frame_kept ch.map now.map f e same stands keeps, frames_stay ch.map now.map ch.below same sound.1) in
     record {
       writes = write_sound ch.map ch.frame.name e.changes within;
       follows = onward ch now (done ch.map (write_items (write_of ch.frame.name e.changes))) (follows now d.next) (sym (write_done ch.map ch.frame.name e.changes)) (first_name ch.frame e.frame ch.below (keeps.name ∙ name)) (follows_sound now d.next stays);
@@ -204,17 +205,17 @@ row_sound ch i f (Does d) sound stands name keeps =
 stepped_sound : (apps : List (List ℕ × App)) (f : Frame) (next : ℕ) → IsSoundFrame apps f → IsSoundFrame apps (stepped f next)
 stepped_sound apps f next s = record { fixed = s.fixed; pieces = s.pieces; session = s.session; held = s.held }
 
-fetched_sound : (ch : Chain) (r : Result (Ins × ℕ) DecodeFault) → IsSound ch → TurnSound ch (fetched ch r)
+fetched_sound : (ch : Chain) (r : Result (Ins × ℕ) DecodeFault) → IsSoundChain ch → TurnSound ch (fetched ch r)
 fetched_sound ch (Err Undefined) sound = record { writes = tt; follows = tt }
 fetched_sound ch (Err Past) sound = record { writes = tt; follows = tt }
 fetched_sound ch (Ok i) sound =
     let f = stepped ch.frame i.1 in
     row_sound ch i.0 f (row i.0 f ch.public (around ch)) sound (stepped_sound ch.map ch.frame i.1 sound.0) refl (row_keeps i.0 f ch.public (around ch))
 
-pub acted_sound : (ch : Chain) → IsSound ch → TurnSound ch (acted ch)
+pub acted_sound : (ch : Chain) → IsSoundChain ch → TurnSound ch (acted ch)
 unfolding acted
 acted_sound ch sound = fetched_sound ch (decoded (code_in (lookup ch.map ch.frame.name)) ch.frame.at) sound
 
-pub turn_sound : (n : ℕ) (ch : Chain) → IsSound ch → TurnSound ch (turn_of n ch)
+pub turn_sound : (n : ℕ) (ch : Chain) → IsSoundChain ch → TurnSound ch (turn_of n ch)
 turn_sound zero ch sound = record { writes = tt; follows = tt }
 turn_sound (suc n) ch sound = acted_sound ch sound

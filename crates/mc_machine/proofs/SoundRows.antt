@@ -12,17 +12,17 @@ use Rattle.mc_model.specs.Frame.{Frame, static_bytes, committed, Effect, Place, 
 use Rattle.mc_model.specs.Primitives.{Around, Done, framed, effect_flagged, Primitive, CheckCase, LoadCcr, StoreCcr, Lookup, MemoryCompare, MemoryCopy, DelegateTo, DelegatorAid, Digest, CompareFixed, CopyFixed, SetProtection, Encipher, Decipher, Sign, BitByte, ShiftLeft, ShiftRight, BitWord, primitive, prim_done, prim_effect, looked_up, delegator_told}
 use Rattle.mc_model.specs.Row.{effect, holds, gone, called, target, causes, first_cause, judged, row, RowEnd, Abends, Does}
 use Rattle.mc_model.proofs.ListLemmas.{length-splice, splice-longer as longer}
-use Rattle.mc_machine.specs.Sound.{Within}
+use Rattle.mc_family.specs.FewWords.{PiecesWithin}
 
 -- ---- lists
 
-pub length-pieces : (l : List ℕ) (ps : List (ℕ × List ℕ)) → Within (length l) ps → length (laid_pieces l ps) ≡ length l
+pub length-pieces : (l : List ℕ) (ps : List (ℕ × List ℕ)) → PiecesWithin (length l) ps → length (laid_pieces l ps) ≡ length l
 length-pieces l [] within = refl
 length-pieces l (p ∷ ps) within =
     let same = length-splice l p.0 p.1 within.0 in
-    length-pieces (splice l p.0 p.1) ps (subst (λ (n : ℕ). Within n ps) (sym same) within.1) ∙ same
+    length-pieces (splice l p.0 p.1) ps (subst (λ (n : ℕ). PiecesWithin n ps) (sym same) within.1) ∙ same
 
-one-more : (n : ℕ) (ps : List (ℕ × List ℕ)) (p : ℕ × List ℕ) → Within n ps → p.0 + length p.1 ≤ n → Within n (ps ++ p ∷ [])
+one-more : (n : ℕ) (ps : List (ℕ × List ℕ)) (p : ℕ × List ℕ) → PiecesWithin n ps → p.0 + length p.1 ≤ n → PiecesWithin n (ps ++ p ∷ [])
 one-more n [] p within fits = (fits, tt)
 one-more n (q ∷ ps) p within fits = (within.0, one-more n ps p within.1 fits)
 
@@ -31,36 +31,36 @@ one-more n (q ∷ ps) p within fits = (within.0, one-more n ps p within.1 fits)
 -- the pieces of a static change, if there is one, lie in the static segment
 abbrev pub ChangesWithin : ℕ → Option (List (ℕ × List ℕ)) → Type 0
 ChangesWithin n None = Unit {0}
-ChangesWithin n (Some ps) = Within n ps
+ChangesWithin n (Some ps) = PiecesWithin n ps
 
 -- what an effect keeps of a frame with a name, so many session, static and dynamic bytes, and pieces that are pending
 pub record KeepsParts (n : List ℕ) (s l d : ℕ) (ps : List (ℕ × List ℕ)) (e : Effect) : Type 0 where
   pub name : e.frame.name ≡ n
   pub session : e.frame.session ≡ s
   pub dyn : d ≤ length e.frame.dyn
-  pub fixed : Within l ps → length e.frame.fixed ≡ l
-  pub pieces : Within l ps → Within l e.frame.pieces
-  pub change : Within l ps → ChangesWithin l e.changes
+  pub fixed : PiecesWithin l ps → length e.frame.fixed ≡ l
+  pub pieces : PiecesWithin l ps → PiecesWithin l e.frame.pieces
+  pub change : PiecesWithin l ps → ChangesWithin l e.changes
 
-abbrev pub Keeps : Frame → Effect → Type 0
-Keeps f e = KeepsParts f.name f.session (length f.fixed) (length f.dyn) f.pieces e
+abbrev pub KeepsPartsOf : Frame → Effect → Type 0
+KeepsPartsOf f e = KeepsParts f.name f.session (length f.fixed) (length f.dyn) f.pieces e
 
 -- a frame alone, with the same static segment
-still : (f : Frame) (public : List ℕ) (g : Frame) → g.name ≡ f.name → g.session ≡ f.session → g.fixed ≡ f.fixed → g.pieces ≡ f.pieces → length f.dyn ≤ length g.dyn → Keeps f (framed g public)
+still : (f : Frame) (public : List ℕ) (g : Frame) → g.name ≡ f.name → g.session ≡ f.session → g.fixed ≡ f.fixed → g.pieces ≡ f.pieces → length f.dyn ≤ length g.dyn → KeepsPartsOf f (framed g public)
 still f public g name session fixed pieces dyn =
     record {
       name = name;
       session = session;
       dyn = dyn;
       fixed = λ w. ap length fixed;
-      pieces = λ w. subst (λ (ps : List (ℕ × List ℕ)). Within (length f.fixed) ps) (sym pieces) w;
+      pieces = λ w. subst (λ (ps : List (ℕ × List ℕ)). PiecesWithin (length f.fixed) ps) (sym pieces) w;
       change = λ w. tt;
     }
 
-framed_kept : (f : Frame) (public : List ℕ) → Keeps f (framed f public)
+framed_kept : (f : Frame) (public : List ℕ) → KeepsPartsOf f (framed f public)
 framed_kept f public = still f public f refl refl refl refl (omega arith)
 
-pushed_kept : (f : Frame) (public b : List ℕ) → Keeps f (framed (pushed f b) public)
+pushed_kept : (f : Frame) (public b : List ℕ) → KeepsPartsOf f (framed (pushed f b) public)
 pushed_kept f public b = still f public (pushed f b) refl refl refl refl (longer f.dyn (f.dt - dynamic_base) b)
 
 static_fits : (s d p : Bool) (a n i : ℕ) (len j k : ℕ) → s ≡ nat_le (a + n) len
@@ -72,34 +72,34 @@ static_fits false true p a n i len j k test e = absurd (cc e)
 static_fits false false true a n i len j k test e = absurd (cc e)
 static_fits false false false a n i len j k test e = absurd (cc e)
 
-static_kept : (b : Bool) (f : Frame) (public : List ℕ) (i : ℕ) (bytes : List ℕ) → i + length bytes ≤ length f.fixed → Keeps f (static_written b f public i bytes)
+static_kept : (b : Bool) (f : Frame) (public : List ℕ) (i : ℕ) (bytes : List ℕ) → i + length bytes ≤ length f.fixed → KeepsPartsOf f (static_written b f public i bytes)
 static_kept true f public i bytes fits =
     record { name = refl; session = refl; dyn = omega arith; fixed = λ w. refl; pieces = λ w. one-more (length f.fixed) f.pieces (i, bytes) w fits; change = λ w. tt }
 static_kept false f public i bytes fits =
     record { name = refl; session = refl; dyn = omega arith; fixed = λ w. length-splice f.fixed i bytes fits; pieces = λ w. w; change = λ w. (fits, tt) }
 
-written_in_kept : (f : Frame) (public : List ℕ) (a : ℕ) (bytes : List ℕ) (place : Option Place) → where_is f a (length bytes) ≡ place → Keeps f (written_in f public bytes place)
+written_in_kept : (f : Frame) (public : List ℕ) (a : ℕ) (bytes : List ℕ) (place : Option Place) → where_is f a (length bytes) ≡ place → KeepsPartsOf f (written_in f public bytes place)
 written_in_kept f public a bytes None is = framed_kept f public
 written_in_kept f public a bytes (Some (Static i)) is = static_kept f.protected f public i bytes (static_fits _ _ _ a (length bytes) i (length f.fixed) _ _ refl is)
 written_in_kept f public a bytes (Some (Dynamic i)) is = still f public (record f { dyn = splice f.dyn i bytes }) refl refl refl refl (longer f.dyn i bytes)
 written_in_kept f public a bytes (Some (Public i)) is = framed_kept f (splice public i bytes)
 
-written_kept : (f : Frame) (public : List ℕ) (a : ℕ) (bytes : List ℕ) → Keeps f (written f public a bytes)
+written_kept : (f : Frame) (public : List ℕ) (a : ℕ) (bytes : List ℕ) → KeepsPartsOf f (written f public a bytes)
 unfolding written
 written_kept f public a bytes = written_in_kept f public a bytes (where_is f a (length bytes)) refl
 
-flagged_kept : (f : Frame) (e : Effect) (c z : Bool) → Keeps f e → Keeps f (effect_flagged e c z)
+flagged_kept : (f : Frame) (e : Effect) (c z : Bool) → KeepsPartsOf f e → KeepsPartsOf f (effect_flagged e c z)
 flagged_kept f e c z k = record { name = k.name; session = k.session; dyn = k.dyn; fixed = k.fixed; pieces = k.pieces; change = k.change }
 
-cond_kept : (f : Frame) (b : Bool) (d e : Effect) → Keeps f d → Keeps f e → Keeps f (cond b d e)
+cond_kept : (f : Frame) (b : Bool) (d e : Effect) → KeepsPartsOf f d → KeepsPartsOf f e → KeepsPartsOf f (cond b d e)
 cond_kept f true d e s t = s
 cond_kept f false d e s t = t
 
-committed_within : (f : Frame) (ps : List (ℕ × List ℕ)) → Within (length f.fixed) ps → ChangesWithin (length f.fixed) (committed f ps)
+committed_within : (f : Frame) (ps : List (ℕ × List ℕ)) → PiecesWithin (length f.fixed) ps → ChangesWithin (length f.fixed) (committed f ps)
 committed_within f [] w = tt
 committed_within f (p ∷ ps) w = w
 
-protect_kept : (f : Frame) (public : List ℕ) (mode : ℕ) → Keeps f (protect f public mode)
+protect_kept : (f : Frame) (public : List ℕ) (mode : ℕ) → KeepsPartsOf f (protect f public mode)
 protect_kept f public mode =
     let on = nat_le 2 mode in
     let kept : Effect = record { frame = record f { fixed = static_bytes f; pieces = []; protected = on }; public = public; changes = committed f f.pieces } in
@@ -110,19 +110,19 @@ protect_kept f public mode =
 
 -- ---- primitives
 
-looked_kept : (f : Frame) (public : List ℕ) (o : Option ℕ) → Keeps f (looked_up f public o)
+looked_kept : (f : Frame) (public : List ℕ) (o : Option ℕ) → KeepsPartsOf f (looked_up f public o)
 looked_kept f public (Some i) = still f public _ refl refl refl refl (longer f.dyn (f.dt - dynamic_base) (i ∷ []))
 looked_kept f public None = still f public _ refl refl refl refl (longer f.dyn (f.dt - dynamic_base) (0 ∷ []))
 
-told_kept : (f : Frame) (public : List ℕ) (a : ℕ) (o : Option (List ℕ)) → Keeps f (delegator_told f public a o)
+told_kept : (f : Frame) (public : List ℕ) (a : ℕ) (o : Option (List ℕ)) → KeepsPartsOf f (delegator_told f public a o)
 told_kept f public a None = still f public _ refl refl refl refl (omega arith)
 told_kept f public a (Some name) = flagged_kept f (written f public a (length name ∷ name)) f.c false (written_kept f public a (length name ∷ name))
 
 -- the top bytes are replaced
-topped_kept : (f : Frame) (public b : List ℕ) (c z : Bool) → Keeps f (framed (flagged (topped f b) c z) public)
+topped_kept : (f : Frame) (public b : List ℕ) (c z : Bool) → KeepsPartsOf f (framed (flagged (topped f b) c z) public)
 topped_kept f public b c z = still f public _ refl refl refl refl (longer f.dyn (f.dt - length b - dynamic_base) b)
 
-prim_effect_kept : (p : Primitive) (args : List ℕ) (f : Frame) (public : List ℕ) (x : Around) → Keeps f (prim_effect p args f public x).effect
+prim_effect_kept : (p : Primitive) (args : List ℕ) (f : Frame) (public : List ℕ) (x : Around) → KeepsPartsOf f (prim_effect p args f public x).effect
 unfolding prim_effect
 prim_effect_kept CheckCase args f public x = still f public _ refl refl refl refl (omega arith)
 prim_effect_kept LoadCcr args f public x = pushed_kept f public _
@@ -144,33 +144,33 @@ prim_effect_kept ShiftLeft args f public x = topped_kept f public _ _ _
 prim_effect_kept ShiftRight args f public x = topped_kept f public _ _ _
 prim_effect_kept BitWord args f public x = topped_kept f public _ _ _
 
-prim_kept : (p : Option Primitive) (args : List ℕ) (f : Frame) (public : List ℕ) (x : Around) → Keeps f (prim_done p args f public x).effect
+prim_kept : (p : Option Primitive) (args : List ℕ) (f : Frame) (public : List ℕ) (x : Around) → KeepsPartsOf f (prim_done p args f public x).effect
 prim_kept None args f public x = framed_kept f public
 prim_kept (Some p) args f public x = prim_effect_kept p args f public x
 
 -- ---- jumps and calls
 
-gone_kept : (b on : Bool) (f : Frame) (public : List ℕ) (to : ℕ) → Keeps f (framed (gone b (cond on (popped f 2) f) to) public)
+gone_kept : (b on : Bool) (f : Frame) (public : List ℕ) (to : ℕ) → KeepsPartsOf f (framed (gone b (cond on (popped f 2) f) to) public)
 gone_kept true true f public to = still f public _ refl refl refl refl (omega arith)
 gone_kept true false f public to = still f public _ refl refl refl refl (omega arith)
 gone_kept false true f public to = still f public _ refl refl refl refl (omega arith)
 gone_kept false false f public to = still f public _ refl refl refl refl (omega arith)
 
-called_kept : (b on : Bool) (f : Frame) (public : List ℕ) (to : ℕ) → Keeps f (framed (called b (cond on (popped f 2) f) to) public)
+called_kept : (b on : Bool) (f : Frame) (public : List ℕ) (to : ℕ) → KeepsPartsOf f (framed (called b (cond on (popped f 2) f) to) public)
 called_kept true true f public to = still f public _ refl refl refl refl (longer f.dyn ((popped f 2).dt - dynamic_base) (bytes2 f.lb ++ bytes2 f.at))
 called_kept true false f public to = still f public _ refl refl refl refl (longer f.dyn (f.dt - dynamic_base) (bytes2 f.lb ++ bytes2 f.at))
 called_kept false true f public to = still f public _ refl refl refl refl (omega arith)
 called_kept false false f public to = still f public _ refl refl refl refl (omega arith)
 
-back_kept : (f : Frame) (public : List ℕ) (i o : ℕ) → Keeps f (framed (come_back f i o) public)
+back_kept : (f : Frame) (public : List ℕ) (i o : ℕ) → KeepsPartsOf f (framed (come_back f i o) public)
 back_kept f public i o = still f public _ refl refl refl refl (longer f.dyn (f.lb - 4 - i - dynamic_base) (top f o))
 
 -- ---- all rows
 
-becomes_kept : (f : Frame) (public : List ℕ) (a : ℕ) (b : List ℕ) (c z : Bool) → Keeps f (effect_flagged (written f public a b) c z)
+becomes_kept : (f : Frame) (public : List ℕ) (a : ℕ) (b : List ℕ) (c z : Bool) → KeepsPartsOf f (effect_flagged (written f public a b) c z)
 becomes_kept f public a b c z = flagged_kept f (written f public a b) c z (written_kept f public a b)
 
-effect_kept : (i : Ins) (f : Frame) (public : List ℕ) (x : Around) → Keeps f (effect i f public x).effect
+effect_kept : (i : Ins) (f : Frame) (public : List ℕ) (x : Around) → KeepsPartsOf f (effect i f public x).effect
 unfolding effect
 effect_kept ins.Nop f public x = framed_kept f public
 effect_kept (ins.Setsw sw) f public x = framed_kept f _
@@ -223,9 +223,9 @@ effect_kept (ins.Xorn tag off n) f public x = becomes_kept f public _ _ _ _
 -- what a row keeps that is done
 abbrev pub RowKeeps : Frame → RowEnd → Type 0
 RowKeeps f (Abends a) = Unit {0}
-RowKeeps f (Does d) = Keeps f d.effect
+RowKeeps f (Does d) = KeepsPartsOf f d.effect
 
-judged_keeps : (f : Frame) (o : Option Abend) (d : Done) → Keeps f d.effect → RowKeeps f (judged o d)
+judged_keeps : (f : Frame) (o : Option Abend) (d : Done) → KeepsPartsOf f d.effect → RowKeeps f (judged o d)
 judged_keeps f (Some a) d k = tt
 judged_keeps f None d k = k
 

@@ -12,8 +12,8 @@ use Rattle.mc_model.specs.Items.{done}
 use Rattle.mc_model.specs.Play.{write_items}
 use Rattle.mc_model.specs.Chain.{Chain, Write, Acted, Ran, Follows, Continues, Ends, around, code_in, stepped, chain_session, row_turn, fetched, acted, turn_of, end_of, map_changed, ran_on, ran, start}
 use Rattle.mc_bank.specs.Bank.{app_of}
-use Rattle.mc_machine.specs.Sound.{IsSound}
-use Rattle.mc_machine.proofs.SoundChains.{AreSound, FollowsSound, TurnSound, SameSizes, sizes_done, first_in, new_sound, session_size, turn_sound}
+use Rattle.mc_machine.specs.Sound.{IsSoundChain}
+use Rattle.mc_machine.proofs.SoundChains.{AreSound, FollowsSound, TurnSound, SameLengths, sizes_done, first_in, new_sound, session_size, turn_sound}
 
 -- ---- writes and session bytes
 
@@ -26,19 +26,19 @@ pub record RunSound (ch : Chain) (r : Ran) : Type 0 where
   pub writes : AreSound ch.map r.writes
   pub session : length r.session ≡ (app_of ch.map (Some (first_in ch).name)).session
 
-on_sound : (ch : Chain) (t : Acted) (f : Follows) (rest : Chain → Ran) → IsSound ch → AreSound ch.map t.writes → FollowsSound ch (done ch.map (write_items t.writes)) f
-    → ((next : Chain) → IsSound next → RunSound next (rest next)) → RunSound ch (ran_on t (chain_session ch) f rest)
+on_sound : (ch : Chain) (t : Acted) (f : Follows) (rest : Chain → Ran) → IsSoundChain ch → AreSound ch.map t.writes → FollowsSound ch (done ch.map (write_items t.writes)) f
+    → ((next : Chain) → IsSoundChain next → RunSound next (rest next)) → RunSound ch (ran_on t (chain_session ch) f rest)
 on_sound ch t (Ends o) rest sound writes s all = record { writes = writes; session = session_size ch sound }
 on_sound ch t (Continues next) rest sound writes s all =
     let r = all next s.sound in
     let now = done ch.map (write_items t.writes) in
-    let same : SameSizes ch.map now = sizes_done t.writes ch.map writes in
+    let same : SameLengths ch.map now = sizes_done t.writes ch.map writes in
     record {
       writes = sound-append t.writes (rest next).writes ch.map writes (subst (λ (apps : List (List ℕ × App)). AreSound apps (rest next).writes) s.map r.writes);
       session = r.session ∙ ap (λ (apps : List (List ℕ × App)). (app_of apps (Some (first_in next).name)).session) s.map ∙ ap (λ (n : List ℕ). (app_of now (Some n)).session) s.first ∙ same.session (first_in ch).name;
     }
 
-pub run_sound : (n : ℕ) (ch : Chain) → IsSound ch → RunSound ch (ran n ch)
+pub run_sound : (n : ℕ) (ch : Chain) → IsSoundChain ch → RunSound ch (ran n ch)
 unfolding ran
 run_sound zero ch sound = record { writes = tt; session = session_size ch sound }
 run_sound (suc n) ch sound =
@@ -46,7 +46,7 @@ run_sound (suc n) ch sound =
     on_sound ch (acted ch) (acted ch).follows (λ c. ran n c) sound t.writes t.follows (λ c. run_sound n c)
 
 -- a chain before its first turn is sound
-pub start_sound : (apps : List (List ℕ × App)) (name session : List ℕ) (apdu : ApduParts) → length session ≡ (app_of apps (Some name)).session → IsSound (start apps name session apdu)
+pub start_sound : (apps : List (List ℕ × App)) (name session : List ℕ) (apdu : ApduParts) → length session ≡ (app_of apps (Some name)).session → IsSoundChain (start apps name session apdu)
 start_sound apps name session apdu size = (new_sound apps name (app_of apps (Some name)) session refl size, tt)
 
 -- ---- the end that a turn tells

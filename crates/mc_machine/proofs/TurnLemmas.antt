@@ -13,9 +13,9 @@ use Rattle.mc_model.specs.Chain.{Chain, changed_app, map_changed, write_of, sett
 use Rattle.mc_bank.specs.Bank.{BankState, app_of, name_or, no_app, with_words, committed, Changes}
 use Rattle.mc_bank.specs.NameLaws.{lookup-inserted, lookup-beside}
 use Rattle.mc_segs.specs.HeldFrames.{Held, Seen, app_under}
-use Rattle.mc_segs.specs.Ends.{Committed, changed_bytes, scene, Left}
+use Rattle.mc_segs.specs.Ends.{IsOneCommit, changed_bytes, scene, EffectDone}
 use Rattle.mc_machine.specs.Alike.{SameEffect, KeepsEffect}
-use Rattle.mc_machine.specs.Chains.{Chained, ReadAll, Runs, Wrote}
+use Rattle.mc_machine.specs.Chains.{Chained, ReadAll, RunsAs, ChainWrote}
 use Rattle.mc_machine.proofs.Alike.{committed_seen, changed_seen}
 use Rattle.mc_machine.proofs.ReadsLemmas.{name_is, app_is, moved_reads}
 
@@ -27,7 +27,7 @@ pub record BankLaws {B : Type 0} (did : B → BankItem → Answer → B → Type
 -- ---- atomic writes
 
 module _ {B : Type 0} (did : B → BankItem → Answer → B → Type 0) (state : B → BankState) where
-  none_wrote : (b : B) (a : Answer) (e : B) → InOrder did b [] a e → InOrder (Wrote did state) b [] a e
+  none_wrote : (b : B) (a : Answer) (e : B) → InOrder did b [] a e → InOrder (ChainWrote did state) b [] a e
   none_wrote b (Ok u) e done = done
   none_wrote b (Err s) e done = absurd done
 
@@ -35,8 +35,8 @@ module _ {B : Type 0} (did : B → BankItem → Answer → B → Type 0) (state 
   few_touched : (l : List ℕ) (ps ws : List (ℕ × List ℕ)) → HoldPieces l ps ws → length ws ≤ 64 → length (touched ps) ≤ 64
   few_touched l ps ws held few = let same = ap (λ (ns : List ℕ). length ns) held.touched_words in omega (arith, length-map ws (λ w. w.0), same, few)
 
-  pub writes_of : (name fixed : List ℕ) (changes : Option (List (ℕ × List ℕ))) (b : B) (a : Answer) (e : B) → fixed ≡ (app_of (state b).apps (Some name)).fixed → Committed did name fixed changes b a e
-      → InOrder (Wrote did state) b (write_of name changes) a e
+  pub writes_of : (name fixed : List ℕ) (changes : Option (List (ℕ × List ℕ))) (b : B) (a : Answer) (e : B) → fixed ≡ (app_of (state b).apps (Some name)).fixed → IsOneCommit did name fixed changes b a e
+      → InOrder (ChainWrote did state) b (write_of name changes) a e
   writes_of name fixed None b a e is done = none_wrote b a e done
   writes_of name fixed (Some ps) b a e is done =
       let held : HoldPieces (app_of (state b).apps (Some name)).fixed ps done.0 = subst (λ (l : List ℕ). HoldPieces l ps done.0) is done.1 in
@@ -49,7 +49,7 @@ module _ {B : Type 0} (did : B → BankItem → Answer → B → Type 0) (state 
 -- ---- the bank after a change
 
 module _ {B : Type 0} (did : B → BankItem → Answer → B → Type 0) (state : B → BankState) (named : B → ℕ → Option (List ℕ)) (laws : BankLaws did state named) where
-  slots_stay : (name fixed : List ℕ) (changes : Option (List (ℕ × List ℕ))) (b e : B) → Committed did name fixed changes b (Ok tt) e → (k : ℕ) (m : List ℕ) → named b k ≡ Some m → named e k ≡ Some m
+  slots_stay : (name fixed : List ℕ) (changes : Option (List (ℕ × List ℕ))) (b e : B) → IsOneCommit did name fixed changes b (Ok tt) e → (k : ℕ) (m : List ℕ) → named b k ≡ Some m → named e k ≡ Some m
   slots_stay name fixed None b e done k m is = subst (λ (x : B). named x k ≡ Some m) (sym done) is
   slots_stay name fixed (Some ps) b e done k m is =
       elim done.2 [
@@ -58,7 +58,7 @@ module _ {B : Type 0} (did : B → BankItem → Answer → B → Type 0) (state 
       ]
 
   -- the applications after it
-  apps_after : (name fixed : List ℕ) (ps : List (ℕ × List ℕ)) (b e : B) (done : Committed did name fixed (Some ps) b (Ok tt) e) → (state e).apps ≡ committed (state b).apps name done.0
+  apps_after : (name fixed : List ℕ) (ps : List (ℕ × List ℕ)) (b e : B) (done : IsOneCommit did name fixed (Some ps) b (Ok tt) e) → (state e).apps ≡ committed (state b).apps name done.0
   apps_after name fixed ps b e done =
       elim done.2 [
         | inl whole ↦ ap (λ (x : B). (state x).apps) whole.2 ∙ (laws.obeys b name done.0 (Ok tt) whole.0 whole.1).apps
@@ -66,14 +66,14 @@ module _ {B : Type 0} (did : B → BankItem → Answer → B → Type 0) (state 
       ]
 
   -- other applications are as before
-  others_stay : (name fixed : List ℕ) (changes : Option (List (ℕ × List ℕ))) (b e : B) → Committed did name fixed changes b (Ok tt) e → (m : List ℕ) → bytes_eq name m ≡ false → lookup (state e).apps m ≡ lookup (state b).apps m
+  others_stay : (name fixed : List ℕ) (changes : Option (List (ℕ × List ℕ))) (b e : B) → IsOneCommit did name fixed changes b (Ok tt) e → (m : List ℕ) → bytes_eq name m ≡ false → lookup (state e).apps m ≡ lookup (state b).apps m
   others_stay name fixed None b e done m other = ap (λ (x : B). lookup (state x).apps m) done
   others_stay name fixed (Some ps) b e done m other =
       ap (λ (apps : List (List ℕ × App)). lookup apps m) (apps_after name fixed ps b e done)
       ∙ lookup-beside (state b).apps name (with_words done.0 (app_of (state b).apps (Some name))) m other
 
   -- the map of the definitions after it, by the static bytes that the application has then
-  map_after : (name : List ℕ) (a : App) (changes : Option (List (ℕ × List ℕ))) (b e : B) → lookup (state b).apps name ≡ Some a → Committed did name a.fixed changes b (Ok tt) e
+  map_after : (name : List ℕ) (a : App) (changes : Option (List (ℕ × List ℕ))) (b e : B) → lookup (state b).apps name ≡ Some a → IsOneCommit did name a.fixed changes b (Ok tt) e
       → (app_of (state e).apps (Some name)).fixed ≡ changed_bytes a.fixed changes → map_changed (state b).apps name changes ≡ (state e).apps
   map_after name a None b e there done bytes = ap (λ (x : B). (state x).apps) (sym done)
   map_after name a (Some ps) b e there done bytes =
@@ -86,7 +86,7 @@ module _ {B : Type 0} (did : B → BankItem → Answer → B → Type 0) (state 
       let same : laid_pieces a.fixed ps ≡ laid_words a.fixed ws = sym bytes ∙ ap (λ (x : App). x.fixed) new in
       ap (λ (l : Option App). changed_app apps name ps l) there ∙ ap (λ (l : List ℕ). insert apps name (record a { fixed = l })) same ∙ sym now
 
-  below_stay : (name fixed : List ℕ) (changes : Option (List (ℕ × List ℕ))) (b e : B) → Committed did name fixed changes b (Ok tt) e → (hs : List Held) (fs : List Frame)
+  below_stay : (name fixed : List ℕ) (changes : Option (List (ℕ × List ℕ))) (b e : B) → IsOneCommit did name fixed changes b (Ok tt) e → (hs : List Held) (fs : List Frame)
       → AllByRecursion (λ (g : Frame). bytes_eq name g.name ≡ false) fs → ReadAll (state b) (named b) hs fs → ReadAll (state e) (named e) hs fs
   below_stay name fixed changes b e done [] [] apart reads = tt
   below_stay name fixed changes b e done [] (f ∷ fs) apart reads = absurd reads
@@ -99,16 +99,16 @@ module _ {B : Type 0} (did : B → BankItem → Answer → B → Type 0) (state 
   -- ---- a settled chain
 
   -- the commit of what was changed, in the words of the definitions' frame
-  pub committed_of : (b e : B) (c : Chained) (ch : Chain) (d x : Effect) (a : Answer) → Runs (state b) (named b) c ch → SameEffect (app_under (state b) (named b) c.running).fixed d x
-      → Committed did (name_or (named b c.running.slot)) (app_under (state b) (named b) c.running).fixed d.changes b a e
-      → Committed did ch.frame.name (app_under (state b) (named b) c.running).fixed x.changes b a e
+  pub committed_of : (b e : B) (c : Chained) (ch : Chain) (d x : Effect) (a : Answer) → RunsAs (state b) (named b) c ch → SameEffect (app_under (state b) (named b) c.running).fixed d x
+      → IsOneCommit did (name_or (named b c.running.slot)) (app_under (state b) (named b) c.running).fixed d.changes b a e
+      → IsOneCommit did ch.frame.name (app_under (state b) (named b) c.running).fixed x.changes b a e
   committed_of b e c ch d x a r same done =
       let fixed = (app_under (state b) (named b) c.running).fixed in
       let named_so : name_or (named b c.running.slot) ≡ ch.frame.name = ap (λ (t : Seen). t.name) r.running.same in
-      committed_seen did ch.frame.name fixed d.changes x.changes b a e same.changes (subst (λ (n : List ℕ). Committed did n fixed d.changes b a e) named_so done)
+      committed_seen did ch.frame.name fixed d.changes x.changes b a e same.changes (subst (λ (n : List ℕ). IsOneCommit did n fixed d.changes b a e) named_so done)
 
-  pub settled_runs : (b e : B) (c : Chained) (ch : Chain) (h : Held) (public : List ℕ) (d x : Effect) → Runs (state b) (named b) c ch → SameEffect (app_under (state b) (named b) c.running).fixed d x
-      → KeepsEffect ch.frame ch.public x → Left did state named (scene b e c.running h c.public public) d → Runs (state e) (named e) (record c { running = h; public = public }) (settled ch x)
+  pub settled_runs : (b e : B) (c : Chained) (ch : Chain) (h : Held) (public : List ℕ) (d x : Effect) → RunsAs (state b) (named b) c ch → SameEffect (app_under (state b) (named b) c.running).fixed d x
+      → KeepsEffect ch.frame ch.public x → EffectDone did state named (scene b e c.running h c.public public) d → RunsAs (state e) (named e) (record c { running = h; public = public }) (settled ch x)
   settled_runs b e c ch h public d x r same keeps left =
       let app = app_under (state b) (named b) c.running in
       let done = committed_of b e c ch d x (Ok tt) r same left.commits in

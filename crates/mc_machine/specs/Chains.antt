@@ -12,7 +12,7 @@ use Rattle.mc_model.specs.Bytes.{lookup}
 use Rattle.mc_model.specs.Card.{App}
 use Rattle.mc_apdu.specs.declared.command.Apdu.{Apdu}
 use Rattle.mc_apdu.specs.Command.{parts_of}
-use Rattle.mc_segs.specs.HeldFrames.{Held, Fits, shown, seen}
+use Rattle.mc_segs.specs.HeldFrames.{Held, FitsBank, shown, seen}
 use Rattle.mc_machine.specs.Alike.{IsGuarded}
 
 -- the running frame, the frames below it, of which the one that delegated to it comes first, the public segment, the case of the command,
@@ -28,8 +28,8 @@ pub record Chained : Type 0 where
 -- ---- the chain of the definitions
 
 -- a frame fits the bank, and reads there as a frame of the definitions, which has pending bytes only while protection is on
-pub record Reads (s : BankState) (named : ℕ → Option (List ℕ)) (h : Held) (f : Frame) : Type 0 where
-  pub fits : Fits s named h
+pub record FrameReadsAs (s : BankState) (named : ℕ → Option (List ℕ)) (h : Held) (f : Frame) : Type 0 where
+  pub fits : FitsBank s named h
   pub same : seen (shown s named h) ≡ seen f
   pub guarded : IsGuarded f
 
@@ -38,27 +38,27 @@ abbrev pub ReadAll : BankState → (ℕ → Option (List ℕ)) → List Held →
 ReadAll s named [] [] = Unit {0}
 ReadAll s named [] (f ∷ fs) = ⊥
 ReadAll s named (h ∷ hs) [] = ⊥
-ReadAll s named (h ∷ hs) (f ∷ fs) = Reads s named h f × ReadAll s named hs fs
+ReadAll s named (h ∷ hs) (f ∷ fs) = FrameReadsAs s named h f × ReadAll s named hs fs
 
 -- no two frames have the same name
-abbrev pub Apart : List Frame → Type 0
-Apart [] = Unit {0}
-Apart (f ∷ fs) = AllByRecursion (λ g. bytes_eq f.name g.name ≡ false) fs × Apart fs
+abbrev pub NamesApart : List Frame → Type 0
+NamesApart [] = Unit {0}
+NamesApart (f ∷ fs) = AllByRecursion (λ g. bytes_eq f.name g.name ≡ false) fs × NamesApart fs
 
 -- the chain runs as this one of the definitions
-pub record Runs (s : BankState) (named : ℕ → Option (List ℕ)) (c : Chained) (ch : Chain) : Type 0 where
+pub record RunsAs (s : BankState) (named : ℕ → Option (List ℕ)) (c : Chained) (ch : Chain) : Type 0 where
   pub map : ch.map ≡ s.apps
-  pub running : Reads s named c.running ch.frame
+  pub running : FrameReadsAs s named c.running ch.frame
   pub below : ReadAll s named c.below ch.below
   pub public : c.public ≡ ch.public
   pub case : c.case ≡ apdu_case ch.apdu
   pub le : c.le ≡ unwrap_or ch.apdu.le 0
   pub few : length ch.below ≤ 3
-  pub apart : Apart (ch.frame ∷ ch.below)
+  pub apart : NamesApart (ch.frame ∷ ch.below)
 
 -- the frames of a chain fit the bank
 abbrev pub FitsChain : BankState → (ℕ → Option (List ℕ)) → Chained → Type 0
-FitsChain s named c = (ch : Chain) × Runs s named c ch
+FitsChain s named c = (ch : Chain) × RunsAs s named c ch
 
 -- the first frame
 abbrev pub first_held : Held → List Held → Held
@@ -72,8 +72,8 @@ session_in c = session_of (first_held c.running c.below).frame
 -- ---- atomic writes
 
 -- an atomic write of a chain, of at most 64 words, is a commit of words that hold its pieces over the static bytes
-abbrev pub Wrote : {B : Type 0} → (B → BankItem → Answer → B → Type 0) → (B → BankState) → B → Write → Answer → B → Type 0
-Wrote did state b w a e = (ws : List (ℕ × List ℕ)) × HoldPieces (app_of (state b).apps (Some w.name)).fixed w.pieces ws × did b (Commit w.name ws) a e × (w.words ≤ 64)
+abbrev pub ChainWrote : {B : Type 0} → (B → BankItem → Answer → B → Type 0) → (B → BankState) → B → Write → Answer → B → Type 0
+ChainWrote did state b w a e = (ws : List (ℕ × List ℕ)) × HoldPieces (app_of (state b).apps (Some w.name)).fixed w.pieces ws × did b (Commit w.name ws) a e × (w.words ≤ 64)
 
 -- ---- runs
 

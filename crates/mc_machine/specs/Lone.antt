@@ -12,8 +12,8 @@ use Rattle.mc_segs.specs.declared.ends.Halt.{Halt}
 use Rattle.mc_segs.specs.declared.ends.Halt.TheVariants as halt
 use Rattle.mc_segs.specs.declared.ends.Next.{Next}
 use Rattle.mc_segs.specs.declared.ends.Next.TheVariants as go
-use Rattle.mc_machine.specs.Chains.{Chained, Runs, Wrote}
-use Rattle.mc_machine.specs.Turns.{Acts, EndFits, end_value, last_end, outcome_value}
+use Rattle.mc_machine.specs.Chains.{Chained, RunsAs, ChainWrote}
+use Rattle.mc_machine.specs.Turns.{TurnActs, EndFits, end_value, last_end, outcome_value}
 use Rattle.mc_machine.specs.declared.outcome.End.{End}
 use Rattle.mc_machine.specs.declared.outcome.End.TheVariants as end
 use Rattle.mc_machine.specs.declared.outcome.Outcome.{Outcome}
@@ -26,13 +26,13 @@ lone_chain h public case le left = record { running = h; below = []; public = pu
 
 -- a turn that no stop hit, and its end
 abbrev pub EndDone : {B : Type 0} → (B → BankItem → Answer → B → Type 0) → (B → BankState) → (B → ℕ → Option (List ℕ)) → B → B → Chained → Chained → Chain → Acted → Option End → Type 0
-EndDone did state named b e c d ch t end = Acts did state named b e c d ch t × (t.turn.end ≡ option_map (end_value d.public d.le) end)
+EndDone did state named b e c d ch t end = TurnActs did state named b e c d ch t × (t.turn.end ≡ option_map (end_value d.public d.le) end)
 
 -- a turn whose instruction delegates to a name: the chain as the instruction leaves it, in which the name is called next
 pub record Delegated {B : Type 0} (did : B → BankItem → Answer → B → Type 0) (state : B → BankState) (named : B → ℕ → Option (List ℕ)) (b e : B) (c d : Chained) (t : Acted) (name : List ℕ) : Type 0 where
   pub chain : Chain
-  pub runs : Runs (state e) (named e) d chain
-  pub writes : InOrder (Wrote did state) b t.writes (Ok tt) e
+  pub runs : RunsAs (state e) (named e) d chain
+  pub writes : InOrder (ChainWrote did state) b t.writes (Ok tt) e
   pub going : (state e).stopped ≡ false
   pub left : d.left + t.count ≡ c.left
   pub follows : t.follows ≡ Continues (called chain name (lookup chain.map name))
@@ -42,7 +42,7 @@ abbrev pub LoneDone : {B : Type 0} → (B → BankItem → Answer → B → Type
 LoneDone did state named b e c d ch t (Ok Goes) = (n : ℕ) × EndDone did state named b e c (d n) ch t None
 LoneDone did state named b e c d ch t (Ok (Ends end)) = (n : ℕ) × EndDone did state named b e c (d n) ch t (Some end)
 LoneDone did state named b e c d ch t (Ok (Delegates name)) = Delegated did state named b e c (d (c.left - 1)) t name
-LoneDone did state named b e c d ch t (Err stop) = InOrder (Wrote did state) b t.writes (Err stop) e
+LoneDone did state named b e c d ch t (Err stop) = InOrder (ChainWrote did state) b t.writes (Err stop) e
 
 -- a reply fits where the turn ends with one
 abbrev pub LoneFits : List ℕ → Result Lone Stop → Type 0
@@ -66,19 +66,19 @@ lone_halt_of (halt.Stop stop) = Err stop
 
 -- the end of a run: all its writes were done, it counted its steps from these on, and left these session bytes
 pub record Finished {B : Type 0} (did : B → BankItem → Answer → B → Type 0) (state : B → BankState) (start : B) (whole : Ran) (ticks : ℕ) (end : B) (bytes : List ℕ) (told : model.Outcome) (steps : ℕ) : Type 0 where
-  pub writes : InOrder (Wrote did state) start whole.writes (Ok tt) end
+  pub writes : InOrder (ChainWrote did state) start whole.writes (Ok tt) end
   pub going : (state end).stopped ≡ false
   pub count : steps ≡ ticks + whole.count
   pub session : bytes ≡ whole.session
   pub outcome : told ≡ whole.outcome
 
 -- a run that a stop hit: it counted no more than all of its steps, and left the session bytes as they were
-pub record Halted {B : Type 0} (did : B → BankItem → Answer → B → Type 0) (state : B → BankState) (start : B) (whole : Ran) (ticks : ℕ) (end : B) (bytes left : List ℕ) (stop : Stop) (steps : ℕ) : Type 0 where
-  pub writes : InOrder (Wrote did state) start whole.writes (Err stop) end
+pub record HaltedRun {B : Type 0} (did : B → BankItem → Answer → B → Type 0) (state : B → BankState) (start : B) (whole : Ran) (ticks : ℕ) (end : B) (bytes left : List ℕ) (stop : Stop) (steps : ℕ) : Type 0 where
+  pub writes : InOrder (ChainWrote did state) start whole.writes (Err stop) end
   pub count : steps ≤ ticks + whole.count
   pub session : left ≡ bytes
 
 -- a run by its result: from a bank to another, from session bytes to others, and from so many steps to so many
 abbrev pub RanDone : {B : Type 0} → (B → BankItem → Answer → B → Type 0) → (B → BankState) → B → B → List ℕ → List ℕ → ℕ → ℕ → Ran → Result Outcome Stop → Type 0
 RanDone did state b e bytes left ticks steps whole (Ok outcome) = Finished did state b whole ticks e left (outcome_value outcome) steps
-RanDone did state b e bytes left ticks steps whole (Err stop) = Halted did state b whole ticks e bytes left stop steps
+RanDone did state b e bytes left ticks steps whole (Err stop) = HaltedRun did state b whole ticks e bytes left stop steps

@@ -5,19 +5,16 @@ use Rattle.mc_model.specs.Card.{App}
 use Rattle.mc_model.specs.Frame.{Frame}
 use Rattle.mc_model.specs.Chain.{Chain}
 use Rattle.mc_bank.specs.Bank.{app_of}
-
--- pieces that lie in a list of so many bytes
-abbrev pub Within : ℕ → List (ℕ × List ℕ) → Type 0
-Within n ps = AllByRecursion (λ p. p.0 + length p.1 ≤ n) ps
+use Rattle.mc_family.specs.FewWords.{PiecesWithin}
 
 -- A frame of an application of these: its static segment is as long as the application's, its pending pieces lie in it, and it has the
 -- session bytes of the application.
 pub record IsSoundFrame (apps : List (List ℕ × App)) (f : Frame) : Type 0 where
   pub fixed : length f.fixed ≡ length (app_of apps (Some f.name)).fixed
-  pub pieces : Within (length f.fixed) f.pieces
+  pub pieces : PiecesWithin (length f.fixed) f.pieces
   pub session : f.session ≡ (app_of apps (Some f.name)).session
   pub held : f.session ≤ length f.dyn
 
 -- each frame of a chain is
-abbrev pub IsSound : Chain → Type 0
-IsSound ch = AllByRecursion (IsSoundFrame ch.map) (ch.frame ∷ ch.below)
+abbrev pub IsSoundChain : Chain → Type 0
+IsSoundChain ch = AllByRecursion (IsSoundFrame ch.map) (ch.frame ∷ ch.below)

@@ -12,10 +12,10 @@ use Rattle.mc_model.specs.Chain.{Chain, Turn as ModelTurn, Acted, Follows, Conti
 use Rattle.mc_model.specs.Chain as model
 use Rattle.mc_family.specs.FewWords.{most_words}
 use Rattle.mc_bank.specs.Bank.{BankState, name_or}
-use Rattle.mc_segs.specs.HeldFrames.{Held, Fits}
+use Rattle.mc_segs.specs.HeldFrames.{Held, FitsBank}
 use Rattle.mc_segs.specs.declared.ends.Halt.{Halt}
 use Rattle.mc_segs.specs.declared.ends.Halt.TheVariants as halt
-use Rattle.mc_machine.specs.Chains.{Chained, Runs, Wrote, session_in}
+use Rattle.mc_machine.specs.Chains.{Chained, RunsAs, ChainWrote, session_in}
 use Rattle.mc_apdu.specs.declared.reply.Reply.{Reply}
 use Rattle.mc_machine.specs.declared.outcome.Outcome.{Outcome}
 use Rattle.mc_machine.specs.declared.outcome.Outcome.TheVariants as outcome
@@ -73,25 +73,25 @@ step_value depth at public le t wrote =
 
 -- what follows: the chain goes on as the definition's does, or it has ended, with the session bytes that it had
 abbrev pub Follow : BankState → (ℕ → Option (List ℕ)) → Chained → Chain → Follows → Type 0
-Follow s named c ch (Continues next) = Runs s named c next
+Follow s named c ch (Continues next) = RunsAs s named c next
 Follow s named c ch (Ends o) = session_in c ≡ chain_session ch
 
 -- a turn that no stop hit: its atomic writes were done, the bank goes on, the budget is counted
-pub record Acts {B : Type 0} (did : B → BankItem → Answer → B → Type 0) (state : B → BankState) (named : B → ℕ → Option (List ℕ)) (b e : B) (c d : Chained) (ch : Chain) (t : Acted) : Type 0 where
-  pub writes : InOrder (Wrote did state) b t.writes (Ok tt) e
+pub record TurnActs {B : Type 0} (did : B → BankItem → Answer → B → Type 0) (state : B → BankState) (named : B → ℕ → Option (List ℕ)) (b e : B) (c d : Chained) (ch : Chain) (t : Acted) : Type 0 where
+  pub writes : InOrder (ChainWrote did state) b t.writes (Ok tt) e
   pub going : (state e).stopped ≡ false
   pub left : d.left + t.count ≡ c.left
   pub follows : Follow (state e) (named e) d ch t.follows
 
 -- a turn, by its result
 abbrev pub ActDone : {B : Type 0} → (B → BankItem → Answer → B → Type 0) → (B → BankState) → (B → ℕ → Option (List ℕ)) → B → B → Chained → Chained → Chain → Acted → Result Step Stop → Type 0
-ActDone did state named b e c d ch t (Ok step) = Acts did state named b e c d ch t × (t.turn ≡ step_value (length c.below + 1) c.running.frame.at d.public d.le step t.turn.wrote)
-ActDone did state named b e c d ch t (Err stop) = InOrder (Wrote did state) b t.writes (Err stop) e
+ActDone did state named b e c d ch t (Ok step) = TurnActs did state named b e c d ch t × (t.turn ≡ step_value (length c.below + 1) c.running.frame.at d.public d.le step t.turn.wrote)
+ActDone did state named b e c d ch t (Err stop) = InOrder (ChainWrote did state) b t.writes (Err stop) e
 
 -- the same for a turn that is told whole
 abbrev pub TurnDone : {B : Type 0} → (B → BankItem → Answer → B → Type 0) → (B → BankState) → (B → ℕ → Option (List ℕ)) → B → B → Chained → Chained → Chain → Acted → Result Turn Stop → Type 0
-TurnDone did state named b e c d ch t (Ok turn) = Acts did state named b e c d ch t × (t.turn ≡ turn_value turn t.turn.wrote)
-TurnDone did state named b e c d ch t (Err stop) = InOrder (Wrote did state) b t.writes (Err stop) e
+TurnDone did state named b e c d ch t (Ok turn) = TurnActs did state named b e c d ch t × (t.turn ≡ turn_value turn t.turn.wrote)
+TurnDone did state named b e c d ch t (Err stop) = InOrder (ChainWrote did state) b t.writes (Err stop) e
 
 -- ---- how much a turn writes
 
@@ -127,8 +127,8 @@ has_frame named n [] = false
 has_frame named n (h ∷ hs) = bytes_eq (name_or (named h.slot)) n || has_frame named n hs
 
 -- each of some frames fits the bank
-abbrev pub AllFit : BankState → (ℕ → Option (List ℕ)) → List Held → Type 0
-AllFit s named hs = AllByRecursion (λ h. Fits s named h) hs
+abbrev pub AllFitBank : BankState → (ℕ → Option (List ℕ)) → List Held → Type 0
+AllFitBank s named hs = AllByRecursion (λ h. FitsBank s named h) hs
 
 -- the end of a chain whose first frame exits
 abbrev pub last_end : List ℕ → End
@@ -143,13 +143,13 @@ abbrev pub told_of : Held → Option Ins → Option End → Step
 told_of h ins end = record { ins = ins; dt = h.frame.dt; flags = record { c = h.frame.c; z = h.frame.z }; end = end }
 
 -- the running frame exits, by the frames that wait
-abbrev pub Leaves : Chained → Chained → Option End → List Held → Type 0
-Leaves c d result [] = (d ≡ c) × (result ≡ Some (last_end c.public))
-Leaves c d result (h ∷ hs) = (d ≡ record c { running = h; below = hs }) × (result ≡ None)
+abbrev pub FrameExits : Chained → Chained → Option End → List Held → Type 0
+FrameExits c d result [] = (d ≡ c) × (result ≡ Some (last_end c.public))
+FrameExits c d result (h ∷ hs) = (d ≡ record c { running = h; below = hs }) × (result ≡ None)
 
 -- what follows an instruction of a settled chain, and what the turn tells: with an abend the registers that were before
 abbrev pub Followed : BankState → (ℕ → Option (List ℕ)) → Chained → Chained → Ins → Step → Step → Follows → Type 0
-Followed s named c d i before step (Continues next) = Runs s named d next × (step ≡ told_of c.running (Some i) None)
+Followed s named c d i before step (Continues next) = RunsAs s named d next × (step ≡ told_of c.running (Some i) None)
 Followed s named c d i before step (Ends (model.Reply body sw)) =
     (d ≡ c) × (step ≡ told_of c.running (Some i) (Some end.Reply)) × (end_value c.public c.le end.Reply ≡ model.Reply body sw)
 Followed s named c d i before step (Ends (model.Abended a)) = (d ≡ c) × (step ≡ record before { end = Some (end.Abend a) })

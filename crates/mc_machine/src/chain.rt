@@ -3,7 +3,7 @@ ghost use Rattle.std.specs.Prelude.{◌≡◌, ◌≤◌, length, false, IsSome}
 ghost use Rattle.mc_model.specs.Chain.{start};
 ghost use Rattle.mc_apdu.specs.Command.{parts_of};
 ghost use Rattle.mc_bank.specs.Bank.{app_of, name_or};
-ghost use Rattle.mc_machine.specs.Chains.{Reads, Runs, first_of, session_in};
+ghost use Rattle.mc_machine.specs.Chains.{FrameReadsAs, RunsAs, first_of, session_in};
 
 use crate::waiting::Waiting;
 use mc_apdu::Apdu;
@@ -50,7 +50,7 @@ pub fn begin<B: Bank>(bank: &B, first: Slot, session: &Session, apdu: &Apdu, bud
     requires some { 1 ≤ budget }
     requires budget { budget ≤ 65536 }
     requires data { length apdu.now.body.now ≤ 1024 }
-    ensures runs { Runs (B.state bank.now) (B.named bank.now) result
+    ensures runs { RunsAs (B.state bank.now) (B.named bank.now) result
         (start (B.state bank.now).apps (name_or (B.named bank.now first)) session.now (parts_of apdu.now)) }
     ensures left { result.left ≡ budget }
 {
@@ -69,7 +69,7 @@ pub fn first_frame<B: Bank>(bank: &B, first: Slot, session: &Session) -> Frame
     requires going { (B.state bank.now).stopped ≡ false }
     requires there { IsSome (B.named bank.now first) }
     requires session { length session.now ≡ (app_of (B.state bank.now).apps (B.named bank.now first)).session }
-    ensures { Reads (B.state bank.now) (B.named bank.now) result
+    ensures { FrameReadsAs (B.state bank.now) (B.named bank.now) result
         (first_of (B.state bank.now).apps (name_or (B.named bank.now first)) session.now) }
 {
     Frame::new(first, &bank.facts(first), session)

@@ -1,7 +1,7 @@
 // The instruction at the code address of a frame.
 ghost use Rattle.std.specs.Prelude.{◌≡◌, ◌+◌, ◌<◌, false};
-ghost use Rattle.mc_model.specs.Code.{decoded, Stands};
-ghost use Rattle.mc_segs.specs.HeldFrames.{Fits, app_under};
+ghost use Rattle.mc_model.specs.Code.{decoded, DecodesTo};
+ghost use Rattle.mc_segs.specs.HeldFrames.{FitsBank, app_under};
 
 use mc_bank::Bank;
 use mc_isa::{DecodeFault, Ins, decode};
@@ -14,10 +14,11 @@ const LONGEST: u16 = 6;
 #[inline(always)]
 pub fn fetch<B: Bank>(bank: &B, frame: &Frame) -> Result<(Ins, u16), DecodeFault>
     requires going { (B.state bank.now).stopped ≡ false }
-    requires fits { Fits (B.state bank.now) (B.named bank.now) frame.now }
+    requires fits { FitsBank (B.state bank.now) (B.named bank.now) frame.now }
     ensures exact { result ≡ decoded (app_under (B.state bank.now) (B.named bank.now) frame.now).code
         frame.now.frame.at }
-    ensures stands { Stands (app_under (B.state bank.now) (B.named bank.now) frame.now).code frame.now.frame.at result }
+    ensures stands { DecodesTo (app_under (B.state bank.now) (B.named bank.now) frame.now).code
+        frame.now.frame.at result }
 {
     let at = frame.at();
     if at >= frame.code_len() {
@@ -37,12 +38,13 @@ pub fn fetch<B: Bank>(bank: &B, frame: &Frame) -> Result<(Ins, u16), DecodeFault
 #[inline(never)]
 fn fetch_last<B: Bank>(bank: &B, frame: &Frame) -> Result<(Ins, u16), DecodeFault>
     requires going { (B.state bank.now).stopped ≡ false }
-    requires fits { Fits (B.state bank.now) (B.named bank.now) frame.now }
+    requires fits { FitsBank (B.state bank.now) (B.named bank.now) frame.now }
     requires inside { frame.now.frame.at < frame.now.frame.code_len }
     requires last { frame.now.frame.code_len < frame.now.frame.at + 6 }
     ensures exact { result ≡ decoded (app_under (B.state bank.now) (B.named bank.now) frame.now).code
         frame.now.frame.at }
-    ensures stands { Stands (app_under (B.state bank.now) (B.named bank.now) frame.now).code frame.now.frame.at result }
+    ensures stands { DecodesTo (app_under (B.state bank.now) (B.named bank.now) frame.now).code
+        frame.now.frame.at result }
 {
     let at = frame.at();
     let mut bytes = [0; 6];

@@ -2,9 +2,9 @@
 ghost use Rattle.std.specs.Prelude.{◌≡◌, ◌≢◌, ◌+◌, false, ℕ, List, Ok, None};
 ghost use Rattle.mc_model.specs.Code.{Shaped};
 ghost use Rattle.mc_model.specs.Chain.{Chain as ModelChain, turn_of};
-ghost use Rattle.mc_segs.specs.HeldFrames.{Fits};
+ghost use Rattle.mc_segs.specs.HeldFrames.{FitsBank};
 ghost use Rattle.mc_segs.specs.Ends.{scene, RowActs};
-ghost use Rattle.mc_machine.specs.Chains.{Runs};
+ghost use Rattle.mc_machine.specs.Chains.{RunsAs};
 ghost use Rattle.mc_machine.specs.Lone.{lone_chain, lone_halt_of, lone_next_of, LoneDone, LoneFits};
 
 use crate::fetch::fetch;
@@ -37,13 +37,13 @@ pub fn lone_turn<B: Bank, L: Ledger>(
     steps: &mut Steps<L>,
 ) -> Result<Lone, Stop>
     requires going { (B.state bank.old).stopped ≡ false }
-    requires fits { Fits (B.state bank.old) (B.named bank.old) frame.old }
+    requires fits { FitsBank (B.state bank.old) (B.named bank.old) frame.old }
     ensures done { (ch : ModelChain) (le left : ℕ) → left ≢ 0
-        → Runs (B.state bank.old) (B.named bank.old) (lone_chain frame.old public.old case le left) ch
+        → RunsAs (B.state bank.old) (B.named bank.old) (lone_chain frame.old public.old case le left) ch
         → LoneDone B.did B.state B.named bank.old bank.new (lone_chain frame.old public.old case le left)
         (lone_chain frame.new public.new case le) ch (turn_of left ch) result }
     ensures ticks { (ch : ModelChain) (le left : ℕ) → left ≢ 0
-        → Runs (B.state bank.old) (B.named bank.old) (lone_chain frame.old public.old case le left) ch
+        → RunsAs (B.state bank.old) (B.named bank.old) (lone_chain frame.old public.old case le left) ch
         → steps.new ≡ steps.old + (turn_of left ch).count }
     ensures fits { LoneFits public.new result }
 {
@@ -93,7 +93,7 @@ fn perform_lone<B: Bank>(
     bank: &mut B,
 ) -> Result<Next, Halt>
     requires going { (B.state bank.old).stopped ≡ false }
-    requires fits { Fits (B.state bank.old) (B.named bank.old) frame.old }
+    requires fits { FitsBank (B.state bank.old) (B.named bank.old) frame.old }
     requires shaped { Shaped ins.now }
     ensures { RowActs B.did B.state B.named
         (scene bank.old bank.new frame.old frame.new public.old public.new) ins.now

@@ -5,7 +5,7 @@ ghost use Rattle.mc_model.specs.Orders.{InOrder, answer_of};
 ghost use Rattle.mc_model.specs.Bytes.{lookup};
 ghost use Rattle.mc_model.specs.Chain.{Chain as ModelChain, called, ran};
 ghost use Rattle.mc_bank.specs.Bank.{app_of};
-ghost use Rattle.mc_machine.specs.Chains.{FitsChain, Runs, Wrote, ran_of};
+ghost use Rattle.mc_machine.specs.Chains.{FitsChain, RunsAs, ChainWrote, ran_of};
 ghost use Rattle.mc_machine.specs.Lone.{lone_chain, RanDone};
 ghost use Rattle.mc_machine.specs.Turns.{outcome_value, placed};
 
@@ -39,7 +39,7 @@ pub fn run<B: Bank, L: Ledger>(
     requires some { 1 ≤ budget }
     requires budget { budget ≤ 65536 }
     requires data { length apdu.now.body.now ≤ 1024 }
-    ensures writes { InOrder (Wrote B.did B.state) bank.old
+    ensures writes { InOrder (ChainWrote B.did B.state) bank.old
         (ran_of (B.state bank.old) (B.named bank.old) first session.old apdu.now budget).writes
         (answer_of result) bank.new }
     ensures few { OnOk result (AllByRecursion (λ w. w.words ≤ 64)
@@ -130,7 +130,7 @@ fn run_chain<B: Bank, L: Ledger>(
     requires going { (B.state bank.old).stopped ≡ false }
     requires fits { FitsChain (B.state bank.old) (B.named bank.old) (lone_chain frame public case le left) }
     requires left { left ≤ 65536 }
-    ensures { (ch : ModelChain) → Runs (B.state bank.old) (B.named bank.old) (lone_chain frame public case le left) ch
+    ensures { (ch : ModelChain) → RunsAs (B.state bank.old) (B.named bank.old) (lone_chain frame public case le left) ch
         → RanDone B.did B.state bank.old bank.new session.old session.new steps.old steps.new
         (ran left (called ch aid.now (lookup ch.map aid.now))) (placed result reply.new) }
 {
@@ -158,7 +158,7 @@ fn finish<B: Bank, L: Ledger>(
     requires going { (B.state bank.old).stopped ≡ false }
     requires fits { FitsChain (B.state bank.old) (B.named bank.old) chain.old }
     requires left { chain.old.left ≡ left }
-    ensures { (ch : ModelChain) → Runs (B.state bank.old) (B.named bank.old) chain.old ch
+    ensures { (ch : ModelChain) → RunsAs (B.state bank.old) (B.named bank.old) chain.old ch
         → RanDone B.did B.state bank.old bank.new session.old session.new steps.old steps.new (ran left ch)
         (placed result reply.new) }
 {

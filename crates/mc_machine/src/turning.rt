@@ -4,11 +4,12 @@ ghost use Rattle.mc_bank.specs.Bank.{AreApps, name_or};
 ghost use Rattle.mc_model.specs.Bytes.{lookup};
 ghost use Rattle.mc_model.specs.Code.{Shaped};
 ghost use Rattle.mc_model.specs.Chain.{Chain as ModelChain, turn_of, called, follows};
-ghost use Rattle.mc_segs.specs.HeldFrames.{Fits};
+ghost use Rattle.mc_segs.specs.HeldFrames.{FitsBank};
 ghost use Rattle.mc_segs.specs.Ends.{scene, RowActs, then_of};
-ghost use Rattle.mc_machine.specs.Chains.{Runs, FitsChain};
+ghost use Rattle.mc_machine.specs.Chains.{RunsAs, FitsChain};
 ghost use Rattle.mc_machine.specs.Frames.{held_before};
-ghost use Rattle.mc_machine.specs.Turns.{ActDone, TurnDone, WritesFew, EndFits, Followed, Leaves, advanced, halted, delegator_of, has_frame, AllFit, outcome_value, end_value};
+ghost use Rattle.mc_machine.specs.Turns.{ActDone, TurnDone, WritesFew, EndFits, Followed, FrameExits, advanced, halted};
+ghost use Rattle.mc_machine.specs.Turns.{delegator_of, has_frame, AllFitBank, outcome_value, end_value};
 
 use crate::chain::Chain;
 use crate::fetch::fetch;
@@ -42,11 +43,11 @@ pub fn turn<B: Bank, L: Ledger>(
 ) -> Result<Turn, Stop>
     requires going { (B.state bank.old).stopped ≡ false }
     requires fits { FitsChain (B.state bank.old) (B.named bank.old) chain.old }
-    ensures done { (ch : ModelChain) → Runs (B.state bank.old) (B.named bank.old) chain.old ch
+    ensures done { (ch : ModelChain) → RunsAs (B.state bank.old) (B.named bank.old) chain.old ch
         → TurnDone B.did B.state B.named bank.old bank.new chain.old chain.new ch (turn_of chain.old.left ch) result }
-    ensures ticks { (ch : ModelChain) → Runs (B.state bank.old) (B.named bank.old) chain.old ch
+    ensures ticks { (ch : ModelChain) → RunsAs (B.state bank.old) (B.named bank.old) chain.old ch
         → steps.new ≡ steps.old + (turn_of chain.old.left ch).count }
-    ensures few { (ch : ModelChain) → Runs (B.state bank.old) (B.named bank.old) chain.old ch
+    ensures few { (ch : ModelChain) → RunsAs (B.state bank.old) (B.named bank.old) chain.old ch
         → AreApps (B.state bank.old).apps → WritesFew (turn_of chain.old.left ch) }
     ensures shaped { IfOk result (λ turn. IfSome turn.ins Shaped) }
     ensures low { IfOk result (λ turn. 1 ≤ turn.depth) }
@@ -79,11 +80,11 @@ pub fn act<B: Bank, L: Ledger>(
 ) -> Result<Step, Stop>
     requires going { (B.state bank.old).stopped ≡ false }
     requires fits { FitsChain (B.state bank.old) (B.named bank.old) chain.old }
-    ensures done { (ch : ModelChain) → Runs (B.state bank.old) (B.named bank.old) chain.old ch
+    ensures done { (ch : ModelChain) → RunsAs (B.state bank.old) (B.named bank.old) chain.old ch
         → ActDone B.did B.state B.named bank.old bank.new chain.old chain.new ch (turn_of chain.old.left ch) result }
-    ensures ticks { (ch : ModelChain) → Runs (B.state bank.old) (B.named bank.old) chain.old ch
+    ensures ticks { (ch : ModelChain) → RunsAs (B.state bank.old) (B.named bank.old) chain.old ch
         → steps.new ≡ steps.old + (turn_of chain.old.left ch).count }
-    ensures few { (ch : ModelChain) → Runs (B.state bank.old) (B.named bank.old) chain.old ch
+    ensures few { (ch : ModelChain) → RunsAs (B.state bank.old) (B.named bank.old) chain.old ch
         → AreApps (B.state bank.old).apps → WritesFew (turn_of chain.old.left ch) }
     ensures ends { IfOk result (λ step. IfSome step.end (λ end. EndFits chain.new.public end)) }
     ensures shaped { IfOk result (λ step. IfSome step.ins Shaped) }
@@ -126,8 +127,8 @@ impl Step {
 // An instruction of the running frame, whose code address is already behind it.
 fn perform<B: Bank>(ins: &Ins, chain: &mut Chain, bank: &mut B) -> Result<Next, Halt>
     requires going { (B.state bank.old).stopped ≡ false }
-    requires fits { Fits (B.state bank.old) (B.named bank.old) chain.old.running }
-    requires waiting { AllFit (B.state bank.old) (B.named bank.old) chain.old.below }
+    requires fits { FitsBank (B.state bank.old) (B.named bank.old) chain.old.running }
+    requires waiting { AllFitBank (B.state bank.old) (B.named bank.old) chain.old.below }
     requires shaped { Shaped ins.now }
     ensures acts { RowActs B.did B.state B.named
         (scene bank.old bank.new chain.old.running chain.new.running chain.old.public chain.new.public) ins.now
@@ -159,7 +160,7 @@ fn perform<B: Bank>(ins: &Ins, chain: &mut Chain, bank: &mut B) -> Result<Next, 
 fn follow<B: Bank>(next: Next, ins: Ins, before: Step, chain: &mut Chain, bank: &B) -> Step
     requires going { (B.state bank.now).stopped ≡ false }
     requires fits { FitsChain (B.state bank.now) (B.named bank.now) chain.old }
-    ensures follows { (ch : ModelChain) → Runs (B.state bank.now) (B.named bank.now) chain.old ch
+    ensures follows { (ch : ModelChain) → RunsAs (B.state bank.now) (B.named bank.now) chain.old ch
         → Followed (B.state bank.now) (B.named bank.now) chain.old chain.new ins before result
         (follows ch (then_of next)) }
     ensures left { chain.new.left ≡ chain.old.left }
@@ -189,7 +190,7 @@ impl Chain {
     // The name of the application that delegated to the running one.
     fn delegator<B: Bank>(&self, bank: &B) -> Option<Aid>
         requires going { (B.state bank.now).stopped ≡ false }
-        requires waiting { AllFit (B.state bank.now) (B.named bank.now) self.now.below }
+        requires waiting { AllFitBank (B.state bank.now) (B.named bank.now) self.now.below }
         ensures { result ≡ delegator_of (B.named bank.now) self.now.below }
     {
         match self.waiting.top_slot() {
@@ -220,7 +221,7 @@ impl Chain {
 
     // The running frame exits: the one that waits for it goes on, or the chain ends.
     fn leave(&mut self) -> Option<End>
-        ensures { Leaves self.old self.new result self.old.below }
+        ensures { FrameExits self.old self.new result self.old.below }
     {
         match self.waiting.pop() {
             Some(frame) => {
@@ -234,8 +235,8 @@ impl Chain {
     // Whether a frame of the chain runs the application of a name.
     fn is_active<B: Bank>(&self, bank: &B, aid: &Aid) -> bool
         requires going { (B.state bank.now).stopped ≡ false }
-        requires running { Fits (B.state bank.now) (B.named bank.now) self.now.running }
-        requires waiting { AllFit (B.state bank.now) (B.named bank.now) self.now.below }
+        requires running { FitsBank (B.state bank.now) (B.named bank.now) self.now.running }
+        requires waiting { AllFitBank (B.state bank.now) (B.named bank.now) self.now.below }
         ensures { result ≡ has_frame (B.named bank.now) aid.now (self.now.running ∷ self.now.below) }
     {
         runs(bank, &self.running, aid) || waits(bank, &self.waiting, aid)
@@ -244,8 +245,8 @@ impl Chain {
     // Whether a delegation to a name that is on the card is refused.
     fn refuses<B: Bank>(&self, bank: &B, aid: &Aid) -> bool
         requires going { (B.state bank.now).stopped ≡ false }
-        requires running { Fits (B.state bank.now) (B.named bank.now) self.now.running }
-        requires waiting { AllFit (B.state bank.now) (B.named bank.now) self.now.below }
+        requires running { FitsBank (B.state bank.now) (B.named bank.now) self.now.running }
+        requires waiting { AllFitBank (B.state bank.now) (B.named bank.now) self.now.below }
         ensures { result ≡ (has_frame (B.named bank.now) aid.now (self.now.running ∷ self.now.below)
             || nat_le 4 (length self.now.below + 1)) }
     {
@@ -257,8 +258,8 @@ impl Chain {
     pub(crate) fn call<B: Bank>(&mut self, bank: &B, aid: &Aid)
         requires going { (B.state bank.now).stopped ≡ false }
         requires fits { FitsChain (B.state bank.now) (B.named bank.now) self.old }
-        ensures runs { (ch : ModelChain) → Runs (B.state bank.now) (B.named bank.now) self.old ch
-            → Runs (B.state bank.now) (B.named bank.now) self.new (called ch aid.now (lookup ch.map aid.now)) }
+        ensures runs { (ch : ModelChain) → RunsAs (B.state bank.now) (B.named bank.now) self.old ch
+            → RunsAs (B.state bank.now) (B.named bank.now) self.new (called ch aid.now (lookup ch.map aid.now)) }
         ensures left { self.new.left ≡ self.old.left }
         ensures le { self.new.le ≡ self.old.le }
     {
@@ -287,7 +288,7 @@ impl Chain {
 // Whether one of the frames that wait runs the application of a name.
 fn waits<B: Bank>(bank: &B, waiting: &Waiting, aid: &Aid) -> bool
     requires going { (B.state bank.now).stopped ≡ false }
-    requires fits { AllFit (B.state bank.now) (B.named bank.now) waiting.now }
+    requires fits { AllFitBank (B.state bank.now) (B.named bank.now) waiting.now }
     ensures { result ≡ has_frame (B.named bank.now) aid.now waiting.now }
 {
     runs_in(bank, &waiting.third, aid)
@@ -298,7 +299,7 @@ fn waits<B: Bank>(bank: &B, waiting: &Waiting, aid: &Aid) -> bool
 // Whether the frame of a place, if there is one, runs the application of a name.
 fn runs_in<B: Bank>(bank: &B, place: &Option<Frame>, aid: &Aid) -> bool
     requires going { (B.state bank.now).stopped ≡ false }
-    requires fits { AllFit (B.state bank.now) (B.named bank.now) (held_before place.now []) }
+    requires fits { AllFitBank (B.state bank.now) (B.named bank.now) (held_before place.now []) }
     ensures { result ≡ has_frame (B.named bank.now) aid.now (held_before place.now []) }
 {
     match place {
@@ -310,7 +311,7 @@ fn runs_in<B: Bank>(bank: &B, place: &Option<Frame>, aid: &Aid) -> bool
 // Whether a frame runs the application of a name.
 fn runs<B: Bank>(bank: &B, frame: &Frame, aid: &Aid) -> bool
     requires going { (B.state bank.now).stopped ≡ false }
-    requires fits { Fits (B.state bank.now) (B.named bank.now) frame.now }
+    requires fits { FitsBank (B.state bank.now) (B.named bank.now) frame.now }
     ensures { result ≡ bytes_eq (name_or (B.named bank.now frame.now.slot)) aid.now }
 {
     bank.facts(frame.slot()).aid.bytes() == aid.bytes()

@@ -1,6 +1,6 @@
 // Applications in a bank in memory, and commands to them.
 ghost use Rattle.std.specs.Prelude.{◌≡◌, ◌<◌, ◌≤◌, length, IfSome, IfOk};
-ghost use Rattle.mc_bank.specs.Bank.{FitsLimits, IsGood};
+ghost use Rattle.mc_bank.specs.Bank.{FitsLimits, IsGoodSite};
 ghost use Rattle.mc_bank.specs.Memory.{memory_state, memory_room};
 
 use mc_apdu::parse;
@@ -61,7 +61,7 @@ fn sizes_of(unit: &Unit<'_>) -> Option<Sizes>
 /// A good site for a load of these sizes.
 fn site_for<L: Ledger>(bank: &MemBank, sizes: &Sizes, steps: &mut Steps<L>) -> Result<Site, Fault>
     requires limits { FitsLimits sizes.now }
-    ensures good { IfOk result (λ site. IsGood (memory_state bank.now).apps (memory_room bank.now) site) }
+    ensures good { IfOk result (λ site. IsGoodSite (memory_state bank.now).apps (memory_room bank.now) site) }
     ensures sizes { IfOk result (λ site. site.sizes ≡ sizes.now) }
 {
     match bank.open(sizes, steps) {

@@ -6,15 +6,15 @@ use Rattle.mc_model.specs.declared.card.Part.{Part}
 use Rattle.mc_model.specs.declared.card.Part.TheVariants.{Code, Data, Dir, Fci}
 use Rattle.mc_model.specs.Items.{Site}
 use Rattle.mc_model.specs.Manager.{Open}
-use Rattle.mc_bank.specs.Bank.{IsGood}
-use Rattle.mc_manager.specs.ManagerState.{BankView, Loaded, Held, open_of, seat_of, FitsLoad, Fits}
+use Rattle.mc_bank.specs.Bank.{IsGoodSite}
+use Rattle.mc_manager.specs.ManagerState.{BankView, Loaded, ManagerState, open_of, seat_of, FitsLoad, ManagerFits}
 
 -- slots, good sites and their bytes stay
-pub record Keeps (v w : BankView) : Type 0 where
+pub record KeepsSlotsAndSites (v w : BankView) : Type 0 where
   pub slots : (k : ℕ) (n : List ℕ) → v.named k ≡ Some n → w.named k ≡ Some n
-  pub sites : (s : Site) → IsGood v.state.apps v.room s → IsGood w.state.apps w.room s × ((p : Part) → w.standing s p ≡ v.standing s p)
+  pub sites : (s : Site) → IsGoodSite v.state.apps v.room s → IsGoodSite w.state.apps w.room s × ((p : Part) → w.standing s p ≡ v.standing s p)
 
-load_kept : (v w : BankView) (l : Loaded) → Keeps v w → FitsLoad v l → FitsLoad w l
+load_kept : (v w : BankView) (l : Loaded) → KeepsSlotsAndSites v w → FitsLoad v l → FitsLoad w l
 load_kept v w l h fits =
     let site = h.sites l.site fits.good in
     record {
@@ -24,10 +24,10 @@ load_kept v w l h fits =
       dir = ap (take (length l.dir)) (site.1 Dir) ∙ fits.dir;
     }
 
-pub fits_kept : (v w : BankView) (m : Held) → Keeps v w → Fits v m → Fits w m
+pub fits_kept : (v w : BankView) (m : ManagerState) → KeepsSlotsAndSites v w → ManagerFits v m → ManagerFits w m
 fits_kept v w m h fits = record { selected = λ s is. h.slots s.slot s.aid (fits.selected s is); load = λ l is. load_kept v w l h (fits.load l is) }
 
-open_kept : (v w : BankView) (l : Loaded) → Keeps v w → FitsLoad v l → open_of w.standing l ≡ open_of v.standing l
+open_kept : (v w : BankView) (l : Loaded) → KeepsSlotsAndSites v w → FitsLoad v l → open_of w.standing l ≡ open_of v.standing l
 open_kept v w l h fits =
     let site = h.sites l.site fits.good in
     let code = site.1 Code in
@@ -36,7 +36,7 @@ open_kept v w l h fits =
     let fci = site.1 Fci in
     cc
 
-pub seat_kept : (v w : BankView) (m : Held) → Keeps v w → Fits v m → (s : List ℕ) → seat_of w.standing s m ≡ seat_of v.standing s m
+pub seat_kept : (v w : BankView) (m : ManagerState) → KeepsSlotsAndSites v w → ManagerFits v m → (s : List ℕ) → seat_of w.standing s m ≡ seat_of v.standing s m
 seat_kept v w m h fits s = ap (λ (x : Option Open). record (seat_of v.standing s m) { load = x }) (by_load m.load fits.load)
   where
     by_load : (x : Option Loaded) → ForSome x (FitsLoad v) → option_map (open_of w.standing) x ≡ option_map (open_of v.standing) x

@@ -22,10 +22,10 @@ use Rattle.mc_manager.specs.declared.selection.Selection.{Selection}
 use Rattle.mc_manager.specs.declared.routed.Routed.{Routed}
 use Rattle.mc_manager.specs.declared.routed.Routed.TheVariants as routed
 use Rattle.mc_manager.specs.Load.{is_full}
-use Rattle.mc_manager.specs.ManagerState.{BankView, Loaded, Held, got_len, open_of, selected_of, seat_of, FitsLoad, Fits}
-use Rattle.mc_manager.specs.CommandDue.{Due, Refuses, Selects, Does, due_select, due_manager, due_on, due, items_of, apps_after, Says, Leaves}
+use Rattle.mc_manager.specs.ManagerState.{BankView, Loaded, ManagerState, got_len, open_of, selected_of, seat_of, FitsLoad, ManagerFits}
+use Rattle.mc_manager.specs.CommandDue.{CommandDue, Refuses, Selects, Does, due_select, due_manager, due_on, due, items_of, apps_after, RepliesWith, CommandLeaves}
 use Rattle.mc_manager.specs.Calls.{CanSelect, CanCreate, CanDelete, has_selected, delete_causes}
-use Rattle.mc_manager.specs.Ends.{Ends}
+use Rattle.mc_manager.specs.Ends.{CommandEnds}
 use Rattle.mc_manager.proofs.LoadLemmas.{length_got, same_size, fresh_entered}
 
 -- ---- causes
@@ -61,14 +61,14 @@ has_room v l p a fits h =
     by_tests false true false is h = grind (arith, nat_tests, is)
 
 -- the same name is selected, whatever the session bytes are
-pub same_selected : (m : Held) (s n : List ℕ) → is_selected (selected_of s m) n ≡ has_selected m.selected n
+pub same_selected : (m : ManagerState) (s n : List ℕ) → is_selected (selected_of s m) n ≡ has_selected m.selected n
 same_selected m s n = by_selected m.selected
   where
     by_selected : (x : Option Selection) → is_selected (option_map (λ c. record { name = c.aid; session = s }) x) n ≡ has_selected x n
     by_selected None = refl
     by_selected (Some c) = refl
 
-pub same_causes : (v : BankView) (m : Held) (s : List ℕ) (a : ApduParts) → first_status (delete_refusals v.state.apps (seat_of v.standing s m) a) ≡ first_status (delete_causes v.state.apps m.selected a)
+pub same_causes : (v : BankView) (m : ManagerState) (s : List ℕ) (a : ApduParts) → first_status (delete_refusals v.state.apps (seat_of v.standing s m) a) ≡ first_status (delete_causes v.state.apps m.selected a)
 same_causes v m s a =
     ap (λ (x : Bool). first_status ((0x6A86, not (p1p2 a == 0)) ∷ (0x6700, is_empty a.body) ∷ (0x6A82, is_none (lookup v.state.apps a.body)) ∷ (0x6985, x) ∷ [])) (same_selected m s a.body)
 
@@ -76,41 +76,41 @@ same_causes v m s a =
 
 module _ {B : Type 0} (did : B → BankItem → Answer → B → Type 0) where
   -- a refusal
-  pub ends_refused : (of : List ℕ → Due) (v : BankView) (m : Held) (b : B) (r : Reply) (sw : ℕ) → ((s : List ℕ) → of s ≡ Refuses sw) → Says [] sw r → v.state.stopped ≡ false → Fits v m
-      → Ends did of v m b (Ok (routed.Answer r)) v m b
+  pub ends_refused : (of : List ℕ → CommandDue) (v : BankView) (m : ManagerState) (b : B) (r : Reply) (sw : ℕ) → ((s : List ℕ) → of s ≡ Refuses sw) → RepliesWith [] sw r → v.state.stopped ≡ false → ManagerFits v m
+      → CommandEnds did of v m b (Ok (routed.Answer r)) v m b
   ends_refused of v m b r sw is says going fits =
       record {
-        items = λ s. subst (λ (d : Due). InOrder did b (items_of d) (Ok tt) b) (sym (is s)) refl;
-        apps = λ s. subst (λ (d : Due). Changes v.state (apps_after d v.state.apps) (Ok tt) v.state) (sym (is s)) (record { apps = refl; cuts = refl; faults = refl; going = going });
-        leaves = λ s. subst (λ (d : Due). Leaves d s v m (routed.Answer r) v m) (sym (is s)) (record { reply = says; unchanged = refl });
+        items = λ s. subst (λ (d : CommandDue). InOrder did b (items_of d) (Ok tt) b) (sym (is s)) refl;
+        apps = λ s. subst (λ (d : CommandDue). Changes v.state (apps_after d v.state.apps) (Ok tt) v.state) (sym (is s)) (record { apps = refl; cuts = refl; faults = refl; going = going });
+        leaves = λ s. subst (λ (d : CommandDue). CommandLeaves d s v m (routed.Answer r) v m) (sym (is s)) (record { reply = says; unchanged = refl });
         fits = fits;
         going = going;
       }
 
   -- what is done
-  pub ends_done : (of : List ℕ → Due) (d : List ℕ → Accepted) (v : BankView) (m : Held) (b : B) (r : Reply) (w : BankView) (n : Held) (e : B) → ((s : List ℕ) → of s ≡ Does (d s))
+  pub ends_done : (of : List ℕ → CommandDue) (d : List ℕ → Accepted) (v : BankView) (m : ManagerState) (b : B) (r : Reply) (w : BankView) (n : ManagerState) (e : B) → ((s : List ℕ) → of s ≡ Does (d s))
       → ((s : List ℕ) → InOrder did b (d s).items (Ok tt) e)
       → ((s : List ℕ) → Changes v.state (apps_after (Does (d s)) v.state.apps) (Ok tt) w.state)
-      → ((s : List ℕ) → Says (d s).body 0x9000 r) → n.selected ≡ m.selected → ((s : List ℕ) → seat_of w.standing s n ≡ (d s).seat) → Fits w n
-      → Ends did of v m b (Ok (routed.Answer r)) w n e
+      → ((s : List ℕ) → RepliesWith (d s).body 0x9000 r) → n.selected ≡ m.selected → ((s : List ℕ) → seat_of w.standing s n ≡ (d s).seat) → ManagerFits w n
+      → CommandEnds did of v m b (Ok (routed.Answer r)) w n e
   ends_done of d v m b r w n e is items apps says selected seat fits =
       record {
-        items = λ s. subst (λ (x : Due). InOrder did b (items_of x) (Ok tt) e) (sym (is s)) (items s);
-        apps = λ s. subst (λ (x : Due). Changes v.state (apps_after x v.state.apps) (Ok tt) w.state) (sym (is s)) (apps s);
-        leaves = λ s. subst (λ (x : Due). Leaves x s v m (routed.Answer r) w n) (sym (is s)) (record { reply = says s; selected = selected; seat = seat s });
+        items = λ s. subst (λ (x : CommandDue). InOrder did b (items_of x) (Ok tt) e) (sym (is s)) (items s);
+        apps = λ s. subst (λ (x : CommandDue). Changes v.state (apps_after x v.state.apps) (Ok tt) w.state) (sym (is s)) (apps s);
+        leaves = λ s. subst (λ (x : CommandDue). CommandLeaves x s v m (routed.Answer r) w n) (sym (is s)) (record { reply = says s; selected = selected; seat = seat s });
         fits = fits;
         going = (apps []).going;
       }
 
   -- what is stopped
-  pub ends_stopped : (of : List ℕ → Due) (d : List ℕ → Accepted) (v : BankView) (m : Held) (b : B) (t : Stop) (w : BankView) (n : Held) (e : B) → ((s : List ℕ) → of s ≡ Does (d s))
+  pub ends_stopped : (of : List ℕ → CommandDue) (d : List ℕ → Accepted) (v : BankView) (m : ManagerState) (b : B) (t : Stop) (w : BankView) (n : ManagerState) (e : B) → ((s : List ℕ) → of s ≡ Does (d s))
       → ((s : List ℕ) → InOrder did b (d s).items (Err t) e)
       → ((s : List ℕ) → Changes v.state (apps_after (Does (d s)) v.state.apps) (Err t) w.state)
-      → Ends did of v m b (Err t) w n e
+      → CommandEnds did of v m b (Err t) w n e
   ends_stopped of d v m b t w n e is items apps =
       record {
-        items = λ s. subst (λ (x : Due). InOrder did b (items_of x) (Err t) e) (sym (is s)) (items s);
-        apps = λ s. subst (λ (x : Due). Changes v.state (apps_after x v.state.apps) (Err t) w.state) (sym (is s)) (apps s);
+        items = λ s. subst (λ (x : CommandDue). InOrder did b (items_of x) (Err t) e) (sym (is s)) (items s);
+        apps = λ s. subst (λ (x : CommandDue). Changes v.state (apps_after x v.state.apps) (Err t) w.state) (sym (is s)) (apps s);
         leaves = λ s. tt;
         fits = tt;
         going = tt;
@@ -123,28 +123,28 @@ some_value None d h = absurd (cc h)
 some_value (Some x) d h = refl
 
 -- what the SELECT of a name does
-abbrev pub selected : BankView → Held → ApduParts → List ℕ → Accepted
+abbrev pub selected : BankView → ManagerState → ApduParts → List ℕ → Accepted
 selected v m a s = select_done (seat_of v.standing s m) a (Some (app_of v.state.apps (Some a.body)))
 
-pub select_is_due : (v : BankView) (m : Held) (c : Selection) (a : ApduParts) → CanSelect v.state.apps v.named a c → (s : List ℕ) → due_select (select v.state.apps (seat_of v.standing s m) a) ≡ Selects (selected v m a s)
+pub select_is_due : (v : BankView) (m : ManagerState) (c : Selection) (a : ApduParts) → CanSelect v.state.apps v.named a c → (s : List ℕ) → due_select (select v.state.apps (seat_of v.standing s m) a) ≡ Selects (selected v m a s)
 select_is_due v m c a h s =
     let seat = seat_of v.standing s m in
     ap (λ (y : Option ℕ). due_select (answered y (select_done seat a (lookup v.state.apps a.body)))) h.clear
     ∙ ap (λ (y : Option App). Selects (select_done seat a y)) (some_value (lookup v.state.apps a.body) no_app h.found.app)
 
 module _ {B : Type 0} (did : B → BankItem → Answer → B → Type 0) where
-  pub ends_selected : (v : BankView) (m : Held) (c : Selection) (a : ApduParts) (b : B) (r : Reply) (m' : Held) → CanSelect v.state.apps v.named a c → Fits v m → v.state.stopped ≡ false
-      → Says (select_body a (app_of v.state.apps (v.named c.slot))) 0x9000 r → m'.selected ≡ Some c → m'.load ≡ m.load
-      → Ends did (λ s. due_select (select v.state.apps (seat_of v.standing s m) a)) v m b (Ok (routed.Fresh c.slot r)) v m' b
+  pub ends_selected : (v : BankView) (m : ManagerState) (c : Selection) (a : ApduParts) (b : B) (r : Reply) (m' : ManagerState) → CanSelect v.state.apps v.named a c → ManagerFits v m → v.state.stopped ≡ false
+      → RepliesWith (select_body a (app_of v.state.apps (v.named c.slot))) 0x9000 r → m'.selected ≡ Some c → m'.load ≡ m.load
+      → CommandEnds did (λ s. due_select (select v.state.apps (seat_of v.standing s m) a)) v m b (Ok (routed.Fresh c.slot r)) v m' b
   ends_selected v m c a b r m' h fits going says now load =
       let due = select_is_due v m c a h in
       let name : v.named c.slot ≡ Some a.body = h.found.slot ∙ ap (λ (n : List ℕ). Some n) h.found.aid in
       record {
-        items = λ s. subst (λ (x : Due). InOrder did b (items_of x) (Ok tt) b) (sym (due s)) refl;
-        apps = λ s. subst (λ (x : Due). Changes v.state (apps_after x v.state.apps) (Ok tt) v.state) (sym (due s)) (record { apps = refl; cuts = refl; faults = refl; going = going });
-        leaves = λ s. subst (λ (x : Due). Leaves x s v m (routed.Fresh c.slot r) v m') (sym (due s)) (record {
+        items = λ s. subst (λ (x : CommandDue). InOrder did b (items_of x) (Ok tt) b) (sym (due s)) refl;
+        apps = λ s. subst (λ (x : CommandDue). Changes v.state (apps_after x v.state.apps) (Ok tt) v.state) (sym (due s)) (record { apps = refl; cuts = refl; faults = refl; going = going });
+        leaves = λ s. subst (λ (x : CommandDue). CommandLeaves x s v m (routed.Fresh c.slot r) v m') (sym (due s)) (record {
           selected = c;
-          reply = subst (λ (n : Option (List ℕ)). Says (select_body a (app_of v.state.apps n)) 0x9000 r) name says;
+          reply = subst (λ (n : Option (List ℕ)). RepliesWith (select_body a (app_of v.state.apps n)) 0x9000 r) name says;
           now = now;
           slot = refl;
           load = load;
@@ -161,7 +161,7 @@ module _ {B : Type 0} (did : B → BankItem → Answer → B → Type 0) where
 
 -- ---- LOAD
 
-pub load_refused : (v : BankView) (m : Held) (x : Option Loaded) (p : Part) (a : ApduParts) (sw : ℕ) → x ≡ m.load → first_status (load_refusals (option_map (open_of v.standing) x) p a) ≡ Some sw
+pub load_refused : (v : BankView) (m : ManagerState) (x : Option Loaded) (p : Part) (a : ApduParts) (sw : ℕ) → x ≡ m.load → first_status (load_refusals (option_map (open_of v.standing) x) p a) ≡ Some sw
     → (s : List ℕ) → due_manager (load_part p (seat_of v.standing s m) a) ≡ Refuses sw
 load_refused v m x p a sw is h s =
     let seat = seat_of v.standing s m in
@@ -169,16 +169,16 @@ load_refused v m x p a sw is h s =
     (ap (λ (y : Option Loaded). first_status (load_refusals (option_map (open_of v.standing) y) p a)) (sym is) ∙ h)
 
 -- what a piece for an open load does
-abbrev pub piece_done : (v : BankView) (m : Held) (l : Loaded) (p : Part) (a : ApduParts) → List ℕ → Accepted
+abbrev pub piece_done : (v : BankView) (m : ManagerState) (l : Loaded) (p : Part) (a : ApduParts) → List ℕ → Accepted
 piece_done v m l p a s = load_done (seat_of v.standing s m) (Some (open_of v.standing l)) p a
 
 -- a piece may be written for an open load
-pub record CanLoad (v : BankView) (m : Held) (l : Loaded) (p : Part) (a : ApduParts) : Type 0 where
+pub record CanLoad (v : BankView) (m : ManagerState) (l : Loaded) (p : Part) (a : ApduParts) : Type 0 where
   pub is : m.load ≡ Some l
   pub fits : FitsLoad v l
   pub clear : first_status (load_refusals (Some (open_of v.standing l)) p a) ≡ None
 
-pub can_load : (v : BankView) (m : Held) (x : Option Loaded) (l : Loaded) (p : Part) (a : ApduParts) → x ≡ m.load → x ≡ Some l → Fits v m
+pub can_load : (v : BankView) (m : ManagerState) (x : Option Loaded) (l : Loaded) (p : Part) (a : ApduParts) → x ≡ m.load → x ≡ Some l → ManagerFits v m
     → (ForSome x (FitsLoad v) → first_status (load_refusals (option_map (open_of v.standing) x) p a) ≡ None) → CanLoad v m l p a
 can_load v m x l p a load is fits clear =
     record {
@@ -187,24 +187,24 @@ can_load v m x l p a load is fits clear =
       clear = ap (λ (y : Option Loaded). first_status (load_refusals (option_map (open_of v.standing) y) p a)) (sym is) ∙ clear (λ k here. fits.load k (sym load ∙ here));
     }
 
-pub load_is_due : (v : BankView) (m : Held) (l : Loaded) (p : Part) (a : ApduParts) → CanLoad v m l p a → (s : List ℕ) → due_manager (load_part p (seat_of v.standing s m) a) ≡ Does (piece_done v m l p a s)
+pub load_is_due : (v : BankView) (m : ManagerState) (l : Loaded) (p : Part) (a : ApduParts) → CanLoad v m l p a → (s : List ℕ) → due_manager (load_part p (seat_of v.standing s m) a) ≡ Does (piece_done v m l p a s)
 load_is_due v m l p a h s =
     ap (λ (x : Option Loaded). due_manager (answered (first_status (load_refusals (option_map (open_of v.standing) x) p a)) (load_done (seat_of v.standing s m) (option_map (open_of v.standing) x) p a))) h.is
     ∙ done_due (first_status (load_refusals (Some (open_of v.standing l)) p a)) (piece_done v m l p a s) h.clear
 
 module _ {B : Type 0} (did : B → BankItem → Answer → B → Type 0) where
-  load_items : (v : BankView) (m : Held) (l : Loaded) (p : Part) (a : ApduParts) (b : B) (x : Answer) (e : B) → CanLoad v m l p a
+  load_items : (v : BankView) (m : ManagerState) (l : Loaded) (p : Part) (a : ApduParts) (b : B) (x : Answer) (e : B) → CanLoad v m l p a
       → InOrder did b (map (λ c. Piece l.site p c.0 c.1) (word_parts (got_len p l) a.body)) x e → (s : List ℕ) → InOrder did b (piece_done v m l p a s).items x e
   load_items v m l p a b x e h items s =
       subst (λ (k : ℕ). InOrder did b (map (λ c. Piece l.site p c.0 c.1) (word_parts k a.body)) x e) (sym (length_got v l p h.fits)) items
 
-  pub ends_loaded : (v : BankView) (m : Held) (l : Loaded) (p : Part) (a : ApduParts) (b : B) (r : Reply) (w : BankView) (l' : Loaded) (n : Held) (e : B) → CanLoad v m l p a → Fits v m
+  pub ends_loaded : (v : BankView) (m : ManagerState) (l : Loaded) (p : Part) (a : ApduParts) (b : B) (r : Reply) (w : BankView) (l' : Loaded) (n : ManagerState) (e : B) → CanLoad v m l p a → ManagerFits v m
       → InOrder did b (map (λ c. Piece l.site p c.0 c.1) (word_parts (got_len p l) a.body)) (Ok tt) e
       → Changes v.state v.state.apps (Ok tt) w.state
       → ((k : ℕ) → w.named k ≡ v.named k)
       → open_of w.standing l' ≡ record (open_of v.standing l) { got = with_got p a.body (open_of v.standing l).got }
-      → FitsLoad w l' → Says [] 0x9000 r → n.selected ≡ m.selected → n.load ≡ Some l'
-      → Ends did (λ s. due_manager (load_part p (seat_of v.standing s m) a)) v m b (Ok (routed.Answer r)) w n e
+      → FitsLoad w l' → RepliesWith [] 0x9000 r → n.selected ≡ m.selected → n.load ≡ Some l'
+      → CommandEnds did (λ s. due_manager (load_part p (seat_of v.standing s m) a)) v m b (Ok (routed.Answer r)) w n e
   ends_loaded v m l p a b r w l' n e h fits items apps slots filled fits' says selected load =
       ends_done did (λ s. due_manager (load_part p (seat_of v.standing s m) a)) (piece_done v m l p a) v m b r w n e (load_is_due v m l p a h)
       (load_items v m l p a b (Ok tt) e h items) (λ s. apps) (λ s. says) selected
@@ -216,10 +216,10 @@ module _ {B : Type 0} (did : B → BankItem → Answer → B → Type 0) where
         load = λ x is. subst (FitsLoad w) (cc (load, is)) fits';
       })
 
-  pub ends_load_stopped : (v : BankView) (m : Held) (l : Loaded) (p : Part) (a : ApduParts) (b : B) (t : Stop) (w : BankView) (n : Held) (e : B) → CanLoad v m l p a
+  pub ends_load_stopped : (v : BankView) (m : ManagerState) (l : Loaded) (p : Part) (a : ApduParts) (b : B) (t : Stop) (w : BankView) (n : ManagerState) (e : B) → CanLoad v m l p a
       → InOrder did b (map (λ c. Piece l.site p c.0 c.1) (word_parts (got_len p l) a.body)) (Err t) e
       → Changes v.state v.state.apps (Err t) w.state
-      → Ends did (λ s. due_manager (load_part p (seat_of v.standing s m) a)) v m b (Err t) w n e
+      → CommandEnds did (λ s. due_manager (load_part p (seat_of v.standing s m) a)) v m b (Err t) w n e
   ends_load_stopped v m l p a b t w n e h items apps =
       ends_stopped did (λ s. due_manager (load_part p (seat_of v.standing s m) a)) (piece_done v m l p a) v m b t w n e (load_is_due v m l p a h)
       (load_items v m l p a b (Err t) e h items) (λ s. apps)
@@ -227,25 +227,25 @@ module _ {B : Type 0} (did : B → BankItem → Answer → B → Type 0) where
 -- ---- CREATE
 
 -- what the creation of an open load does
-abbrev pub created : BankView → Held → Loaded → List ℕ → List ℕ → Accepted
+abbrev pub created : BankView → ManagerState → Loaded → List ℕ → List ℕ → Accepted
 created v m l n s = create_done (seat_of v.standing s m) (Some (open_of v.standing l)) (Ok n)
 
 -- an open load may become an application
-pub record CanEnter (v : BankView) (m : Held) (l : Loaded) (n : List ℕ) (a : ApduParts) : Type 0 where
+pub record CanEnter (v : BankView) (m : ManagerState) (l : Loaded) (n : List ℕ) (a : ApduParts) : Type 0 where
   pub is : m.load ≡ Some l
   pub fits : FitsLoad v l
   pub full : is_full l ≡ true
   pub name : name_of l.dir ≡ Ok n
   pub clear : first_status (create_refusals v.state.apps (Some (open_of v.standing l)) a) ≡ None
 
-pub create_refused : (v : BankView) (m : Held) (x : Option Loaded) (a : ApduParts) (sw : ℕ) → x ≡ m.load → first_status (create_refusals v.state.apps (option_map (open_of v.standing) x) a) ≡ Some sw
+pub create_refused : (v : BankView) (m : ManagerState) (x : Option Loaded) (a : ApduParts) (sw : ℕ) → x ≡ m.load → first_status (create_refusals v.state.apps (option_map (open_of v.standing) x) a) ≡ Some sw
     → (s : List ℕ) → due_manager (create v.state.apps (seat_of v.standing s m) a) ≡ Refuses sw
 create_refused v m x a sw is h s =
     let seat = seat_of v.standing s m in
     refused_due (first_status (create_refusals v.state.apps seat.load a)) (create_done seat seat.load (name_of (dir_in seat.load))) sw
     (ap (λ (y : Option Loaded). first_status (create_refusals v.state.apps (option_map (open_of v.standing) y) a)) (sym is) ∙ h)
 
-pub can_enter : (v : BankView) (m : Held) (x : Option Loaded) (l : Loaded) (n : List ℕ) (a : ApduParts) → x ≡ m.load → x ≡ Some l → Fits v m → CanCreate v x a n → CanEnter v m l n a
+pub can_enter : (v : BankView) (m : ManagerState) (x : Option Loaded) (l : Loaded) (n : List ℕ) (a : ApduParts) → x ≡ m.load → x ≡ Some l → ManagerFits v m → CanCreate v x a n → CanEnter v m l n a
 can_enter v m x l n a load is fits can =
     let same : can.loaded ≡ l = cc (can.is, is) in
     record {
@@ -256,7 +256,7 @@ can_enter v m x l n a load is fits can =
       clear = ap (λ (y : Option Loaded). first_status (create_refusals v.state.apps (option_map (open_of v.standing) y) a)) (sym is) ∙ can.clear;
     }
 
-pub create_is_due : (v : BankView) (m : Held) (l : Loaded) (n : List ℕ) (a : ApduParts) → CanEnter v m l n a → (s : List ℕ) → due_manager (create v.state.apps (seat_of v.standing s m) a) ≡ Does (created v m l n s)
+pub create_is_due : (v : BankView) (m : ManagerState) (l : Loaded) (n : List ℕ) (a : ApduParts) → CanEnter v m l n a → (s : List ℕ) → due_manager (create v.state.apps (seat_of v.standing s m) a) ≡ Does (created v m l n s)
 create_is_due v m l n a h s =
     let seat = seat_of v.standing s m in
     let o = open_of v.standing l in
@@ -266,12 +266,12 @@ create_is_due v m l n a h s =
     ∙ ap (λ (x : Result (List ℕ) AidFault). Does (create_done seat (Some o) x)) (ap name_of h.fits.dir ∙ h.name)
 
 module _ {B : Type 0} (did : B → BankItem → Answer → B → Type 0) where
-  pub ends_created : (v : BankView) (m : Held) (l : Loaded) (n : List ℕ) (a : ApduParts) (b : B) (r : Reply) (w : BankView) (m' : Held) (e : B) (t : Site) → t ≡ l.site → CanEnter v m l n a → Fits v m
+  pub ends_created : (v : BankView) (m : ManagerState) (l : Loaded) (n : List ℕ) (a : ApduParts) (b : B) (r : Reply) (w : BankView) (m' : ManagerState) (e : B) (t : Site) → t ≡ l.site → CanEnter v m l n a → ManagerFits v m
       → InOrder did b (create_items t n) (Ok tt) e
       → Changes v.state (insert v.state.apps n (entered t (v.standing t))) (Ok tt) w.state
       → ((k : ℕ) → IsSome (v.named k) → w.named k ≡ v.named k)
-      → Says [] 0x9000 r → m'.selected ≡ m.selected → m'.load ≡ None
-      → Ends did (λ s. due_manager (create v.state.apps (seat_of v.standing s m) a)) v m b (Ok (routed.Answer r)) w m' e
+      → RepliesWith [] 0x9000 r → m'.selected ≡ m.selected → m'.load ≡ None
+      → CommandEnds did (λ s. due_manager (create v.state.apps (seat_of v.standing s m) a)) v m b (Ok (routed.Answer r)) w m' e
   ends_created v m l n a b r w m' e t site h fits items apps slots says selected load =
       ends_done did (λ s. due_manager (create v.state.apps (seat_of v.standing s m) a)) (created v m l n) v m b r w m' e (create_is_due v m l n a h)
       (λ s. subst (λ (x : Site). InOrder did b (create_items x n) (Ok tt) e) site items)
@@ -284,10 +284,10 @@ module _ {B : Type 0} (did : B → BankItem → Answer → B → Type 0) where
         load = λ x is. absurd (cc (load, is));
       })
 
-  pub ends_create_stopped : (v : BankView) (m : Held) (l : Loaded) (n : List ℕ) (a : ApduParts) (b : B) (t : Stop) (w : BankView) (m' : Held) (e : B) (q : Site) → q ≡ l.site → CanEnter v m l n a
+  pub ends_create_stopped : (v : BankView) (m : ManagerState) (l : Loaded) (n : List ℕ) (a : ApduParts) (b : B) (t : Stop) (w : BankView) (m' : ManagerState) (e : B) (q : Site) → q ≡ l.site → CanEnter v m l n a
       → InOrder did b (create_items q n) (Err t) e
       → Changes v.state (insert v.state.apps n (entered q (v.standing q))) (Err t) w.state
-      → Ends did (λ s. due_manager (create v.state.apps (seat_of v.standing s m) a)) v m b (Err t) w m' e
+      → CommandEnds did (λ s. due_manager (create v.state.apps (seat_of v.standing s m) a)) v m b (Err t) w m' e
   ends_create_stopped v m l n a b t w m' e q site h items apps =
       ends_stopped did (λ s. due_manager (create v.state.apps (seat_of v.standing s m) a)) (created v m l n) v m b t w m' e (create_is_due v m l n a h)
       (λ s. subst (λ (x : Site). InOrder did b (create_items x n) (Err t) e) site items)
@@ -295,14 +295,14 @@ module _ {B : Type 0} (did : B → BankItem → Answer → B → Type 0) where
 
 -- ---- DELETE
 
-pub delete_refused : (v : BankView) (m : Held) (x : Option Selection) (a : ApduParts) (sw : ℕ) → x ≡ m.selected → first_status (delete_causes v.state.apps x a) ≡ Some sw
+pub delete_refused : (v : BankView) (m : ManagerState) (x : Option Selection) (a : ApduParts) (sw : ℕ) → x ≡ m.selected → first_status (delete_causes v.state.apps x a) ≡ Some sw
     → (s : List ℕ) → due_manager (delete v.state.apps (seat_of v.standing s m) a) ≡ Refuses sw
 delete_refused v m x a sw is h s =
     let seat = seat_of v.standing s m in
     refused_due (first_status (delete_refusals v.state.apps seat a)) (delete_done seat a) sw
     (same_causes v m s a ∙ ap (λ (y : Option Selection). first_status (delete_causes v.state.apps y a)) (sym is) ∙ h)
 
-pub delete_is_due : (v : BankView) (m : Held) (x : Option Selection) (a : ApduParts) (k : ℕ) → x ≡ m.selected → CanDelete v.state.apps v.named x a k
+pub delete_is_due : (v : BankView) (m : ManagerState) (x : Option Selection) (a : ApduParts) (k : ℕ) → x ≡ m.selected → CanDelete v.state.apps v.named x a k
     → (s : List ℕ) → due_manager (delete v.state.apps (seat_of v.standing s m) a) ≡ Does (delete_done (seat_of v.standing s m) a)
 delete_is_due v m x a k is can s =
     let seat = seat_of v.standing s m in
@@ -313,12 +313,12 @@ not_selected : (s : Selection) (n : List ℕ) → has_selected (Some s) n ≡ fa
 not_selected s n h is = cc (sym (subst (λ (x : List ℕ). bytes_eq s.aid x ≡ true) is (name_is_itself s.aid)) ∙ h)
 
 module _ {B : Type 0} (did : B → BankItem → Answer → B → Type 0) where
-  pub ends_deleted : (v : BankView) (m : Held) (x : Option Selection) (a : ApduParts) (k : ℕ) (b : B) (r : Reply) (w : BankView) (m' : Held) (e : B) → x ≡ m.selected → CanDelete v.state.apps v.named x a k → Fits v m
+  pub ends_deleted : (v : BankView) (m : ManagerState) (x : Option Selection) (a : ApduParts) (k : ℕ) (b : B) (r : Reply) (w : BankView) (m' : ManagerState) (e : B) → x ≡ m.selected → CanDelete v.state.apps v.named x a k → ManagerFits v m
       → InOrder did b (Remove (name_or (v.named k)) ∷ []) (Ok tt) e
       → Changes v.state (remove v.state.apps (name_or (v.named k))) (Ok tt) w.state
       → ((i : ℕ) → (n : List ℕ) → v.named i ≡ Some n → n ≢ name_or (v.named k) → w.named i ≡ Some n)
-      → Says [] 0x9000 r → m'.selected ≡ m.selected → m'.load ≡ None
-      → Ends did (λ s. due_manager (delete v.state.apps (seat_of v.standing s m) a)) v m b (Ok (routed.Answer r)) w m' e
+      → RepliesWith [] 0x9000 r → m'.selected ≡ m.selected → m'.load ≡ None
+      → CommandEnds did (λ s. due_manager (delete v.state.apps (seat_of v.standing s m) a)) v m b (Ok (routed.Answer r)) w m' e
   ends_deleted v m x a k b r w m' e sel can fits items apps slots says selected load =
       let name : name_or (v.named k) ≡ a.body = ap name_or can.slot in
       ends_done did (λ s. due_manager (delete v.state.apps (seat_of v.standing s m) a)) (λ s. delete_done (seat_of v.standing s m) a) v m b r w m' e (delete_is_due v m x a k sel can)
@@ -334,10 +334,10 @@ module _ {B : Type 0} (did : B → BankItem → Answer → B → Type 0) where
         load = λ y is. absurd (cc (load, is));
       })
 
-  pub ends_delete_stopped : (v : BankView) (m : Held) (x : Option Selection) (a : ApduParts) (k : ℕ) (b : B) (t : Stop) (w : BankView) (m' : Held) (e : B) → x ≡ m.selected → CanDelete v.state.apps v.named x a k
+  pub ends_delete_stopped : (v : BankView) (m : ManagerState) (x : Option Selection) (a : ApduParts) (k : ℕ) (b : B) (t : Stop) (w : BankView) (m' : ManagerState) (e : B) → x ≡ m.selected → CanDelete v.state.apps v.named x a k
       → InOrder did b (Remove (name_or (v.named k)) ∷ []) (Err t) e
       → Changes v.state (remove v.state.apps (name_or (v.named k))) (Err t) w.state
-      → Ends did (λ s. due_manager (delete v.state.apps (seat_of v.standing s m) a)) v m b (Err t) w m' e
+      → CommandEnds did (λ s. due_manager (delete v.state.apps (seat_of v.standing s m) a)) v m b (Err t) w m' e
   ends_delete_stopped v m x a k b t w m' e sel can items apps =
       let name : name_or (v.named k) ≡ a.body = ap name_or can.slot in
       ends_stopped did (λ s. due_manager (delete v.state.apps (seat_of v.standing s m) a)) (λ s. delete_done (seat_of v.standing s m) a) v m b t w m' e (delete_is_due v m x a k sel can)
@@ -366,25 +366,25 @@ unfolding manage
 manage_is i room map seat a is = ap (λ (k : ℕ). by_ins k room map seat a) is
 
 -- class BE is the manager's
-pub manager_due : (v : BankView) (s : List ℕ) (m : Held) (a : ApduParts) → a.cla ≡ 0xBE → due v s m a ≡ due_manager (manage v.room v.state.apps (seat_of v.standing s m) a)
+pub manager_due : (v : BankView) (s : List ℕ) (m : ManagerState) (a : ApduParts) → a.cla ≡ 0xBE → due v s m a ≡ due_manager (manage v.room v.state.apps (seat_of v.standing s m) a)
 manager_due v s m a is =
     ap (λ (c : ℕ). due_on v (seat_of v.standing s m) (cond (c == 0xFF) WrongClass (cond (c == 0 && a.ins == 0xA4 && a.p1 == 4) (ToSelect a) (cond (c == 0xBE) (ToManager a) (ToApplication a))))) is
 
 module _ {B : Type 0} (did : B → BankItem → Answer → B → Type 0) where
   -- the same is due in other words
-  pub ends_as : (f h : List ℕ → Due) (v : BankView) (m : Held) (b : B) (x : Result Routed Stop) (w : BankView) (n : Held) (e : B) → ((s : List ℕ) → f s ≡ h s) → Ends did h v m b x w n e → Ends did f v m b x w n e
+  pub ends_as : (f h : List ℕ → CommandDue) (v : BankView) (m : ManagerState) (b : B) (x : Result Routed Stop) (w : BankView) (n : ManagerState) (e : B) → ((s : List ℕ) → f s ≡ h s) → CommandEnds did h v m b x w n e → CommandEnds did f v m b x w n e
   ends_as f h v m b x w n e is ends =
       record {
-        items = λ s. subst (λ (d : Due). InOrder did b (items_of d) (answer_of x) e) (sym (is s)) (ends.items s);
-        apps = λ s. subst (λ (d : Due). Changes v.state (apps_after d v.state.apps) (answer_of x) w.state) (sym (is s)) (ends.apps s);
-        leaves = λ s. subst (λ (d : Due). IfOk x (λ r. Leaves d s v m r w n)) (sym (is s)) (ends.leaves s);
+        items = λ s. subst (λ (d : CommandDue). InOrder did b (items_of d) (answer_of x) e) (sym (is s)) (ends.items s);
+        apps = λ s. subst (λ (d : CommandDue). Changes v.state (apps_after d v.state.apps) (answer_of x) w.state) (sym (is s)) (ends.apps s);
+        leaves = λ s. subst (λ (d : CommandDue). IfOk x (λ r. CommandLeaves d s v m r w n)) (sym (is s)) (ends.leaves s);
         fits = ends.fits;
         going = ends.going;
       }
 
-  pub ends_managed : (i : ℕ) (v : BankView) (m : Held) (a : ApduParts) (b : B) (x : Result Routed Stop) (w : BankView) (n : Held) (e : B) → a.ins ≡ i
-      → Ends did (λ s. due_manager (by_ins i v.room v.state.apps (seat_of v.standing s m) a)) v m b x w n e
-      → Ends did (λ s. due_manager (manage v.room v.state.apps (seat_of v.standing s m) a)) v m b x w n e
+  pub ends_managed : (i : ℕ) (v : BankView) (m : ManagerState) (a : ApduParts) (b : B) (x : Result Routed Stop) (w : BankView) (n : ManagerState) (e : B) → a.ins ≡ i
+      → CommandEnds did (λ s. due_manager (by_ins i v.room v.state.apps (seat_of v.standing s m) a)) v m b x w n e
+      → CommandEnds did (λ s. due_manager (manage v.room v.state.apps (seat_of v.standing s m) a)) v m b x w n e
   ends_managed i v m a b x w n e is =
       ends_as (λ s. due_manager (manage v.room v.state.apps (seat_of v.standing s m) a)) (λ s. due_manager (by_ins i v.room v.state.apps (seat_of v.standing s m) a)) v m b x w n e
       (λ s. ap due_manager (manage_is i v.room v.state.apps (seat_of v.standing s m) a is))

@@ -9,7 +9,7 @@ use Rattle.mc_model.specs.declared.card.Sizes.{Sizes}
 use Rattle.mc_model.specs.Bytes.{splice}
 use Rattle.mc_model.specs.Items.{Site}
 use Rattle.mc_model.specs.Manager.{got_of, size_of, with_got, is_complete, can_create, fresh}
-use Rattle.mc_bank.specs.Bank.{part_len, IsGood, StayGood, entered}
+use Rattle.mc_bank.specs.Bank.{part_len, IsGoodSite, StayGood, entered}
 use Rattle.mc_bank.proofs.LeftLemmas.{length-spliced}
 use Rattle.mc_manager.specs.ManagerState.{BankView, Loaded, got_len, got_at, open_of, FitsLoad}
 use Rattle.mc_manager.specs.Load.{with_more, is_full}
@@ -152,7 +152,7 @@ open_filled v w l p b h = by_part p h
 pub fits_filled : (v w : BankView) (l : Loaded) (p : Part) (b : List ℕ) → IsFilled v w l p b → FitsLoad w (with_more p b l)
 fits_filled v w l p b h =
     record {
-      good = subst (λ (s : Site). IsGood w.state.apps w.room s) (sym (more_site p b l)) (h.good l.site h.fits.good);
+      good = subst (λ (s : Site). IsGoodSite w.state.apps w.room s) (sym (more_site p b l)) (h.good l.site h.fits.good);
       parts = λ q. by_site (λ s. length (w.standing s q) ≡ part_len q s.sizes) (len q);
       within = λ q. by_site (λ s. got_len q (with_more p b l) ≤ part_len q s.sizes) (in_size q);
       dir = dir_same p h;

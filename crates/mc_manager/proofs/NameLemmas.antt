@@ -4,11 +4,11 @@ use Rattle.std.specs.List.{AllByRecursion}
 use Rattle.mc_base.specs.Name.{IsName}
 use Rattle.mc_model.specs.Bytes.{lookup}
 use Rattle.mc_model.specs.Card.{App}
-use Rattle.mc_bank.specs.Bank.{IsEntry, AreApps}
+use Rattle.mc_bank.specs.Bank.{IsApplication, AreApps}
 use Rattle.mc_bank.specs.NameLaws.{same_name}
 
 -- what is no name is under none of the entries
-pub not_among : (apps : List (List ℕ × App)) (n : List ℕ) → AllByRecursion IsEntry apps → (IsName n → ⊥) → lookup apps n ≡ None
+pub not_among : (apps : List (List ℕ × App)) (n : List ℕ) → AllByRecursion IsApplication apps → (IsName n → ⊥) → lookup apps n ≡ None
 not_among [] n h other = refl
 not_among (e ∷ es) n h other = grind (arith, not_among es n h.1 other, same_name e.0 n, λ (p : e.0 ≡ n). other (subst IsName p h.0.name))
 

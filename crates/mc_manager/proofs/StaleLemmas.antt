@@ -13,8 +13,8 @@ use Rattle.mc_model.specs.Manager.{Selected, Open, Seat, Accepted, Managed, Decl
 use Rattle.mc_model.specs.Units.{name_of}
 use Rattle.mc_bank.specs.Bank.{BankState, Changes}
 use Rattle.mc_bank.specs.NameLaws.{same_name, lookup-inserted, lookup-beside}
-use Rattle.mc_manager.specs.ManagerState.{BankView, Held, seat_of, load_of}
-use Rattle.mc_manager.specs.CommandDue.{Due, Refuses, Selects, Does, due_select, due_manager, due_application, due_on, due, apps_after, NoneStale}
+use Rattle.mc_manager.specs.ManagerState.{BankView, ManagerState, seat_of, load_of}
+use Rattle.mc_manager.specs.CommandDue.{CommandDue, Refuses, Selects, Does, due_select, due_manager, due_application, due_on, due, apps_after, NoneStale}
 
 -- ---- maps
 
@@ -45,11 +45,11 @@ lookup_removed (e ∷ es) k n a h = by_tests (bytes_eq e.0 k) (bytes_eq e.0 n) r
 -- ---- commands
 
 -- what a command is due adds nothing stale
-abbrev AddsFresh : Option Open → List (List ℕ × App) → Due → Type 0
+abbrev AddsFresh : Option Open → List (List ℕ × App) → CommandDue → Type 0
 AddsFresh load apps d = NoneStale load apps (apps_after d apps)
 
 module _ (load : Option Open) (apps : List (List ℕ × App)) where
-  by_answer : (f : Managed → Due) → (d : Accepted) → ((sw : ℕ) → f (Declines sw) ≡ Refuses sw) → AddsFresh load apps (f (answered None d)) → (x : Option ℕ) → AddsFresh load apps (f (answered x d))
+  by_answer : (f : Managed → CommandDue) → (d : Accepted) → ((sw : ℕ) → f (Declines sw) ≡ Refuses sw) → AddsFresh load apps (f (answered None d)) → (x : Option ℕ) → AddsFresh load apps (f (answered x d))
   by_answer f d is h None = h
   by_answer f d is h (Some sw) = subst (AddsFresh load apps) (sym (is sw)) (same_apps load apps)
 
@@ -93,7 +93,7 @@ module _ (load : Option Open) (apps : List (List ℕ × App)) where
       (by_test _ _ (create_adds seat a is) (by_test _ _ (delete_adds seat a) (same_apps load apps) (a.ins == 0x18)) (a.ins == 0x16)) (a.ins == 0x22)) (a.ins == 0x20)) (a.ins == 0x26)) (a.ins == 0x24)) (a.ins == 0x12)
 
 -- a command adds nothing stale
-pub due_adds : (v : BankView) (s : List ℕ) (m : Held) (a : ApduParts) → NoneStale (load_of v.standing m) v.state.apps (apps_after (due v s m a) v.state.apps)
+pub due_adds : (v : BankView) (s : List ℕ) (m : ManagerState) (a : ApduParts) → NoneStale (load_of v.standing m) v.state.apps (apps_after (due v s m a) v.state.apps)
 due_adds v s m a = by_class (a.cla == 0xFF) (a.cla == 0 && a.ins == 0xA4 && a.p1 == 4) (a.cla == 0xBE)
   where
     by_selection : (x : Option Selected) → AddsFresh (load_of v.standing m) v.state.apps (due_application x)
@@ -107,7 +107,7 @@ due_adds v s m a = by_class (a.cla == 0xFF) (a.cla == 0 && a.ins == 0xA4 && a.p1
     by_class false false false = by_selection (seat_of v.standing s m).selected
 
 -- whatever became of it
-pub none_stale : (v : BankView) (s : List ℕ) (m : Held) (a : ApduParts) (x : Answer) (e : BankState) → Changes v.state (apps_after (due v s m a) v.state.apps) x e → NoneStale (load_of v.standing m) v.state.apps e.apps
+pub none_stale : (v : BankView) (s : List ℕ) (m : ManagerState) (a : ApduParts) (x : Answer) (e : BankState) → Changes v.state (apps_after (due v s m a) v.state.apps) x e → NoneStale (load_of v.standing m) v.state.apps e.apps
 none_stale v s m a (Ok u) e h = subst (NoneStale (load_of v.standing m) v.state.apps) (sym h.apps) (due_adds v s m a)
 none_stale v s m a (Err t) e h =
     elim h.apps [

@@ -11,32 +11,32 @@ use Rattle.mc_bank.specs.Bank.{app_of}
 use Rattle.mc_manager.specs.declared.selection.Selection.{Selection}
 use Rattle.mc_manager.specs.declared.routed.Routed.{Routed}
 use Rattle.mc_manager.specs.declared.routed.Routed.TheVariants.{Answer, Fresh, Pass}
-use Rattle.mc_manager.specs.ManagerState.{BankView, Held, seat_of}
+use Rattle.mc_manager.specs.ManagerState.{BankView, ManagerState, seat_of}
 
 -- a command is refused with a status, selects, is done, or is passed to the selected application
-pub data Due : Type 0 where
-  Refuses : (sw : ℕ) → Due
-  Selects : (done : Accepted) → Due
-  Does : (done : Accepted) → Due
-  Passes : Due
+pub data CommandDue : Type 0 where
+  Refuses : (sw : ℕ) → CommandDue
+  Selects : (done : Accepted) → CommandDue
+  Does : (done : Accepted) → CommandDue
+  Passes : CommandDue
 
 -- what a SELECT is due
-abbrev pub due_select : Managed → Due
+abbrev pub due_select : Managed → CommandDue
 due_select (Declines sw) = Refuses sw
 due_select (Accepts d) = Selects d
 
 -- what a command of class BE is due
-abbrev pub due_manager : Managed → Due
+abbrev pub due_manager : Managed → CommandDue
 due_manager (Declines sw) = Refuses sw
 due_manager (Accepts d) = Does d
 
 -- what a command for the selected application is due
-abbrev pub due_application : Option Selected → Due
+abbrev pub due_application : Option Selected → CommandDue
 due_application None = Refuses 0x6985
 due_application (Some s) = Passes
 
 -- what a command is due by its route
-abbrev pub due_on : BankView → Seat → Route → Due
+abbrev pub due_on : BankView → Seat → Route → CommandDue
 due_on v seat WrongLength = Refuses 0x6700
 due_on v seat WrongClass = Refuses 0x6E00
 due_on v seat (ToSelect a) = due_select (select v.state.apps seat a)
@@ -44,13 +44,13 @@ due_on v seat (ToManager a) = due_manager (manage v.room v.state.apps seat a)
 due_on v seat (ToApplication a) = due_application seat.selected
 
 -- what a command is due from a manager over a bank, with the session bytes of the selection
-abbrev pub due : BankView → List ℕ → Held → ApduParts → Due
+abbrev pub due : BankView → List ℕ → ManagerState → ApduParts → CommandDue
 due v session m a = due_on v (seat_of v.standing session m) (routed (Some a))
 
 -- ---- the bank
 
 -- the items that a command makes
-abbrev pub items_of : Due → List BankItem
+abbrev pub items_of : CommandDue → List BankItem
 items_of (Refuses sw) = []
 items_of (Selects d) = d.items
 items_of (Does d) = d.items
@@ -62,7 +62,7 @@ with_change None apps = apps
 with_change (Some c) apps = changed c apps
 
 -- the applications after a command
-abbrev pub apps_after : Due → List (List ℕ × App) → List (List ℕ × App)
+abbrev pub apps_after : CommandDue → List (List ℕ × App) → List (List ℕ × App)
 apps_after (Refuses sw) apps = apps
 apps_after (Selects d) apps = with_change d.change apps
 apps_after (Does d) apps = with_change d.change apps
@@ -71,42 +71,42 @@ apps_after Passes apps = apps
 -- ---- the answer
 
 -- a reply of these data with this status
-pub record Says (bytes : List ℕ) (status : ℕ) (r : Reply) : Type 0 where
+pub record RepliesWith (bytes : List ℕ) (status : ℕ) (r : Reply) : Type 0 where
   pub body : r.body.items ≡ bytes
   pub sw : r.sw ≡ status
 
 -- a refusal changes nothing
-pub record Refused (sw : ℕ) (m : Held) (r : Reply) (m' : Held) : Type 0 where
-  pub reply : Says [] sw r
+pub record CommandRefused (sw : ℕ) (m : ManagerState) (r : Reply) (m' : ManagerState) : Type 0 where
+  pub reply : RepliesWith [] sw r
   pub unchanged : m' ≡ m
 
 -- a new selection of an application, with its slot; its session bytes are zeros, and the load stays
-pub record Chosen (d : Accepted) (v : BankView) (m : Held) (k : ℕ) (r : Reply) (m' : Held) : Type 0 where
+pub record Chosen (d : Accepted) (v : BankView) (m : ManagerState) (k : ℕ) (r : Reply) (m' : ManagerState) : Type 0 where
   pub selected : Selection
-  pub reply : Says d.body 0x9000 r
+  pub reply : RepliesWith d.body 0x9000 r
   pub now : m'.selected ≡ Some selected
   pub slot : selected.slot ≡ k
   pub load : m'.load ≡ m.load
   pub seat : seat_of v.standing (zeros (app_of v.state.apps (Some selected.aid)).session) m' ≡ d.seat
 
 -- a command of class BE that is done; selection and session bytes stay
-pub record Done (d : Accepted) (session : List ℕ) (m : Held) (r : Reply) (v' : BankView) (m' : Held) : Type 0 where
-  pub reply : Says d.body 0x9000 r
+pub record CommandDone (d : Accepted) (session : List ℕ) (m : ManagerState) (r : Reply) (v' : BankView) (m' : ManagerState) : Type 0 where
+  pub reply : RepliesWith d.body 0x9000 r
   pub selected : m'.selected ≡ m.selected
   pub seat : seat_of v'.standing session m' ≡ d.seat
 
 -- a command that is passed to the application of a slot
-pub record Passed (m : Held) (k : ℕ) (m' : Held) : Type 0 where
+pub record CommandPassed (m : ManagerState) (k : ℕ) (m' : ManagerState) : Type 0 where
   pub slot : option_map (λ s. s.slot) m.selected ≡ Some k
   pub unchanged : m' ≡ m
 
 -- how a command that did not stop is answered, and what the manager holds then
-abbrev pub Leaves : Due → List ℕ → BankView → Held → Routed → BankView → Held → Type 0
-Leaves (Refuses sw) session v m (Answer r) v' m' = Refused sw m r m'
-Leaves (Selects d) session v m (Fresh slot r) v' m' = Chosen d v m slot r m'
-Leaves (Does d) session v m (Answer r) v' m' = Done d session m r v' m'
-Leaves Passes session v m (Pass slot) v' m' = Passed m slot m'
-Leaves _ session v m _ v' m' = ⊥
+abbrev pub CommandLeaves : CommandDue → List ℕ → BankView → ManagerState → Routed → BankView → ManagerState → Type 0
+CommandLeaves (Refuses sw) session v m (Answer r) v' m' = CommandRefused sw m r m'
+CommandLeaves (Selects d) session v m (Fresh slot r) v' m' = Chosen d v m slot r m'
+CommandLeaves (Does d) session v m (Answer r) v' m' = CommandDone d session m r v' m'
+CommandLeaves Passes session v m (Pass slot) v' m' = CommandPassed m slot m'
+CommandLeaves _ session v m _ v' m' = ⊥
 
 -- ---- ticks
 

@@ -5,14 +5,14 @@ use Rattle.mc_model.specs.Orders.{Answer, answer_of, InOrder}
 use Rattle.mc_model.specs.Items.{BankItem}
 use Rattle.mc_bank.specs.Bank.{Changes}
 use Rattle.mc_manager.specs.declared.routed.Routed.{Routed}
-use Rattle.mc_manager.specs.ManagerState.{BankView, Held, Fits}
-use Rattle.mc_manager.specs.CommandDue.{Due, items_of, apps_after, Leaves}
+use Rattle.mc_manager.specs.ManagerState.{BankView, ManagerState, ManagerFits}
+use Rattle.mc_manager.specs.CommandDue.{CommandDue, items_of, apps_after, CommandLeaves}
 
 -- What is due may depend on the session bytes, which the manager does not know. Its items are done in order, the
 -- applications are changed by it, and where no stop came it is answered, and the manager fits the bank again, which goes on.
-pub record Ends {B : Type 0} (did : B → BankItem → Answer → B → Type 0) (of : List ℕ → Due) (v : BankView) (m : Held) (b : B) (result : Result Routed Stop) (v' : BankView) (m' : Held) (b' : B) : Type 0 where
+pub record CommandEnds {B : Type 0} (did : B → BankItem → Answer → B → Type 0) (of : List ℕ → CommandDue) (v : BankView) (m : ManagerState) (b : B) (result : Result Routed Stop) (v' : BankView) (m' : ManagerState) (b' : B) : Type 0 where
   pub items : (s : List ℕ) → InOrder did b (items_of (of s)) (answer_of result) b'
   pub apps : (s : List ℕ) → Changes v.state (apps_after (of s) v.state.apps) (answer_of result) v'.state
-  pub leaves : (s : List ℕ) → IfOk result (λ r. Leaves (of s) s v m r v' m')
-  pub fits : OnOk result (Fits v' m')
+  pub leaves : (s : List ℕ) → IfOk result (λ r. CommandLeaves (of s) s v m r v' m')
+  pub fits : OnOk result (ManagerFits v' m')
   pub going : OnOk result (v'.state.stopped ≡ false)

@@ -8,7 +8,7 @@ use Rattle.mc_model.specs.Bytes.{lookup}
 use Rattle.mc_model.specs.Card.{App}
 use Rattle.mc_model.specs.Items.{Site}
 use Rattle.mc_model.specs.Manager.{Selected, Open, Seat}
-use Rattle.mc_bank.specs.Bank.{BankState, part_len, IsGood, HasParts}
+use Rattle.mc_bank.specs.Bank.{BankState, part_len, IsGoodSite, HasParts}
 use Rattle.mc_manager.specs.declared.selection.Selection.{Selection}
 
 -- ---- a bank
@@ -35,7 +35,7 @@ pub record Loaded : Type 0 where
   pub fci : ℕ
 
 -- the selected application and the open load
-pub record Held : Type 0 where
+pub record ManagerState : Type 0 where
   pub selected : Option Selection
   pub load : Option Loaded
 
@@ -61,28 +61,28 @@ open_of standing l =
     }
 
 -- the definition's load of a manager, where one is open
-abbrev pub load_of : (Site → Part → List ℕ) → Held → Option Open
+abbrev pub load_of : (Site → Part → List ℕ) → ManagerState → Option Open
 load_of standing m = option_map (open_of standing) m.load
 
 -- the definition's selection; the session bytes are kept by whoever runs the application
-abbrev pub selected_of : List ℕ → Held → Option Selected
+abbrev pub selected_of : List ℕ → ManagerState → Option Selected
 selected_of session m = option_map (λ s. record { name = s.aid; session = session }) m.selected
 
 -- the definition's seat
-abbrev pub seat_of : (Site → Part → List ℕ) → List ℕ → Held → Seat
+abbrev pub seat_of : (Site → Part → List ℕ) → List ℕ → ManagerState → Seat
 seat_of standing session m = record { selected = selected_of session m; load = load_of standing m }
 
 -- ---- the fit
 
 -- an open load fits: its site is good, each section there has its size and has got no more, and the DIR's bytes stand there
 pub record FitsLoad (v : BankView) (l : Loaded) : Type 0 where
-  pub good : IsGood v.state.apps v.room l.site
+  pub good : IsGoodSite v.state.apps v.room l.site
   pub parts : HasParts l.site (v.standing l.site)
   pub within : (p : Part) → got_len p l ≤ part_len p l.site.sizes
   pub dir : got_at v.standing l Dir ≡ l.dir
 
 -- a manager fits a bank: the selected application is there under its slot, and the open load fits
-pub record Fits (v : BankView) (m : Held) : Type 0 where
+pub record ManagerFits (v : BankView) (m : ManagerState) : Type 0 where
   pub selected : ForSome m.selected (λ s. v.named s.slot ≡ Some s.aid)
   pub load : ForSome m.load (FitsLoad v)
 

@@ -1,17 +1,17 @@
 ghost use Rattle.std.specs.Prelude.{◌≡◌, ℕ, List};
 ghost use Rattle.mc_model.specs.Orders.{Answer, InOrder};
 ghost use Rattle.mc_bank.proofs.Commits.{Words, commits};
-ghost use Rattle.mc_manager.specs.ManagerState.{view_of, Held, Fits, seat_of};
+ghost use Rattle.mc_manager.specs.ManagerState.{view_of, ManagerState, ManagerFits, seat_of};
 
 use mc_bank::Bank;
 
 /// Whatever an application commits, and wherever a commit stops: a manager that fits the bank fits it afterwards, and stands
 /// for the same selection and the same load.
 pub fn fits_through_commits<B: Bank>()
-    ensures fits { (m : Held) → (cs : List Words) → (b : B) → (a : Answer) → (e : B)
-        → InOrder B.did b (commits cs) a e → Fits (view_of B.state B.named B.room B.standing b) m
-        → Fits (view_of B.state B.named B.room B.standing e) m }
-    ensures seat { (m : Held) → (cs : List Words) → (b : B) → (a : Answer) → (e : B)
-        → InOrder B.did b (commits cs) a e → Fits (view_of B.state B.named B.room B.standing b) m → (s : List ℕ)
+    ensures fits { (m : ManagerState) → (cs : List Words) → (b : B) → (a : Answer) → (e : B)
+        → InOrder B.did b (commits cs) a e → ManagerFits (view_of B.state B.named B.room B.standing b) m
+        → ManagerFits (view_of B.state B.named B.room B.standing e) m }
+    ensures seat { (m : ManagerState) → (cs : List Words) → (b : B) → (a : Answer) → (e : B)
+        → InOrder B.did b (commits cs) a e → ManagerFits (view_of B.state B.named B.room B.standing b) m → (s : List ℕ)
         → seat_of (B.standing e) s m ≡ seat_of (B.standing b) s m }
 {}

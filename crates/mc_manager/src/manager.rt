@@ -1,9 +1,10 @@
 ghost use Rattle.std.specs.Prelude.{◌≡◌, ◌+◌, ◌≤◌, ◌==◌, cond, ℕ, List, false, Ok, None};
 ghost use Rattle.mc_model.specs.Manager.{select, open_load, load_part, create, delete, manage};
 ghost use Rattle.mc_apdu.specs.Command.{parts_of};
-ghost use Rattle.mc_manager.specs.ManagerState.{BankView, view_of, selected_of, seat_of, load_of, Fits};
-ghost use Rattle.mc_manager.specs.CommandDue.{due, due_application, due_select, due_manager, Leaves, most_ticks, NoneStale};
-ghost use Rattle.mc_manager.specs.Ends.{Ends};
+ghost use Rattle.mc_manager.specs.ManagerState.{BankView, view_of, selected_of, seat_of, load_of, ManagerFits};
+ghost use Rattle.mc_manager.specs.CommandDue.{due, due_application, due_select, due_manager, CommandLeaves, most_ticks};
+ghost use Rattle.mc_manager.specs.CommandDue.{NoneStale};
+ghost use Rattle.mc_manager.specs.Ends.{CommandEnds};
 ghost use Rattle.mc_manager.specs.Ruled.{ruled, placed};
 
 use crate::creation::creation;
@@ -31,9 +32,9 @@ pub struct Manager {
 }
 
 impl Model for Manager {
-    ghost use Rattle.mc_manager.specs.ManagerState.{Held};
+    ghost use Rattle.mc_manager.specs.ManagerState.{ManagerState};
 
-    ghost Value = { Held };
+    ghost Value = { ManagerState };
 
     ghost view = { λ m. record { selected = m.selected; load = m.load } };
 }
@@ -42,7 +43,7 @@ impl Manager {
     /// Nothing is selected, and no load is open. It fits every bank.
     pub fn new() -> Manager
         ensures empty { result ≡ record { selected = None; load = None } }
-        ensures fits { (v : BankView) → Fits v result }
+        ensures fits { (v : BankView) → ManagerFits v result }
     {
         Manager {
             selected: None,
@@ -64,8 +65,8 @@ impl Manager {
         steps: &mut Steps<L>,
     ) -> Result<Routed, Stop>
         requires going { (B.state bank.old).stopped ≡ false }
-        requires fits { Fits (view_of B.state B.named B.room B.standing bank.old) self.old }
-        ensures ends { Ends B.did (λ s. due (view_of B.state B.named B.room B.standing bank.old) s self.old
+        requires fits { ManagerFits (view_of B.state B.named B.room B.standing bank.old) self.old }
+        ensures ends { CommandEnds B.did (λ s. due (view_of B.state B.named B.room B.standing bank.old) s self.old
             (parts_of apdu.now)) (view_of B.state B.named B.room B.standing bank.old) self.old bank.old result
             (view_of B.state B.named B.room B.standing bank.new) self.new bank.new }
         // An application that is there now was there before, or is what its own load sent.
@@ -95,8 +96,8 @@ impl Manager {
         steps: &mut Steps<L>,
     ) -> Result<Ruling, Stop>
         requires going { (B.state bank.old).stopped ≡ false }
-        requires fits { Fits (view_of B.state B.named B.room B.standing bank.old) self.old }
-        ensures ends { Ends B.did (λ s. due (view_of B.state B.named B.room B.standing bank.old) s self.old
+        requires fits { ManagerFits (view_of B.state B.named B.room B.standing bank.old) self.old }
+        ensures ends { CommandEnds B.did (λ s. due (view_of B.state B.named B.room B.standing bank.old) s self.old
             (parts_of apdu.now)) (view_of B.state B.named B.room B.standing bank.old) self.old bank.old
             (placed result reply.new) (view_of B.state B.named B.room B.standing bank.new) self.new bank.new }
         // An application that is there now was there before, or is what its own load sent.
@@ -128,8 +129,8 @@ impl Manager {
         steps: &mut Steps<L>,
     ) -> Result<Ruling, Stop>
         requires going { (B.state bank.old).stopped ≡ false }
-        requires fits { Fits (view_of B.state B.named B.room B.standing bank.old) self.old }
-        ensures ends { Ends B.did (λ s. due_manager
+        requires fits { ManagerFits (view_of B.state B.named B.room B.standing bank.old) self.old }
+        ensures ends { CommandEnds B.did (λ s. due_manager
             (manage (B.room bank.old) (B.state bank.old).apps (seat_of (B.standing bank.old) s self.old)
             (parts_of apdu.now))) (view_of B.state B.named B.room B.standing bank.old) self.old bank.old
             (placed result reply.new) (view_of B.state B.named B.room B.standing bank.new) self.new bank.new }
@@ -154,7 +155,8 @@ impl Manager {
     // A command for the selected application.
     fn pass(&self, reply: &mut Reply) -> Ruling
         ensures { (v : BankView) → (s : List ℕ)
-            → Leaves (due_application (selected_of s self.now)) s v self.now (ruled result reply.new) v self.now }
+            → CommandLeaves (due_application (selected_of s self.now)) s v self.now (ruled result reply.new)
+            v self.now }
     {
         match &self.selected {
             Some(selection) => Ruling::Pass(selection.slot),
@@ -168,8 +170,8 @@ impl Manager {
     // SELECT: 00 A4 04.
     fn select<B: Bank>(&mut self, bank: &B, apdu: &Apdu, reply: &mut Reply) -> Ruling
         requires going { (B.state bank.now).stopped ≡ false }
-        requires fits { Fits (view_of B.state B.named B.room B.standing bank.now) self.old }
-        ensures { Ends B.did (λ s. due_select
+        requires fits { ManagerFits (view_of B.state B.named B.room B.standing bank.now) self.old }
+        ensures { CommandEnds B.did (λ s. due_select
             (select (B.state bank.now).apps (seat_of (B.standing bank.now) s self.old) (parts_of apdu.now)))
             (view_of B.state B.named B.room B.standing bank.now) self.old bank.now (Ok (ruled result reply.new))
             (view_of B.state B.named B.room B.standing bank.now) self.new bank.now }
@@ -196,8 +198,8 @@ impl Manager {
         steps: &mut Steps<L>,
     ) -> Ruling
         requires going { (B.state bank.now).stopped ≡ false }
-        requires fits { Fits (view_of B.state B.named B.room B.standing bank.now) self.old }
-        ensures ends { Ends B.did (λ s. due_manager
+        requires fits { ManagerFits (view_of B.state B.named B.room B.standing bank.now) self.old }
+        ensures ends { CommandEnds B.did (λ s. due_manager
             (open_load (B.room bank.now) (B.state bank.now).apps (seat_of (B.standing bank.now) s self.old)
             (parts_of apdu.now))) (view_of B.state B.named B.room B.standing bank.now) self.old bank.now
             (Ok (ruled result reply.new)) (view_of B.state B.named B.room B.standing bank.now) self.new bank.now }
@@ -226,8 +228,8 @@ impl Manager {
         reply: &mut Reply,
     ) -> Result<Ruling, Stop>
         requires going { (B.state bank.old).stopped ≡ false }
-        requires fits { Fits (view_of B.state B.named B.room B.standing bank.old) self.old }
-        ensures { Ends B.did (λ s. due_manager
+        requires fits { ManagerFits (view_of B.state B.named B.room B.standing bank.old) self.old }
+        ensures { CommandEnds B.did (λ s. due_manager
             (load_part part (seat_of (B.standing bank.old) s self.old) (parts_of apdu.now)))
             (view_of B.state B.named B.room B.standing bank.old) self.old bank.old (placed result reply.new)
             (view_of B.state B.named B.room B.standing bank.new) self.new bank.new }
@@ -253,8 +255,8 @@ impl Manager {
         reply: &mut Reply,
     ) -> Result<Ruling, Stop>
         requires going { (B.state bank.old).stopped ≡ false }
-        requires fits { Fits (view_of B.state B.named B.room B.standing bank.old) self.old }
-        ensures { Ends B.did (λ s. due_manager
+        requires fits { ManagerFits (view_of B.state B.named B.room B.standing bank.old) self.old }
+        ensures { CommandEnds B.did (λ s. due_manager
             (create (B.state bank.old).apps (seat_of (B.standing bank.old) s self.old) (parts_of apdu.now)))
             (view_of B.state B.named B.room B.standing bank.old) self.old bank.old (placed result reply.new)
             (view_of B.state B.named B.room B.standing bank.new) self.new bank.new }
@@ -284,8 +286,8 @@ impl Manager {
         reply: &mut Reply,
     ) -> Result<Ruling, Stop>
         requires going { (B.state bank.old).stopped ≡ false }
-        requires fits { Fits (view_of B.state B.named B.room B.standing bank.old) self.old }
-        ensures { Ends B.did (λ s. due_manager
+        requires fits { ManagerFits (view_of B.state B.named B.room B.standing bank.old) self.old }
+        ensures { CommandEnds B.did (λ s. due_manager
             (delete (B.state bank.old).apps (seat_of (B.standing bank.old) s self.old) (parts_of apdu.now)))
             (view_of B.state B.named B.room B.standing bank.old) self.old bank.old (placed result reply.new)
             (view_of B.state B.named B.room B.standing bank.new) self.new bank.new }

@@ -2,7 +2,7 @@ ghost use Rattle.std.specs.Prelude.{◌≡◌, false, take, Some, IsSome, IfOk, 
 ghost use Rattle.mc_model.specs.Manager.{first_status, select_refusals, select_body};
 ghost use Rattle.mc_apdu.specs.Command.{parts_of};
 ghost use Rattle.mc_bank.specs.Bank.{app_of};
-ghost use Rattle.mc_manager.specs.CommandDue.{Says};
+ghost use Rattle.mc_manager.specs.CommandDue.{RepliesWith};
 ghost use Rattle.mc_manager.specs.ManagerState.{NamedBy};
 ghost use Rattle.mc_manager.specs.Calls.{CanSelect};
 ghost use Rattle.mc_manager.specs.Status.{word_of};
@@ -37,7 +37,8 @@ pub fn selection<B: Bank>(bank: &B, apdu: &Apdu) -> Result<Selection, Status>
 pub fn say_selected<B: Bank>(bank: &B, slot: Slot, apdu: &Apdu, reply: &mut Reply)
     requires going { (B.state bank.now).stopped ≡ false }
     requires there { IsSome (B.named bank.now slot) }
-    ensures { Says (select_body (parts_of apdu.now) (app_of (B.state bank.now).apps (B.named bank.now slot))) 0x9000
+    ensures { RepliesWith (select_body (parts_of apdu.now)
+        (app_of (B.state bank.now).apps (B.named bank.now slot))) 0x9000
         reply.new }
 {
     put_data(bank, slot, apdu, &mut reply.body);

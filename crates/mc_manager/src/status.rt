@@ -1,5 +1,5 @@
 ghost use Rattle.std.specs.Prelude.{◌≡◌, []};
-ghost use Rattle.mc_manager.specs.CommandDue.{Says};
+ghost use Rattle.mc_manager.specs.CommandDue.{RepliesWith};
 ghost use Rattle.mc_manager.specs.Status.{word_of};
 
 use mc_apdu::Reply;
@@ -49,7 +49,7 @@ impl Status {
 
     /// Makes a reply this status alone.
     pub fn say(self, reply: &mut Reply)
-        ensures { Says [] (word_of self) reply.new }
+        ensures { RepliesWith [] (word_of self) reply.new }
     {
         reply.body.clear();
         reply.sw = self.word();

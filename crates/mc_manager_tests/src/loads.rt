@@ -1,5 +1,6 @@
 ghost use Rattle.std.specs.Prelude.{◌≡◌, ◌<◌, ◌≤◌, false, true, length};
-ghost use Rattle.mc_manager.specs.ManagerState.{view_of, Fits};
+ghost use Rattle.mc_model.specs.Limits.{most_code};
+ghost use Rattle.mc_manager.specs.ManagerState.{view_of, ManagerFits};
 
 use crate::rig::{Want, comes_to};
 use arrayvec::ArrayVec;
@@ -40,12 +41,12 @@ pub fn loads<B: Bank, L: Ledger>(
     piece: usize,
 ) -> bool
     requires going { (B.state bank.old).stopped ≡ false }
-    requires fits { Fits (view_of B.state B.named B.room B.standing bank.old) manager.old }
-    requires code { length code.now ≤ 8192 }
+    requires fits { ManagerFits (view_of B.state B.named B.room B.standing bank.old) manager.old }
+    requires code { length code.now ≤ most_code }
     requires init { length init.now ≤ 8 }
     requires piece { 0 < piece }
     ensures going { result ≡ true → (B.state bank.new).stopped ≡ false }
-    ensures fits { result ≡ true → Fits (view_of B.state B.named B.room B.standing bank.new) manager.new }
+    ensures fits { result ≡ true → ManagerFits (view_of B.state B.named B.room B.standing bank.new) manager.new }
 {
     let open = open(code.len() as u16, init.len() as u8);
     let dir = [0x61, 7, 0x4F, 5, 0xA0, 0, 0, 0, name];
@@ -68,11 +69,11 @@ fn fills<B: Bank, L: Ledger>(
     piece: usize,
 ) -> bool
     requires going { (B.state bank.old).stopped ≡ false }
-    requires fits { Fits (view_of B.state B.named B.room B.standing bank.old) manager.old }
-    requires section { length section.now ≤ 8192 }
+    requires fits { ManagerFits (view_of B.state B.named B.room B.standing bank.old) manager.old }
+    requires section { length section.now ≤ most_code }
     requires piece { 0 < piece }
     ensures going { result ≡ true → (B.state bank.new).stopped ≡ false }
-    ensures fits { result ≡ true → Fits (view_of B.state B.named B.room B.standing bank.new) manager.new }
+    ensures fits { result ≡ true → ManagerFits (view_of B.state B.named B.room B.standing bank.new) manager.new }
 {
     let mut at = 0;
     for bytes in section.chunks(piece) {
@@ -97,7 +98,7 @@ pub fn is_full<B: Bank, L: Ledger>(
     steps: &mut Steps<L>,
 ) -> bool
     requires going { (B.state bank.old).stopped ≡ false }
-    requires fits { Fits (view_of B.state B.named B.room B.standing bank.old) manager.old }
+    requires fits { ManagerFits (view_of B.state B.named B.room B.standing bank.old) manager.old }
 {
     let delete = command(0x18, 0, &[0xA0, 0, 0, 0, 9]);
     comes_to(

@@ -4,7 +4,7 @@ use Rattle.mc_model.specs.declared.device.Stop.{Stop}
 use Rattle.mc_model.specs.Orders.{Answer}
 use Rattle.mc_model.specs.Device.{DeviceState, Wrote, Makes}
 use Rattle.mc_model.specs.Image.{Journal, gate, shut, word_at, is_open, laid, Look, Refused, Closed, Pending, look_j, replayed, Words}
-use Rattle.mc_model.specs.Stopped.{cost, entries, writes, replay, IsAtomic, Stands, Leaves, Resumes, remains, owes, stood, stands, WriteEnds, Outcome, Recovered, Interrupted, BadAt, Follows, outcome_answer, owed_writes, ReplayDone, ReplayTorn, RecoverEnds}
+use Rattle.mc_model.specs.Stopped.{cost, entries, writes, replay, IsAtomic, LaidWhole, LeavesOwing, Resumes, remains, owes, stood, stands, WriteEnds, RecoveryOutcome, Recovered, Interrupted, BadAt, LookAllows, outcome_answer, owed_writes, ReplayDone, ReplayTorn, RecoverEnds}
 use Rattle.mc_model.proofs.DeviceLemmas.{DoneAll, StoppedAt, makes-done, makes-stopped}
 use Rattle.mc_model.proofs.GeometryLemmas.{Geometry, geometry}
 use Rattle.mc_model.proofs.LookLemmas.{GoodPending, good-pending}
@@ -27,7 +27,7 @@ module _ {D : Type 0} (state : D → DeviceState) (wrote : D → ℕ → List �
   write-ends j list d e (Ok tt) low high on atomic closed made =
       let all : DoneAll (state d) (writes j list) (state e) = makes-done state wrote obeys (writes j list) d e on made in
       record {
-        stands = subst (λ (n : List (List ℕ)). Stands j (state d).words list n) (sym all.words) (done j (state d).words list low high atomic closed);
+        stands = subst (λ (n : List (List ℕ)). LaidWhole j (state d).words list n) (sym all.words) (done j (state d).words list low high atomic closed);
         ended = (all.power, all.cuts, all.faults);
         tape = all.tape;
       }
@@ -40,7 +40,7 @@ module _ {D : Type 0} (state : D → DeviceState) (wrote : D → ℕ → List �
         low = all.low;
         high = few;
         size = all.size;
-        leaves = subst (λ (n : List (List ℕ)). Leaves j n (owes j (length list) all.k all.x) (stood (stands j (length list) all.k all.x) (state d).words list)) (sym all.words) (tear j (state d).words list low high atomic closed all.k all.x all.low few);
+        leaves = subst (λ (n : List (List ℕ)). LeavesOwing j n (owes j (length list) all.k all.x) (stood (stands j (length list) all.k all.x) (state d).words list)) (sym all.words) (tear j (state d).words list low high atomic closed all.k all.x all.low few);
         ended = all.ended;
         tape = all.tape;
       }
@@ -74,20 +74,20 @@ module _ {D : Type 0} (state : D → DeviceState) (wrote : D → ℕ → List �
         tape = all.tape;
       }
 
-  pending-ends : (j k : Journal) (ps : List (ℕ × List ℕ)) (d e : D) (o : Outcome) → 256 ≤ length (state d).words → (state d).on ≡ true → look_j j (state d).words ≡ Pending k ps
-      → look_j j (state d).words ≡ Pending j ps → length ps ≤ 64 → Follows (Pending k ps) o → Makes wrote d (replay j ps) (outcome_answer o) e → RecoverEnds j (Pending k ps) (state d) o (state e)
+  pending-ends : (j k : Journal) (ps : List (ℕ × List ℕ)) (d e : D) (o : RecoveryOutcome) → 256 ≤ length (state d).words → (state d).on ≡ true → look_j j (state d).words ≡ Pending k ps
+      → look_j j (state d).words ≡ Pending j ps → length ps ≤ 64 → LookAllows (Pending k ps) o → Makes wrote d (replay j ps) (outcome_answer o) e → RecoverEnds j (Pending k ps) (state d) o (state e)
   pending-ends j k ps d e (Recovered n) low on found pending few follows made = (follows, omega (arith, follows), replay-done j ps d e low on pending made)
   pending-ends j k ps d e (Interrupted s) low on found pending few follows made = (few, replay-torn j ps d e s low on pending made)
   pending-ends j k ps d e (BadAt p) low on found pending few follows made = follows
 
-  closed-ends : (j : Journal) (l : Look) (d e : D) (o p : Outcome) → o ≡ p → outcome_answer p ≡ Ok tt → Makes wrote d [] (outcome_answer o) e → (o ≡ p) × (state e ≡ state d)
+  closed-ends : (j : Journal) (l : Look) (d e : D) (o p : RecoveryOutcome) → o ≡ p → outcome_answer p ≡ Ok tt → Makes wrote d [] (outcome_answer o) e → (o ≡ p) × (state e ≡ state d)
   closed-ends j l d e o p is answer made =
       let same : e ≡ d = subst (λ (a : Answer). Makes wrote d [] a e) (ap outcome_answer is ∙ answer) made in
       (is, ap state same)
 
   -- a recovery by what its look found
-  pub recover-ends : (j : Journal) (l : Look) (d e : D) (o : Outcome) → 256 ≤ length (state d).words → (state d).on ≡ true → look_j j (state d).words ≡ l
-      → Follows l o → Makes wrote d (owed_writes l) (outcome_answer o) e → RecoverEnds j l (state d) o (state e)
+  pub recover-ends : (j : Journal) (l : Look) (d e : D) (o : RecoveryOutcome) → 256 ≤ length (state d).words → (state d).on ≡ true → look_j j (state d).words ≡ l
+      → LookAllows l o → Makes wrote d (owed_writes l) (outcome_answer o) e → RecoverEnds j l (state d) o (state e)
   recover-ends j (Refused p) d e o low on found follows made = closed-ends j (Refused p) d e o (BadAt p) follows refl made
   recover-ends j Closed d e o low on found follows made = closed-ends j Closed d e o (Recovered 0) follows refl made
   recover-ends j (Pending k ps) d e o low on found follows made =

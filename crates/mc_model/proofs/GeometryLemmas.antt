@@ -5,8 +5,8 @@ use Rattle.std.specs.Prelude.{bytes_eq}
 use Rattle.std.specs.List.{AllByRecursion}
 use Rattle.mc_model.specs.Bytes.{up}
 use Rattle.mc_model.specs.Image.{Journal, One, Two, opening, gate, word_at, within, number, is_count, ascend, targets, targets_2, pairs, Pending, aimed, headed, opened, look_j}
-use Rattle.mc_model.specs.Stopped.{Inside, cost, opens_at, numbered, entries_1, target_words, values_2, entries, IsAtomic}
-use Rattle.mc_model.proofs.ImageLemmas.{Holds, Ascends, all-append, all-map}
+use Rattle.mc_model.specs.Stopped.{InJournal, cost, opens_at, numbered, entries_1, target_words, values_2, entries, IsAtomic}
+use Rattle.mc_model.proofs.ImageLemmas.{HoldsWords, Ascends, all-append, all-map}
 use Rattle.mc_model.proofs.LookLemmas.{all-within}
 use Rattle.mc_model.proofs.WrittenLemmas.{within-small, read-1, pairs-1, read-2, pairs-2, count-numbered}
 
@@ -15,7 +15,7 @@ pub record InEntries (j : Journal) (i : ℕ) : Type 0 where
   pub low : 3 ≤ i
   pub high : i ≤ 130
   pub apart : i ≢ gate j
-  pub inside : Inside j i
+  pub inside : InJournal j i
 
 all-unmap : {A B : Type 0} (P : B → Type 0) (f : A → B) (xs : List A) → AllByRecursion P (map f xs) → AllByRecursion (λ x. P (f x)) xs
 all-unmap P f [] a = tt
@@ -63,7 +63,7 @@ length-v : (i : ℕ) (list : List (ℕ × List ℕ)) → length (values_2 i list
 length-v i [] = refl
 length-v i (p ∷ ps) = ap suc (length-v (i + 1) ps)
 
-holds-split : (n : List (List ℕ)) (xs ys : List (ℕ × List ℕ)) → Holds n (xs ++ ys) → Holds n xs × Holds n ys
+holds-split : (n : List (List ℕ)) (xs ys : List (ℕ × List ℕ)) → HoldsWords n (xs ++ ys) → HoldsWords n xs × HoldsWords n ys
 holds-split n [] ys h = (tt, h)
 holds-split n (x ∷ xs) ys h = let r = holds-split n xs ys h.1 in ((h.0, r.0), r.1)
 
@@ -79,8 +79,8 @@ pub record Geometry (j : Journal) (size : ℕ) (list : List (ℕ × List ℕ)) :
   pub places : AllByRecursion (λ p. InEntries j p.0) (entries j list)
   pub opens : length (entries j list) + 2 ≡ opens_at j (length list)
   pub costs : length (entries j list) + length list + 3 ≡ cost j (length list)
-  pub targets : (n : List (List ℕ)) → length n ≡ size → Holds n (entries j list) → targets j n (length list) ≡ Ok (map (λ p. p.0) list)
-  pub pairs : (n : List (List ℕ)) → Holds n (entries j list) → pairs j n 0 (map (λ p. p.0) list) ≡ list
+  pub targets : (n : List (List ℕ)) → length n ≡ size → HoldsWords n (entries j list) → targets j n (length list) ≡ Ok (map (λ p. p.0) list)
+  pub pairs : (n : List (List ℕ)) → HoldsWords n (entries j list) → pairs j n 0 (map (λ p. p.0) list) ≡ list
 
 up-four : (c : ℕ) → c ≤ 64 → (up c 4 ≤ 16) × (c ≤ 4 * up c 4)
 up-four c h = (omega arith, omega arith)
@@ -122,7 +122,7 @@ open-self Two = refl
 
 -- what was written there is found
 pub look-written : (j : Journal) (size : ℕ) (list : List (ℕ × List ℕ)) → Geometry j size list → IsAtomic size list → (n : List (List ℕ)) → length n ≡ size
-    → Holds n (entries j list) → word_at n 2 ≡ numbered (length list) → word_at n (gate j) ≡ opening j → look_j j n ≡ Pending j list
+    → HoldsWords n (entries j list) → word_at n 2 ≡ numbered (length list) → word_at n (gate j) ≡ opening j → look_j j n ≡ Pending j list
 look-written j size list geo atomic n same holds head gate_is =
     ap (λ (w : List ℕ). opened j n (bytes_eq w (opening j))) gate_is
     ∙ ap (λ (b : Bool). opened j n b) (open-self j)

@@ -94,11 +94,11 @@ ascends-other least [] i a lt = tt
 ascends-other least (p ∷ ps) i a lt = let low : least ≤ p.0 = a.0 in ((λ e. absurd (omega (arith, e))), ascends-other (p.0 + 1) ps i a.1 (omega arith))
 
 -- the words stand in their places
-abbrev pub Holds : List (List ℕ) → List (ℕ × List ℕ) → Type 0
-Holds m ps = AllByRecursion (λ p. word_at m p.0 ≡ p.1) ps
+abbrev pub HoldsWords : List (List ℕ) → List (ℕ × List ℕ) → Type 0
+HoldsWords m ps = AllByRecursion (λ p. word_at m p.0 ≡ p.1) ps
 
 -- ascending pairs that were laid stand
-pub laid-holds : (m : List (List ℕ)) (least : ℕ) (ps : List (ℕ × List ℕ)) → Ascends least ps → AllByRecursion (λ p. p.0 < length m) ps → Holds (laid m ps) ps
+pub laid-holds : (m : List (List ℕ)) (least : ℕ) (ps : List (ℕ × List ℕ)) → Ascends least ps → AllByRecursion (λ p. p.0 < length m) ps → HoldsWords (laid m ps) ps
 laid-holds m least [] a r = tt
 laid-holds m least (p ∷ ps) a r = (
   laid-other (slice_set m p.0 p.1) ps p.0 (ascends-other (p.0 + 1) ps p.0 a.1 (omega arith)) ∙ get_or-set_same m p.0 p.1 [] r.0,
@@ -107,6 +107,6 @@ laid-holds m least (p ∷ ps) a r = (
 )
 
 -- and stand where other places change
-pub holds-point : (m n : List (List ℕ)) (ps : List (ℕ × List ℕ)) → AllByRecursion (λ p. word_at n p.0 ≡ word_at m p.0) ps → Holds m ps → Holds n ps
+pub holds-point : (m n : List (List ℕ)) (ps : List (ℕ × List ℕ)) → AllByRecursion (λ p. word_at n p.0 ≡ word_at m p.0) ps → HoldsWords m ps → HoldsWords n ps
 holds-point m n [] a h = tt
 holds-point m n (p ∷ ps) a h = (a.0 ∙ h.0, holds-point m n ps a.1 h.1)

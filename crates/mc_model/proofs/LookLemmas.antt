@@ -6,7 +6,7 @@ use Rattle.std.specs.List.{AllByRecursion}
 use Rattle.mc_model.specs.Bytes.{AreBytes, up, zeros, be2}
 use Rattle.mc_model.specs.Device.{IsImage}
 use Rattle.mc_model.specs.Image.{Journal, One, Two, opening, gate, word_at, is_open, is_count, within, when, number, count, one_before, targets_1, four, all_zero, ascend, after_all, all_before, targets_2, targets, value, pairs, Pending, aimed, headed, opened, look_j}
-use Rattle.mc_model.specs.Stopped.{Inside}
+use Rattle.mc_model.specs.Stopped.{InJournal}
 use Rattle.mc_model.proofs.ImageLemmas.{all-append}
 
 -- ---- the same words in a journal, the same look
@@ -14,13 +14,13 @@ use Rattle.mc_model.proofs.ImageLemmas.{all-append}
 -- two images of one size with the same words in journal j
 pub record SameInside (j : Journal) (m n : List (List ℕ)) : Type 0 where
   pub size : length m ≡ length n
-  pub words : (i : ℕ) → Inside j i → word_at m i ≡ word_at n i
+  pub words : (i : ℕ) → InJournal j i → word_at m i ≡ word_at n i
 
-gate-inside : (j : Journal) → Inside j (gate j)
+gate-inside : (j : Journal) → InJournal j (gate j)
 gate-inside One = (omega arith, omega arith)
 gate-inside Two = inr refl
 
-head-inside : (j : Journal) → Inside j 2
+head-inside : (j : Journal) → InJournal j 2
 head-inside One = (omega arith, omega arith)
 head-inside Two = inl (omega arith, omega arith)
 

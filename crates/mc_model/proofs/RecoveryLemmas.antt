@@ -6,7 +6,7 @@ use Rattle.std.proofs.lemmas.List.{get_or-set_same, get_or-set_other, length-set
 use Rattle.std.proofs.lemmas.Bool.{cases_lt, le-leb, lt-leb}
 use Rattle.std.proofs.lemmas.Bool.Decides.{eqb_tells}
 use Rattle.mc_model.specs.Image.{Journal, One, Two, opening, shut, gate, word_at, is_open, laid, Look, Pending, look_j, look_at, look, which_of, replayed, debt}
-use Rattle.mc_model.specs.Stopped.{Inside, remains, replay, torn, SameBut, Resumes}
+use Rattle.mc_model.specs.Stopped.{InJournal, remains, replay, torn, SameBut, Resumes}
 use Rattle.mc_model.proofs.ImageLemmas.{covers, covers-append, length-laid, laid-other, laid-same, laid-last, uncovered}
 use Rattle.mc_model.proofs.LookLemmas.{look-same, GoodPending, good-pending}
 use Rattle.mc_model.proofs.StoppedLemmas.{length-torn, torn-other, torn-within, torn-past, open-same, targets-outside, closed-look, gate-bound}
@@ -36,7 +36,7 @@ module _ (j : Journal) (m : List (List ℕ)) (list : List (ℕ × List ℕ)) (lo
   gate-at : (n : List (List ℕ)) (x : List ℕ) → length n ≡ length m → word_at (slice_set n (gate j) x) (gate j) ≡ x
   gate-at n x same = get_or-set_same n (gate j) x [] (let b = gate-bound j in omega (arith, b.0, same))
 
-  list-other : (i : ℕ) → Inside j i → AllByRecursion (λ p. p.0 ≢ i) list
+  list-other : (i : ℕ) → InJournal j i → AllByRecursion (λ p. p.0 ≢ i) list
   list-other i inside = targets-outside j (length m) list i good.all inside
 
   -- what a replay covers: its targets and the gate
@@ -56,7 +56,7 @@ module _ (j : Journal) (m : List (List ℕ)) (list : List (ℕ × List ℕ)) (lo
   shutting-other : (x : List ℕ) (i : ℕ) → i ≢ gate j → word_at (shutting x) i ≡ word_at (laid m list) i
   shutting-other x i apart = get_or-set_other (laid m list) (gate j) i x [] apart
 
-  shutting-inside : (i : ℕ) → Inside j i → word_at (shutting (opening j)) i ≡ word_at m i
+  shutting-inside : (i : ℕ) → InJournal j i → word_at (shutting (opening j)) i ≡ word_at m i
   shutting-inside i inside = elim (eqb_tells i (gate j)) [
     | inl here ↦ subst (λ (t : ℕ). word_at (shutting (opening j)) t ≡ word_at m t) (sym here.1)
         (gate-at (laid m list) (opening j) (length-laid m list) ∙ sym (open-same j (word_at m (gate j)) good.opens))

@@ -7,8 +7,8 @@ use Rattle.std.proofs.lemmas.Bool.{cases_lt, le-ltb, lt-ltb, leb-true, eqb-true,
 use Rattle.std.proofs.lemmas.Bool.Decides.{eqb_tells}
 use Rattle.std.specs.Cmp.Lexicographic.{same_text}
 use Rattle.mc_model.specs.Image.{Journal, One, Two, opening, shut, gate, word_at, is_open, within, ascend, laid, Look, Closed, Pending, opened, look_j, replayed, debt}
-use Rattle.mc_model.specs.Stopped.{Inside, cost, opens_at, stands, owes, numbered, entries, replay, writes, IsAtomic, torn, stood, SameOutside, Leaves, Stands}
-use Rattle.mc_model.proofs.ImageLemmas.{Holds, all-map, length-laid, laid-append, laid-other, laid-point, laid-holds, laid-last, uncovered, covers, holds-point, Ascends}
+use Rattle.mc_model.specs.Stopped.{InJournal, cost, opens_at, stands, owes, numbered, entries, replay, writes, IsAtomic, torn, stood, SameOutside, LeavesOwing, LaidWhole}
+use Rattle.mc_model.proofs.ImageLemmas.{HoldsWords, all-map, length-laid, laid-append, laid-other, laid-point, laid-holds, laid-last, uncovered, covers, holds-point, Ascends}
 use Rattle.mc_model.proofs.LookLemmas.{look-same, both}
 use Rattle.mc_model.proofs.WrittenLemmas.{either}
 use Rattle.mc_model.proofs.GeometryLemmas.{InEntries, Geometry, geometry, look-written, targets-within}
@@ -62,16 +62,16 @@ target-is size t h =
       | inr heap ↦ inr (leb-true 131 t (both (nat_le 131 t) (nat_lt t size) heap).0)
     ]
 
-outside-is : (j : Journal) (t : ℕ) → (t ≡ 0) ⊎ (131 ≤ t) → Inside j t → ⊥
+outside-is : (j : Journal) (t : ℕ) → (t ≡ 0) ⊎ (131 ≤ t) → InJournal j t → ⊥
 outside-is One t h inside = omega (arith, h, inside)
 outside-is Two t h inside = omega (arith, h, inside)
 
-pub target-outside : (j : Journal) (size t : ℕ) → within size t ≡ true → Inside j t → ⊥
+pub target-outside : (j : Journal) (size t : ℕ) → within size t ≡ true → InJournal j t → ⊥
 target-outside j size t h inside = outside-is j t (target-is size t h) inside
 
-pub targets-outside : (j : Journal) (size : ℕ) (list : List (ℕ × List ℕ)) (i : ℕ) → AllByRecursion (λ p. within size p.0 ≡ true) list → Inside j i → AllByRecursion (λ p. p.0 ≢ i) list
+pub targets-outside : (j : Journal) (size : ℕ) (list : List (ℕ × List ℕ)) (i : ℕ) → AllByRecursion (λ p. within size p.0 ≡ true) list → InJournal j i → AllByRecursion (λ p. p.0 ≢ i) list
 targets-outside j size list i a inside =
-    all-map (λ p. within size p.0 ≡ true) (λ p. p.0 ≢ i) (λ p w e. target-outside j size p.0 w (subst (λ (t : ℕ). Inside j t) (sym e) inside)) list a
+    all-map (λ p. within size p.0 ≡ true) (λ p. p.0 ≢ i) (λ p w e. target-outside j size p.0 w (subst (λ (t : ℕ). InJournal j t) (sym e) inside)) list a
 
 pub within-below : (size t : ℕ) → 256 ≤ size → within size t ≡ true → t < size
 within-below size t h w =
@@ -86,11 +86,11 @@ ascends-list size least (p ∷ ps) h =
     let a = both (nat_le least p.0) (within size p.0 && ascend size (p.0 + 1) (map (λ q. q.0) ps)) h in
     (leb-true least p.0 a.0, ascends-list size (p.0 + 1) ps (both (within size p.0) (ascend size (p.0 + 1) (map (λ q. q.0) ps)) a.1).1)
 
-gate-inside : (j : Journal) → Inside j (gate j)
+gate-inside : (j : Journal) → InJournal j (gate j)
 gate-inside One = (omega arith, omega arith)
 gate-inside Two = inr refl
 
-head-inside : (j : Journal) → Inside j 2
+head-inside : (j : Journal) → InJournal j 2
 head-inside One = (omega arith, omega arith)
 head-inside Two = inl (omega arith, omega arith)
 
@@ -99,19 +99,19 @@ gate-bound One = (omega arith, λ e. absurd (omega (arith, e)))
 gate-bound Two = (omega arith, λ e. absurd (omega (arith, e)))
 
 -- a place outside is not one of these
-apart-from : (j : Journal) (i k : ℕ) → Inside j k → (Inside j i → ⊥) → k ≢ i
-apart-from j i k inside out e = out (subst (λ (t : ℕ). Inside j t) e inside)
+apart-from : (j : Journal) (i k : ℕ) → InJournal j k → (InJournal j i → ⊥) → k ≢ i
+apart-from j i k inside out e = out (subst (λ (t : ℕ). InJournal j t) e inside)
 
 -- ---- what the two kinds of image mean
 
 pub closed-look : (j : Journal) (n : List (List ℕ)) → is_open j n ≡ false → look_j j n ≡ Closed
 closed-look j n h = ap (λ (b : Bool). opened j n b) h
 
-pub closed-leaves : (j : Journal) (n t : List (List ℕ)) → is_open j n ≡ false → SameOutside j n t → Leaves j n 0 t
+pub closed-leaves : (j : Journal) (n t : List (List ℕ)) → is_open j n ≡ false → SameOutside j n t → LeavesOwing j n 0 t
 closed-leaves j n t h same =
     record { owed = ap debt (closed-look j n h); after = n; is = ap (λ (l : Look). replayed n l) (closed-look j n h); same = same }
 
-pub pending-leaves : (j : Journal) (n t : List (List ℕ)) (ps : List (ℕ × List ℕ)) → look_j j n ≡ Pending j ps → SameOutside j (laid n (replay j ps)) t → Leaves j n (length ps + 1) t
+pub pending-leaves : (j : Journal) (n t : List (List ℕ)) (ps : List (ℕ × List ℕ)) → look_j j n ≡ Pending j ps → SameOutside j (laid n (replay j ps)) t → LeavesOwing j n (length ps + 1) t
 pending-leaves j n t ps h same =
     record { owed = ap debt h; after = laid n (replay j ps); is = ap (λ (l : Look). replayed n l) h; same = same }
 
@@ -166,13 +166,13 @@ module _ (j : Journal) (m : List (List ℕ)) (list : List (ℕ × List ℕ)) (lo
       (gate-at at_head (opening j) length-head)
 
   -- outside, nothing was changed so far
-  values-outside : (i : ℕ) → (Inside j i → ⊥) → word_at at_values i ≡ word_at m i
+  values-outside : (i : ℕ) → (InJournal j i → ⊥) → word_at at_values i ≡ word_at m i
   values-outside i out = laid-other m (entries j list) i (entries-apart i (λ inside. out inside.inside))
 
-  head-outside : (i : ℕ) → (Inside j i → ⊥) → word_at at_head i ≡ word_at m i
+  head-outside : (i : ℕ) → (InJournal j i → ⊥) → word_at at_head i ≡ word_at m i
   head-outside i out = other-head i (λ e. apart-from j i 2 (head-inside j) out (sym e)) ∙ values-outside i out
 
-  gate-outside : (n : List (List ℕ)) (x : List ℕ) (i : ℕ) → (Inside j i → ⊥) → word_at (at_gate n x) i ≡ word_at n i
+  gate-outside : (n : List (List ℕ)) (x : List ℕ) (i : ℕ) → (InJournal j i → ⊥) → word_at (at_gate n x) i ≡ word_at n i
   gate-outside n x i out = other-at n x i (λ e. apart-from j i (gate j) (gate-inside j) out (sym e))
 
   -- the gate is as it was
@@ -186,13 +186,13 @@ module _ (j : Journal) (m : List (List ℕ)) (list : List (ℕ × List ℕ)) (lo
   head-closed = still-closed at_head (other-head (gate j) (gate-bound j).1 ∙ laid-other m (entries j list) (gate j) entries-gate)
 
   -- stopped in its targets and values
-  in-values : (k : ℕ) (x : List ℕ) → Leaves j (torn m (entries j list) k x) 0 m
+  in-values : (k : ℕ) (x : List ℕ) → LeavesOwing j (torn m (entries j list) k x) 0 m
   in-values k x =
       closed-leaves j (torn m (entries j list) k x) m (still-closed _ (torn-other m (entries j list) k x (gate j) entries-gate))
       (record { size = length-torn m (entries j list) k x; words = λ i out. torn-other m (entries j list) k x i (entries-apart i (λ inside. out inside.inside)) })
 
   -- stopped in its head
-  in-head : (x : List ℕ) → Leaves j (slice_set at_values 2 x) 0 m
+  in-head : (x : List ℕ) → LeavesOwing j (slice_set at_values 2 x) 0 m
   in-head x =
       closed-leaves j (slice_set at_values 2 x) m
       (still-closed _ (get_or-set_other at_values 2 (gate j) x [] (gate-bound j).1 ∙ laid-other m (entries j list) (gate j) entries-gate))
@@ -202,7 +202,7 @@ module _ (j : Journal) (m : List (List ℕ)) (list : List (ℕ × List ℕ)) (lo
       })
 
   -- replayed from an image that is as before outside but for targets
-  replayed-same : (n : List (List ℕ)) → length n ≡ length m → ((i : ℕ) → (Inside j i → ⊥) → covers list i ≡ false → word_at n i ≡ word_at m i) → SameOutside j (laid n (replay j list)) (laid m list)
+  replayed-same : (n : List (List ℕ)) → length n ≡ length m → ((i : ℕ) → (InJournal j i → ⊥) → covers list i ≡ false → word_at n i ≡ word_at m i) → SameOutside j (laid n (replay j list)) (laid m list)
   replayed-same n same h = record {
     size = length-laid n (replay j list) ∙ same ∙ sym (length-laid m list);
     words = λ i out.
@@ -211,14 +211,14 @@ module _ (j : Journal) (m : List (List ℕ)) (list : List (ℕ × List ℕ)) (lo
   }
 
   -- stopped in its gate: it stands where the word that was left opens
-  in-gate-open : (x : List ℕ) → x ≡ opening j → Leaves j (at_gate at_head x) (length list + 1) (laid m list)
+  in-gate-open : (x : List ℕ) → x ≡ opening j → LeavesOwing j (at_gate at_head x) (length list + 1) (laid m list)
   in-gate-open x e =
-      subst (λ (t : List ℕ). Leaves j (at_gate at_head t) (length list + 1) (laid m list)) (sym e)
+      subst (λ (t : List ℕ). LeavesOwing j (at_gate at_head t) (length list + 1) (laid m list)) (sym e)
       (pending-leaves j (at_gate at_head (opening j)) (laid m list) list written
       (replayed-same (at_gate at_head (opening j)) (length-set at_head (gate j) (opening j) ∙ length-head)
       (λ i out free. gate-outside at_head (opening j) i out ∙ head-outside i out)))
 
-  in-gate-closed : (x : List ℕ) → bytes_eq x (opening j) ≡ false → Leaves j (at_gate at_head x) 0 m
+  in-gate-closed : (x : List ℕ) → bytes_eq x (opening j) ≡ false → LeavesOwing j (at_gate at_head x) 0 m
   in-gate-closed x e =
       closed-leaves j (at_gate at_head x) m (ap (λ (w : List ℕ). bytes_eq w (opening j)) (gate-at at_head x length-head) ∙ e)
       (record { size = length-set at_head (gate j) x ∙ length-head; words = λ i out. gate-outside at_head x i out ∙ head-outside i out })
@@ -230,10 +230,10 @@ module _ (j : Journal) (m : List (List ℕ)) (list : List (ℕ × List ℕ)) (lo
   length-opened : length opened_image ≡ length m
   length-opened = length-set at_head (gate j) (opening j) ∙ length-head
 
-  opened-outside : (i : ℕ) → (Inside j i → ⊥) → word_at opened_image i ≡ word_at m i
+  opened-outside : (i : ℕ) → (InJournal j i → ⊥) → word_at opened_image i ≡ word_at m i
   opened-outside i out = gate-outside at_head (opening j) i out ∙ head-outside i out
 
-  in-targets : (k : ℕ) (x : List ℕ) → Leaves j (torn opened_image list k x) (length list + 1) (laid m list)
+  in-targets : (k : ℕ) (x : List ℕ) → LeavesOwing j (torn opened_image list k x) (length list + 1) (laid m list)
   in-targets k x =
       let n = torn opened_image list k x in
       pending-leaves j n (laid m list) list
@@ -244,25 +244,25 @@ module _ (j : Journal) (m : List (List ℕ)) (list : List (ℕ × List ℕ)) (lo
   length-targets : length (laid opened_image list) ≡ length m
   length-targets = length-laid opened_image list ∙ length-opened
 
-  last-outside : (x : List ℕ) (i : ℕ) → (Inside j i → ⊥) → word_at (at_gate (laid opened_image list) x) i ≡ word_at (laid m list) i
+  last-outside : (x : List ℕ) (i : ℕ) → (InJournal j i → ⊥) → word_at (at_gate (laid opened_image list) x) i ≡ word_at (laid m list) i
   last-outside x i out = gate-outside (laid opened_image list) x i out ∙ laid-point opened_image m list i length-opened (λ free. opened-outside i out)
 
-  in-last-closed : (x : List ℕ) → bytes_eq x (opening j) ≡ false → Leaves j (at_gate (laid opened_image list) x) 0 (laid m list)
+  in-last-closed : (x : List ℕ) → bytes_eq x (opening j) ≡ false → LeavesOwing j (at_gate (laid opened_image list) x) 0 (laid m list)
   in-last-closed x e =
       closed-leaves j (at_gate (laid opened_image list) x) (laid m list) (ap (λ (w : List ℕ). bytes_eq w (opening j)) (gate-at (laid opened_image list) x length-targets) ∙ e)
       (record { size = length-set (laid opened_image list) (gate j) x ∙ length-targets ∙ sym (length-laid m list); words = last-outside x })
 
-  last-inside : (i : ℕ) → Inside j i → word_at (at_gate (laid opened_image list) (opening j)) i ≡ word_at opened_image i
+  last-inside : (i : ℕ) → InJournal j i → word_at (at_gate (laid opened_image list) (opening j)) i ≡ word_at opened_image i
   last-inside i inside = elim (eqb_tells i (gate j)) [
     | inl here ↦ subst (λ (t : ℕ). word_at (at_gate (laid opened_image list) (opening j)) t ≡ word_at opened_image t) (sym here.1)
         (gate-at (laid opened_image list) (opening j) length-targets ∙ sym (gate-at at_head (opening j) length-head))
     | inr apart ↦ other-at (laid opened_image list) (opening j) i apart.1 ∙ laid-other opened_image list i (targets-outside j (length m) list i within-all inside)
   ]
 
-  in-last-open : (x : List ℕ) → x ≡ opening j → Leaves j (at_gate (laid opened_image list) x) (length list + 1) (laid m list)
+  in-last-open : (x : List ℕ) → x ≡ opening j → LeavesOwing j (at_gate (laid opened_image list) x) (length list + 1) (laid m list)
   in-last-open x e =
       let n = at_gate (laid opened_image list) (opening j) in
-      subst (λ (t : List ℕ). Leaves j (at_gate (laid opened_image list) t) (length list + 1) (laid m list)) (sym e)
+      subst (λ (t : List ℕ). LeavesOwing j (at_gate (laid opened_image list) t) (length list + 1) (laid m list)) (sym e)
       (pending-leaves j n (laid m list) list
       (look-same j n opened_image (record { size = length-set (laid opened_image list) (gate j) (opening j) ∙ length-laid opened_image list; words = last-inside }) ∙ written)
       (replayed-same n (length-set (laid opened_image list) (gate j) (opening j) ∙ length-targets)
@@ -270,10 +270,10 @@ module _ (j : Journal) (m : List (List ℕ)) (list : List (ℕ × List ℕ)) (lo
 
   -- ---- which of these a stop is
 
-  tear-is : (n : List (List ℕ)) (k : ℕ) (x : List ℕ) (o : ℕ) (s : Bool) → stands j (length list) k x ≡ s → owes j (length list) k x ≡ o → Leaves j n o (stood s m list)
-      → Leaves j n (owes j (length list) k x) (stood (stands j (length list) k x) m list)
+  tear-is : (n : List (List ℕ)) (k : ℕ) (x : List ℕ) (o : ℕ) (s : Bool) → stands j (length list) k x ≡ s → owes j (length list) k x ≡ o → LeavesOwing j n o (stood s m list)
+      → LeavesOwing j n (owes j (length list) k x) (stood (stands j (length list) k x) m list)
   tear-is n k x o s hs ho h =
-      subst (λ (t : Bool). Leaves j n (owes j (length list) k x) (stood t m list)) (sym hs) (subst (λ (t : ℕ). Leaves j n t (stood s m list)) (sym ho) h)
+      subst (λ (t : Bool). LeavesOwing j n (owes j (length list) k x) (stood t m list)) (sym hs) (subst (λ (t : ℕ). LeavesOwing j n t (stood s m list)) (sym ho) h)
 
   owes-by : (k : ℕ) (x : List ℕ) (s : Bool) → stands j (length list) k x ≡ s
       → owes j (length list) k x ≡ cond (s && not ((k == cost j (length list)) && not (bytes_eq x (opening j)))) (length list + 1) 0
@@ -303,7 +303,7 @@ module _ (j : Journal) (m : List (List ℕ)) (list : List (ℕ × List ℕ)) (lo
 
   -- the atomic write that was stopped at its write k, which left x
   Tears : ℕ → List ℕ → List (List ℕ) → Type 0
-  Tears k x n = Leaves j n (owes j (length list) k x) (stood (stands j (length list) k x) m list)
+  Tears k x n = LeavesOwing j n (owes j (length list) k x) (stood (stands j (length list) k x) m list)
 
   rest_writes : List (ℕ × List ℕ)
   rest_writes = (2, numbered (length list)) ∷ (gate j, opening j) ∷ replay j list
@@ -313,25 +313,25 @@ module _ (j : Journal) (m : List (List ℕ)) (list : List (ℕ × List ℕ)) (lo
   tear-1 k x low h =
       let before : stands j (length list) k x ≡ false = stands-before k x (omega (arith, geo.opens)) in
       tear-is (torn m (writes j list) k x) k x 0 false before (owes-by k x false before)
-      (subst (λ (n : List (List ℕ)). Leaves j n 0 m) (sym (torn-within m (entries j list) _ k x low h)) (in-values k x))
+      (subst (λ (n : List (List ℕ)). LeavesOwing j n 0 m) (sym (torn-within m (entries j list) _ k x low h)) (in-values k x))
 
   tear-2 : (k : ℕ) (x : List ℕ) → k ≡ length (entries j list) + 1 → Tears k x (torn m (writes j list) k x)
   unfolding Tears
   tear-2 k x e =
       let before : stands j (length list) k x ≡ false = stands-before k x (omega (arith, geo.opens, e)) in
       tear-is (torn m (writes j list) k x) k x 0 false before (owes-by k x false before)
-      (subst (λ (n : List (List ℕ)). Leaves j n 0 m) (sym (torn-past m (entries j list) ((2, numbered (length list)) ∷ (gate j, opening j) ∷ replay j list) k 1 x (omega arith) e)) (in-head x))
+      (subst (λ (n : List (List ℕ)). LeavesOwing j n 0 m) (sym (torn-past m (entries j list) ((2, numbered (length list)) ∷ (gate j, opening j) ∷ replay j list) k 1 x (omega arith) e)) (in-head x))
 
   tear-3 : (k : ℕ) (x : List ℕ) (b : Bool) → bytes_eq x (opening j) ≡ b → k ≡ length (entries j list) + 2 → Tears k x (torn m (writes j list) k x)
   unfolding Tears
   tear-3 k x true hb e =
       let it : stands j (length list) k x ≡ true = stands-at k x (e ∙ geo.opens) ∙ hb in
       tear-is (torn m (writes j list) k x) k x (length list + 1) true it (owes-before-last k x it (λ c. absurd (omega (arith, c, e, geo.costs))))
-      (subst (λ (n : List (List ℕ)). Leaves j n (length list + 1) (laid m list)) (sym (torn-past m (entries j list) ((2, numbered (length list)) ∷ (gate j, opening j) ∷ replay j list) k 2 x (omega arith) e)) (in-gate-open x (open-same j x hb)))
+      (subst (λ (n : List (List ℕ)). LeavesOwing j n (length list + 1) (laid m list)) (sym (torn-past m (entries j list) ((2, numbered (length list)) ∷ (gate j, opening j) ∷ replay j list) k 2 x (omega arith) e)) (in-gate-open x (open-same j x hb)))
   tear-3 k x false hb e =
       let it : stands j (length list) k x ≡ false = stands-at k x (e ∙ geo.opens) ∙ hb in
       tear-is (torn m (writes j list) k x) k x 0 false it (owes-by k x false it)
-      (subst (λ (n : List (List ℕ)). Leaves j n 0 m) (sym (torn-past m (entries j list) ((2, numbered (length list)) ∷ (gate j, opening j) ∷ replay j list) k 2 x (omega arith) e)) (in-gate-closed x hb))
+      (subst (λ (n : List (List ℕ)). LeavesOwing j n 0 m) (sym (torn-past m (entries j list) ((2, numbered (length list)) ∷ (gate j, opening j) ∷ replay j list) k 2 x (omega arith) e)) (in-gate-closed x hb))
 
   torn-opened : (k i : ℕ) (x : List ℕ) → k ≡ length (entries j list) + suc (suc (suc i)) → torn m (writes j list) k x ≡ torn (slice_set (slice_set (laid m (entries j list)) 2 (numbered (length list))) (gate j) (opening j)) (replay j list) (suc i) x
   torn-opened k i x e = torn-past m (entries j list) ((2, numbered (length list)) ∷ (gate j, opening j) ∷ replay j list) k (suc (suc (suc i))) x (omega arith) e
@@ -341,7 +341,7 @@ module _ (j : Journal) (m : List (List ℕ)) (list : List (ℕ × List ℕ)) (lo
   tear-4 k i x e lt =
       let it : stands j (length list) k x ≡ true = stands-after k x (omega (arith, geo.opens, e)) in
       tear-is (torn m (writes j list) k x) k x (length list + 1) true it (owes-before-last k x it (λ c. absurd (omega (arith, c, e, geo.costs))))
-      (subst (λ (n : List (List ℕ)). Leaves j n (length list + 1) (laid m list))
+      (subst (λ (n : List (List ℕ)). LeavesOwing j n (length list + 1) (laid m list))
       (sym (torn-opened k i x e ∙ torn-within opened_image list ((gate j, shut) ∷ []) (suc i) x (omega arith) (omega arith))) (in-targets (suc i) x))
 
   torn-last : (k i : ℕ) (x : List ℕ) → k ≡ length (entries j list) + suc (suc (suc i)) → i ≡ length list → torn m (writes j list) k x ≡ slice_set (laid opened_image list) (gate j) x
@@ -352,13 +352,13 @@ module _ (j : Journal) (m : List (List ℕ)) (list : List (ℕ × List ℕ)) (lo
   tear-5 k i x true hb e is =
       let it : stands j (length list) k x ≡ true = stands-after k x (omega (arith, geo.opens, e)) in
       tear-is (torn m (writes j list) k x) k x (length list + 1) true it (owes-last k x true it (omega (arith, e, is, geo.costs)) hb)
-      (subst (λ (n : List (List ℕ)). Leaves j n (length list + 1) (laid m list)) (sym (torn-last k i x e is)) (in-last-open x (open-same j x hb)))
+      (subst (λ (n : List (List ℕ)). LeavesOwing j n (length list + 1) (laid m list)) (sym (torn-last k i x e is)) (in-last-open x (open-same j x hb)))
   tear-5 k i x false hb e is =
       let it : stands j (length list) k x ≡ true = stands-after k x (omega (arith, geo.opens, e)) in
       tear-is (torn m (writes j list) k x) k x 0 true it (owes-last k x false it (omega (arith, e, is, geo.costs)) hb)
-      (subst (λ (n : List (List ℕ)). Leaves j n 0 (laid m list)) (sym (torn-last k i x e is)) (in-last-closed x hb))
+      (subst (λ (n : List (List ℕ)). LeavesOwing j n 0 (laid m list)) (sym (torn-last k i x e is)) (in-last-closed x hb))
 
-  pub tear : (k : ℕ) (x : List ℕ) → 1 ≤ k → k ≤ cost j (length list) → Leaves j (torn m (writes j list) k x) (owes j (length list) k x) (stood (stands j (length list) k x) m list)
+  pub tear : (k : ℕ) (x : List ℕ) → 1 ≤ k → k ≤ cost j (length list) → LeavesOwing j (torn m (writes j list) k x) (owes j (length list) k x) (stood (stands j (length list) k x) m list)
   unfolding Tears
   tear k x low h = elim (cases_lt (length (entries j list)) k) [
     | inr in_entries ↦ tear-1 k x low in_entries
@@ -382,13 +382,13 @@ module _ (j : Journal) (m : List (List ℕ)) (list : List (ℕ × List ℕ)) (lo
   laid-writes : laid m (writes j list) ≡ slice_set (laid opened_image list) (gate j) shut
   laid-writes = laid-append m (entries j list) ((2, numbered (length list)) ∷ (gate j, opening j) ∷ replay j list) ∙ laid-last opened_image list (gate j, shut)
 
-  list-holds : Holds (laid m list) list
+  list-holds : HoldsWords (laid m list) list
   list-holds = laid-holds m 0 list (ascends-list (length m) 0 list atomic.targets) (all-map (λ p. within (length m) p.0 ≡ true) (λ p. p.0 < length m) (λ p w. within-below (length m) p.0 low w) list within-all)
 
-  pub done : Stands j m list (laid m (writes j list))
+  pub done : LaidWhole j m list (laid m (writes j list))
   done =
       let n = slice_set (laid opened_image list) (gate j) shut in
-      subst (λ (t : List (List ℕ)). Stands j m list t) (sym laid-writes)
+      subst (λ (t : List (List ℕ)). LaidWhole j m list t) (sym laid-writes)
       (record {
         gate = gate-at (laid opened_image list) shut length-targets;
         targets = holds-point (laid m list) n list

@@ -6,7 +6,7 @@ use Rattle.std.specs.List.{AllByRecursion}
 use Rattle.std.proofs.lemmas.Bool.{ltb-true, eqb-true}
 use Rattle.mc_model.specs.Image.{One, Two, word_at, is_count, within, when, number, one_before, targets_1, four, all_zero, ascend, after_all, all_before, targets_2, pairs}
 use Rattle.mc_model.specs.Stopped.{numbered, entries_1, four_targets, target_words, values_2}
-use Rattle.mc_model.proofs.ImageLemmas.{Holds}
+use Rattle.mc_model.proofs.ImageLemmas.{HoldsWords}
 use Rattle.mc_model.proofs.LookLemmas.{both}
 
 -- ---- numbers of two bytes
@@ -36,7 +36,7 @@ count-numbered c low high = number-numbered is_count c (omega arith) (rw (le-leb
 
 -- ---- journal 1
 
-pub read-1 : (n : List (List ℕ)) (list : List (ℕ × List ℕ)) (i : ℕ) → length n ≤ 16384 → AllByRecursion (λ p. within (length n) p.0 ≡ true) list → Holds n (entries_1 i list)
+pub read-1 : (n : List (List ℕ)) (list : List (ℕ × List ℕ)) (i : ℕ) → length n ≤ 16384 → AllByRecursion (λ p. within (length n) p.0 ≡ true) list → HoldsWords n (entries_1 i list)
     → targets_1 n i (length list) ≡ Ok (map (λ p. p.0) list)
 unfolding targets_1
 read-1 n [] i hs a h = refl
@@ -46,7 +46,7 @@ read-1 n (p ∷ ps) i hs a h =
     ap (λ (o : Option ℕ). one_before o (3 + 2 * i) (targets_1 n (i + 1) (length ps))) first
     ∙ ap (λ (r : Result (List ℕ) ℕ). one_before (Some p.0) (3 + 2 * i) r) (read-1 n ps (i + 1) hs a.1 h.1.1)
 
-pub pairs-1 : (n : List (List ℕ)) (list : List (ℕ × List ℕ)) (i : ℕ) → Holds n (entries_1 i list) → pairs One n i (map (λ p. p.0) list) ≡ list
+pub pairs-1 : (n : List (List ℕ)) (list : List (ℕ × List ℕ)) (i : ℕ) → HoldsWords n (entries_1 i list) → pairs One n i (map (λ p. p.0) list) ≡ list
 unfolding pairs
 pairs-1 n [] i h = refl
 pairs-1 n (p ∷ ps) i h =
@@ -88,7 +88,7 @@ first-four size least a b c d ts h =
     let d2 = both (within size d) (ascend size (d + 1) ts) d1.1 in
     (rw (a1.0, a2.0, b1.0, b2.0, c1.0, c2.0, d1.0, d2.0) refl, d2.1)
 
-pub read-2 : (n : List (List ℕ)) (k i least : ℕ) (ts : List ℕ) → Small ts → ascend (length n) least ts ≡ true → length ts ≤ 4 * k → Holds n (target_words i k ts)
+pub read-2 : (n : List (List ℕ)) (k i least : ℕ) (ts : List ℕ) → Small ts → ascend (length n) least ts ≡ true → length ts ≤ 4 * k → HoldsWords n (target_words i k ts)
     → targets_2 n i k (length ts) least ≡ Ok ts
 unfolding targets_2
 read-2 n zero i least [] s a few h = refl
@@ -110,7 +110,7 @@ read-2 n (suc k) i least (x ∷ y ∷ z ∷ u ∷ ts) s a few h =
     step-2 n i k l least (x ∷ y ∷ z ∷ u ∷ []) (x ∷ y ∷ z ∷ u ∷ []) [] ts (ap four h.0 ∙ four-back x y z u s.0 s.1.0 s.1.1.0 s.1.1.1.0)
     (take_all l (x ∷ y ∷ z ∷ u ∷ []) (omega arith)) (drop_all l (x ∷ y ∷ z ∷ u ∷ []) (omega arith)) refl parts.0 rest
 
-pub pairs-2 : (n : List (List ℕ)) (list : List (ℕ × List ℕ)) (i : ℕ) → Holds n (values_2 i list) → pairs Two n i (map (λ p. p.0) list) ≡ list
+pub pairs-2 : (n : List (List ℕ)) (list : List (ℕ × List ℕ)) (i : ℕ) → HoldsWords n (values_2 i list) → pairs Two n i (map (λ p. p.0) list) ≡ list
 unfolding pairs
 pairs-2 n [] i h = refl
 pairs-2 n (p ∷ ps) i h =

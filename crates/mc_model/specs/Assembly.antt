@@ -4,6 +4,7 @@ use Rattle.mc_model.specs.declared.assembler.AsmCause.{AsmCause}
 use Rattle.mc_model.specs.declared.assembler.AsmCause.TheVariants.{UnknownWord, BadOperands, BadNumber, OutOfRange, LabelTwice, TooLong, UnknownLabel, FarBranch}
 use Rattle.mc_model.specs.declared.instruction.Ins.{Ins}
 use Rattle.mc_model.specs.declared.instruction.Ins.TheVariants.{Nop, Setsw, Setla, Setswla, Exit, Exitsw, Exitla, Exitswla, Branch, Jump, Call, Pushz, Pushb, Pushw, Popn, Popb, Popw, Prim, Ret, Reti, Reto, Retio, Load, Store, Loadi, Storei, Loada, Index, Setb, Cmpb, Addb, Subb, Setw, Cmpw, Addw, Subw, Clearn, Testn, Incn, Decn, Notn, Cmpn, Addn, Subn, Andn, Orn, Xorn}
+use Rattle.mc_model.specs.Limits.{most_code}
 use Rattle.mc_model.specs.Bytes.{zeros, lookup}
 use Rattle.mc_model.specs.Text.{◌>>=◌, ok_as, err_as, only_if, pieces, first_cut, begins, lines, numbered, is_blank, is_empty, trim, is_within, is_digit, is_name, digits_onto, decimal_number, hex_values}
 use Rattle.mc_model.specs.Code.{spell}
@@ -100,30 +101,30 @@ all_bytes (t ∷ ts) = ok_as (λ p. p.0 ∷ p.1) (both (byte t) (all_bytes ts))
 -- ---- the table of words
 
 -- what a line puts into the code: nothing, a raw byte, an instruction, one that takes the place of a label, one that takes the distance to it
-pub data Item : Type 0 where
-  Nothing : Item
-  Raw : ℕ → Item
-  Plain : Ins → Item
-  ToPlace : (ℕ → Ins) → List ℕ → Item
-  ToDistance : (ℤ → Ins) → List ℕ → Item
+pub data CodeItem : Type 0 where
+  Nothing : CodeItem
+  Raw : ℕ → CodeItem
+  Plain : Ins → CodeItem
+  ToPlace : (ℕ → Ins) → List ℕ → CodeItem
+  ToDistance : (ℤ → Ins) → List ℕ → CodeItem
 
 -- the operands of a word
-pub data Form : Type 0 where
-  Bare : Ins → Form
-  OfByte : (ℕ → Ins) → Form
-  OfBytes : (ℕ → ℕ → Ins) → Form
-  OfWord : (ℕ → Ins) → Form
-  OfWords : (ℕ → ℕ → Ins) → Form
-  RawByte : Form
-  ByDistance : (ℕ → ℤ → Ins) → Form
-  ByPlace : (ℕ → ℕ → Ins) → Form
-  Primitive : Form
-  Addressed : (ℕ → ℤ → Ins) → Form
-  AddressedByte : (ℕ → ℤ → ℕ → Ins) → Form
-  AddressedWord : (ℕ → ℤ → ℕ → Ins) → Form
+pub data WordForm : Type 0 where
+  Bare : Ins → WordForm
+  OfByte : (ℕ → Ins) → WordForm
+  OfBytes : (ℕ → ℕ → Ins) → WordForm
+  OfWord : (ℕ → Ins) → WordForm
+  OfWords : (ℕ → ℕ → Ins) → WordForm
+  RawByte : WordForm
+  ByDistance : (ℕ → ℤ → Ins) → WordForm
+  ByPlace : (ℕ → ℕ → Ins) → WordForm
+  Primitive : WordForm
+  Addressed : (ℕ → ℤ → Ins) → WordForm
+  AddressedByte : (ℕ → ℤ → ℕ → Ins) → WordForm
+  AddressedWord : (ℕ → ℤ → ℕ → Ins) → WordForm
 
 -- each word with its form
-abbrev pub words : List (List ℕ × Form)
+abbrev pub words : List (List ℕ × WordForm)
 words =
     (codes "NOP", Bare Nop) ∷
     (codes "SETSW", OfWord Setsw) ∷
@@ -185,22 +186,22 @@ label_or_given true t given = Ok (Label t)
 label_or_given false t given = ok_as Given given
 
 -- a branch to a label, or by a displacement
-abbrev pub by_distance : (ℤ → Ins) → Target ℤ → Item
+abbrev pub by_distance : (ℤ → Ins) → Target ℤ → CodeItem
 by_distance f (Label l) = ToDistance f l
 by_distance f (Given d) = Plain (f d)
 
 -- a jump to a label, or to an address
-abbrev pub by_place : (ℕ → Ins) → Target ℕ → Item
+abbrev pub by_place : (ℕ → Ins) → Target ℕ → CodeItem
 by_place f (Label l) = ToPlace f l
 by_place f (Given p) = Plain (f p)
 
 -- a primitive's number and its arguments
-abbrev pub primitive : List ℕ → Item
+abbrev pub primitive : List ℕ → CodeItem
 primitive [] = Nothing
 primitive (number ∷ args) = Plain (Prim (length args) number (take 3 (args ++ zeros 3)))
 
 -- a word with its operands
-abbrev pub worded : Form → List (List ℕ) → Result Item AsmCause
+abbrev pub worded : WordForm → List (List ℕ) → Result CodeItem AsmCause
 worded (Bare i) [] = Ok (Plain i)
 worded (OfByte f) (n ∷ []) = ok_as (λ n. Plain (f n)) (byte n)
 worded (OfBytes f) (i ∷ o ∷ []) = ok_as (λ p. Plain (f p.0 p.1)) (both (byte i) (byte o))
@@ -227,13 +228,13 @@ operands None = []
 operands (Some t) = map trim (pieces (λ c. c == 44) t)
 
 -- the word of a line and its operands
-abbrev pub word_and_operands : List ℕ × Option (List ℕ) → Result Item AsmCause
+abbrev pub word_and_operands : List ℕ × Option (List ℕ) → Result CodeItem AsmCause
 word_and_operands s = cond (is_empty s.0) (Ok Nothing) (ok_or (lookup words s.0) UnknownWord >>= λ form. worded form (operands s.1))
 
 -- a line's label, and what it puts into the code
 pub record Line : Type 0 where
   pub label : Option (List ℕ)
-  pub item : Item
+  pub item : CodeItem
 
 -- a label before its colon, and the rest of the line
 abbrev pub label_and_rest : List ℕ → Option (List ℕ) → Result Line AsmCause
@@ -251,7 +252,7 @@ line_read l =
 -- ---- the places of the lines, and the code
 
 -- how many bytes a line takes
-abbrev pub size : Item → ℕ
+abbrev pub size : CodeItem → ℕ
 size Nothing = 0
 size (Raw b) = 1
 size (Plain i) = length (spell i)
@@ -262,7 +263,7 @@ size (ToDistance f l) = length (spell (f (pos 0)))
 pub record Placed : Type 0 where
   pub number : ℕ
   pub place : ℕ
-  pub item : Item
+  pub item : CodeItem
 
 -- the labels of a text with their places, and its lines
 pub record Laid : Type 0 where
@@ -285,7 +286,7 @@ unfolding line_read
 line_laid labels place text = do
   l ← line_read text
   l ← only_if (is_new labels l.label) LabelTwice l
-  only_if (nat_le (place + size l.item) 8192) TooLong l
+  only_if (nat_le (place + size l.item) most_code) TooLong l
 
 -- the lines in their places
 unfoldable pub laid_lines : List (List ℕ × ℕ) → ℕ → List (ℕ × List ℕ) → Result Laid (ℕ × AsmCause)
@@ -297,7 +298,7 @@ laid_lines labels place (t ∷ ts) = do
   Ok (record rest { placed = record { number = t.0; place = place; item = l.item } ∷ rest.placed })
 
 -- what a line puts into the code, where the labels are these
-abbrev pub emitted : List (List ℕ × ℕ) → ℕ → Item → Result (List ℕ) AsmCause
+abbrev pub emitted : List (List ℕ × ℕ) → ℕ → CodeItem → Result (List ℕ) AsmCause
 emitted labels place Nothing = Ok []
 emitted labels place (Raw b) = Ok (b ∷ [])
 emitted labels place (Plain i) = Ok (spell i)

@@ -334,10 +334,10 @@ IsPast code at =
     ⊎ ((ks : List Kind) × (kinds (slice_index code at) ≡ Some ks) × (length code < at + 1 + total ks))
 
 -- what an answer says of a place: the instruction and the place behind it, or why none stands there
-abbrev pub Stands : List ℕ → ℕ → Result (Ins × ℕ) DecodeFault → Type 0
-Stands code at (Ok p) = Decodes code at p.0 p.1
-Stands code at (Err Undefined) = IsUndefined code at
-Stands code at (Err Past) = IsPast code at
+abbrev pub DecodesTo : List ℕ → ℕ → Result (Ins × ℕ) DecodeFault → Type 0
+DecodesTo code at (Ok p) = Decodes code at p.0 p.1
+DecodesTo code at (Err Undefined) = IsUndefined code at
+DecodesTo code at (Err Past) = IsPast code at
 
 -- the address or the offset in the bytes from i on, 0 where there is none
 abbrev pub target_in : ℕ → List ℕ → ℕ

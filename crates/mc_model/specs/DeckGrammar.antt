@@ -209,35 +209,35 @@ pub data Mode : Type 0 where
   Within : Section → Context → Mode
 
 -- after a line: the lines of the deck that it gives, and the mode
-pub record Turn : Type 0 where
+pub record LineTurn : Type 0 where
   pub lines : List (ℕ × DeckLine)
   pub mode : Mode
 
 -- what a statement makes of the lines
-abbrev pub turn_of : ℕ → Stated → Turn
+abbrev pub turn_of : ℕ → Stated → LineTurn
 turn_of n (Says l c) = record { lines = (n, l) ∷ []; mode = Between c }
 turn_of n (Opens s c) = record { lines = []; mode = Within s c }
 
 -- a line between statements; one without a field, or whose first field begins with `#`, is skipped
-abbrev pub between : Context → ℕ → List (List ℕ) → Result Turn (ℕ × DeckCause)
+abbrev pub between : Context → ℕ → List (List ℕ) → Result LineTurn (ℕ × DeckCause)
 between c n [] = Ok (record { lines = []; mode = Between c })
 between c n (word ∷ rest) =
     cond (begins 35 word) (Ok (record { lines = []; mode = Between c }))
     (err_as (λ e. (n, e)) (ok_or (lookup deck_words word) BadLine >>= λ w. ok_as (turn_of n) (stated c n w rest)))
 
 -- a line of a section, which ends it or goes on
-unfoldable pub within : Bool → Section → Context → ℕ × List ℕ → Result Turn (ℕ × DeckCause)
+unfoldable pub within : Bool → Section → Context → ℕ × List ℕ → Result LineTurn (ℕ × DeckCause)
 unfolding section_unit
 within true s c l = ok_as (λ u. record { lines = (s.first, Named) ∷ []; mode = Between (with_unit c s.name u) }) (section_unit s l.0)
 within false s c l = Ok (record { lines = []; mode = Within (record s { lines = s.lines ++ (l ∷ []) }) c })
 
 -- a line between statements, or in a section
-abbrev pub turn_in : Mode → ℕ × List ℕ → Result Turn (ℕ × DeckCause)
+abbrev pub turn_in : Mode → ℕ × List ℕ → Result LineTurn (ℕ × DeckCause)
 turn_in (Between c) l = between c l.0 (fields l.1)
 turn_in (Within s c) l = within (is_end (fields l.1)) s c l
 
 -- no deck has a line 20,001
-abbrev pub turn_at : Bool → Mode → ℕ × List ℕ → Result Turn (ℕ × DeckCause)
+abbrev pub turn_at : Bool → Mode → ℕ × List ℕ → Result LineTurn (ℕ × DeckCause)
 turn_at true m l = Err (l.0, TooManyLines)
 turn_at false m l = turn_in m l
 

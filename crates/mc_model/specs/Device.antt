@@ -161,12 +161,12 @@ due None (Some fill) = DueWorn fill
 due None None = DueNot
 
 -- how the next write of a bench ends, and what it leaves; one that is not steady may refuse by itself
-abbrev pub Ends : Due → Bool → DeviceState → ℕ → Answer → DeviceState → Type 0
-Ends (DueCut fill) steady d at a e = (a ≡ Err Off) × (e.words ≡ slice_set d.words at fill)
-Ends (DueWorn fill) true d at a e = (a ≡ Err Worn) × (e.words ≡ slice_set d.words at fill)
-Ends (DueWorn fill) false d at a e = a ≡ Err Worn
-Ends DueNot true d at a e = a ≡ Ok tt
-Ends DueNot false d at a e = a ≢ Err Off
+abbrev pub NextWriteEnds : Due → Bool → DeviceState → ℕ → Answer → DeviceState → Type 0
+NextWriteEnds (DueCut fill) steady d at a e = (a ≡ Err Off) × (e.words ≡ slice_set d.words at fill)
+NextWriteEnds (DueWorn fill) true d at a e = (a ≡ Err Worn) × (e.words ≡ slice_set d.words at fill)
+NextWriteEnds (DueWorn fill) false d at a e = a ≡ Err Worn
+NextWriteEnds DueNot true d at a e = a ≡ Ok tt
+NextWriteEnds DueNot false d at a e = a ≢ Err Off
 
 -- a stop of a bench raises its count by exactly one, below the last value
 abbrev pub Counts : DeviceState → Answer → DeviceState → Type 0
@@ -181,6 +181,6 @@ Burns b (Err s) c = (c ≡ record b { cut = counted b.cut; worn = counted b.worn
 
 -- one write on a bench
 pub record BenchWrote (d : DeviceState) (b : BenchState) (at : ℕ) (a : Answer) (e : DeviceState) (c : BenchState) : Type 0 where
-  pub ends : Ends (due (falling b.cut) (falling b.worn)) b.steady d at a e
+  pub ends : NextWriteEnds (due (falling b.cut) (falling b.worn)) b.steady d at a e
   pub counts : Counts d a e
   pub fuses : Burns b a c

@@ -5,6 +5,7 @@ use Rattle.mc_model.specs.declared.card.Part.{Part}
 use Rattle.mc_model.specs.declared.card.Part.TheVariants as part
 use Rattle.mc_model.specs.declared.card.Sizes.{Sizes}
 use Rattle.mc_model.specs.declared.unit.AidFault.{AidFault}
+use Rattle.mc_model.specs.Limits.{most_code, most_static, most_session, most_record}
 use Rattle.mc_model.specs.Bytes.{be2, zeros, lookup}
 use Rattle.mc_model.specs.Apdu.{ApduParts, apdu_read}
 use Rattle.mc_model.specs.Units.{name_of}
@@ -134,22 +135,6 @@ sizes_in a =
       fci = be2 a.body 10;
       deny = p1p2 a;
     }
-
--- the most bytes of an application's code
-abbrev pub most_code : ℕ
-most_code = 8192
-
--- the most of its static bytes
-abbrev pub most_static : ℕ
-most_static = 4096
-
--- the most of its session bytes
-abbrev pub most_session : ℕ
-most_session = 256
-
--- the most of its DIR, and of its FCI
-abbrev pub most_record : ℕ
-most_record = 128
 
 -- sizes within the limits of an application
 abbrev pub fits_limits : Sizes → Bool

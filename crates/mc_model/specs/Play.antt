@@ -592,9 +592,9 @@ StandsForBase m (OnCard c) s = StandsForCard m c s
 StandsForBase m (AtFault cause p) s = StandsForFault m cause p s
 
 -- the words fit a state: before the first power line they are the image; then they fit its base, and what they owe is owed by its journal
-abbrev pub Stands : List (List ℕ) → State → Type 0
-Stands m (Cold image b a) = m ≡ image
-Stands m (Hot s) = StandsForBase m s.base s × (s.owed ≢ 0 → owing (which m) ≡ s.by)
+abbrev pub StandsForState : List (List ℕ) → State → Type 0
+StandsForState m (Cold image b a) = m ≡ image
+StandsForState m (Hot s) = StandsForBase m s.base s × (s.owed ≢ 0 → owing (which m) ≡ s.by)
 
 -- ---- every write accounted
 
@@ -627,7 +627,7 @@ abbrev pub StandsAtEach : List (List ℕ) → State → ℕ × DeckLine → ℕ 
 StandsAtEach m s l k [] = ⊤
 StandsAtEach m s l k (e ∷ es) =
     let n = slice_set m e.at e.left in
-    Stands n (stopped s l (k + 1) e.left) × StandsAtEach n s l (k + 1) es
+    StandsForState n (stopped s l (k + 1) e.left) × StandsAtEach n s l (k + 1) es
 
 -- the entries of a line account for it
 pub record AccountsForLine (m : List (List ℕ)) (s : State) (l : ℕ × DeckLine) (t : Step) (es : List Entry) : Type 0 where

@@ -31,17 +31,17 @@ is_main Main = true
 is_main (At p) = false
 
 -- what is seen of a fact alone: the first cause that holds there, or its instruction and the place behind it
-pub data Look : Type 0 where
-  Bad : (cause : CheckCause) → Look
-  Stands : (ins : Ins) (next : ℕ) → Look
+pub data FactLook : Type 0 where
+  Bad : (cause : CheckCause) → FactLook
+  Stands : (ins : Ins) (next : ℕ) → FactLook
 
 -- the first rule that is seen to be broken
-abbrev pub first_bad : List (CheckCause × Bool) → Look → Look
+abbrev pub first_bad : List (CheckCause × Bool) → FactLook → FactLook
 first_bad [] look = look
 first_bad (c ∷ cs) look = cond c.1 (Bad c.0) (first_bad cs look)
 
 -- what a fact alone shows
-abbrev pub seen : ℕ → Fact → Result (Ins × ℕ) DecodeFault → Look
+abbrev pub seen : ℕ → Fact → Result (Ins × ℕ) DecodeFault → FactLook
 seen len f (Err fault.Undefined) = Bad Undefined
 seen len f (Err fault.Past) = Bad Past
 seen len f (Ok p) =
@@ -54,7 +54,7 @@ seen len f (Ok p) =
     ) (Stands p.0 p.1)
 
 -- what stands at a fact
-unfoldable pub look : List ℕ → Fact → Look
+unfoldable pub look : List ℕ → Fact → FactLook
 look code f = seen (length code) f (decoded code f.place)
 
 -- a fact whose instruction gives further facts
@@ -78,7 +78,7 @@ pub data Reached (code : List ℕ) : Fact → Type 0 where
   returns : {r : Routine} {p h at t : ℕ} (i : Ins) (next q : ℕ) (back : Ins) (less more : ℕ) → Reached code (fact r p h) → Gives code (fact r p h) i next → call_target i ≡ Some q → Reached code (fact (At q) at t) → IsAt code at back → counts back ≡ Some (less, more) → less ≤ h → Reached code (fact r next (h - less + more))
 
 -- a routine returns with these counts somewhere
-pub record Counts (code : List ℕ) (r : Routine) (i o : ℕ) : Type 0 where
+pub record ReturnsWith (code : List ℕ) (r : Routine) (i o : ℕ) : Type 0 where
   pub place : ℕ
   pub height : ℕ
   pub reached : Reached code (fact r place height)
@@ -120,7 +120,7 @@ pub record Differs (code : List ℕ) (f : Fact) : Type 0 where
   pub counts : counts back ≡ Some (less, more)
   pub other_less : ℕ
   pub other_more : ℕ
-  pub other : Counts code f.routine other_less other_more
+  pub other : ReturnsWith code f.routine other_less other_more
   pub differ : (less ≢ other_less) ⊎ (more ≢ other_more)
 
 -- a CALL whose routine takes more bytes than there are
@@ -131,7 +131,7 @@ pub record TakesMore (code : List ℕ) (f : Fact) : Type 0 where
   pub target : call_target call ≡ Some to
   pub less : ℕ
   pub more : ℕ
-  pub counts : Counts code (At to) less more
+  pub counts : ReturnsWith code (At to) less more
   pub fewer : f.height < less
 
 -- a CALL by which its routine reaches itself
@@ -172,17 +172,17 @@ pub record TooDeep (code : List ℕ) (session : ℕ) (f : Fact) : Type 0 where
   pub deep : 512 < session + base + f.height
 
 -- the instruction at a fact, where something holds of it and the place behind it
-abbrev pub Holds : List ℕ → Fact → (Ins → ℕ → Type 0) → Type 0
-Holds code f holds = (i : Ins) × (next : ℕ) × (decoded code f.place ≡ Ok (i, next)) × holds i next
+abbrev pub HoldsAtFact : List ℕ → Fact → (Ins → ℕ → Type 0) → Type 0
+HoldsAtFact code f holds = (i : Ins) × (next : ℕ) × (decoded code f.place ≡ Ok (i, next)) × holds i next
 
 -- the cause holds for a fact
 abbrev pub Breaks : List ℕ → ℕ → CheckCause → Fact → Type 0
 Breaks code session Undefined f = decoded code f.place ≡ Err fault.Undefined
 Breaks code session Past f = decoded code f.place ≡ Err fault.Past
-Breaks code session Indirect f = Holds code f (λ i next. is_indirect i ≡ true)
-Breaks code session Returns f = Holds code f (λ i next. (is_main f.routine && is_some (counts i)) ≡ true) ⊎ Differs code f
-Breaks code session Under f = Holds code f (λ i next. f.height < need i) ⊎ TakesMore code f
-Breaks code session Target f = Holds code f (λ i next. places_inside (length code) i next ≡ false)
+Breaks code session Indirect f = HoldsAtFact code f (λ i next. is_indirect i ≡ true)
+Breaks code session Returns f = HoldsAtFact code f (λ i next. (is_main f.routine && is_some (counts i)) ≡ true) ⊎ Differs code f
+Breaks code session Under f = HoldsAtFact code f (λ i next. f.height < need i) ⊎ TakesMore code f
+Breaks code session Target f = HoldsAtFact code f (λ i next. places_inside (length code) i next ≡ false)
 Breaks code session Recursive f = ReachesItself code f
 Breaks code session Heights f = SharesPlace code f
 Breaks code session Wild f = WritesWild code session f

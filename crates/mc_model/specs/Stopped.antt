@@ -93,14 +93,14 @@ stood true m list = laid m list
 stood false m list = m
 
 -- the places of a journal
-abbrev pub Inside : Journal → ℕ → Type 0
-Inside One i = (1 ≤ i) × (i ≤ 130)
-Inside Two i = ((2 ≤ i) × (i ≤ 82)) ⊎ (i ≡ 130)
+abbrev pub InJournal : Journal → ℕ → Type 0
+InJournal One i = (1 ≤ i) × (i ≤ 130)
+InJournal Two i = ((2 ≤ i) × (i ≤ 82)) ⊎ (i ≡ 130)
 
 -- the same words in every place outside a journal
 pub record SameOutside (j : Journal) (a b : List (List ℕ)) : Type 0 where
   pub size : length a ≡ length b
-  pub words : (i : ℕ) → (Inside j i → ⊥) → word_at a i ≡ word_at b i
+  pub words : (i : ℕ) → (InJournal j i → ⊥) → word_at a i ≡ word_at b i
 
 -- the same words in every place but one
 pub record SameBut (k : ℕ) (a b : List (List ℕ)) : Type 0 where
@@ -108,7 +108,7 @@ pub record SameBut (k : ℕ) (a b : List (List ℕ)) : Type 0 where
   pub words : (i : ℕ) → i ≢ k → word_at a i ≡ word_at b i
 
 -- an image that owes n writes of journal j, and means t outside it
-pub record Leaves (j : Journal) (m : List (List ℕ)) (n : ℕ) (t : List (List ℕ)) : Type 0 where
+pub record LeavesOwing (j : Journal) (m : List (List ℕ)) (n : ℕ) (t : List (List ℕ)) : Type 0 where
   pub owed : owed_j j m ≡ n
   pub after : List (List ℕ)
   pub is : after_j j m ≡ Words after
@@ -122,7 +122,7 @@ pub record Resumes (j : Journal) (m : List (List ℕ)) (n : ℕ) (t : List (List
   pub same : SameBut (gate j) after t
 
 -- an atomic write that was not stopped: the gate is shut, the targets hold their words, the rest stays
-pub record Stands (j : Journal) (old : List (List ℕ)) (list : List (ℕ × List ℕ)) (new : List (List ℕ)) : Type 0 where
+pub record LaidWhole (j : Journal) (old : List (List ℕ)) (list : List (ℕ × List ℕ)) (new : List (List ℕ)) : Type 0 where
   pub gate : word_at new (gate j) ≡ shut
   pub targets : AllByRecursion (λ p. word_at new p.0 ≡ p.1) list
   pub same : SameOutside j new (laid old list)
@@ -131,7 +131,7 @@ pub record Stands (j : Journal) (old : List (List ℕ)) (list : List (ℕ × Lis
 
 -- an atomic write that was done, on a device
 pub record WriteStands (j : Journal) (d : DeviceState) (list : List (ℕ × List ℕ)) (e : DeviceState) : Type 0 where
-  pub stands : Stands j d.words list e.words
+  pub stands : LaidWhole j d.words list e.words
   pub ended : Ended (Ok tt) d e
   pub tape : GrowsBy d.tape (done_entries (writes j list)) e.tape
 
@@ -142,7 +142,7 @@ pub record WriteTorn (j : Journal) (d : DeviceState) (list : List (ℕ × List �
   pub low : 1 ≤ k
   pub high : k ≤ cost j (length list)
   pub size : length x ≡ 8
-  pub leaves : Leaves j e.words (owes j (length list) k x) (stood (stands j (length list) k x) d.words list)
+  pub leaves : LeavesOwing j e.words (owes j (length list) k x) (stood (stands j (length list) k x) d.words list)
   pub ended : Ended (Err s) d e
   pub tape : GrowsBy d.tape (torn_entries (writes j list) k x s) e.tape
 
@@ -152,13 +152,13 @@ WriteEnds j d list (Ok u) e = WriteStands j d list e
 WriteEnds j d list (Err s) e = WriteTorn j d list s e
 
 -- how a recovery ended: with so many writes, by a stop, or at a bad place of the journal without a write
-pub data Outcome : Type 0 where
-  Recovered : ℕ → Outcome
-  Interrupted : Stop → Outcome
-  BadAt : ℕ → Outcome
+pub data RecoveryOutcome : Type 0 where
+  Recovered : ℕ → RecoveryOutcome
+  Interrupted : Stop → RecoveryOutcome
+  BadAt : ℕ → RecoveryOutcome
 
 -- the answer of the device writes of a recovery
-abbrev pub outcome_answer : Outcome → Answer
+abbrev pub outcome_answer : RecoveryOutcome → Answer
 outcome_answer (Recovered n) = Ok tt
 outcome_answer (Interrupted s) = Err s
 outcome_answer (BadAt p) = Ok tt
@@ -170,12 +170,12 @@ owed_writes Closed = []
 owed_writes (Pending j ps) = replay j ps
 
 -- the outcomes that a look allows
-abbrev pub Follows : Look → Outcome → Type 0
-Follows (Refused p) o = o ≡ BadAt p
-Follows Closed o = o ≡ Recovered 0
-Follows (Pending j ps) (Recovered n) = n ≡ length ps + 1
-Follows (Pending j ps) (Interrupted s) = Unit {0}
-Follows (Pending j ps) (BadAt p) = ⊥
+abbrev pub LookAllows : Look → RecoveryOutcome → Type 0
+LookAllows (Refused p) o = o ≡ BadAt p
+LookAllows Closed o = o ≡ Recovered 0
+LookAllows (Pending j ps) (Recovered n) = n ≡ length ps + 1
+LookAllows (Pending j ps) (Interrupted s) = Unit {0}
+LookAllows (Pending j ps) (BadAt p) = ⊥
 
 -- a recovery that was done: the image after the replay, its gate shut
 pub record ReplayDone (j : Journal) (d : DeviceState) (ps : List (ℕ × List ℕ)) (e : DeviceState) : Type 0 where
@@ -197,7 +197,7 @@ pub record ReplayTorn (j : Journal) (d : DeviceState) (ps : List (ℕ × List �
   pub tape : GrowsBy d.tape (torn_entries (replay j ps) k x s) e.tape
 
 -- a recovery by what its look found
-abbrev pub RecoverEnds : Journal → Look → DeviceState → Outcome → DeviceState → Type 0
+abbrev pub RecoverEnds : Journal → Look → DeviceState → RecoveryOutcome → DeviceState → Type 0
 RecoverEnds j (Refused p) d o e = (o ≡ BadAt p) × (e ≡ d)
 RecoverEnds j Closed d o e = (o ≡ Recovered 0) × (e ≡ d)
 RecoverEnds j (Pending i ps) d (Recovered n) e = (n ≡ length ps + 1) × (n ≤ 65) × ReplayDone j d ps e

@@ -1,5 +1,6 @@
 -- Texts: lines, fields, names and numbers, hexadecimal digits, and code that is written in them.
 use Rattle.std.specs.Prelude.{ℕ, suc, ◌+◌, ◌-◌, ◌*◌, Bool, true, false, cond, not, ◌&&◌, ◌||◌, nat_le, ◌==◌, List, [], ◌∷◌, ◌++◌, map, length, filter, Option, Some, None, option_map, option_and_then, ok_or, Result, Ok, Err}
+use Rattle.mc_model.specs.Limits.{most_code}
 
 -- ---- answers in turn
 
@@ -180,4 +181,4 @@ unfoldable pub code_text_read : List ℕ → Result (List ℕ) CodeFault
 code_text_read t = do
   vs ← code_digits (numbered 1 (lines t))
   code ← ok_or (paired vs) (BadHex (length (lines t)))
-  only_if (nat_le (length code) 8192) TooLarge code
+  only_if (nat_le (length code) most_code) TooLarge code

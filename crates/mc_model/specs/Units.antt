@@ -1,6 +1,7 @@
 -- Load units: the grammar as a reader and as a relation, and the name in a DIR record.
 -- The objects of a DIR record are tag, length and value (ISO/IEC 7816-4:2005, 5.2.2, BER-TLV data objects).
 use Rattle.std.specs.Prelude.{◌≡◌, ℕ, zero, suc, ◌+◌, ◌%◌, ◌<◌, ◌≤◌, cond, ◌&&◌, nat_lt, nat_le, ◌==◌, if◌then◌else◌, List, [], ◌∷◌, ◌++◌, length, take, drop, position, bytes_eq, Option, Some, None, option_map, option_and_then, Result, Ok, Err}
+use Rattle.mc_model.specs.Limits.{most_code}
 use Rattle.mc_model.specs.Bytes.{be2, bytes2, zeros}
 use Rattle.mc_model.specs.declared.unit.UnitRefusal.{UnitRefusal}
 use Rattle.mc_model.specs.declared.unit.UnitRefusal.TheVariants.{Short, NoCode, TooLarge, Signed, Enciphered, Tail}
@@ -95,7 +96,7 @@ field_at most b = do
 unfoldable pub code_at : List ℕ → Result (List ℕ × List ℕ) UnitRefusal
 code_at b = do
   n ← length_at b
-  if n.0 == 0 then Err NoCode else (if nat_lt 8192 n.0 then Err TooLarge else bytes_at n.0 n.1)
+  if n.0 == 0 then Err NoCode else (if nat_lt most_code n.0 then Err TooLarge else bytes_at n.0 n.1)
 
 -- the bytes after a field that has to be empty, and else this refusal
 unfoldable pub empty_at : UnitRefusal → List ℕ → Result (List ℕ) UnitRefusal
@@ -146,7 +147,7 @@ unit_text number code init dir fci = number ++ field code ++ field init ++ field
 -- the limits of the four fields
 pub record FitsUnit (code init dir fci : List ℕ) : Type 0 where
   pub some_code : 0 < length code
-  pub code_len : length code ≤ 8192
+  pub code_len : length code ≤ most_code
   pub init_len : length init ≤ 4096
   pub dir_len : length dir ≤ 128
   pub fci_len : length fci ≤ 128

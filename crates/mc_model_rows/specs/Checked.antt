@@ -5,7 +5,7 @@ use Rattle.mc_model.specs.declared.instruction.Ins.{Ins}
 use Rattle.mc_model.specs.declared.instruction.DecodeFault.{DecodeFault}
 use Rattle.mc_model.specs.Code.{decoded}
 use Rattle.mc_model.specs.StackRows.{height_after, writing, is_plain, is_call, is_conditional, counts, goes_on, jump_target, call_target}
-use Rattle.mc_model.specs.StackShape.{Routine, Main, At, Fact, fact, Look, Bad, Stands, look}
+use Rattle.mc_model.specs.StackShape.{Routine, Main, At, Fact, fact, FactLook, Bad, Stands, look}
 
 -- whether two routines are one
 abbrev pub is_same_routine : Routine → Routine → Bool
@@ -52,7 +52,7 @@ gives_by code fs f i next None =
     ++ flat_map (λ t. map (λ p. fact f.routine p f.height) (to_list t)) (to_list (jump_target i next))
 
 -- the facts that a place gives
-abbrev pub gives_seen : List ℕ → List Fact → Fact → Look → List Fact
+abbrev pub gives_seen : List ℕ → List Fact → Fact → FactLook → List Fact
 gives_seen code fs f (Bad c) = []
 gives_seen code fs f (Stands i next) = cond (nat_le f.height 512) (gives_by code fs f i next (call_target i)) []
 
@@ -99,7 +99,7 @@ base_of zero cs r = 0
 base_of (suc n) cs r = greatest (map (λ c. cond (is_same_routine (At c.1) r) (base_of n cs (c.0).routine + (c.0).height + 4) 0) cs)
 
 -- whether no instruction stands there
-abbrev pub is_bad : Look → Bool
+abbrev pub is_bad : FactLook → Bool
 is_bad (Bad c) = true
 is_bad (Stands i next) = false
 

@@ -10,7 +10,7 @@ use Rattle.mc_nvm.specs.declared.sim.SimNvm.TheInside.{Inside as Held}
 use Rattle.mc_nvm.specs.declared.fuse.Due.{Due as Found}
 use Rattle.mc_nvm.specs.declared.fuse.Due.TheVariants.{Cut as FoundCut, Worn as FoundWorn, Not as FoundNot}
 use Rattle.mc_model.specs.Counts.{Rose, last_count}
-use Rattle.mc_model.specs.Device.{DeviceState, BenchState, Fuse, Wrote, Ends, fill_at, BenchWrote, Due, DueCut, DueWorn, DueNot, due, falling, counted, next_count}
+use Rattle.mc_model.specs.Device.{DeviceState, BenchState, Fuse, Wrote, NextWriteEnds, fill_at, BenchWrote, Due, DueCut, DueWorn, DueNot, due, falling, counted, next_count}
 
 -- what a device in memory means
 pub record Sim : Type 0 where
@@ -135,9 +135,9 @@ sim_obeys s at w a e on r =
 
 burnt : (s : Sim) (at : ℕ) (w : List ℕ) (d : Due) → next_due false s ≡ d
     → BenchWrote (sim_state s) (sim_bench s) at (answer_to d) (sim_state (after_write s at w d)) (sim_bench (after_write s at w d))
-burnt s at w (DueCut fill) is = record { ends = subst (λ (t : Due). Ends t true (sim_state s) at (Err Off) (sim_state (after_write s at w (DueCut fill)))) (sym is) (refl, refl); counts = (refl, refl); fuses = inl refl }
-burnt s at w (DueWorn fill) is = record { ends = subst (λ (t : Due). Ends t true (sim_state s) at (Err Worn) (sim_state (after_write s at w (DueWorn fill)))) (sym is) (refl, refl); counts = (refl, refl); fuses = inl refl }
-burnt s at w DueNot is = record { ends = subst (λ (t : Due). Ends t true (sim_state s) at (Ok tt) (sim_state (after_write s at w DueNot))) (sym is) refl; counts = (refl, refl); fuses = refl }
+burnt s at w (DueCut fill) is = record { ends = subst (λ (t : Due). NextWriteEnds t true (sim_state s) at (Err Off) (sim_state (after_write s at w (DueCut fill)))) (sym is) (refl, refl); counts = (refl, refl); fuses = inl refl }
+burnt s at w (DueWorn fill) is = record { ends = subst (λ (t : Due). NextWriteEnds t true (sim_state s) at (Err Worn) (sim_state (after_write s at w (DueWorn fill)))) (sym is) (refl, refl); counts = (refl, refl); fuses = inl refl }
+burnt s at w DueNot is = record { ends = subst (λ (t : Due). NextWriteEnds t true (sim_state s) at (Ok tt) (sim_state (after_write s at w DueNot))) (sym is) refl; counts = (refl, refl); fuses = refl }
 
 -- and is stopped by its fuses alone
 pub sim_burns : (s : Sim) (at : ℕ) (w : List ℕ) (a : Answer) (e : Sim) → (sim_state s).on ≡ true → SimWrote s at w a e → BenchWrote (sim_state s) (sim_bench s) at a (sim_state e) (sim_bench e)

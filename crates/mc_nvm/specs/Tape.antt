@@ -5,7 +5,7 @@ use Rattle.mc_nvm.specs.declared.tape.Entry.{Entry as Written}
 use Rattle.mc_nvm.specs.declared.tape.Tape.TheInside.{Inside as TapeInside}
 
 -- a tape: how many entries it has room for, and the entries where it tells them
-pub record Told : Type 0 where
+pub record ToldTape : Type 0 where
   pub room : ℕ
   pub told : Option (List Entry)
 
@@ -19,7 +19,7 @@ unless true es = None
 unless false es = Some es
 
 -- a tape as it is seen
-abbrev pub told_inside : TapeInside → Told
+abbrev pub told_inside : TapeInside → ToldTape
 told_inside t = record { room = t.room; told = unless t.over (map entry_of t.entries.items) }
 
 -- room was taken at once for all entries that it may hold

@@ -4,15 +4,15 @@ use Rattle.std.proofs.Common.{subst, sym, inl}
 use Rattle.mc_model.specs.declared.device.Stop.{Stop}
 use Rattle.mc_model.specs.declared.device.Stop.TheVariants.{Off, Worn}
 use Rattle.mc_model.specs.Orders.{Answer}
-use Rattle.mc_model.specs.Device.{DeviceState, BenchState, Entry, Wrote, Ends, Counts, Burns, Grows, BenchWrote, Due, DueCut, DueWorn, DueNot, due, falling, next_count}
+use Rattle.mc_model.specs.Device.{DeviceState, BenchState, Entry, Wrote, NextWriteEnds, Counts, Burns, Grows, BenchWrote, Due, DueCut, DueWorn, DueNot, due, falling, next_count}
 use Rattle.mc_nvm.specs.declared.tape_nvm.TapeNvm.TheInside.{Inside as Held}
 use Rattle.mc_nvm.specs.Sim.{Sim, sim_state, sim_bench, blank_sim, own, next_due, after_write, answer_to, Sound, falls_word, next_rose, next_not_less}
-use Rattle.mc_nvm.specs.Tape.{Told, more, unless}
+use Rattle.mc_nvm.specs.Tape.{ToldTape, more, unless}
 
 -- what a device with a tape means
 pub record Taped : Type 0 where
   pub device : Sim
-  pub tape : Told
+  pub tape : ToldTape
   pub worn : List ℕ
   pub tried : ℕ
 
@@ -123,7 +123,7 @@ taped_obeys t at w a e on r =
 
 -- what a bench's end of a write is, where a write of the list may be refused
 ends : (s : Bool) (b : Bool) (x : DeviceState) (at : ℕ) (w : List ℕ) (d : Due) (e : DeviceState) → (s ≡ true → b ≡ false) → e.words ≡ slice_set x.words at (left_by (own b d) w)
-    → Ends d s x at (answer_to (own b d)) e
+    → NextWriteEnds d s x at (answer_to (own b d)) e
 ends s false x at w (DueCut fill) e h words = (refl, words)
 ends s true x at w (DueCut fill) e h words = (refl, words)
 ends true false x at w (DueWorn fill) e h words = (refl, words)

@@ -1,5 +1,5 @@
 ghost use Rattle.std.specs.Prelude.{◌≡◌, [], Some, None, MatchOption, IfOk, map};
-ghost use Rattle.mc_nvm.specs.Tape.{Told, entry_of, more};
+ghost use Rattle.mc_nvm.specs.Tape.{ToldTape, entry_of, more};
 
 use mc_base::{NoMemory, Stop, Word};
 use std::alloc::Global;
@@ -22,9 +22,9 @@ pub struct Tape {
 }
 
 impl Model for Tape {
-    ghost use Rattle.mc_nvm.specs.Tape.{Told, told_inside, KeepsRoom};
+    ghost use Rattle.mc_nvm.specs.Tape.{ToldTape, told_inside, KeepsRoom};
 
-    ghost Value = { Told };
+    ghost Value = { ToldTape };
 
     ghost view = { told_inside };
 

@@ -10,7 +10,7 @@ use Rattle.mc_model.specs.Primitives.{Around, Primitive, Done, going, compared, 
 use Rattle.mc_model.specs.Row.{first_cause, judged}
 use Rattle.mc_bank.specs.Bank.{BankState}
 use Rattle.mc_segs.specs.HeldFrames.{Held}
-use Rattle.mc_segs.specs.Ends.{Scene, before, Acts}
+use Rattle.mc_segs.specs.Ends.{Scene, before, EndActs}
 use Rattle.mc_segs.specs.declared.ends.Halt.{Halt}
 use Rattle.mc_segs.specs.declared.ends.Next.{Next}
 
@@ -20,7 +20,7 @@ alone = record { case = 0; delegator = None }
 
 -- causes in their order, and what is done where none holds, by the result of the call
 abbrev pub CausesAct : {B : Type 0} → (B → BankItem → Answer → B → Type 0) → (B → BankState) → (B → ℕ → Option (List ℕ)) → Scene B → List (Abend × Bool) → Done → Result Next Halt → Type 0
-CausesAct did state named s causes done r = Acts did state named s (judged (first_cause causes) done) r
+CausesAct did state named s causes done r = EndActs did state named s (judged (first_cause causes) done) r
 
 -- a primitive whose own bytes are good and which is not denied, by the result of the call
 abbrev pub PrimActs : {B : Type 0} → (B → BankItem → Answer → B → Type 0) → (B → BankState) → (B → ℕ → Option (List ℕ)) → Scene B → Primitive → List ℕ → Around → Result Next Halt → Type 0
@@ -39,9 +39,9 @@ PopsInto (Ok u) n h k into = (is_under h.frame n ≡ false) × (into ≡ top h.f
 PopsInto (Err a) n h k into = (is_under h.frame n ≡ true) × (a ≡ A04) × (k ≡ h)
 
 -- n bytes at an address were read; abend 03 where they are not whole in a segment
-abbrev pub Reads : Result (List ℕ) Abend → Frame → List ℕ → ℕ → ℕ → Type 0
-Reads (Ok b) f public a n = (is_outside f a n ≡ false) × (b ≡ bytes_at f public a n) × (length b ≡ n)
-Reads (Err e) f public a n = (is_outside f a n ≡ true) × (e ≡ A03)
+abbrev pub ReadsBytes : Result (List ℕ) Abend → Frame → List ℕ → ℕ → ℕ → Type 0
+ReadsBytes (Ok b) f public a n = (is_outside f a n ≡ false) × (b ≡ bytes_at f public a n) × (length b ≡ n)
+ReadsBytes (Err e) f public a n = (is_outside f a n ≡ true) × (e ≡ A03)
 
 -- the byte at an address was read, with the address behind it; abend 03 where it is in no segment
 abbrev pub ReadsCount : Result (ℕ × ℕ) Abend → Frame → List ℕ → ℕ → Type 0

@@ -3,9 +3,9 @@ ghost use Rattle.std.specs.Prelude.{◌≡◌, ◌%◌, ◌≤◌, ◌<◌, ◌�
 ghost use Rattle.mc_model.specs.Modes.{ecb};
 ghost use Rattle.mc_model.specs.Frame.{is_outside};
 ghost use Rattle.mc_model.specs.Primitives as model;
-ghost use Rattle.mc_segs.specs.HeldFrames.{Fits, shown};
+ghost use Rattle.mc_segs.specs.HeldFrames.{FitsBank, shown};
 ghost use Rattle.mc_segs.specs.Ends.{IfDue};
-ghost use Rattle.mc_prims.specs.Acting.{IsLength, Reads, ReadsCount};
+ghost use Rattle.mc_prims.specs.Acting.{IsLength, ReadsBytes, ReadsCount};
 ghost use Rattle.mc_prims.specs.Table.{cipher_of, turned};
 
 use crate::ciphers::Way;
@@ -40,8 +40,8 @@ impl Block {
         len: u8,
     ) -> Result<Block, Abend>
         requires going { (B.state bank.now).stopped ≡ false }
-        requires fits { Fits (B.state bank.now) (B.named bank.now) frame.now }
-        ensures { Reads result (shown (B.state bank.now) (B.named bank.now) frame.now) public.now at len }
+        requires fits { FitsBank (B.state bank.now) (B.named bank.now) frame.now }
+        ensures { ReadsBytes result (shown (B.state bank.now) (B.named bank.now) frame.now) public.now at len }
     {
         let mut bytes = [0; 255];
         load(bank, frame, public, at, &mut bytes[..len as usize])?;
@@ -105,7 +105,7 @@ pub fn reach<B: Bank>(
     len: u8,
 ) -> Result<(), Abend>
     requires going { (B.state bank.now).stopped ≡ false }
-    requires fits { Fits (B.state bank.now) (B.named bank.now) frame.now }
+    requires fits { FitsBank (B.state bank.now) (B.named bank.now) frame.now }
     ensures { IfDue result (is_outside (shown (B.state bank.now) (B.named bank.now) frame.now) at len) Abend.A03 }
 {
     Block::read(bank, frame, public, at, len)?;
@@ -121,7 +121,7 @@ pub fn read_count<B: Bank>(
     at: u16,
 ) -> Result<(u8, u16), Abend>
     requires going { (B.state bank.now).stopped ≡ false }
-    requires fits { Fits (B.state bank.now) (B.named bank.now) frame.now }
+    requires fits { FitsBank (B.state bank.now) (B.named bank.now) frame.now }
     requires room { length frame.now.frame.fixed ≤ 4096 }
     ensures { ReadsCount result (shown (B.state bank.now) (B.named bank.now) frame.now) public.now at }
 {

@@ -3,7 +3,7 @@ ghost use Rattle.std.specs.Prelude.{◌≡◌, ◌+◌, ◌==◌, ◌≤◌, [],
 ghost use Rattle.mc_model.specs.Frame.{flagged, pushed};
 ghost use Rattle.mc_model.specs.Primitives as model;
 ghost use Rattle.mc_model.specs.Primitives.{Lookup, MemoryCompare, MemoryCopy, CompareFixed, CopyFixed, Digest};
-ghost use Rattle.mc_segs.specs.HeldFrames.{Fits, shown};
+ghost use Rattle.mc_segs.specs.HeldFrames.{FitsBank, shown};
 ghost use Rattle.mc_segs.specs.Ends.{scene};
 ghost use Rattle.mc_segs.specs.declared.ends.Next.TheVariants.{Go};
 ghost use Rattle.mc_prims.specs.Acting.{alone, CausesAct, PrimActs, compare_causes, flags_compared};
@@ -23,7 +23,7 @@ pub fn copy_memory<B: Bank>(
     bank: &mut B,
 ) -> Result<Next, Halt>
     requires going { (B.state bank.old).stopped ≡ false }
-    requires fits { Fits (B.state bank.old) (B.named bank.old) frame.old }
+    requires fits { FitsBank (B.state bank.old) (B.named bank.old) frame.old }
     ensures { PrimActs B.did B.state B.named
         (scene bank.old bank.new frame.old frame.new public.old public.new) MemoryCopy [] alone result }
 {
@@ -43,7 +43,7 @@ pub fn copy_fixed<B: Bank>(
     bank: &mut B,
 ) -> Result<Next, Halt>
     requires going { (B.state bank.old).stopped ≡ false }
-    requires fits { Fits (B.state bank.old) (B.named bank.old) frame.old }
+    requires fits { FitsBank (B.state bank.old) (B.named bank.old) frame.old }
     requires args { model.has_bad_argument CopyFixed args.now ≡ false }
     ensures { PrimActs B.did B.state B.named
         (scene bank.old bank.new frame.old frame.new public.old public.new) CopyFixed args.now alone result }
@@ -62,7 +62,7 @@ pub fn compare_memory<B: Bank>(
     bank: &mut B,
 ) -> Result<Next, Halt>
     requires going { (B.state bank.old).stopped ≡ false }
-    requires fits { Fits (B.state bank.old) (B.named bank.old) frame.old }
+    requires fits { FitsBank (B.state bank.old) (B.named bank.old) frame.old }
     ensures { PrimActs B.did B.state B.named
         (scene bank.old bank.new frame.old frame.new public.old public.new) MemoryCompare [] alone result }
 {
@@ -80,7 +80,7 @@ pub fn compare_fixed<B: Bank>(
     bank: &mut B,
 ) -> Result<Next, Halt>
     requires going { (B.state bank.old).stopped ≡ false }
-    requires fits { Fits (B.state bank.old) (B.named bank.old) frame.old }
+    requires fits { FitsBank (B.state bank.old) (B.named bank.old) frame.old }
     requires args { model.has_bad_argument CompareFixed args.now ≡ false }
     ensures { PrimActs B.did B.state B.named
         (scene bank.old bank.new frame.old frame.new public.old public.new) CompareFixed args.now alone result }
@@ -99,7 +99,7 @@ fn compare_bytes<B: Bank>(
     bank: &mut B,
 ) -> Result<Next, Halt>
     requires going { (B.state bank.old).stopped ≡ false }
-    requires fits { Fits (B.state bank.old) (B.named bank.old) frame.old }
+    requires fits { FitsBank (B.state bank.old) (B.named bank.old) frame.old }
     requires len { 1 ≤ len }
     ensures { CausesAct B.did B.state B.named (scene bank.old bank.new frame.old frame.new public.old public.new)
         (compare_causes (shown (B.state bank.old) (B.named bank.old) frame.old) len first second)
@@ -116,7 +116,7 @@ fn compare_bytes<B: Bank>(
 #[tactic(auto, unfolding(mc_model::specs::Primitives::later_causes, mc_model::specs::Primitives::prim_effect))]
 pub fn digest<B: Bank>(frame: &mut Frame, public: &mut Public, bank: &mut B) -> Result<Next, Halt>
     requires going { (B.state bank.old).stopped ≡ false }
-    requires fits { Fits (B.state bank.old) (B.named bank.old) frame.old }
+    requires fits { FitsBank (B.state bank.old) (B.named bank.old) frame.old }
     ensures { PrimActs B.did B.state B.named
         (scene bank.old bank.new frame.old frame.new public.old public.new) Digest [] alone result }
 {
@@ -134,7 +134,7 @@ pub fn digest<B: Bank>(frame: &mut Frame, public: &mut Public, bank: &mut B) -> 
 #[tactic(auto, unfolding(mc_model::specs::Primitives::later_causes, mc_model::specs::Primitives::prim_effect))]
 pub fn look_up<B: Bank>(frame: &mut Frame, public: &mut Public, bank: &mut B) -> Result<Next, Halt>
     requires going { (B.state bank.old).stopped ≡ false }
-    requires fits { Fits (B.state bank.old) (B.named bank.old) frame.old }
+    requires fits { FitsBank (B.state bank.old) (B.named bank.old) frame.old }
     requires room { length frame.old.frame.fixed ≤ 4096 }
     ensures { PrimActs B.did B.state B.named
         (scene bank.old bank.new frame.old frame.new public.old public.new) Lookup [] alone result }

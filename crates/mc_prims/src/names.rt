@@ -2,7 +2,7 @@
 ghost use Rattle.std.specs.Prelude.{◌≡◌, ◌≤◌, [], ◌∷◌, false, length};
 ghost use Rattle.mc_model.specs.Primitives as model;
 ghost use Rattle.mc_model.specs.Primitives.{DelegateTo, DelegatorAid};
-ghost use Rattle.mc_segs.specs.HeldFrames.{Fits};
+ghost use Rattle.mc_segs.specs.HeldFrames.{FitsBank};
 ghost use Rattle.mc_segs.specs.Ends.{scene};
 ghost use Rattle.mc_prims.specs.Acting.{alone, PrimActs};
 
@@ -17,7 +17,7 @@ use mc_segs::{Frame, Halt, Next, Public, store};
 #[tactic(auto, unfolding(mc_model::specs::Primitives::later_causes, mc_model::specs::Primitives::prim_effect))]
 pub fn delegate<B: Bank>(frame: &mut Frame, public: &mut Public, bank: &mut B) -> Result<Next, Halt>
     requires going { (B.state bank.old).stopped ≡ false }
-    requires fits { Fits (B.state bank.old) (B.named bank.old) frame.old }
+    requires fits { FitsBank (B.state bank.old) (B.named bank.old) frame.old }
     requires room { length frame.old.frame.fixed ≤ 4096 }
     ensures { PrimActs B.did B.state B.named
         (scene bank.old bank.new frame.old frame.new public.old public.new) DelegateTo [] alone result }
@@ -43,7 +43,7 @@ pub fn tell_delegator<B: Bank>(
     bank: &mut B,
 ) -> Result<Next, Halt>
     requires going { (B.state bank.old).stopped ≡ false }
-    requires fits { Fits (B.state bank.old) (B.named bank.old) frame.old }
+    requires fits { FitsBank (B.state bank.old) (B.named bank.old) frame.old }
     ensures { PrimActs B.did B.state B.named
         (scene bank.old bank.new frame.old frame.new public.old public.new) DelegatorAid []
         (record alone { delegator = delegator }) result }

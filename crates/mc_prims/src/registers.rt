@@ -3,7 +3,7 @@
 ghost use Rattle.std.specs.Prelude.{◌≡◌, [], ◌∷◌, false};
 ghost use Rattle.mc_model.specs.Primitives as model;
 ghost use Rattle.mc_model.specs.Primitives.{CheckCase, LoadCcr, StoreCcr, SetProtection};
-ghost use Rattle.mc_segs.specs.HeldFrames.{Fits};
+ghost use Rattle.mc_segs.specs.HeldFrames.{FitsBank};
 ghost use Rattle.mc_segs.specs.Ends.{scene};
 ghost use Rattle.mc_prims.specs.Acting.{alone, PrimActs};
 
@@ -21,7 +21,7 @@ pub fn check_case<B: Bank>(
     bank: &mut B,
 ) -> Result<Next, Halt>
     requires going { (B.state bank.old).stopped ≡ false }
-    requires fits { Fits (B.state bank.old) (B.named bank.old) frame.old }
+    requires fits { FitsBank (B.state bank.old) (B.named bank.old) frame.old }
     ensures { PrimActs B.did B.state B.named
         (scene bank.old bank.new frame.old frame.new public.old public.new) CheckCase []
         (record alone { case = case }) result }
@@ -42,7 +42,7 @@ pub fn load_flags<B: Bank>(
     bank: &mut B,
 ) -> Result<Next, Halt>
     requires going { (B.state bank.old).stopped ≡ false }
-    requires fits { Fits (B.state bank.old) (B.named bank.old) frame.old }
+    requires fits { FitsBank (B.state bank.old) (B.named bank.old) frame.old }
     ensures { PrimActs B.did B.state B.named
         (scene bank.old bank.new frame.old frame.new public.old public.new) LoadCcr [] alone result }
 {
@@ -58,7 +58,7 @@ pub fn store_flags<B: Bank>(
     bank: &mut B,
 ) -> Result<Next, Halt>
     requires going { (B.state bank.old).stopped ≡ false }
-    requires fits { Fits (B.state bank.old) (B.named bank.old) frame.old }
+    requires fits { FitsBank (B.state bank.old) (B.named bank.old) frame.old }
     ensures { PrimActs B.did B.state B.named
         (scene bank.old bank.new frame.old frame.new public.old public.new) StoreCcr [] alone result }
 {
@@ -76,7 +76,7 @@ pub fn set_protection<B: Bank>(
     bank: &mut B,
 ) -> Result<Next, Halt>
     requires going { (B.state bank.old).stopped ≡ false }
-    requires fits { Fits (B.state bank.old) (B.named bank.old) frame.old }
+    requires fits { FitsBank (B.state bank.old) (B.named bank.old) frame.old }
     requires args { model.has_bad_argument SetProtection args.now ≡ false }
     ensures { PrimActs B.did B.state B.named
         (scene bank.old bank.new frame.old frame.new public.old public.new) SetProtection args.now alone result }

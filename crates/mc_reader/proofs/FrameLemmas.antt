@@ -6,11 +6,11 @@ use Rattle.std.proofs.lemmas.List.{take_at, drop_at}
 use Rattle.mc_reader.specs.Frames.{framed, framed_all, first_frame, frames_within, frames_read}
 
 -- the length of a frame fits its two bytes
-abbrev pub Fits : List ℕ → Type 0
-Fits f = length f < 65536
+abbrev pub LengthFits : List ℕ → Type 0
+LengthFits f = length f < 65536
 
 -- a frame before other bytes
-first_framed : (f rest : List ℕ) → Fits f → first_frame (framed f ++ rest) ≡ Some (f, rest)
+first_framed : (f rest : List ℕ) → LengthFits f → first_frame (framed f ++ rest) ≡ Some (f, rest)
 first_framed f rest fits =
     let size : 256 * (length f / 256 % 256) + length f % 256 ≡ length f = omega (arith, fits) in
     let long : length f ≤ length (f ++ rest) = rw (length-append f rest) (omega arith) in
@@ -22,7 +22,7 @@ count_frames [] = omega arith
 count_frames (f ∷ fs) = rw (length-append f (framed_all fs)) (omega (arith, count_frames fs))
 
 -- frames, and bytes that are less than one more
-frames_whole : (k : ℕ) (fs : List (List ℕ)) (part : List ℕ) → length fs ≤ k → AllByRecursion Fits fs → first_frame part ≡ None → frames_within k (framed_all fs ++ part) ≡ (fs, part)
+frames_whole : (k : ℕ) (fs : List (List ℕ)) (part : List ℕ) → length fs ≤ k → AllByRecursion LengthFits fs → first_frame part ≡ None → frames_within k (framed_all fs ++ part) ≡ (fs, part)
 unfolding frames_within
 frames_whole zero [] part few fit less = refl
 frames_whole (suc k) [] part few fit less = rw less refl
@@ -34,7 +34,7 @@ frames_whole (suc k) (f ∷ fs) part few fit less =
     rw (first, rest) refl
 
 -- what was taken, frame by frame
-pub frames_are : (fs : List (List ℕ)) (part : List ℕ) → AllByRecursion Fits fs → first_frame part ≡ None → frames_read (framed_all fs ++ part) ≡ (fs, part)
+pub frames_are : (fs : List (List ℕ)) (part : List ℕ) → AllByRecursion LengthFits fs → first_frame part ≡ None → frames_read (framed_all fs ++ part) ≡ (fs, part)
 frames_are fs part fit less =
     let count : length fs ≤ length (framed_all fs ++ part) = rw (length-append (framed_all fs) part) (omega (arith, count_frames fs)) in
     frames_whole (length (framed_all fs ++ part)) fs part count fit less
@@ -44,6 +44,6 @@ pub framed_more : (fs : List (List ℕ)) (f : List ℕ) → framed_all (fs ++ f 
 framed_more [] f = append-nil (framed f)
 framed_more (g ∷ fs) f = ap (λ t. framed g ++ t) (framed_more fs f) ∙ sym (append_assoc (framed g) (framed_all fs) (framed f))
 
-pub fits_more : (fs : List (List ℕ)) (f : List ℕ) → AllByRecursion Fits fs → Fits f → AllByRecursion Fits (fs ++ f ∷ [])
+pub fits_more : (fs : List (List ℕ)) (f : List ℕ) → AllByRecursion LengthFits fs → LengthFits f → AllByRecursion LengthFits (fs ++ f ∷ [])
 fits_more [] f all fits = (fits, all)
 fits_more (g ∷ fs) f all fits = (all.0, fits_more fs f all.1 fits)

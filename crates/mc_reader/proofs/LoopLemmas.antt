@@ -9,7 +9,7 @@ use Rattle.mc_base.specs.declared.refusals.WriteFault.{WriteFault}
 use Rattle.mc_base.proofs.StreamsLemmas.{Took-append, Took-none, Grew-none, Rose-later}
 use Rattle.mc_text.specs.Texts.{Sunk}
 use Rattle.mc_script.specs.declared.player.Player.{Player}
-use Rattle.mc_script.specs.Players.{IsAt}
+use Rattle.mc_script.specs.Players.{IsPlayerAt}
 use Rattle.mc_script.specs.Plays.{Bench}
 use Rattle.mc_script.specs.Lines.{bench_of}
 use Rattle.mc_script.proofs.LineLemmas.{player_stands}
@@ -18,11 +18,11 @@ use Rattle.mc_reader.specs.Meanings.{meaning, power_after}
 use Rattle.mc_reader.specs.Lines.{line_in, number_after}
 use Rattle.mc_reader.specs.Answers.{answer_to}
 use Rattle.mc_reader.specs.Readings.{TookPart, TookNone, TookShort}
-use Rattle.mc_reader.specs.Sessions.{Around, AnswersWritten, EndsBy}
+use Rattle.mc_reader.specs.Sessions.{AroundSession, AnswersWritten, EndsBy}
 use Rattle.mc_reader.specs.Serving.{Moves, ServesFrame, ServedFrames, ServedFrom}
 use Rattle.mc_reader.specs.declared.serve_error.ServeError.{ServeError}
 use Rattle.mc_reader.specs.declared.serve_error.ServeError.TheVariants as fault
-use Rattle.mc_reader.proofs.FrameLemmas.{Fits, frames_are, framed_more, fits_more}
+use Rattle.mc_reader.proofs.FrameLemmas.{LengthFits, frames_are, framed_more, fits_more}
 use Rattle.mc_reader.proofs.AnswerLemmas.{written_more, written_cut}
 use Rattle.mc_reader.proofs.ServingLemmas.{frames_none, frames_on}
 
@@ -34,28 +34,28 @@ pub record Start : Type 0 where
   pub dev : Bench
 
 -- the same, and what is told now
-abbrev pub around : Start → Option (List ℕ) → ℕ → Sunk → Bench → Around
+abbrev pub around : Start → Option (List ℕ) → ℕ → Sunk → Bench → AroundSession
 around v left reads out dev = record { left_old = v.left; left = left; reads_old = v.reads; reads = reads; out_old = v.out; out = out; dev_old = v.dev; dev = dev }
 
 module _ {N : Type 0} (state : N → DeviceState) (bench : N → BenchState) where
   -- So many frames were served, and the player stands for a state of the play: whatever frames are served from here, they and those before
   -- them are served from the start.
-  pub record Reached (s : State) (n : ℕ) (v : Start) (count : ℕ) (p : Player N) (powered : Bool) (left : Option (List ℕ)) (reads : ℕ) (out : Sunk) : Type 0 where
+  pub record SessionReached (s : State) (n : ℕ) (v : Start) (count : ℕ) (p : Player N) (powered : Bool) (left : Option (List ℕ)) (reads : ℕ) (out : Sunk) : Type 0 where
     pub frames : List (List ℕ)
     pub answers : List (Option (List ℕ))
     pub here : State
     pub number : ℕ
-    pub at : IsAt state bench p here
+    pub at : IsPlayerAt state bench p here
     pub rest : (fs : List (List ℕ)) (os : List (Option (List ℕ))) (c : Bench) → ServedFrames here number powered fs (bench_of state bench p) os c → ServedFrames s n false (frames ++ fs) v.dev (answers ++ os) c
-    pub fit : AllByRecursion Fits frames
+    pub fit : AllByRecursion LengthFits frames
     pub took : Took v.left left (framed_all frames)
     pub counted : v.reads ≤ reads
     pub written : AnswersWritten v.out answers out
     pub many : length frames ≡ count
 
   -- no frame was served
-  pub reached_start : (s : State) (n : ℕ) (p : Player N) (left : Option (List ℕ)) (reads : ℕ) (out : Sunk) → IsAt state bench p s
-      → Reached s n (record { left = left; reads = reads; out = out; dev = bench_of state bench p }) 0 p false left reads out
+  pub reached_start : (s : State) (n : ℕ) (p : Player N) (left : Option (List ℕ)) (reads : ℕ) (out : Sunk) → IsPlayerAt state bench p s
+      → SessionReached s n (record { left = left; reads = reads; out = out; dev = bench_of state bench p }) 0 p false left reads out
   reached_start s n p left reads out at =
       record {
         frames = [];
@@ -73,7 +73,7 @@ module _ {N : Type 0} (state : N → DeviceState) (bench : N → BenchState) whe
 
   -- the frames that were served are served from the start, with those behind one more
   rest_on : (s : State) (n : ℕ) (v : Start) (count : ℕ) (p q : Player N) (powered : Bool) (left : Option (List ℕ)) (reads : ℕ) (out : Sunk)
-      (h : Reached s n v count p powered left reads out) (f : List ℕ) (u : State) (told : Option LineResult)
+      (h : SessionReached s n v count p powered left reads out) (f : List ℕ) (u : State) (told : Option LineResult)
       → Moves h.here h.number (line_in (meaning powered f)) (bench_of state bench p) told u (bench_of state bench q)
       → (fs : List (List ℕ)) (os : List (Option (List ℕ))) (c : Bench)
       → ServedFrames u (number_after h.number (line_in (meaning powered f))) (power_after powered (meaning powered f)) fs (bench_of state bench q) os c
@@ -94,8 +94,8 @@ module _ {N : Type 0} (state : N → DeviceState) (bench : N → BenchState) whe
 
   -- one frame more was served, and its answer was written
   pub reached_on : (s : State) (n : ℕ) (v : Start) (count : ℕ) (p q : Player N) (powered on : Bool) (left next : Option (List ℕ)) (reads more : ℕ) (out wrote : Sunk)
-      (h : Reached s n v count p powered left reads out) (f : List ℕ) → Fits f → Took left next (framed f) → reads ≤ more → on ≡ power_after powered (meaning powered f)
-      → ServesFrame state bench p h.here h.number (meaning powered f) out (Ok tt) q wrote → Reached s n v (count + 1) q on next more wrote
+      (h : SessionReached s n v count p powered left reads out) (f : List ℕ) → LengthFits f → Took left next (framed f) → reads ≤ more → on ≡ power_after powered (meaning powered f)
+      → ServesFrame state bench p h.here h.number (meaning powered f) out (Ok tt) q wrote → SessionReached s n v (count + 1) q on next more wrote
   reached_on s n v count p q powered on left next reads more out wrote h f fits took counted power served =
       record {
         frames = h.frames ++ f ∷ [];
@@ -117,7 +117,7 @@ module _ {N : Type 0} (state : N → DeviceState) (bench : N → BenchState) whe
 
   -- no frame more is served
   finish : (s : State) (n : ℕ) (v : Start) (fs : List (List ℕ)) (os : List (Option (List ℕ))) (part : List ℕ) (left : Option (List ℕ)) (reads : ℕ) (out : Sunk) (c : Bench) (result : Result (Unit {0}) ServeError)
-      → Took v.left left (framed_all fs ++ part) → AllByRecursion Fits fs → first_frame part ≡ None → v.reads ≤ reads → ServedFrames s n false (fs ++ []) v.dev (os ++ []) c
+      → Took v.left left (framed_all fs ++ part) → AllByRecursion LengthFits fs → first_frame part ≡ None → v.reads ≤ reads → ServedFrames s n false (fs ++ []) v.dev (os ++ []) c
       → EndsBy fs part os result (around v left reads out c) → ServedFrom s n result (around v left reads out c)
   finish s n v fs os part left reads out c result took fit less counted served ends =
       record {
@@ -136,7 +136,7 @@ module _ {N : Type 0} (state : N → DeviceState) (bench : N → BenchState) whe
 
   -- no frame more is served behind those that were
   served_end : (s : State) (n : ℕ) (v : Start) (count : ℕ) (p : Player N) (powered : Bool) (left next : Option (List ℕ)) (reads more : ℕ) (out : Sunk)
-      (h : Reached s n v count p powered left reads out) (part : List ℕ) (result : Result (Unit {0}) ServeError) → Took left next part → first_frame part ≡ None → reads ≤ more
+      (h : SessionReached s n v count p powered left reads out) (part : List ℕ) (result : Result (Unit {0}) ServeError) → Took left next part → first_frame part ≡ None → reads ≤ more
       → EndsBy h.frames part h.answers result (around v next more out (bench_of state bench p)) → ServedFrom s n result (around v next more out (bench_of state bench p))
   served_end s n v count p powered left next reads more out h part result took less counted ends =
       let b = bench_of state bench p in
@@ -145,34 +145,34 @@ module _ {N : Type 0} (state : N → DeviceState) (bench : N → BenchState) whe
 
   -- the input ended between two frames
   pub served_whole : (s : State) (n : ℕ) (v : Start) (count : ℕ) (p : Player N) (powered : Bool) (left next : Option (List ℕ)) (reads more : ℕ) (out : Sunk)
-      → Reached s n v count p powered left reads out → TookNone left next → reads ≤ more → ServedFrom s n (Ok tt) (around v next more out (bench_of state bench p))
+      → SessionReached s n v count p powered left reads out → TookNone left next → reads ≤ more → ServedFrom s n (Ok tt) (around v next more out (bench_of state bench p))
   served_whole s n v count p powered left next reads more out h took counted =
       served_end s n v count p powered left next reads more out h [] (Ok tt) took.took refl counted (record { between = refl; end = inl took.end; written = h.written })
 
   -- as many frames came as can be counted
   pub served_all : (s : State) (n : ℕ) (v : Start) (count : ℕ) (p : Player N) (powered : Bool) (left : Option (List ℕ)) (reads : ℕ) (out : Sunk)
-      → Reached s n v count p powered left reads out → last_count ≤ count → ServedFrom s n (Ok tt) (around v left reads out (bench_of state bench p))
+      → SessionReached s n v count p powered left reads out → last_count ≤ count → ServedFrom s n (Ok tt) (around v left reads out (bench_of state bench p))
   served_all s n v count p powered left reads out h all =
       let behind : last_count ≤ length h.frames = subst (λ (k : ℕ). last_count ≤ k) (sym h.many) all in
       served_end s n v count p powered left left reads reads out h [] (Ok tt) (Took-none left) refl (omega arith) (record { between = refl; end = inr behind; written = h.written })
 
   -- the input ended inside a frame
   pub served_short : (s : State) (n : ℕ) (v : Start) (count : ℕ) (p : Player N) (powered : Bool) (left next : Option (List ℕ)) (reads more : ℕ) (out : Sunk)
-      → Reached s n v count p powered left reads out → TookShort left next → reads ≤ more → ServedFrom s n (Err (fault.Short (count + 1))) (around v next more out (bench_of state bench p))
+      → SessionReached s n v count p powered left reads out → TookShort left next → reads ≤ more → ServedFrom s n (Err (fault.Short (count + 1))) (around v next more out (bench_of state bench p))
   served_short s n v count p powered left next reads more out h took counted =
       served_end s n v count p powered left next reads more out h took.took.part (Err (fault.Short (count + 1))) took.took.took took.took.less counted
       (record { some = took.some; end = took.end; number = ap (λ k. k + 1) (sym h.many); written = h.written })
 
   -- the source failed
   pub served_unread : (s : State) (n : ℕ) (v : Start) (count : ℕ) (p : Player N) (powered : Bool) (left next : Option (List ℕ)) (reads more : ℕ) (out : Sunk)
-      → Reached s n v count p powered left reads out → TookPart left next → Rose reads more → reads ≤ more → ServedFrom s n (Err fault.ReadFault) (around v next more out (bench_of state bench p))
+      → SessionReached s n v count p powered left reads out → TookPart left next → Rose reads more → reads ≤ more → ServedFrom s n (Err fault.ReadFault) (around v next more out (bench_of state bench p))
   served_unread s n v count p powered left next reads more out h took cause counted =
       served_end s n v count p powered left next reads more out h took.part (Err fault.ReadFault) took.took took.less counted
       (record { cause = Rose-later v.reads reads more h.counted cause; written = h.written })
 
   -- the sink failed in the answer of a frame
   pub served_cut : (s : State) (n : ℕ) (v : Start) (count : ℕ) (p q : Player N) (powered : Bool) (left next : Option (List ℕ)) (reads more : ℕ) (out wrote : Sunk) (e : WriteFault)
-      (h : Reached s n v count p powered left reads out) (f : List ℕ) → Fits f → Took left next (framed f) → reads ≤ more
+      (h : SessionReached s n v count p powered left reads out) (f : List ℕ) → LengthFits f → Took left next (framed f) → reads ≤ more
       → ServesFrame state bench p h.here h.number (meaning powered f) out (Err e) q wrote → ServedFrom s n (Err fault.WriteFault) (around v next more wrote (bench_of state bench q))
   served_cut s n v count p q powered left next reads more out wrote e h f fits took counted served =
       let b = bench_of state bench q in

@@ -4,12 +4,12 @@ use Rattle.std.specs.Prelude.{option_map}
 use Rattle.mc_model.specs.Device.{DeviceState, BenchState}
 use Rattle.mc_model.specs.DeckGrammar.{DeckLine}
 use Rattle.mc_model.specs.DeckGrammar as line
-use Rattle.mc_model.specs.Play.{State, WornAt, Step, LineResult, Stands, step, plays}
+use Rattle.mc_model.specs.Play.{State, WornAt, Step, LineResult, StandsForState, step, plays}
 use Rattle.mc_base.specs.declared.refusals.WriteFault.{WriteFault}
 use Rattle.mc_text.specs.Texts.{Sunk, Puts}
 use Rattle.mc_script.specs.declared.answer.Answer.{Answer}
 use Rattle.mc_script.specs.declared.player.Player.{Player}
-use Rattle.mc_script.specs.Players.{answer_value, IsAt, IsUnfused}
+use Rattle.mc_script.specs.Players.{answer_value, IsPlayerAt, IsUnfused}
 use Rattle.mc_script.specs.Plays.{Bench, Played}
 use Rattle.mc_script.specs.Lines.{bench_of}
 use Rattle.mc_script.proofs.PlayLemmas.{plays_on, played_on, played_none}
@@ -25,11 +25,11 @@ use Rattle.mc_reader.proofs.AnswerLemmas.{answer_is}
 module _ {N : Type 0} (state : N → DeviceState) (bench : N → BenchState) where
   -- a frame without a line
   without_line : (p q : Player N) (s : State) (n : ℕ) (m : Meaning) (x y : Sunk) (r : Result (Unit {0}) WriteFault) → line_in m ≡ None
-      → IsAt state bench p s → q ≡ p → Puts x (sent (answer_to m None)) r y → ServesFrame state bench p s n m x r q y
+      → IsPlayerAt state bench p s → q ≡ p → Puts x (sent (answer_to m None)) r y → ServesFrame state bench p s n m x r q y
   without_line p q s n m x y r none at same puts =
       record {
         after = s;
-        at = subst (λ v. IsAt state bench v s) (sym same) at;
+        at = subst (λ v. IsPlayerAt state bench v s) (sym same) at;
         told = None;
         moves = subst (λ (o : Option DeckLine). Moves s n o (bench_of state bench p) None s (bench_of state bench q)) (sym none) (refl, ap (bench_of state bench) same);
         puts = puts;
@@ -37,7 +37,7 @@ module _ {N : Type 0} (state : N → DeviceState) (bench : N → BenchState) whe
 
   -- a frame with a line, whose answer is due by the line's result
   with_line : (p q : Player N) (s : State) (n : ℕ) (m : Meaning) (l : DeckLine) (answer : Option Answer) (x y : Sunk) (r : Result (Unit {0}) WriteFault) → line_in m ≡ Some l
-      → IsAt state bench p s → PlaysLine state bench p (Some l) answer q → Puts x (sent (answer_to m (option_map (answer_value state q) answer))) r y → ServesFrame state bench p s n m x r q y
+      → IsPlayerAt state bench p s → PlaysLine state bench p (Some l) answer q → Puts x (sent (answer_to m (option_map (answer_value state q) answer))) r y → ServesFrame state bench p s n m x r q y
   with_line p q s n m l answer x y r some at plays puts =
       let done = plays s (n + 1) at in
       let t = step s (n + 1, l) done.0 in
@@ -51,7 +51,7 @@ module _ {N : Type 0} (state : N → DeviceState) (bench : N → BenchState) whe
 
   -- a frame whose line was played, and whose answer was written
   pub frame_served : (p q : Player N) (s : State) (n : ℕ) (m : Meaning) (answer : Option Answer) (x y : Sunk) (r : Result (Unit {0}) WriteFault)
-      → IsAt state bench p s → PlaysLine state bench p (line_in m) answer q → Puts x (sent (replied m q.outcome answer)) r y → ServesFrame state bench p s n m x r q y
+      → IsPlayerAt state bench p s → PlaysLine state bench p (line_in m) answer q → Puts x (sent (replied m q.outcome answer)) r y → ServesFrame state bench p s n m x r q y
   frame_served p q s n PowerOn answer x y r at plays puts = with_line p q s n PowerOn line.Power answer x y r refl at plays puts
   frame_served p q s n PowerOff answer x y r at plays puts = without_line p q s n PowerOff x y r refl at plays puts
   frame_served p q s n WantsAtr answer x y r at plays puts = without_line p q s n WantsAtr x y r refl at plays puts
@@ -66,7 +66,7 @@ module _ {N : Type 0} (state : N → DeviceState) (bench : N → BenchState) whe
 -- ---- a frame, and those behind it
 
 -- no frame
-pub frames_none : (s : State) (n : ℕ) (powered : Bool) (a : Bench) → Stands a.device.words s → IsUnfused a.bench → ServedFrames s n powered [] a [] a
+pub frames_none : (s : State) (n : ℕ) (powered : Bool) (a : Bench) → StandsForState a.device.words s → IsUnfused a.bench → ServedFrames s n powered [] a [] a
 frames_none s n powered a stands unfused = record { worn = []; played = played_none s a stands unfused; answers = refl }
 
 -- the lines of frames behind one with a meaning, and what it and they are answered

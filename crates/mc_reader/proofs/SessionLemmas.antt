@@ -9,7 +9,7 @@ use Rattle.mc_script.specs.Plays.{Bench, LeadsTo}
 use Rattle.mc_script.proofs.Composing.{plays_append}
 use Rattle.mc_reader.specs.Lines.{last_number, lines_of, session_lines}
 use Rattle.mc_reader.specs.Answers.{answer_each, session_answers}
-use Rattle.mc_reader.specs.Sessions.{Around, EndsBy, Served, Serves}
+use Rattle.mc_reader.specs.Sessions.{AroundSession, EndsBy, Served, Serves}
 use Rattle.mc_reader.specs.Serving.{ServedFrom}
 use Rattle.mc_reader.specs.declared.serve_error.ServeError.{ServeError}
 use Rattle.mc_reader.specs.declared.serve_error.ServeError.TheVariants as fault
@@ -28,7 +28,7 @@ steps_behind_deck s u deck ls ws vs many last =
     ∙ ap (λ (v : State). plays v ls vs) (sym last)
 
 -- how a session ends does not speak of the device
-ends_same : (fs : List (List ℕ)) (part : List ℕ) (os : List (Option (List ℕ))) (result : Result (Unit {0}) ServeError) (a : Around) (b c : Bench) → EndsBy fs part os result (record a { dev_old = b; dev = c }) → EndsBy fs part os result a
+ends_same : (fs : List (List ℕ)) (part : List ℕ) (os : List (Option (List ℕ))) (result : Result (Unit {0}) ServeError) (a : AroundSession) (b c : Bench) → EndsBy fs part os result (record a { dev_old = b; dev = c }) → EndsBy fs part os result a
 ends_same fs part os (Ok u) a b c h = record { between = h.between; end = h.end; written = h.written }
 ends_same fs part os (Err (fault.Short n)) a b c h = record { some = h.some; end = h.end; number = h.number; written = h.written }
 ends_same fs part os (Err fault.ReadFault) a b c h = record { cause = h.cause; written = h.written }
@@ -36,7 +36,7 @@ ends_same fs part os (Err fault.WriteFault) a b c h = record { between = h.betwe
 ends_same fs part os (Err fault.NoMemory) a b c h = h
 
 -- the deck and the frames are one play
-served_deck : (deck : List (ℕ × DeckLine)) (result : Result (Unit {0}) ServeError) (a : Around) (b : Bench) (u : State) (worn : List (Option WornAt))
+served_deck : (deck : List (ℕ × DeckLine)) (result : Result (Unit {0}) ServeError) (a : AroundSession) (b : Bench) (u : State) (worn : List (Option WornAt))
     → LeadsTo (start a.dev_old.device.words) deck worn a.dev_old u b → ServedFrom u (last_number deck) result (record a { dev_old = b }) → Served deck result a
 served_deck deck result a b u worn leads h =
     let s = start a.dev_old.device.words in
@@ -59,7 +59,7 @@ served_deck deck result a b u worn leads h =
     }
 
 -- a session is not without memory
-serves : (deck : List (ℕ × DeckLine)) (result : Result (Unit {0}) ServeError) (a : Around) → Served deck result a → Serves deck result a
+serves : (deck : List (ℕ × DeckLine)) (result : Result (Unit {0}) ServeError) (a : AroundSession) → Served deck result a → Serves deck result a
 serves deck (Ok u) a h = h
 serves deck (Err (fault.Short n)) a h = h
 serves deck (Err fault.ReadFault) a h = h
@@ -74,7 +74,7 @@ bench_same x y device bench =
     first ∙ second
 
 -- a session on a device that is lent to its player, and handed back
-pub served_session : (deck : List (ℕ × DeckLine)) (result : Result (Unit {0}) ServeError) (a : Around) (d b c : Bench) (u : State) (worn : List (Option WornAt))
+pub served_session : (deck : List (ℕ × DeckLine)) (result : Result (Unit {0}) ServeError) (a : AroundSession) (d b c : Bench) (u : State) (worn : List (Option WornAt))
     → LeadsTo (start a.dev_old.device.words) deck worn d u b → ServedFrom u (last_number deck) result (record a { dev_old = b; dev = c })
     → d.device ≡ a.dev_old.device → d.bench ≡ a.dev_old.bench → c.device ≡ a.dev.device → c.bench ≡ a.dev.bench → Serves deck result a
 served_session deck result a d b c u worn leads h old old_bench new new_bench =

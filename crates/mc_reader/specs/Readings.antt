@@ -35,8 +35,8 @@ pub record TookShort (old new : Option (List ℕ)) : Type 0 where
   pub end : AtEnd new
 
 -- a read of a frame, by what it says: exactly the frame was taken, or none, or the part of it that came
-abbrev pub Reads : Option (List ℕ) → ℕ → Option (List ℕ) → ℕ → List ℕ → Result (Option ℕ) FrameFault → Type 0
-Reads old a new b room (Ok (Some size)) = TookFrame old new room size
-Reads old a new b room (Ok None) = TookNone old new
-Reads old a new b room (Err Short) = TookShort old new
-Reads old a new b room (Err ReadFault) = TookPart old new × Rose a b
+abbrev pub ReadsFrame : Option (List ℕ) → ℕ → Option (List ℕ) → ℕ → List ℕ → Result (Option ℕ) FrameFault → Type 0
+ReadsFrame old a new b room (Ok (Some size)) = TookFrame old new room size
+ReadsFrame old a new b room (Ok None) = TookNone old new
+ReadsFrame old a new b room (Err Short) = TookShort old new
+ReadsFrame old a new b room (Err ReadFault) = TookPart old new × Rose a b

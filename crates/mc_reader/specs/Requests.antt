@@ -42,7 +42,7 @@ meaning_of (request.ToCard b) = meaning.ToCard b.now
 meaning_of request.Unheard = meaning.Unheard
 
 -- the line of a request is in the ranges of the deck grammar
-abbrev pub IsGood : Request → Type 0
-IsGood (request.Order o) = GoodLine (order_line o)
-IsGood (request.ToCard b) = 0 < length b.now
-IsGood _ = Unit {0}
+abbrev pub IsGoodRequest : Request → Type 0
+IsGoodRequest (request.Order o) = GoodLine (order_line o)
+IsGoodRequest (request.ToCard b) = 0 < length b.now
+IsGoodRequest _ = Unit {0}

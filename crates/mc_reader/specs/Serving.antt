@@ -8,7 +8,7 @@ use Rattle.mc_base.specs.declared.refusals.WriteFault.{WriteFault}
 use Rattle.mc_text.specs.Texts.{Sunk, Puts}
 use Rattle.mc_script.specs.declared.answer.Answer.{Answer}
 use Rattle.mc_script.specs.declared.player.Player.{Player}
-use Rattle.mc_script.specs.Players.{IsAt}
+use Rattle.mc_script.specs.Players.{IsPlayerAt}
 use Rattle.mc_script.specs.Plays.{Bench, PlayedLine, Played}
 use Rattle.mc_script.specs.Lines.{bench_of, Stepped}
 use Rattle.mc_reader.specs.Frames.{frames_read}
@@ -16,7 +16,7 @@ use Rattle.mc_reader.specs.Meanings.{Meaning}
 use Rattle.mc_reader.specs.Lines.{line_in, lines_of}
 use Rattle.mc_reader.specs.Answers.{answer_to, answer_each}
 use Rattle.mc_reader.specs.Results.{sent}
-use Rattle.mc_reader.specs.Sessions.{Around, EndsBy}
+use Rattle.mc_reader.specs.Sessions.{AroundSession, EndsBy}
 use Rattle.mc_reader.specs.declared.serve_error.ServeError.{ServeError}
 
 -- ---- one frame
@@ -31,12 +31,12 @@ module _ {N : Type 0} (state : N → DeviceState) (bench : N → BenchState) whe
   -- a line that may be missing was played, whatever its number; without one nothing changed
   abbrev pub PlaysLine : Player N → Option DeckLine → Option Answer → Player N → Type 0
   PlaysLine p None answer q = q ≡ p
-  PlaysLine p (Some l) answer q = (s : State) (n : ℕ) → IsAt state bench p s → (w : Option WornAt) × Stepped state bench p s (n, l) w (step s (n, l) w) answer q
+  PlaysLine p (Some l) answer q = (s : State) (n : ℕ) → IsPlayerAt state bench p s → (w : Option WornAt) × Stepped state bench p s (n, l) w (step s (n, l) w) answer q
 
   -- a frame with this meaning was served: its line was played, and its answer was written, whole or up to a fault
   pub record ServesFrame (p : Player N) (s : State) (n : ℕ) (m : Meaning) (x : Sunk) (result : Result (Unit {0}) WriteFault) (q : Player N) (y : Sunk) : Type 0 where
     pub after : State
-    pub at : IsAt state bench q after
+    pub at : IsPlayerAt state bench q after
     pub told : Option LineResult
     pub moves : Moves s n (line_in m) (bench_of state bench p) told after (bench_of state bench q)
     pub puts : Puts x (sent (answer_to m told)) result y
@@ -50,7 +50,7 @@ pub record ServedFrames (s : State) (n : ℕ) (powered : Bool) (fs : List (List 
   pub answers : os ≡ answer_each powered fs (plays s (lines_of n powered fs) worn)
 
 -- The frames of an input were served from a state of a play on, up to the end of the input or up to a fault.
-pub record ServedFrom (s : State) (n : ℕ) (result : Result (Unit {0}) ServeError) (a : Around) : Type 0 where
+pub record ServedFrom (s : State) (n : ℕ) (result : Result (Unit {0}) ServeError) (a : AroundSession) : Type 0 where
   pub frames : List (List ℕ)
   pub part : List ℕ
   pub taken : List ℕ

@@ -14,7 +14,7 @@ use Rattle.mc_reader.specs.declared.serve_error.ServeError.{ServeError}
 use Rattle.mc_reader.specs.declared.serve_error.ServeError.TheVariants as fault
 
 -- what source, sink and device tell before and after a session
-pub record Around : Type 0 where
+pub record AroundSession : Type 0 where
   pub left_old : Option (List ℕ)
   pub left : Option (List ℕ)
   pub reads_old : ℕ
@@ -46,31 +46,31 @@ pub record AnswersCut (x : Sunk) (os : List (Option (List ℕ))) (y : Sunk) : Ty
 -- ---- how a session ends that served these frames, with this part of one more, and with these answers due
 
 -- The input ended between two frames, or behind as many as can be counted.
-pub record Ends (fs : List (List ℕ)) (part : List ℕ) (os : List (Option (List ℕ))) (a : Around) : Type 0 where
+pub record SessionEnds (fs : List (List ℕ)) (part : List ℕ) (os : List (Option (List ℕ))) (a : AroundSession) : Type 0 where
   pub between : part ≡ []
   pub end : AtEnd a.left ⊎ (last_count ≤ length fs)
   pub written : AnswersWritten a.out_old os a.out
 
 -- the input ended inside the frame with this number
-pub record EndsShort (fs : List (List ℕ)) (part : List ℕ) (os : List (Option (List ℕ))) (n : ℕ) (a : Around) : Type 0 where
+pub record EndsShort (fs : List (List ℕ)) (part : List ℕ) (os : List (Option (List ℕ))) (n : ℕ) (a : AroundSession) : Type 0 where
   pub some : 0 < length part
   pub end : AtEnd a.left
   pub number : n ≡ length fs + 1
   pub written : AnswersWritten a.out_old os a.out
 
 -- the source failed
-pub record EndsUnread (os : List (Option (List ℕ))) (a : Around) : Type 0 where
+pub record EndsUnread (os : List (Option (List ℕ))) (a : AroundSession) : Type 0 where
   pub cause : Rose a.reads_old a.reads
   pub written : AnswersWritten a.out_old os a.out
 
 -- The sink failed. The write of any answer may fail, so that at each of them the frames up to its own were taken and no byte behind them.
-pub record EndsUnwritten (part : List ℕ) (os : List (Option (List ℕ))) (a : Around) : Type 0 where
+pub record EndsUnwritten (part : List ℕ) (os : List (Option (List ℕ))) (a : AroundSession) : Type 0 where
   pub between : part ≡ []
   pub written : AnswersCut a.out_old os a.out
 
 -- how it ends, by its result
-abbrev pub EndsBy : List (List ℕ) → List ℕ → List (Option (List ℕ)) → Result (Unit {0}) ServeError → Around → Type 0
-EndsBy fs part os (Ok u) a = Ends fs part os a
+abbrev pub EndsBy : List (List ℕ) → List ℕ → List (Option (List ℕ)) → Result (Unit {0}) ServeError → AroundSession → Type 0
+EndsBy fs part os (Ok u) a = SessionEnds fs part os a
 EndsBy fs part os (Err (fault.Short n)) a = EndsShort fs part os n a
 EndsBy fs part os (Err fault.ReadFault) a = EndsUnread os a
 EndsBy fs part os (Err fault.WriteFault) a = EndsUnwritten part os a
@@ -79,14 +79,14 @@ EndsBy fs part os (Err fault.NoMemory) a = ⊥
 -- ---- a session
 
 -- the steps of a session that served these frames, with these worn stops
-abbrev pub session_steps : List (ℕ × DeckLine) → List (List ℕ) → List (Option WornAt) → Around → List Step
+abbrev pub session_steps : List (ℕ × DeckLine) → List (List ℕ) → List (Option WornAt) → AroundSession → List Step
 session_steps deck fs worn a = plays (start a.dev_old.device.words) (session_lines deck fs) worn
 
 -- A session: these frames were served, and exactly their bytes were taken of the source, and the part of one that did not come whole. One
 -- list of worn stops accounts for the words, the counts and the tape of the device, and for all that was written. Every closed family of
 -- applications is told and holds what it is told and holds on a card of its own, each line leaves the card with its whole items, and no new
 -- application has a stale byte.
-pub record Served (deck : List (ℕ × DeckLine)) (result : Result (Unit {0}) ServeError) (a : Around) : Type 0 where
+pub record Served (deck : List (ℕ × DeckLine)) (result : Result (Unit {0}) ServeError) (a : AroundSession) : Type 0 where
   pub frames : List (List ℕ)
   pub part : List ℕ
   pub taken : List ℕ
@@ -99,14 +99,14 @@ pub record Served (deck : List (ℕ × DeckLine)) (result : Result (Unit {0}) Se
   pub ends : EndsBy frames part (session_answers deck frames (session_steps deck frames worn a)) result a
 
 -- want of memory: nothing was read, played or written
-pub record IsUntouched (a : Around) : Type 0 where
+pub record IsUntouched (a : AroundSession) : Type 0 where
   pub left : a.left ≡ a.left_old
   pub reads : a.reads ≡ a.reads_old
   pub out : a.out ≡ a.out_old
   pub dev : a.dev ≡ a.dev_old
 
 -- what a session did, by its result
-abbrev pub Serves : List (ℕ × DeckLine) → Result (Unit {0}) ServeError → Around → Type 0
+abbrev pub Serves : List (ℕ × DeckLine) → Result (Unit {0}) ServeError → AroundSession → Type 0
 Serves deck (Err fault.NoMemory) a = IsUntouched a
 Serves deck (Ok u) a = Served deck (Ok u) a
 Serves deck (Err (fault.Short n)) a = Served deck (Err (fault.Short n)) a

@@ -2,7 +2,7 @@
 ghost use Rattle.std.specs.Prelude.{◌≡◌, ◌<◌, ◌≤◌, length, take, IfOk, OnErr};
 ghost use Rattle.mc_model.specs.Counts.{Rose};
 ghost use Rattle.mc_base.specs.Streams.{Took, AtEnd};
-ghost use Rattle.mc_reader.specs.Readings.{TookLess, Reads};
+ghost use Rattle.mc_reader.specs.Readings.{TookLess, ReadsFrame};
 
 use mc_base::{Failed, Source};
 
@@ -50,7 +50,7 @@ fn fill<S: Source>(source: &mut S, into: &mut [u8]) -> Result<usize, Failed>
 /// ends before it. No byte behind the frame is taken.
 pub fn read_frame<S: Source>(source: &mut S, room: &mut [u8]) -> Result<Option<usize>, FrameFault>
     requires { length room.old ≡ 65535 }
-    ensures reads { Reads (S.left source.old) (S.faults source.old) (S.left source.new)
+    ensures reads { ReadsFrame (S.left source.old) (S.faults source.old) (S.left source.new)
         (S.faults source.new) room.new result }
     ensures counted { S.faults source.old ≤ S.faults source.new }
 {

@@ -3,7 +3,7 @@ ghost use Rattle.std.specs.Prelude.{◌≡◌, option_map, IfSome};
 ghost use Rattle.mc_deck.specs.Lines.{line_of, GoodLine};
 ghost use Rattle.mc_reader.specs.Meanings.{control, meaning, power_after};
 ghost use Rattle.mc_reader.specs.Lines.{line_in};
-ghost use Rattle.mc_reader.specs.Requests.{meaning_of, IsGood};
+ghost use Rattle.mc_reader.specs.Requests.{meaning_of, IsGoodRequest};
 
 use crate::order::{Order, Refusal, read_order};
 use mc_deck::Line;
@@ -28,7 +28,7 @@ pub enum Request<'a> {
 // What a byte alone asks for.
 fn control<'a>(byte: u8) -> Request<'a>
     ensures meaning { meaning_of result ≡ control byte }
-    ensures good { IsGood result }
+    ensures good { IsGoodRequest result }
 {
     match byte {
         0 => Request::PowerOff,
@@ -42,7 +42,7 @@ impl<'a> Request<'a> {
     /// What a frame asks for, where the card has power or not.
     pub fn of(frame: &'a [u8], powered: bool) -> Request<'a>
         ensures meaning { meaning_of result ≡ meaning powered frame.now }
-        ensures good { IsGood result }
+        ensures good { IsGoodRequest result }
     {
         match frame {
             [] => Request::Nothing,
@@ -63,7 +63,7 @@ impl<'a> Request<'a> {
 
     /// The line that it stands for, where it stands for one.
     pub fn line(&self) -> Option<Line<'a>>
-        requires { IsGood self.now }
+        requires { IsGoodRequest self.now }
         ensures line { option_map line_of result ≡ line_in (meaning_of self.now) }
         ensures good { IfSome result (λ l. GoodLine (line_of l)) }
     {

@@ -2,11 +2,11 @@
 ghost use Rattle.std.specs.Prelude.{◌≡◌, ℕ, length};
 ghost use Rattle.mc_model.specs.Play.{State};
 ghost use Rattle.mc_text.specs.Texts.{sunk_in};
-ghost use Rattle.mc_script.specs.Players.{device_of, IsAt, IsPlaying, IsUnfused};
+ghost use Rattle.mc_script.specs.Players.{device_of, IsPlayerAt, IsPlaying, IsUnfused};
 ghost use Rattle.mc_script.specs.Lines.{bench_of};
 ghost use Rattle.mc_reader.specs.Meanings.{meaning, power_after};
 ghost use Rattle.mc_reader.specs.Lines.{line_in};
-ghost use Rattle.mc_reader.specs.Requests.{meaning_of, IsGood};
+ghost use Rattle.mc_reader.specs.Requests.{meaning_of, IsGoodRequest};
 ghost use Rattle.mc_reader.specs.Serving.{PlaysLine, ServesFrame, ServedFrom};
 ghost use Rattle.mc_reader.specs.Sessions.{Serves};
 
@@ -31,7 +31,7 @@ fn play_request<N: Bench, L: Ledger>(
     steps: &mut Steps<L>,
 ) -> Option<Answer>
     requires playing { IsPlaying N.state N.bench player.old }
-    requires good { IsGood request.now }
+    requires good { IsGoodRequest request.now }
     ensures plays { PlaysLine N.state N.bench player.old (line_in (meaning_of request.now)) result player.new }
     ensures lent { N.same (device_of player.old) (device_of player.new) }
 {
@@ -50,7 +50,7 @@ fn serve_frame<N: Bench, T: Sink, L: Ledger>(
     steps: &mut Steps<L>,
 ) -> Result<(), WriteFault>
     requires { IsPlaying N.state N.bench player.old }
-    ensures serves { (s : State) (n : ℕ) → IsAt N.state N.bench player.old s
+    ensures serves { (s : State) (n : ℕ) → IsPlayerAt N.state N.bench player.old s
         → ServesFrame N.state N.bench player.old s n (meaning powered.old frame.now)
         (sunk_in T.taken T.faults out.old) result player.new (sunk_in T.taken T.faults out.new) }
     ensures power { powered.new ≡ power_after powered.old (meaning powered.old frame.now) }
@@ -72,7 +72,7 @@ fn serve_frames<S: Source, T: Sink, N: Bench, L: Ledger>(
 ) -> Result<(), ServeError>
     requires playing { IsPlaying N.state N.bench player.old }
     requires room { length room.old ≡ 65535 }
-    ensures served { (s : State) (n : ℕ) → IsAt N.state N.bench player.old s
+    ensures served { (s : State) (n : ℕ) → IsPlayerAt N.state N.bench player.old s
         → ServedFrom s n result
         (record {
           left_old = S.left input.old;

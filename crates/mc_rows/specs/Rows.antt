@@ -24,11 +24,11 @@ onward (Ok u) = Ok Go
 onward (Err halt) = Err halt
 
 -- the place of an operand: 04 where the stack is too short, 03 where there is no such address
-abbrev pub Placed : Result ℕ Abend → Bool → Option ℕ → Type 0
-Placed (Ok a) under place = (under ≡ false) × (place ≡ Some a)
-Placed (Err A04) under place = under ≡ true
-Placed (Err A03) under place = (under ≡ false) × (place ≡ None)
-Placed (Err _) under place = ⊥
+abbrev pub OperandPlaced : Result ℕ Abend → Bool → Option ℕ → Type 0
+OperandPlaced (Ok a) under place = (under ≡ false) × (place ≡ Some a)
+OperandPlaced (Err A04) under place = under ≡ true
+OperandPlaced (Err A03) under place = (under ≡ false) × (place ≡ None)
+OperandPlaced (Err _) under place = ⊥
 
 -- a return: 04 where there is none to return from, 02 where it leads to no place
 abbrev pub Returns : Result (Unit {0}) Abend → Bool → Bool → Type 0

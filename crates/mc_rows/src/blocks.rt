@@ -1,8 +1,8 @@
 // Rows of a block of n bytes at a place.
 ghost use Rattle.std.specs.Prelude.{◌≡◌, ◌≤◌, false, length};
 ghost use Rattle.mc_model.specs.declared.instruction.Ins.TheVariants.{Clearn, Testn};
-ghost use Rattle.mc_segs.specs.HeldFrames.{Fits, shown};
-ghost use Rattle.mc_segs.specs.Ends.{scene, Acts, RowActs};
+ghost use Rattle.mc_segs.specs.HeldFrames.{FitsBank, shown};
+ghost use Rattle.mc_segs.specs.Ends.{scene, EndActs, RowActs};
 ghost use Rattle.mc_rows.specs.Rows.{alone, change_end, changed_end, most_unary, onward};
 
 use crate::bytes::{is_zero, zeros};
@@ -22,9 +22,9 @@ pub fn change_block<B: Bank>(
     bank: &mut B,
 ) -> Result<(), Halt>
     requires going { (B.state bank.old).stopped ≡ false }
-    requires fits { Fits (B.state bank.old) (B.named bank.old) frame.old }
+    requires fits { FitsBank (B.state bank.old) (B.named bank.old) frame.old }
     requires tag { tag ≤ 7 }
-    ensures { Acts B.did B.state B.named (scene bank.old bank.new frame.old frame.new public.old public.new)
+    ensures { EndActs B.did B.state B.named (scene bank.old bank.new frame.old frame.new public.old public.new)
         (change_end kind (shown (B.state bank.old) (B.named bank.old) frame.old) public.old tag off n) (onward result) }
 {
     check_unary(kind, n)?;
@@ -50,9 +50,9 @@ fn change_in<B: Bank>(
     requires low { 1 ≤ length value.old }
     requires high { length value.old ≤ most_unary kind }
     requires going { (B.state bank.old).stopped ≡ false }
-    requires fits { Fits (B.state bank.old) (B.named bank.old) frame.old }
+    requires fits { FitsBank (B.state bank.old) (B.named bank.old) frame.old }
     requires tag { tag ≤ 7 }
-    ensures { Acts B.did B.state B.named (scene bank.old bank.new frame.old frame.new public.old public.new)
+    ensures { EndActs B.did B.state B.named (scene bank.old bank.new frame.old frame.new public.old public.new)
         (changed_end kind (shown (B.state bank.old) (B.named bank.old) frame.old) public.old tag off
         (length value.old)) (onward result) }
 {
@@ -75,7 +75,7 @@ pub fn clear_block<B: Bank>(
     bank: &mut B,
 ) -> Result<(), Halt>
     requires going { (B.state bank.old).stopped ≡ false }
-    requires fits { Fits (B.state bank.old) (B.named bank.old) frame.old }
+    requires fits { FitsBank (B.state bank.old) (B.named bank.old) frame.old }
     requires tag { tag ≤ 7 }
     ensures { RowActs B.did B.state B.named (scene bank.old bank.new frame.old frame.new public.old public.new)
         (Clearn tag off n) alone (onward result) }
@@ -99,7 +99,7 @@ pub fn test_block<B: Bank>(
     bank: &mut B,
 ) -> Result<(), Halt>
     requires going { (B.state bank.old).stopped ≡ false }
-    requires fits { Fits (B.state bank.old) (B.named bank.old) frame.old }
+    requires fits { FitsBank (B.state bank.old) (B.named bank.old) frame.old }
     requires tag { tag ≤ 7 }
     ensures { RowActs B.did B.state B.named (scene bank.old bank.new frame.old frame.new public.old public.new)
         (Testn tag off n) alone (onward result) }

@@ -3,8 +3,8 @@ ghost use Rattle.std.specs.Prelude.{◌≡◌, ◌≤◌, ◌&&◌, ◌==◌, On
 ghost use Rattle.mc_model.specs.declared.instruction.Ins.TheVariants.{Branch, Jump, Call, Retio};
 ghost use Rattle.mc_model.specs.Frame.{come_back, is_under, moved, no_return, saved};
 ghost use Rattle.mc_model.specs.Row.{holds, no_place, target, without_target};
-ghost use Rattle.mc_segs.specs.HeldFrames.{Fits};
-ghost use Rattle.mc_segs.specs.Ends.{scene, Gives, IfDue, RowActs};
+ghost use Rattle.mc_segs.specs.HeldFrames.{FitsBank};
+ghost use Rattle.mc_segs.specs.Ends.{scene, GivesOrAbends, IfDue, RowActs};
 ghost use Rattle.mc_rows.specs.Rows.{alone, Led, Returns, onward};
 
 use crate::bytes::number;
@@ -21,7 +21,7 @@ pub fn branch<B: Bank>(
     bank: &mut B,
 ) -> Result<(), Halt>
     requires going { (B.state bank.old).stopped ≡ false }
-    requires fits { Fits (B.state bank.old) (B.named bank.old) frame.old }
+    requires fits { FitsBank (B.state bank.old) (B.named bank.old) frame.old }
     ensures { RowActs B.did B.state B.named (scene bank.old bank.new frame.old frame.new public.old public.new)
         (Branch cond d) alone (onward result) }
 {
@@ -43,7 +43,7 @@ pub fn jump<B: Bank>(
     bank: &mut B,
 ) -> Result<(), Halt>
     requires going { (B.state bank.old).stopped ≡ false }
-    requires fits { Fits (B.state bank.old) (B.named bank.old) frame.old }
+    requires fits { FitsBank (B.state bank.old) (B.named bank.old) frame.old }
     ensures { RowActs B.did B.state B.named (scene bank.old bank.new frame.old frame.new public.old public.new)
         (Jump cond to) alone (onward result) }
 {
@@ -65,7 +65,7 @@ pub fn call<B: Bank>(
     bank: &mut B,
 ) -> Result<(), Halt>
     requires going { (B.state bank.old).stopped ≡ false }
-    requires fits { Fits (B.state bank.old) (B.named bank.old) frame.old }
+    requires fits { FitsBank (B.state bank.old) (B.named bank.old) frame.old }
     ensures { RowActs B.did B.state B.named (scene bank.old bank.new frame.old frame.new public.old public.new)
         (Call cond to) alone (onward result) }
 {
@@ -87,7 +87,7 @@ pub fn return_with<B: Bank>(
     bank: &mut B,
 ) -> Result<(), Halt>
     requires going { (B.state bank.old).stopped ≡ false }
-    requires fits { Fits (B.state bank.old) (B.named bank.old) frame.old }
+    requires fits { FitsBank (B.state bank.old) (B.named bank.old) frame.old }
     ensures { RowActs B.did B.state B.named (scene bank.old bank.new frame.old frame.new public.old public.new)
         (Retio i o) alone (onward result) }
 {
@@ -133,7 +133,8 @@ fn moved(at: u16, d: i8) -> Result<u16, Abend>
 
 // The address of a jump or a call, which condition 0 pops. Abend 04 where the stack has none.
 fn target(frame: &mut Frame, cond: u8, to: u16) -> Result<u16, Abend>
-    ensures due { Gives result (cond == 0 && is_under frame.old.frame 2) Abend.A04 (target frame.old.frame cond to) }
+    ensures due { GivesOrAbends result (cond == 0 && is_under frame.old.frame 2) Abend.A04
+        (target frame.old.frame cond to) }
     ensures popped { OnOk result (frame.new ≡ record frame.old { frame = without_target frame.old.frame cond }) }
     ensures unchanged { OnErr result (frame.new ≡ frame.old) }
 {

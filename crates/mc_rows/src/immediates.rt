@@ -1,7 +1,7 @@
 // Rows of a byte or a word at a place against an immediate.
 ghost use Rattle.std.specs.Prelude.{◌≡◌, ◌≤◌, false, length};
-ghost use Rattle.mc_segs.specs.HeldFrames.{Fits, shown};
-ghost use Rattle.mc_segs.specs.Ends.{scene, Acts};
+ghost use Rattle.mc_segs.specs.HeldFrames.{FitsBank, shown};
+ghost use Rattle.mc_segs.specs.Ends.{scene, EndActs};
 ghost use Rattle.mc_rows.specs.Rows.{set_end, compare_end, combine_end, onward};
 
 use crate::operand::place;
@@ -20,11 +20,11 @@ pub fn set<B: Bank>(
     bank: &mut B,
 ) -> Result<(), Halt>
     requires going { (B.state bank.old).stopped ≡ false }
-    requires fits { Fits (B.state bank.old) (B.named bank.old) frame.old }
+    requires fits { FitsBank (B.state bank.old) (B.named bank.old) frame.old }
     requires tag { tag ≤ 7 }
     requires low { 1 ≤ length bytes.now }
     requires high { length bytes.now ≤ 2 }
-    ensures { Acts B.did B.state B.named (scene bank.old bank.new frame.old frame.new public.old public.new)
+    ensures { EndActs B.did B.state B.named (scene bank.old bank.new frame.old frame.new public.old public.new)
         (set_end (shown (B.state bank.old) (B.named bank.old) frame.old) public.old tag off bytes.now) (onward result) }
 {
     let at = place(frame, tag, off, bytes.len() as u16)?;
@@ -42,11 +42,11 @@ pub fn compare_with<B: Bank>(
     bank: &mut B,
 ) -> Result<(), Halt>
     requires going { (B.state bank.old).stopped ≡ false }
-    requires fits { Fits (B.state bank.old) (B.named bank.old) frame.old }
+    requires fits { FitsBank (B.state bank.old) (B.named bank.old) frame.old }
     requires tag { tag ≤ 7 }
     requires low { 1 ≤ length bytes.now }
     requires high { length bytes.now ≤ 2 }
-    ensures { Acts B.did B.state B.named (scene bank.old bank.new frame.old frame.new public.old public.new)
+    ensures { EndActs B.did B.state B.named (scene bank.old bank.new frame.old frame.new public.old public.new)
         (compare_end (shown (B.state bank.old) (B.named bank.old) frame.old) public.old tag off bytes.now)
         (onward result) }
 {
@@ -70,11 +70,11 @@ pub fn combine_with<B: Bank>(
     bank: &mut B,
 ) -> Result<(), Halt>
     requires going { (B.state bank.old).stopped ≡ false }
-    requires fits { Fits (B.state bank.old) (B.named bank.old) frame.old }
+    requires fits { FitsBank (B.state bank.old) (B.named bank.old) frame.old }
     requires tag { tag ≤ 7 }
     requires low { 1 ≤ length bytes.now }
     requires high { length bytes.now ≤ 2 }
-    ensures { Acts B.did B.state B.named (scene bank.old bank.new frame.old frame.new public.old public.new)
+    ensures { EndActs B.did B.state B.named (scene bank.old bank.new frame.old frame.new public.old public.new)
         (combine_end kind (shown (B.state bank.old) (B.named bank.old) frame.old) public.old tag off bytes.now)
         (onward result) }
 {

@@ -3,9 +3,9 @@ ghost use Rattle.std.specs.Prelude.{◌≡◌, ◌+◌, ◌*◌, ◌≤◌, ◌=
 ghost use Rattle.mc_model.specs.Bytes.{num};
 ghost use Rattle.mc_model.specs.Frame.{address_at, in_two_bytes, is_outside, is_under, popped};
 ghost use Rattle.mc_model.specs.Row.{indexed, on_stack, operand};
-ghost use Rattle.mc_segs.specs.HeldFrames.{Fits, shown};
-ghost use Rattle.mc_segs.specs.Ends.{addressed, Gives, IfDue};
-ghost use Rattle.mc_rows.specs.Rows.{FirstRead, Placed};
+ghost use Rattle.mc_segs.specs.HeldFrames.{FitsBank, shown};
+ghost use Rattle.mc_segs.specs.Ends.{addressed, GivesOrAbends, IfDue};
+ghost use Rattle.mc_rows.specs.Rows.{FirstRead, OperandPlaced};
 
 use crate::bytes::number;
 use mc_bank::Bank;
@@ -50,7 +50,8 @@ pub fn operand(frame: &Frame, tag: u8, off: i16, below: u16) -> Result<u16, Aben
 pub fn place(frame: &Frame, tag: u8, off: i16, count: u16) -> Result<u16, Abend>
     requires tag { tag ≤ 7 }
     requires count { count ≤ 255 }
-    ensures { Placed result (tag == 0 && is_under frame.now.frame count) (operand frame.now.frame tag off count) }
+    ensures { OperandPlaced result (tag == 0 && is_under frame.now.frame count)
+        (operand frame.now.frame tag off count) }
 {
     if tag == 0 {
         need(frame, count)?;
@@ -66,8 +67,8 @@ pub fn read_address<B: Bank>(
     bank: &B,
 ) -> Result<u16, Abend>
     requires going { (B.state bank.now).stopped ≡ false }
-    requires fits { Fits (B.state bank.now) (B.named bank.now) frame.now }
-    ensures { Gives result (is_outside (shown (B.state bank.now) (B.named bank.now) frame.now) at 2) Abend.A03
+    requires fits { FitsBank (B.state bank.now) (B.named bank.now) frame.now }
+    ensures { GivesOrAbends result (is_outside (shown (B.state bank.now) (B.named bank.now) frame.now) at 2) Abend.A03
         (address_at (shown (B.state bank.now) (B.named bank.now) frame.now) public.now at) }
 {
     let mut address = [0; 2];
@@ -86,7 +87,7 @@ pub fn read_first<B: Bank>(
     bank: &B,
 ) -> Result<u16, Abend>
     requires going { (B.state bank.now).stopped ≡ false }
-    requires fits { Fits (B.state bank.now) (B.named bank.now) frame.now }
+    requires fits { FitsBank (B.state bank.now) (B.named bank.now) frame.now }
     requires tag { tag ≤ 7 }
     requires low { 1 ≤ length into.old }
     requires high { length into.old ≤ 255 }
@@ -105,7 +106,8 @@ pub fn read_first<B: Bank>(
 /// element of this size with that index. Abend 04 where the stack has too few bytes, 03 where there is no such address.
 pub fn indexed(frame: &mut Frame, tag: u8, off: i16, size: u8) -> Result<u16, Abend>
     requires tag { tag ≤ 7 }
-    ensures place { Placed result (is_under frame.old.frame (on_stack tag 3 1)) (indexed frame.old.frame tag off size) }
+    ensures place { OperandPlaced result (is_under frame.old.frame (on_stack tag 3 1))
+        (indexed frame.old.frame tag off size) }
     ensures popped { OnOk result (frame.new ≡ record frame.old { frame = popped frame.old.frame (on_stack tag 3 1) }) }
     ensures dynamic { frame.new.frame.dyn ≡ frame.old.frame.dyn }
     ensures session { frame.new.frame.session ≡ frame.old.frame.session }

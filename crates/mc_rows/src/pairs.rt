@@ -1,8 +1,8 @@
 // Rows of n bytes at a place and the top n bytes of the stack.
 ghost use Rattle.std.specs.Prelude.{◌≡◌, ◌≤◌, false, length};
 ghost use Rattle.mc_model.specs.declared.instruction.Ins.TheVariants.{Cmpn};
-ghost use Rattle.mc_segs.specs.HeldFrames.{Fits, shown};
-ghost use Rattle.mc_segs.specs.Ends.{scene, Acts, RowActs};
+ghost use Rattle.mc_segs.specs.HeldFrames.{FitsBank, shown};
+ghost use Rattle.mc_segs.specs.Ends.{scene, EndActs, RowActs};
 ghost use Rattle.mc_rows.specs.Rows.{alone, most_binary, pair_end, paired_end, onward};
 
 use crate::operand::read_first;
@@ -22,9 +22,9 @@ pub fn combine_pair<B: Bank>(
     bank: &mut B,
 ) -> Result<(), Halt>
     requires going { (B.state bank.old).stopped ≡ false }
-    requires fits { Fits (B.state bank.old) (B.named bank.old) frame.old }
+    requires fits { FitsBank (B.state bank.old) (B.named bank.old) frame.old }
     requires tag { tag ≤ 7 }
-    ensures { Acts B.did B.state B.named (scene bank.old bank.new frame.old frame.new public.old public.new)
+    ensures { EndActs B.did B.state B.named (scene bank.old bank.new frame.old frame.new public.old public.new)
         (pair_end kind (shown (B.state bank.old) (B.named bank.old) frame.old) public.old tag off n) (onward result) }
 {
     check_binary(kind, n)?;
@@ -52,9 +52,9 @@ fn combine_in<B: Bank>(
     requires low { 1 ≤ length first.old }
     requires high { length first.old ≤ most_binary kind }
     requires going { (B.state bank.old).stopped ≡ false }
-    requires fits { Fits (B.state bank.old) (B.named bank.old) frame.old }
+    requires fits { FitsBank (B.state bank.old) (B.named bank.old) frame.old }
     requires tag { tag ≤ 7 }
-    ensures { Acts B.did B.state B.named (scene bank.old bank.new frame.old frame.new public.old public.new)
+    ensures { EndActs B.did B.state B.named (scene bank.old bank.new frame.old frame.new public.old public.new)
         (paired_end kind (shown (B.state bank.old) (B.named bank.old) frame.old) public.old tag off
         (length first.old)) (onward result) }
 {
@@ -77,7 +77,7 @@ pub fn compare_pair<B: Bank>(
     bank: &mut B,
 ) -> Result<(), Halt>
     requires going { (B.state bank.old).stopped ≡ false }
-    requires fits { Fits (B.state bank.old) (B.named bank.old) frame.old }
+    requires fits { FitsBank (B.state bank.old) (B.named bank.old) frame.old }
     requires tag { tag ≤ 7 }
     ensures { RowActs B.did B.state B.named (scene bank.old bank.new frame.old frame.new public.old public.new)
         (Cmpn tag off n) alone (onward result) }

@@ -1,6 +1,6 @@
 // Rows that set the status and the length of the reply, and those that end the frame.
 ghost use Rattle.std.specs.Prelude.{◌≡◌, false};
-ghost use Rattle.mc_segs.specs.HeldFrames.{Fits};
+ghost use Rattle.mc_segs.specs.HeldFrames.{FitsBank};
 ghost use Rattle.mc_segs.specs.Ends.{scene, RowActs};
 ghost use Rattle.mc_rows.specs.Rows.{alone};
 ghost use Rattle.mc_rows.specs.Families.{IsRegisterRow};
@@ -18,7 +18,7 @@ pub fn registers<B: Bank>(
     bank: &mut B,
 ) -> Result<Next, Halt>
     requires going { (B.state bank.old).stopped ≡ false }
-    requires fits { Fits (B.state bank.old) (B.named bank.old) frame.old }
+    requires fits { FitsBank (B.state bank.old) (B.named bank.old) frame.old }
     requires family { IsRegisterRow ins.now }
     ensures { RowActs B.did B.state B.named
         (scene bank.old bank.new frame.old frame.new public.old public.new) ins.now alone result }

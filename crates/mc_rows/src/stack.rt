@@ -1,7 +1,7 @@
 // Rows that put bytes on the stack or take them from it.
 ghost use Rattle.std.specs.Prelude.{◌≡◌, false};
 ghost use Rattle.mc_model.specs.declared.instruction.Ins.TheVariants.{Pushz, Pushb, Pushw, Popn, Popb, Popw};
-ghost use Rattle.mc_segs.specs.HeldFrames.{Fits};
+ghost use Rattle.mc_segs.specs.HeldFrames.{FitsBank};
 ghost use Rattle.mc_segs.specs.Ends.{scene, RowActs};
 ghost use Rattle.mc_rows.specs.Rows.{alone, onward};
 
@@ -19,7 +19,7 @@ pub fn push_zeros<B: Bank>(
     bank: &mut B,
 ) -> Result<(), Halt>
     requires going { (B.state bank.old).stopped ≡ false }
-    requires fits { Fits (B.state bank.old) (B.named bank.old) frame.old }
+    requires fits { FitsBank (B.state bank.old) (B.named bank.old) frame.old }
     ensures { RowActs B.did B.state B.named (scene bank.old bank.new frame.old frame.new public.old public.new)
         (Pushz n) alone (onward result) }
 {
@@ -37,7 +37,7 @@ pub fn push_byte<B: Bank>(
     bank: &mut B,
 ) -> Result<(), Halt>
     requires going { (B.state bank.old).stopped ≡ false }
-    requires fits { Fits (B.state bank.old) (B.named bank.old) frame.old }
+    requires fits { FitsBank (B.state bank.old) (B.named bank.old) frame.old }
     ensures { RowActs B.did B.state B.named (scene bank.old bank.new frame.old frame.new public.old public.new)
         (Pushb b) alone (onward result) }
 {
@@ -54,7 +54,7 @@ pub fn push_word<B: Bank>(
     bank: &mut B,
 ) -> Result<(), Halt>
     requires going { (B.state bank.old).stopped ≡ false }
-    requires fits { Fits (B.state bank.old) (B.named bank.old) frame.old }
+    requires fits { FitsBank (B.state bank.old) (B.named bank.old) frame.old }
     ensures { RowActs B.did B.state B.named (scene bank.old bank.new frame.old frame.new public.old public.new)
         (Pushw w) alone (onward result) }
 {
@@ -71,7 +71,7 @@ pub fn pop_bytes<B: Bank>(
     bank: &mut B,
 ) -> Result<(), Halt>
     requires going { (B.state bank.old).stopped ≡ false }
-    requires fits { Fits (B.state bank.old) (B.named bank.old) frame.old }
+    requires fits { FitsBank (B.state bank.old) (B.named bank.old) frame.old }
     ensures { RowActs B.did B.state B.named (scene bank.old bank.new frame.old frame.new public.old public.new)
         (Popn n) alone (onward result) }
 {
@@ -84,7 +84,7 @@ pub fn pop_bytes<B: Bank>(
 #[tactic(auto, unfolding(mc_model::specs::Row::row, mc_model::specs::Row::causes, mc_model::specs::Row::effect))]
 pub fn pop_byte<B: Bank>(frame: &mut Frame, public: &mut Public, bank: &mut B) -> Result<(), Halt>
     requires going { (B.state bank.old).stopped ≡ false }
-    requires fits { Fits (B.state bank.old) (B.named bank.old) frame.old }
+    requires fits { FitsBank (B.state bank.old) (B.named bank.old) frame.old }
     ensures { RowActs B.did B.state B.named
         (scene bank.old bank.new frame.old frame.new public.old public.new) Popb alone (onward result) }
 {
@@ -96,7 +96,7 @@ pub fn pop_byte<B: Bank>(frame: &mut Frame, public: &mut Public, bank: &mut B) -
 #[tactic(auto, unfolding(mc_model::specs::Row::row, mc_model::specs::Row::causes, mc_model::specs::Row::effect))]
 pub fn pop_word<B: Bank>(frame: &mut Frame, public: &mut Public, bank: &mut B) -> Result<(), Halt>
     requires going { (B.state bank.old).stopped ≡ false }
-    requires fits { Fits (B.state bank.old) (B.named bank.old) frame.old }
+    requires fits { FitsBank (B.state bank.old) (B.named bank.old) frame.old }
     ensures { RowActs B.did B.state B.named
         (scene bank.old bank.new frame.old frame.new public.old public.new) Popw alone (onward result) }
 {

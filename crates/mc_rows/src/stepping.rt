@@ -1,7 +1,7 @@
 // One instruction: its row, by families.
 ghost use Rattle.std.specs.Prelude.{◌≡◌, false};
 ghost use Rattle.mc_model.specs.Code.{Shaped};
-ghost use Rattle.mc_segs.specs.HeldFrames.{Fits};
+ghost use Rattle.mc_segs.specs.HeldFrames.{FitsBank};
 ghost use Rattle.mc_segs.specs.Ends.{scene, RowActs};
 ghost use Rattle.mc_rows.specs.Rows.{alone, onward};
 ghost use Rattle.mc_rows.specs.Families.{IsBlockRow, IsNoPrimitive, IsTagged, LeadsOn};
@@ -33,7 +33,7 @@ pub fn step<B: Bank>(
     bank: &mut B,
 ) -> Result<Next, Halt>
     requires going { (B.state bank.old).stopped ≡ false }
-    requires fits { Fits (B.state bank.old) (B.named bank.old) frame.old }
+    requires fits { FitsBank (B.state bank.old) (B.named bank.old) frame.old }
     requires shaped { Shaped ins.now }
     requires row { IsNoPrimitive ins.now }
     ensures { RowActs B.did B.state B.named
@@ -65,7 +65,7 @@ fn step_on<B: Bank>(
     bank: &mut B,
 ) -> Result<(), Halt>
     requires going { (B.state bank.old).stopped ≡ false }
-    requires fits { Fits (B.state bank.old) (B.named bank.old) frame.old }
+    requires fits { FitsBank (B.state bank.old) (B.named bank.old) frame.old }
     requires shaped { Shaped ins.now }
     requires family { LeadsOn ins.now }
     ensures { RowActs B.did B.state B.named
@@ -99,7 +99,7 @@ fn step_tagged<B: Bank>(
     bank: &mut B,
 ) -> Result<(), Halt>
     requires going { (B.state bank.old).stopped ≡ false }
-    requires fits { Fits (B.state bank.old) (B.named bank.old) frame.old }
+    requires fits { FitsBank (B.state bank.old) (B.named bank.old) frame.old }
     requires shaped { Shaped ins.now }
     requires family { IsTagged ins.now }
     ensures { RowActs B.did B.state B.named
@@ -150,7 +150,7 @@ fn step_block<B: Bank>(
     bank: &mut B,
 ) -> Result<(), Halt>
     requires going { (B.state bank.old).stopped ≡ false }
-    requires fits { Fits (B.state bank.old) (B.named bank.old) frame.old }
+    requires fits { FitsBank (B.state bank.old) (B.named bank.old) frame.old }
     requires shaped { Shaped ins.now }
     requires family { IsBlockRow ins.now }
     ensures { RowActs B.did B.state B.named

@@ -1,7 +1,7 @@
 // Rows that move bytes between the stack and an address.
 ghost use Rattle.std.specs.Prelude.{◌≡◌, ◌≤◌, false};
 ghost use Rattle.mc_model.specs.declared.instruction.Ins.TheVariants.{Load, Store, Loadi, Storei, Loada, Index};
-ghost use Rattle.mc_segs.specs.HeldFrames.{Fits, shown};
+ghost use Rattle.mc_segs.specs.HeldFrames.{FitsBank, shown};
 ghost use Rattle.mc_segs.specs.Ends.{scene, RowActs};
 ghost use Rattle.mc_rows.specs.Rows.{alone, AddressUnder, onward};
 
@@ -22,7 +22,7 @@ pub fn load_block<B: Bank>(
     bank: &mut B,
 ) -> Result<(), Halt>
     requires going { (B.state bank.old).stopped ≡ false }
-    requires fits { Fits (B.state bank.old) (B.named bank.old) frame.old }
+    requires fits { FitsBank (B.state bank.old) (B.named bank.old) frame.old }
     requires tag { tag ≤ 7 }
     ensures { RowActs B.did B.state B.named (scene bank.old bank.new frame.old frame.new public.old public.new)
         (Load tag off n) alone (onward result) }
@@ -47,7 +47,7 @@ pub fn store_block<B: Bank>(
     bank: &mut B,
 ) -> Result<(), Halt>
     requires going { (B.state bank.old).stopped ≡ false }
-    requires fits { Fits (B.state bank.old) (B.named bank.old) frame.old }
+    requires fits { FitsBank (B.state bank.old) (B.named bank.old) frame.old }
     requires tag { tag ≤ 7 }
     ensures { RowActs B.did B.state B.named (scene bank.old bank.new frame.old frame.new public.old public.new)
         (Store tag off n) alone (onward result) }
@@ -74,7 +74,7 @@ pub fn load_indirect<B: Bank>(
     bank: &mut B,
 ) -> Result<(), Halt>
     requires going { (B.state bank.old).stopped ≡ false }
-    requires fits { Fits (B.state bank.old) (B.named bank.old) frame.old }
+    requires fits { FitsBank (B.state bank.old) (B.named bank.old) frame.old }
     requires tag { tag ≤ 7 }
     ensures { RowActs B.did B.state B.named (scene bank.old bank.new frame.old frame.new public.old public.new)
         (Loadi tag off n) alone (onward result) }
@@ -100,7 +100,7 @@ pub fn store_indirect<B: Bank>(
     bank: &mut B,
 ) -> Result<(), Halt>
     requires going { (B.state bank.old).stopped ≡ false }
-    requires fits { Fits (B.state bank.old) (B.named bank.old) frame.old }
+    requires fits { FitsBank (B.state bank.old) (B.named bank.old) frame.old }
     requires tag { tag ≤ 7 }
     ensures { RowActs B.did B.state B.named (scene bank.old bank.new frame.old frame.new public.old public.new)
         (Storei tag off n) alone (onward result) }
@@ -124,7 +124,7 @@ pub fn load_address<B: Bank>(
     bank: &mut B,
 ) -> Result<(), Halt>
     requires going { (B.state bank.old).stopped ≡ false }
-    requires fits { Fits (B.state bank.old) (B.named bank.old) frame.old }
+    requires fits { FitsBank (B.state bank.old) (B.named bank.old) frame.old }
     requires tag { tag ≤ 7 }
     ensures { RowActs B.did B.state B.named (scene bank.old bank.new frame.old frame.new public.old public.new)
         (Loada tag off) alone (onward result) }
@@ -145,7 +145,7 @@ pub fn index<B: Bank>(
     bank: &mut B,
 ) -> Result<(), Halt>
     requires going { (B.state bank.old).stopped ≡ false }
-    requires fits { Fits (B.state bank.old) (B.named bank.old) frame.old }
+    requires fits { FitsBank (B.state bank.old) (B.named bank.old) frame.old }
     requires tag { tag ≤ 7 }
     ensures { RowActs B.did B.state B.named (scene bank.old bank.new frame.old frame.new public.old public.new)
         (Index tag off size) alone (onward result) }
@@ -165,7 +165,7 @@ fn address_under<B: Bank>(
     bank: &B,
 ) -> Result<u16, Abend>
     requires going { (B.state bank.now).stopped ≡ false }
-    requires fits { Fits (B.state bank.now) (B.named bank.now) frame.now }
+    requires fits { FitsBank (B.state bank.now) (B.named bank.now) frame.now }
     requires tag { tag ≤ 7 }
     ensures { AddressUnder result (shown (B.state bank.now) (B.named bank.now) frame.now) public.now tag off n }
 {

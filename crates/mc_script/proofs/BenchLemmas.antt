@@ -6,10 +6,10 @@ use Rattle.std.proofs.lemmas.List.{get_or-set_same, length-take-le}
 use Rattle.mc_model.specs.declared.device.Stop.{Stop}
 use Rattle.mc_model.specs.declared.device.Stop.TheVariants.{Off, Worn}
 use Rattle.mc_model.specs.Orders.{Answer}
-use Rattle.mc_model.specs.Device.{Entry, Grows, DeviceState, BenchState, counted, falling, due, Ends, Counts, Burns, BenchWrote, Wrote, WriteDone, WriteCut, WriteWorn, Makes, GrowsBy, done_entries, torn_entries, next_count}
+use Rattle.mc_model.specs.Device.{Entry, Grows, DeviceState, BenchState, counted, falling, due, NextWriteEnds, Counts, Burns, BenchWrote, Wrote, WriteDone, WriteCut, WriteWorn, Makes, GrowsBy, done_entries, torn_entries, next_count}
 use Rattle.mc_model.specs.Stopped.{torn}
 use Rattle.mc_model.proofs.DeviceLemmas.{DoneAll, makes-done}
-use Rattle.mc_script.specs.Runs.{StoppedAt}
+use Rattle.mc_script.specs.Runs.{StoppedAtWrite}
 use Rattle.mc_script.proofs.EntryLemmas.{stopped_entry, torn-behind, entries-behind}
 use Rattle.mc_script.proofs.AccountLemmas.{SizesTo}
 use Rattle.mc_script.proofs.FuseLemmas.{after_writes, Past, falls_at, past_on, past_first, past_none, none_due, cut_due, worn_due}
@@ -41,7 +41,7 @@ FusedAt Off b k x = b.cut ≡ Some (record { writes = k; fill = x })
 FusedAt Worn b k x = Past k b.cut × (b.steady ≡ true → b.worn ≡ Some (record { writes = k; fill = x }))
 
 -- a list that stopped at its write k, which left x
-pub record Halted (d : DeviceState) (b : BenchState) (ws : List (ℕ × List ℕ)) (k : ℕ) (s : Stop) (x : List ℕ) (e : DeviceState) (c : BenchState) : Type 0 where
+pub record HaltedList (d : DeviceState) (b : BenchState) (ws : List (ℕ × List ℕ)) (k : ℕ) (s : Stop) (x : List ℕ) (e : DeviceState) (c : BenchState) : Type 0 where
   pub size : length x ≡ 8
   pub words : e.words ≡ torn d.words ws k x
   pub tape : GrowsBy d.tape (torn_entries ws k x s) e.tape
@@ -59,7 +59,7 @@ module _ {D : Type 0} (wrote : D → ℕ → List ℕ → Answer → D → Type 
     pub before : Makes wrote d (take n ws) (Ok tt) middle
     pub stopped : wrote middle (slice_index_or ws n (0, [])).0 (slice_index_or ws n (0, [])).1 (Err s) e
 
-  pub behind_at : (d e : D) (ws : List (ℕ × List ℕ)) (n : ℕ) (s : Stop) → StoppedBehind d ws n s e → StoppedAt wrote d ws (suc n) s e
+  pub behind_at : (d e : D) (ws : List (ℕ × List ℕ)) (n : ℕ) (s : Stop) → StoppedBehind d ws n s e → StoppedAtWrite wrote d ws (suc n) s e
   behind_at d e ws n s r =
       let same : n ≡ suc n - 1 = omega arith in
       record {
@@ -70,7 +70,7 @@ module _ {D : Type 0} (wrote : D → ℕ → List ℕ → Answer → D → Type 
         stopped = subst (λ (j : ℕ). wrote r.middle (slice_index_or ws j (0, [])).0 (slice_index_or ws j (0, [])).1 (Err s) e) same r.stopped;
       }
 
-  pub at_behind : (d e : D) (ws : List (ℕ × List ℕ)) (n : ℕ) (s : Stop) → StoppedAt wrote d ws (suc n) s e → StoppedBehind d ws n s e
+  pub at_behind : (d e : D) (ws : List (ℕ × List ℕ)) (n : ℕ) (s : Stop) → StoppedAtWrite wrote d ws (suc n) s e → StoppedBehind d ws n s e
   at_behind d e ws n s r =
       let same : suc n - 1 ≡ n = omega arith in
       record {
@@ -95,7 +95,7 @@ module _ {D : Type 0} (wrote : D → ℕ → List ℕ → Answer → D → Type 
       ]
 
   -- a list of writes that stopped, stopped at one of them
-  pub makes_stop : (ws : List (ℕ × List ℕ)) (d e : D) (s : Stop) → Makes wrote d ws (Err s) e → (k : ℕ) × StoppedAt wrote d ws k s e
+  pub makes_stop : (ws : List (ℕ × List ℕ)) (d e : D) (s : Stop) → Makes wrote d ws (Err s) e → (k : ℕ) × StoppedAtWrite wrote d ws k s e
   makes_stop ws d e s made = let r = behind ws d e s made in (suc r.0, behind_at d e ws r.0 s r.1)
 
 -- ---- benches
@@ -128,7 +128,7 @@ grows-last (Some t) es (Some u) e (Some v) g h = h ∙ ap (λ (x : List Entry). 
 same_word : (m : List (List ℕ)) (at : ℕ) (a b : List ℕ) → at < length m → slice_set m at a ≡ slice_set m at b → a ≡ b
 same_word m at a b low h = sym (get_or-set_same m at a [] low) ∙ ap (λ (t : List (List ℕ)). slice_index_or t at []) h ∙ get_or-set_same m at b [] low
 
-fused : (s : Stop) (b c : BenchState) (n : ℕ) (d e : DeviceState) (at : ℕ) (x : List ℕ) → Burnt b n c → Ends (due (falling c.cut) (falling c.worn)) c.steady d at (Err s) e
+fused : (s : Stop) (b c : BenchState) (n : ℕ) (d e : DeviceState) (at : ℕ) (x : List ℕ) → Burnt b n c → NextWriteEnds (due (falling c.cut) (falling c.worn)) c.steady d at (Err s) e
     → at < length d.words → e.words ≡ slice_set d.words at x → FusedAt s b (suc n) x
 fused Off b c n d e at x burnt ends low words =
     let r = cut_due (falling c.cut) (falling c.worn) c.steady d at e ends in
@@ -201,7 +201,7 @@ module _ {D : Type 0} (state : D → DeviceState) (bench : D → BenchState) (wr
       let r : WriteWorn (state d) at (state e) = obeys d at w (Err Worn) e on h in
       record { left = r.left; size = r.size; words = r.words; tape = r.tape }
 
-  halted_behind : (ws : List (ℕ × List ℕ)) (d e : D) (n : ℕ) (s : Stop) → (state d).on ≡ true → StoppedBehind wrote d ws n s e → (x : List ℕ) × Halted (state d) (bench d) ws (suc n) s x (state e) (bench e)
+  halted_behind : (ws : List (ℕ × List ℕ)) (d e : D) (n : ℕ) (s : Stop) → (state d).on ≡ true → StoppedBehind wrote d ws n s e → (x : List ℕ) × HaltedList (state d) (bench d) ws (suc n) s x (state e) (bench e)
   halted_behind ws d e n s on r =
       let m = r.middle in
       let p : ℕ × List ℕ = slice_index_or ws n (0, []) in
@@ -225,7 +225,7 @@ module _ {D : Type 0} (state : D → DeviceState) (bench : D → BenchState) (wr
       )
 
   -- a list that stopped at its write k: what that write left, and the fuse that it was
-  pub halted : (ws : List (ℕ × List ℕ)) (d e : D) (k : ℕ) (s : Stop) → (state d).on ≡ true → StoppedAt wrote d ws k s e → (x : List ℕ) × Halted (state d) (bench d) ws k s x (state e) (bench e)
+  pub halted : (ws : List (ℕ × List ℕ)) (d e : D) (k : ℕ) (s : Stop) → (state d).on ≡ true → StoppedAtWrite wrote d ws k s e → (x : List ℕ) × HaltedList (state d) (bench d) ws k s x (state e) (bench e)
   halted ws d e zero s on r = let low = r.low in absurd (omega (arith, low))
   halted ws d e (suc n) s on r = halted_behind ws d e n s on (at_behind wrote d e ws n s r)
 
@@ -248,5 +248,5 @@ module _ {D : Type 0} (state : D → DeviceState) (bench : D → BenchState) (wr
       ]
 
   -- the words before the write that stopped have eight bytes
-  pub sizes_before : (ws : List (ℕ × List ℕ)) (d e : D) (n : ℕ) (s : Stop) → StoppedAt wrote d ws (suc n) s e → SizesTo n ws
+  pub sizes_before : (ws : List (ℕ × List ℕ)) (d e : D) (n : ℕ) (s : Stop) → StoppedAtWrite wrote d ws (suc n) s e → SizesTo n ws
   sizes_before ws d e n s r = let b = at_behind wrote d e ws n s r in sizes_take ws n d b.middle b.before

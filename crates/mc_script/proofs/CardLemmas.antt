@@ -10,9 +10,9 @@ use Rattle.mc_model.specs.Card.{means}
 use Rattle.mc_store.specs.Store.{is_closed, is_going, store_state, store_named, store_room, store_standing}
 use Rattle.mc_store.specs.Power.{count_of}
 use Rattle.mc_card.specs.declared.card.Card.{Card}
-use Rattle.mc_card.specs.Parts.{device_in, seat_in, with_device, IsReady}
+use Rattle.mc_card.specs.Parts.{device_in, seat_in, with_device, IsReadyCard}
 use Rattle.mc_bank.specs.Bank.{app_of}
-use Rattle.mc_manager.specs.ManagerState.{Fits, seat_of}
+use Rattle.mc_manager.specs.ManagerState.{ManagerFits, seat_of}
 
 closed_owes_none : (l : Look) → is_closed l ≡ true → debt l ≡ 0
 closed_owes_none (Refused p) h = refl
@@ -32,22 +32,22 @@ going_parts d n h =
 
 module _ {N : Type 0} (state : N → DeviceState) where
   -- a card that runs has power, and owes nothing
-  pub ready_on : (c : Card N) → IsReady state c → (state (device_in c)).on ≡ true
+  pub ready_on : (c : Card N) → IsReadyCard state c → (state (device_in c)).on ≡ true
   ready_on c r = (going_parts (state (device_in c)) (count_of c.store) r.up.going).0
 
-  pub ready_owes : (c : Card N) → IsReady state c → owed (state (device_in c)).words ≡ 0
+  pub ready_owes : (c : Card N) → IsReadyCard state c → owed (state (device_in c)).words ≡ 0
   ready_owes c r = closed_owes_none (look (state (device_in c)).words) (going_parts (state (device_in c)) (count_of c.store) r.up.going).1
 
   seat_with : (c : Card N) (d : N) → state d ≡ state (device_in c) → seat_in state (with_device c d) ≡ seat_in state c
   seat_with c d same = ap (λ (x : DeviceState). seat_of (store_standing x) c.session c.manager) same
 
-  ready_with : (c : Card N) (d : N) → state d ≡ state (device_in c) → IsReady state c → IsReady state (with_device c d)
+  ready_with : (c : Card N) (d : N) → state d ≡ state (device_in c) → IsReadyCard state c → IsReadyCard state (with_device c d)
   ready_with c d same r =
       let n = count_of c.store in
       record {
         up = record {
           going = ap (λ (x : DeviceState). is_going x n) same ∙ r.up.going;
-          fits = subst (λ (x : DeviceState). Fits (record { state = store_state x n; named = store_named x; room = store_room x; standing = store_standing x }) c.manager) (sym same) r.up.fits;
+          fits = subst (λ (x : DeviceState). ManagerFits (record { state = store_state x n; named = store_named x; room = store_room x; standing = store_standing x }) c.manager) (sym same) r.up.fits;
           session = subst (λ (x : DeviceState). ForSome c.manager.selected (λ s. length c.session ≡ (app_of (means x.words).apps (Some s.aid)).session)) (sym same) r.up.session;
         };
         idle = r.idle;
@@ -57,5 +57,5 @@ module _ {N : Type 0} (state : N → DeviceState) where
   pub seat_over : (c u : Card N) → u ≡ with_device c (device_in u) → state (device_in u) ≡ state (device_in c) → seat_in state u ≡ seat_in state c
   seat_over c u is same = ap (λ (x : Card N). seat_in state x) is ∙ seat_with c (device_in u) same
 
-  pub ready_over : (c u : Card N) → u ≡ with_device c (device_in u) → state (device_in u) ≡ state (device_in c) → IsReady state c → IsReady state u
-  ready_over c u is same r = subst (λ (x : Card N). IsReady state x) (sym is) (ready_with c (device_in u) same r)
+  pub ready_over : (c u : Card N) → u ≡ with_device c (device_in u) → state (device_in u) ≡ state (device_in c) → IsReadyCard state c → IsReadyCard state u
+  ready_over c u is same r = subst (λ (x : Card N). IsReadyCard state x) (sym is) (ready_with c (device_in u) same r)

@@ -16,8 +16,8 @@ use Rattle.mc_machine.specs.declared.outcome.Turn.{Turn as CodeTurn}
 use Rattle.mc_machine.specs.Turns.{turn_value}
 use Rattle.mc_card.specs.declared.card.Card.{Card}
 use Rattle.mc_card.specs.Parts.{device_in, card_in, seat_in, due, with_session, RunsChain}
-use Rattle.mc_card.specs.Ends.{is_passed, Commanded, Passed, Answered, Turned}
-use Rattle.mc_script.specs.Runs.{StoppedAt, Tells, Ran}
+use Rattle.mc_card.specs.Ends.{is_passed, Commanded, PassedToChain, Answered, ChainTurned}
+use Rattle.mc_script.specs.Runs.{StoppedAtWrite, TellsTurns, RanAndTold}
 use Rattle.mc_script.proofs.StopLemmas.{stopped_in, at_number}
 use Rattle.mc_script.proofs.RanLemmas.{MadeBy, RunOf, run_ends, run_stops, run_goes, run_on}
 use Rattle.mc_script.proofs.UpLemmas.{up_on}
@@ -61,19 +61,19 @@ module _ {N R : Type 0} (state : N → DeviceState) (wrote : N → ℕ → List 
     (told : R → List Turn → R → Type 0) (silent : (r : R) → told r [] r)
     (onward : (q r s : R) (ts us : List Turn) → told q ts r → told r us s → told q (ts ++ us) s) where
   -- what is told of a command without turns
-  quiet_tells : (result : Result Outcome Stop) (c d : Card N) (r : Command) (h : Commanded state wrote c r result d) (q : R) → Tells state wrote told c h.made.writes [] result d q q
+  quiet_tells : (result : Result Outcome Stop) (c d : Card N) (r : Command) (h : Commanded state wrote c r result d) (q : R) → TellsTurns state wrote told c h.made.writes [] result d q q
   quiet_tells (Ok o) c d r h q = silent q
   quiet_tells (Err s) c d r h q =
       let at = stopped_in wrote h.made.writes (device_in c) (device_in d) s h.made.makes in
       (suc at.0, at_number wrote h.made.writes (device_in c) (device_in d) at.0 s at.1, silent q)
 
   -- a command without turns
-  pub quiet_ran : (result : Result Outcome Stop) (c d : Card N) (r : Command) (q : R) → r.turns ≡ [] → Commanded state wrote c r result d → Ran state wrote told c r result d q q
+  pub quiet_ran : (result : Result Outcome Stop) (c d : Card N) (r : Command) (q : R) → r.turns ≡ [] → Commanded state wrote c r result d → RanAndTold state wrote told c r result d q q
   quiet_ran result c d r q none h =
-      record { commanded = h; tells = subst (λ (ts : List Turn). Tells state wrote told c h.made.writes ts result d q q) (sym none) (quiet_tells result c d r h q) }
+      record { commanded = h; tells = subst (λ (ts : List Turn). TellsTurns state wrote told c h.made.writes ts result d q q) (sym none) (quiet_tells result c d r h q) }
 
   -- a command that is answered
-  pub answered_ran : (result : Result Outcome Stop) (c d : Card N) (bytes : List ℕ) (budget : ℕ) (q : R) → Answered state wrote c bytes budget result d → Ran state wrote told c (due state c bytes budget) result d q q
+  pub answered_ran : (result : Result Outcome Stop) (c d : Card N) (bytes : List ℕ) (budget : ℕ) (q : R) → Answered state wrote c bytes budget result d → RanAndTold state wrote told c (due state c bytes budget) result d q q
   answered_ran result c d bytes budget q h =
       quiet_ran result c d (due state c bytes budget) q (command_turns (card_in state c) (seat_in state c) bytes budget h.stays) h.commanded
 
@@ -82,13 +82,13 @@ module _ {N R : Type 0} (state : N → DeviceState) (wrote : N → ℕ → List 
   seat_stays (Ok o) c m d s run same is h = h ∙ ap (λ (seat : Seat). with_session run.session seat) same ∙ session_stays (seat_in state c) s run.session is
   seat_stays (Err t) c m d s run same is h = tt
 
-  tells_as : (result : Result Outcome Stop) (c m d : Card N) (ws : List (ℕ × List ℕ)) (ts : List Turn) (q r : R) → device_in m ≡ device_in c → Tells state wrote told m ws ts result d q r → Tells state wrote told c ws ts result d q r
+  tells_as : (result : Result Outcome Stop) (c m d : Card N) (ws : List (ℕ × List ℕ)) (ts : List Turn) (q r : R) → device_in m ≡ device_in c → TellsTurns state wrote told m ws ts result d q r → TellsTurns state wrote told c ws ts result d q r
   tells_as (Ok o) c m d ws ts q r same h = h
-  tells_as (Err s) c m d ws ts q r same h = (h.0, subst (λ (x : N). StoppedAt wrote x ws h.0 s (device_in d)) same h.1, h.2)
+  tells_as (Err s) c m d ws ts q r same h = (h.0, subst (λ (x : N). StoppedAtWrite wrote x ws h.0 s (device_in d)) same h.1, h.2)
 
   -- a run, as the command that began it
   begun_by : (result : Result Outcome Stop) (c m d : Card N) (s : Selected) (run : ModelRan) (q r : R) → device_in m ≡ device_in c → seat_in state m ≡ seat_in state c → (seat_in state c).selected ≡ Some s
-      → RunOf state wrote obeys told silent onward run m result d q r → Ran state wrote told c (ran_command (seat_in state c) s.name run) result d q r
+      → RunOf state wrote obeys told silent onward run m result d q r → RanAndTold state wrote told c (ran_command (seat_in state c) s.name run) result d q r
   begun_by result c m d s run q r device same is h =
       let made : MadeBy state wrote obeys (card_in state c) (write_items run.writes) (device_in c) (answer_of result) (device_in d) h.writes =
       subst (λ (x : N). MadeBy state wrote obeys (means (state x).words) (write_items run.writes) x (answer_of result) (device_in d) h.writes) device h.made
@@ -105,28 +105,28 @@ module _ {N R : Type 0} (state : N → DeviceState) (wrote : N → ℕ → List 
       }
 
   -- a command that was passed on, and run to its end
-  pub passed_ran : (result : Result Outcome Stop) (c m d : Card N) (bytes : List ℕ) (budget : ℕ) (q r : R) (h : Passed state wrote c bytes budget m)
-      → RunOf state wrote obeys told silent onward (run (card_in state c).apps (h.selected).name (h.selected).session h.apdu budget) m result d q r → Ran state wrote told c (due state c bytes budget) result d q r
+  pub passed_ran : (result : Result Outcome Stop) (c m d : Card N) (bytes : List ℕ) (budget : ℕ) (q r : R) (h : PassedToChain state wrote c bytes budget m)
+      → RunOf state wrote obeys told silent onward (run (card_in state c).apps (h.selected).name (h.selected).session h.apdu budget) m result d q r → RanAndTold state wrote told c (due state c bytes budget) result d q r
   passed_ran result c m d bytes budget q r h ran =
-      subst (λ (k : Command). Ran state wrote told c k result d q r) (sym (command_is (card_in state c) (seat_in state c) bytes budget h.apdu h.selected h.routed h.is))
+      subst (λ (k : Command). RanAndTold state wrote told c k result d q r) (sym (command_is (card_in state c) (seat_in state c) bytes budget h.apdu h.selected h.routed h.is))
       (begun_by result c m d h.selected (run (card_in state c).apps (h.selected).name (h.selected).session h.apdu budget) q r h.device h.seat h.is ran)
 
   -- what the rest of a run does and tells, the whole command does and tells
-  pub record Leads (c : Card N) (bytes : List ℕ) (budget : ℕ) (q : R) (n : ℕ) (m : Card N) (p : R) : Type 0 where
+  pub record RunLeads (c : Card N) (bytes : List ℕ) (budget : ℕ) (q : R) (n : ℕ) (m : Card N) (p : R) : Type 0 where
     pub chain : Chain
     pub runs : RunsChain state m chain n
-    pub rest : (result : Result Outcome Stop) (d : Card N) (r : R) → RunOf state wrote obeys told silent onward (ran n chain) m result d p r → Ran state wrote told c (due state c bytes budget) result d q r
+    pub rest : (result : Result Outcome Stop) (d : Card N) (r : R) → RunOf state wrote obeys told silent onward (ran n chain) m result d p r → RanAndTold state wrote told c (due state c bytes budget) result d q r
 
   -- what a turn does, whatever chain it is
-  abbrev pub Turns : Card N → Result CodeTurn Stop → Card N → Type 0
-  Turns m result d = (ch : Chain) (left : ℕ) → RunsChain state m ch left → Turned state wrote m ch left (turn_of left ch) result d
+  abbrev pub TurnDoes : Card N → Result CodeTurn Stop → Card N → Type 0
+  TurnDoes m result d = (ch : Chain) (left : ℕ) → RunsChain state m ch left → ChainTurned state wrote m ch left (turn_of left ch) result d
 
   -- what is told of a turn, whatever words it wrote
   abbrev pub TellsTurn : R → CodeTurn → R → Type 0
   TellsTurn p turn r = (wrote : Option ℕ) → told p (turn_value turn wrote ∷ []) r
 
   -- the beginning of a command that is passed on
-  pub leads_begin : (c m : Card N) (bytes : List ℕ) (budget : ℕ) (q : R) → Passed state wrote c bytes budget m → Leads c bytes budget q budget m q
+  pub leads_begin : (c m : Card N) (bytes : List ℕ) (budget : ℕ) (q : R) → PassedToChain state wrote c bytes budget m → RunLeads c bytes budget q budget m q
   leads_begin c m bytes budget q h =
       record {
         chain = start (card_in state c).apps (h.selected).name (h.selected).session h.apdu;
@@ -135,16 +135,16 @@ module _ {N R : Type 0} (state : N → DeviceState) (wrote : N → ℕ → List 
       }
 
   -- a turn whose write stopped
-  pub leads_stop : (c m d : Card N) (bytes : List ℕ) (budget n : ℕ) (q p : R) (s : Stop) → Leads c bytes budget q n m p → Turns m (Err s) d → Ran state wrote told c (due state c bytes budget) (Err s) d q p
+  pub leads_stop : (c m d : Card N) (bytes : List ℕ) (budget n : ℕ) (q p : R) (s : Stop) → RunLeads c bytes budget q n m p → TurnDoes m (Err s) d → RanAndTold state wrote told c (due state c bytes budget) (Err s) d q p
   leads_stop c m d bytes budget n q p s h turns = h.rest (Err s) d p (run_stops state wrote obeys told silent onward m d h.chain n s p (turns h.chain n h.runs))
 
   -- a turn that ends its chain
-  pub leads_end : (c m d : Card N) (bytes : List ℕ) (budget n : ℕ) (q p r : R) (turn : CodeTurn) (o : Outcome) → Leads c bytes budget q n m p → Turns m (Ok turn) d → TellsTurn p turn r → turn.end ≡ Some o → Ran state wrote told c (due state c bytes budget) (Ok o) d q r
+  pub leads_end : (c m d : Card N) (bytes : List ℕ) (budget n : ℕ) (q p r : R) (turn : CodeTurn) (o : Outcome) → RunLeads c bytes budget q n m p → TurnDoes m (Ok turn) d → TellsTurn p turn r → turn.end ≡ Some o → RanAndTold state wrote told c (due state c bytes budget) (Ok o) d q r
   leads_end c m d bytes budget n q p r turn o h turns tells end =
       h.rest (Ok o) d r (run_ends state wrote obeys told silent onward m d h.chain n turn o p r (turns h.chain n h.runs) end (tells (turn_of n h.chain).turn.wrote))
 
   -- a turn that goes on
-  pub leads_on : (c m d : Card N) (bytes : List ℕ) (budget n : ℕ) (q p r : R) (turn : CodeTurn) → Leads c bytes budget q n m p → Turns m (Ok turn) d → TellsTurn p turn r → turn.end ≡ None → (left : ℕ) × (n ≡ suc left) × Leads c bytes budget q left d r
+  pub leads_on : (c m d : Card N) (bytes : List ℕ) (budget n : ℕ) (q p r : R) (turn : CodeTurn) → RunLeads c bytes budget q n m p → TurnDoes m (Ok turn) d → TellsTurn p turn r → turn.end ≡ None → (left : ℕ) × (n ≡ suc left) × RunLeads c bytes budget q left d r
   leads_on c m d bytes budget n q p r turn h turns tells end =
       let turned = turns h.chain n h.runs in
       let goes = run_goes state wrote obeys told silent onward m d h.chain n turn turned end in (
@@ -164,7 +164,7 @@ some_is None h = absurd (h refl)
 some_is (Some x) h = refl
 
 -- a command whose turns may all be told
-pub untold_ran : {N R : Type 0} (state : N → DeviceState) (wrote : N → ℕ → List ℕ → Answer → N → Type 0) (told : R → List Turn → R → Type 0) (result : Result Outcome Stop) (c d : Card N) (k : Command) (q r : R) → ((ts : List Turn) → told q ts r) → Commanded state wrote c k result d → Ran state wrote told c k result d q r
+pub untold_ran : {N R : Type 0} (state : N → DeviceState) (wrote : N → ℕ → List ℕ → Answer → N → Type 0) (told : R → List Turn → R → Type 0) (result : Result Outcome Stop) (c d : Card N) (k : Command) (q r : R) → ((ts : List Turn) → told q ts r) → Commanded state wrote c k result d → RanAndTold state wrote told c k result d q r
 untold_ran state wrote told (Ok o) c d k q r any h = record { commanded = h; tells = any k.turns }
 untold_ran state wrote told (Err s) c d k q r any h =
     let at = stopped_in wrote h.made.writes (device_in c) (device_in d) s h.made.makes in

@@ -13,12 +13,12 @@ use Rattle.mc_model.specs.Manager.{Seat}
 use Rattle.mc_model.specs.Items.{Item, StopAt, moves, card_done, at_stop}
 use Rattle.mc_model.specs.Chain.{Turn}
 use Rattle.mc_model.specs.Play as play
-use Rattle.mc_model.specs.Play.{Live, Running, Base, OnCard, Warm, State, Cold, Hot, Answered, WornAt, Step, step, line_command, card_line, command_step, line_after, stopped_line, result_of_stop, hit_of, worn_entry, moves_of, Stands, stopped}
+use Rattle.mc_model.specs.Play.{Live, Running, Base, OnCard, Warm, State, Cold, Hot, Answered, WornAt, Step, step, line_command, card_line, command_step, line_after, stopped_line, result_of_stop, hit_of, worn_entry, moves_of, StandsForState, stopped}
 use Rattle.mc_machine.specs.declared.outcome.Outcome.{Outcome}
 use Rattle.mc_card.specs.declared.card.Card.{Card}
-use Rattle.mc_card.specs.ItemWrites.{StopsAtEach, IsDone}
-use Rattle.mc_card.specs.Parts.{device_in, card_in, seat_in, with_device, IsReady}
-use Rattle.mc_store.specs.Power.{found, IsBase}
+use Rattle.mc_card.specs.ItemWrites.{StopsAtEach, IsCardAfter}
+use Rattle.mc_card.specs.Parts.{device_in, card_in, seat_in, with_device, IsReadyCard}
+use Rattle.mc_store.specs.Power.{found, HoldsBase}
 use Rattle.mc_script.specs.declared.answer.Answer.{Answer}
 use Rattle.mc_script.specs.declared.answer.Answer.TheVariants as answer
 use Rattle.mc_script.specs.declared.armed.Armed.{Armed}
@@ -27,11 +27,11 @@ use Rattle.mc_script.specs.declared.commands.CardLine.{CardLine}
 use Rattle.mc_script.specs.declared.player.Power.{Power}
 use Rattle.mc_script.specs.declared.player.Power.TheVariants as power
 use Rattle.mc_script.specs.declared.player.Player.{Player}
-use Rattle.mc_script.specs.Players.{answer_value, device_of, IsCard, LiveIs, IsAt}
+use Rattle.mc_script.specs.Players.{answer_value, device_of, IsCardOfPlay, LiveIs, IsPlayerAt}
 use Rattle.mc_script.specs.Arming.{armed_bench, power_after_stop, answer_after_stop}
 use Rattle.mc_script.specs.Commands.{deck_line_of}
 use Rattle.mc_script.specs.Lines.{LineDone}
-use Rattle.mc_script.specs.Runs.{Ran}
+use Rattle.mc_script.specs.Runs.{RanAndTold}
 use Rattle.mc_script.proofs.AccountLemmas.{base_card, stands_hot, StopsStand}
 use Rattle.mc_script.proofs.HitLemmas.{HitBy}
 use Rattle.mc_script.proofs.CardLemmas.{ready_on, ready_owes, seat_over, ready_over}
@@ -52,41 +52,41 @@ module _ {N R : Type 0} (state : N → DeviceState) (bench : N → BenchState) (
   asked c w cmd = line_command (card_in state c) (seat_in state c) w.budget (deck_line_of cmd)
 
   -- the step of the line
-  step_is : (c : Card N) (w : Warm) (n : ℕ) (cmd : CardLine) (x : Option WornAt) → IsCard state c w.base w.live
+  step_is : (c : Card N) (w : Warm) (n : ℕ) (cmd : CardLine) (x : Option WornAt) → IsCardOfPlay state c w.base w.live
       → step (Hot w) (n, deck_line_of cmd) x ≡ command_step n (deck_line_of cmd) w (card_in state c) (asked c w cmd) (hit_of w.armed (moves (asked c w cmd).items) x)
   unfolding asked
   step_is c w n cmd x on =
       hot_is cmd w n x ∙ ap (λ (v : Live). card_line n (deck_line_of cmd) w v w.base x) on.live ∙ ap (λ (b : Base). card_line n (deck_line_of cmd) w (Running (seat_in state c)) b x) on.base
 
-  moves_are : (c : Card N) (w : Warm) (n : ℕ) (cmd : CardLine) → IsCard state c w.base w.live → moves_of (Hot w) (n, deck_line_of cmd) ≡ moves (asked c w cmd).items
+  moves_are : (c : Card N) (w : Warm) (n : ℕ) (cmd : CardLine) → IsCardOfPlay state c w.base w.live → moves_of (Hot w) (n, deck_line_of cmd) ≡ moves (asked c w cmd).items
   unfolding asked
   moves_are c w n cmd on =
       moves_hot cmd w n ∙ ap (λ (v : Live). moves (card_line n (deck_line_of cmd) w v w.base None).items) on.live
       ∙ ap (λ (b : Base). moves (card_line n (deck_line_of cmd) w (Running (seat_in state c)) b None).items) on.base
 
   -- wherever a write of the line stops, the words stand for the play
-  command_stands : (c : Card N) (w : Warm) (n : ℕ) (cmd : CardLine) (ws : List (ℕ × List ℕ)) → IsCard state c w.base w.live → StopsAtEach (card_in state c) (asked c w cmd).items (state (device_in c)).words ws
+  command_stands : (c : Card N) (w : Warm) (n : ℕ) (cmd : CardLine) (ws : List (ℕ × List ℕ)) → IsCardOfPlay state c w.base w.live → StopsAtEach (card_in state c) (asked c w cmd).items (state (device_in c)).words ws
       → StopsStand (state (device_in c)).words (Hot w) (n, deck_line_of cmd) 0 ws
   command_stands c w n cmd ws on stops k x low high size =
       let m = torn (state (device_in c)).words ws k x in
       let t : StopAt = record { kind = Worn; at = k; left = x } in
       let v : Warm = stopped_line w (card_in state c) t (at_stop (asked c w cmd).items k x) in
-      let base : IsBase v.base v.owed v.by m = stops k x low high size in
-      let here : Stands m (Hot v) = stands_hot m v base in
+      let base : HoldsBase v.base v.owed v.by m = stops k x low high size in
+      let here : StandsForState m (Hot v) = stands_hot m v base in
       let zero_on : 0 + k ≡ k = omega arith in
-      subst (λ (i : ℕ). Stands m (stopped (Hot w) (n, deck_line_of cmd) i x)) (sym zero_on)
-      (subst (λ (u : Step). Stands m u.after) (sym (step_is c w n cmd (Some (record { at = k; left = x })) on)) here)
+      subst (λ (i : ℕ). StandsForState m (stopped (Hot w) (n, deck_line_of cmd) i x)) (sym zero_on)
+      (subst (λ (u : Step). StandsForState m u.after) (sym (step_is c w n cmd (Some (record { at = k; left = x })) on)) here)
 
   -- the card that is armed is asked the same
   asked_over : (c u : Card N) (k : ℕ) (w : Warm) (cmd : CardLine) (result : _) (e : Card N) (before after : R) → u ≡ with_device c (device_in u) → state (device_in u) ≡ state (device_in c) → k ≡ w.budget
-      → Ran state wrote told u (line_command (card_in state u) (seat_in state u) k (deck_line_of cmd)) result e before after → Ran state wrote told u (asked c w cmd) result e before after
+      → RanAndTold state wrote told u (line_command (card_in state u) (seat_in state u) k (deck_line_of cmd)) result e before after → RanAndTold state wrote told u (asked c w cmd) result e before after
   unfolding asked
   asked_over c u k w cmd result e before after rest same budget ran =
-      let f : model.Card → Seat → ℕ → Type 0 = λ x y z. Ran state wrote told u (line_command x y z (deck_line_of cmd)) result e before after in
+      let f : model.Card → Seat → ℕ → Type 0 = λ x y z. RanAndTold state wrote told u (line_command x y z (deck_line_of cmd)) result e before after in
       subst (λ (x : model.Card). f x (seat_in state c) w.budget) (ap (λ (x : DeviceState). means x.words) same)
       (subst (λ (y : Seat). f (card_in state u) y w.budget) (seat_over state c u rest same) (subst (λ (z : ℕ). f (card_in state u) (seat_in state u) z) budget ran))
 
-  handed : (c u : Card N) (a : Armed) → IsReady state c → state (device_in u) ≡ state (device_in c) → bench (device_in u) ≡ armed_bench a (bench (device_in c))
+  handed : (c u : Card N) (a : Armed) → IsReadyCard state c → state (device_in u) ≡ state (device_in c) → bench (device_in u) ≡ armed_bench a (bench (device_in c))
       → Handed (state (device_in c)) (bench (device_in c)) 0 a (state (device_in u)) (bench (device_in u))
   handed c u a ready same is =
       record {
@@ -104,9 +104,9 @@ module _ {N R : Type 0} (state : N → DeviceState) (bench : N → BenchState) (
 
   -- ---- a command that was answered
 
-  pub command_done : (p : Player N) (u e f : Card N) (cmd : CardLine) (o : Outcome) (before after : R) → p.power ≡ power.On → IsReady state p.card → state (device_in u) ≡ state (device_of p)
+  pub command_done : (p : Player N) (u e f : Card N) (cmd : CardLine) (o : Outcome) (before after : R) → p.power ≡ power.On → IsReadyCard state p.card → state (device_in u) ≡ state (device_of p)
       → bench (device_in u) ≡ armed_bench p.armed (bench (device_of p)) → u ≡ with_device p.card (device_in u)
-      → Ran state wrote told u (line_command (card_in state u) (seat_in state u) p.budget (deck_line_of cmd)) (Ok o) e before after
+      → RanAndTold state wrote told u (line_command (card_in state u) (seat_in state u) p.budget (deck_line_of cmd)) (Ok o) e before after
       → state (device_in f) ≡ state (device_in e) → bench (device_in f) ≡ record (bench (device_in e)) { cut = None; worn = None } → f ≡ with_device e (device_in f)
       → LineDone state bench told p (deck_line_of cmd) before after (Some answer.Outcome) (record p { card = f; armed = armed.Not; outcome = o })
   command_done p u e f cmd o before after on_is ready same is rest ran kept free over (Cold m b r) n at = absurd (cc (sym at.stands.0 ∙ on_is))
@@ -116,10 +116,10 @@ module _ {N R : Type 0} (state : N → DeviceState) (bench : N → BenchState) (
       let a = p.armed in
       let q : Player N = record p { card = f; armed = armed.Not; outcome = o } in
       let l = deck_line_of cmd in
-      let on : IsCard state c w.base w.live = subst (λ (y : Power). LiveIs state y c w.base w.live) on_is at.stands.0 in
+      let on : IsCardOfPlay state c w.base w.live = subst (λ (y : Power). LiveIs state y c w.base w.live) on_is at.stands.0 in
       let r = asked c w cmd in
       let card = card_in state c in
-      let done : Ran state wrote told u r (Ok o) e before after = asked_over c u k w cmd (Ok o) e before after rest same at.budget ran in
+      let done : RanAndTold state wrote told u r (Ok o) e before after = asked_over c u k w cmd (Ok o) e before after rest same at.budget ran in
       let made = done.commanded.made in
       let ws = made.writes in
       let m = moves r.items in
@@ -127,13 +127,13 @@ module _ {N R : Type 0} (state : N → DeviceState) (bench : N → BenchState) (
       went state bench wrote obeys burns fits (device_in c) (device_in u) (device_in e) (device_in f) a 0 ws at.can_arm (handed c u a ready same is) made.makes (record { state = kept; bench = free }) in
       let v : Warm = line_after w card r None in
       let new : model.Card = card_done card r.items in
-      let whole : IsDone card r.items (Ok tt) (state (device_in e)).words = subst (λ (x : DeviceState). IsDone (means x.words) r.items (Ok tt) (state (device_in e)).words) same made.done in
+      let whole : IsCardAfter card r.items (Ok tt) (state (device_in e)).words = subst (λ (x : DeviceState). IsCardAfter (means x.words) r.items (Ok tt) (state (device_in e)).words) same made.done in
       let words : (state (device_in f)).words ≡ (state (device_in e)).words = ap (λ (x : DeviceState). x.words) kept in
       let means_new : means (state (device_in e)).words ≡ new = (base_card (fault (state (device_in e)).words) (state (device_in e)).words new whole.base).1 in
       let none : w.owed ≡ 0 = sym at.stands.1.owed ∙ ready_owes state c ready in
       let seat : seat_in state f ≡ r.seat = seat_over state e f over kept ∙ done.commanded.seat in
-      let base : IsBase (OnCard new) w.owed w.by (state (device_in f)).words = record { base = ap found words ∙ whole.base; owed = ap owed words ∙ whole.owed ∙ sym none; by = λ some. absurd (some none) } in
-      let then : IsAt state bench q (Hot v) = record {
+      let base : HoldsBase (OnCard new) w.owed w.by (state (device_in f)).words = record { base = ap found words ∙ whole.base; owed = ap owed words ∙ whole.owed ∙ sym none; by = λ some. absurd (some none) } in
+      let then : IsPlayerAt state bench q (Hot v) = record {
         stands = (subst (λ (y : Power). LiveIs state y f v.base v.live) (sym on_is) (record { ready = ready_over state e f over kept done.commanded.ready; base = ap OnCard (sym means_new ∙ ap means (sym words)); live = ap Running (sym seat) }), base);
         budget = at.budget;
         armed = refl;
@@ -151,9 +151,9 @@ module _ {N R : Type 0} (state : N → DeviceState) (bench : N → BenchState) (
 
   -- ---- a command that was stopped
 
-  pub command_stopped : (p : Player N) (u e f : Card N) (cmd : CardLine) (o : Outcome) (how : Stop) (before after : R) → p.power ≡ power.On → IsReady state p.card → state (device_in u) ≡ state (device_of p)
+  pub command_stopped : (p : Player N) (u e f : Card N) (cmd : CardLine) (o : Outcome) (how : Stop) (before after : R) → p.power ≡ power.On → IsReadyCard state p.card → state (device_in u) ≡ state (device_of p)
       → bench (device_in u) ≡ armed_bench p.armed (bench (device_of p)) → u ≡ with_device p.card (device_in u)
-      → Ran state wrote told u (line_command (card_in state u) (seat_in state u) p.budget (deck_line_of cmd)) (Err how) e before after
+      → RanAndTold state wrote told u (line_command (card_in state u) (seat_in state u) p.budget (deck_line_of cmd)) (Err how) e before after
       → state (device_in f) ≡ state (device_in e) → bench (device_in f) ≡ record (bench (device_in e)) { cut = None; worn = None }
       → LineDone state bench told p (deck_line_of cmd) before after (Some (answer_after_stop how p.armed)) (record p { card = f; power = power_after_stop how; armed = armed.Not; outcome = o })
   command_stopped p u e f cmd o how before after on_is ready same is rest ran kept free (Cold m b r) n at = absurd (cc (sym at.stands.0 ∙ on_is))
@@ -165,10 +165,10 @@ module _ {N R : Type 0} (state : N → DeviceState) (bench : N → BenchState) (
       let ans = answer_after_stop how a in
       let q : Player N = record p { card = f; power = power_after_stop how; armed = armed.Not; outcome = o } in
       let l = deck_line_of cmd in
-      let on : IsCard state c w.base w.live = subst (λ (y : Power). LiveIs state y c w.base w.live) on_is at.stands.0 in
+      let on : IsCardOfPlay state c w.base w.live = subst (λ (y : Power). LiveIs state y c w.base w.live) on_is at.stands.0 in
       let r = asked c w cmd in
       let card = card_in state c in
-      let done : Ran state wrote told u r (Err how) e before after = asked_over c u k w cmd (Err how) e before after rest same at.budget ran in
+      let done : RanAndTold state wrote told u r (Err how) e before after = asked_over c u k w cmd (Err how) e before after rest same at.budget ran in
       let made = done.commanded.made in
       let ws = made.writes in
       let m = moves r.items in
@@ -182,8 +182,8 @@ module _ {N R : Type 0} (state : N → DeviceState) (bench : N → BenchState) (
       let by : HitBy w.armed m (bench (device_in c)).steady how i x (worn_entry i x (Some how)) = subst (λ (y : play.Armed). HitBy y m (bench (device_in c)).steady how i x (worn_entry i x (Some how))) at.armed (did.by m high) in
       let stops : StopsAtEach card r.items (state (device_in c)).words ws = stops_over c u r.items ws same made.stops in
       let v : Warm = stopped_line w card t (at_stop r.items i x) in
-      let base : IsBase v.base v.owed v.by (state d).words = subst (λ (y : List (List ℕ)). IsBase v.base v.owed v.by y) (sym did.words) (stops i x did.low did.high did.size) in
-      let then : IsAt state bench q (Hot v) = record {
+      let base : HoldsBase v.base v.owed v.by (state d).words = subst (λ (y : List (List ℕ)). HoldsBase v.base v.owed v.by y) (sym did.words) (stops i x did.low did.high did.size) in
+      let then : IsPlayerAt state bench q (Hot v) = record {
         stands = (live_stopped state bench wrote obeys burns fits how f v.base v.live refl, base);
         budget = at.budget;
         armed = refl;
@@ -199,9 +199,9 @@ module _ {N R : Type 0} (state : N → DeviceState) (bench : N → BenchState) (
       (worn_entry i x (Some how), lined state bench told p q (Hot w) (n, l) (worn_entry i x (Some how)) (command_step n l w card r (Some t)) (Some ans) before after step_on stepped tells.2)
 
   -- the same, of the power and the answer that are these
-  pub command_stopped_as : (p : Player N) (u e f : Card N) (cmd : CardLine) (o : Outcome) (how : Stop) (pw : Power) (ans : Answer) (before after : R) → p.power ≡ power.On → IsReady state p.card → state (device_in u) ≡ state (device_of p)
+  pub command_stopped_as : (p : Player N) (u e f : Card N) (cmd : CardLine) (o : Outcome) (how : Stop) (pw : Power) (ans : Answer) (before after : R) → p.power ≡ power.On → IsReadyCard state p.card → state (device_in u) ≡ state (device_of p)
       → bench (device_in u) ≡ armed_bench p.armed (bench (device_of p)) → u ≡ with_device p.card (device_in u)
-      → Ran state wrote told u (line_command (card_in state u) (seat_in state u) p.budget (deck_line_of cmd)) (Err how) e before after
+      → RanAndTold state wrote told u (line_command (card_in state u) (seat_in state u) p.budget (deck_line_of cmd)) (Err how) e before after
       → state (device_in f) ≡ state (device_in e) → bench (device_in f) ≡ record (bench (device_in e)) { cut = None; worn = None } → pw ≡ power_after_stop how → ans ≡ answer_after_stop how p.armed
       → LineDone state bench told p (deck_line_of cmd) before after (Some ans) (record p { card = f; power = pw; armed = armed.Not; outcome = o })
   command_stopped_as p u e f cmd o how pw ans before after on_is ready same is rest ran kept free goes says =

@@ -4,11 +4,11 @@ use Rattle.mc_model.specs.Device.{DeviceState, BenchState}
 use Rattle.mc_model.specs.Chain.{Turn}
 use Rattle.mc_model.specs.DeckGrammar.{DeckLine}
 use Rattle.mc_model.specs.Laws.{HoldsOf}
-use Rattle.mc_model.specs.Play.{State, WornAt, Step, step, plays, start, last_state, Stands}
+use Rattle.mc_model.specs.Play.{State, WornAt, Step, step, plays, start, last_state, StandsForState}
 use Rattle.mc_family.proofs.PlayLaw.{play_law}
 use Rattle.mc_script.specs.declared.answer.Answer.{Answer}
 use Rattle.mc_script.specs.declared.player.Player.{Player}
-use Rattle.mc_script.specs.Players.{IsUnfused, IsAt}
+use Rattle.mc_script.specs.Players.{IsUnfused, IsPlayerAt}
 use Rattle.mc_script.specs.Plays.{Bench, PlayedLine, Played, LeadsTo}
 use Rattle.mc_script.specs.Lines.{bench_of, LineDone, DeckPlayed}
 use Rattle.mc_script.proofs.PlayLemmas.{plays_on, plays_none, played_none, played_on}
@@ -82,7 +82,7 @@ leads_then s ls ws a u b ks vs t c h k =
     }
 
 -- the lines that were played so far are a play, with its words, its counts and its tape
-pub leads_played : (s : State) (ls : List (ℕ × DeckLine)) (ws : List (Option WornAt)) (a : Bench) (u : State) (b : Bench) → LeadsTo s ls ws a u b → Stands b.device.words u → IsUnfused b.bench → Played s ls ws a b
+pub leads_played : (s : State) (ls : List (ℕ × DeckLine)) (ws : List (Option WornAt)) (a : Bench) (u : State) (b : Bench) → LeadsTo s ls ws a u b → StandsForState b.device.words u → IsUnfused b.bench → Played s ls ws a b
 leads_played s ls ws a u b h stands unfused =
     subst (λ (k : List (ℕ × DeckLine)). Played s k ws a b) (append-nil ls)
     (subst (λ (v : List (Option WornAt)). Played s (ls ++ []) v a b) (append-nil ws) (h.rest [] [] b (played_none u b stands unfused)))
@@ -93,13 +93,13 @@ played_laws m ls ws a b h = play_law ls m ws h.possible
 
 module _ {N : Type 0} (state : N → DeviceState) (bench : N → BenchState) where
   -- the same of a player that stands for the state that was reached
-  pub player_played : (s : State) (ls : List (ℕ × DeckLine)) (ws : List (Option WornAt)) (a : Bench) (u : State) (p : Player N) → LeadsTo s ls ws a u (bench_of state bench p) → IsAt state bench p u
+  pub player_played : (s : State) (ls : List (ℕ × DeckLine)) (ws : List (Option WornAt)) (a : Bench) (u : State) (p : Player N) → LeadsTo s ls ws a u (bench_of state bench p) → IsPlayerAt state bench p u
       → Played s ls ws a (bench_of state bench p)
   player_played s ls ws a u p h at = leads_played s ls ws a u (bench_of state bench p) h (player_stands state bench p u at) at.unfused
 
   -- one line of a player
   pub line_leads : {R : Type 0} (told : R → List Turn → R → Type 0) (p q : Player N) (s : State) (n : ℕ) (l : DeckLine) (before after : R) (answer : Option Answer) → LineDone state bench told p l before after answer q
-      → IsAt state bench p s → (w : Option WornAt) × LeadsTo s ((n, l) ∷ []) (w ∷ []) (bench_of state bench p) (step s (n, l) w).after (bench_of state bench q) × IsAt state bench q (step s (n, l) w).after
+      → IsPlayerAt state bench p s → (w : Option WornAt) × LeadsTo s ((n, l) ∷ []) (w ∷ []) (bench_of state bench p) (step s (n, l) w).after (bench_of state bench q) × IsPlayerAt state bench q (step s (n, l) w).after
   line_leads told p q s n l before after answer done at =
       let line = done s n at in
       let w = line.0 in
@@ -114,10 +114,10 @@ module _ {N : Type 0} (state : N → DeviceState) (bench : N → BenchState) whe
     pub worn : List (Option WornAt)
     pub here : State
     pub are : front ++ left ≡ ls
-    pub at : IsAt state bench p here
+    pub at : IsPlayerAt state bench p here
     pub leads : LeadsTo s front worn a here (bench_of state bench p)
 
-  pub between_start : (s : State) (ls : List (ℕ × DeckLine)) (p : Player N) → IsAt state bench p s → Between s ls (bench_of state bench p) ls p
+  pub between_start : (s : State) (ls : List (ℕ × DeckLine)) (p : Player N) → IsPlayerAt state bench p s → Between s ls (bench_of state bench p) ls p
   between_start s ls p at = record { front = []; worn = []; here = s; are = refl; at = at; leads = leads_none s (bench_of state bench p) }
 
   pub between_on : {R : Type 0} (told : R → List Turn → R → Type 0) (s : State) (ls : List (ℕ × DeckLine)) (a : Bench) (left : List (ℕ × DeckLine)) (n : ℕ) (l : DeckLine) (p q : Player N) (before after : R) (answer : Option Answer)

@@ -12,7 +12,7 @@ use Rattle.mc_base.specs.declared.refusals.WriteFault.{WriteFault}
 use Rattle.mc_text.specs.Texts.{Sunk, Puts}
 use Rattle.mc_script.specs.declared.answer.Answer.{Answer}
 use Rattle.mc_script.specs.declared.player.Player.{Player}
-use Rattle.mc_script.specs.Players.{answer_value, IsAt}
+use Rattle.mc_script.specs.Players.{answer_value, IsPlayerAt}
 use Rattle.mc_script.specs.Lines.{bench_of, Lined, LineDone}
 use Rattle.mc_script.specs.Scripts.{ended, text_by}
 use Rattle.mc_script.specs.Plays.{Bench, PlaysFrom}
@@ -21,17 +21,17 @@ use Rattle.mc_script.proofs.LineLemmas.{player_stands}
 
 module _ {N : Type 0} (state : N → DeviceState) (bench : N → BenchState) where
   -- a player at a state of a play, with these lines left: whatever they play from there, all lines play from the start
-  pub record Reached (f : Step → List ℕ) (s : State) (ls : List (ℕ × DeckLine)) (a : Bench) (x : Sunk) (left : List (ℕ × DeckLine)) (p : Player N) (y : Sunk) : Type 0 where
+  pub record PlayReached (f : Step → List ℕ) (s : State) (ls : List (ℕ × DeckLine)) (a : Bench) (x : Sunk) (left : List (ℕ × DeckLine)) (p : Player N) (y : Sunk) : Type 0 where
     pub here : State
-    pub at : IsAt state bench p here
+    pub at : IsPlayerAt state bench p here
     pub rest : (r : Result (Unit {0}) WriteFault) (c : Bench) (z : Sunk) → PlaysFrom f here left (bench_of state bench p) y r c z → PlaysFrom f s ls a x r c z
 
   -- no line was played
-  pub reached_start : (f : Step → List ℕ) (s : State) (ls : List (ℕ × DeckLine)) (p : Player N) (x : Sunk) → IsAt state bench p s → Reached f s ls (bench_of state bench p) x ls p x
+  pub reached_start : (f : Step → List ℕ) (s : State) (ls : List (ℕ × DeckLine)) (p : Player N) (x : Sunk) → IsPlayerAt state bench p s → PlayReached f s ls (bench_of state bench p) x ls p x
   reached_start f s ls p x at = record { here = s; at = at; rest = λ r c z h. h }
 
   -- all lines were played
-  pub reached_end : (f : Step → List ℕ) (s : State) (ls : List (ℕ × DeckLine)) (a : Bench) (x y : Sunk) (p : Player N) → Reached f s ls a x [] p y → PlaysFrom f s ls a x (Ok tt) (bench_of state bench p) y
+  pub reached_end : (f : Step → List ℕ) (s : State) (ls : List (ℕ × DeckLine)) (a : Bench) (x y : Sunk) (p : Player N) → PlayReached f s ls a x [] p y → PlaysFrom f s ls a x (Ok tt) (bench_of state bench p) y
   reached_end f s ls a x y p h = h.rest (Ok tt) (bench_of state bench p) y (from_none f h.here (bench_of state bench p) y (player_stands state bench p h.here h.at) h.at.unfused)
 
   module _ {R : Type 0} (told : R → List Turn → R → Type 0) (text : List Turn → List ℕ) where
@@ -49,7 +49,7 @@ module _ {N : Type 0} (state : N → DeviceState) (bench : N → BenchState) whe
 
     -- a line whose text was written
     pub reached_on : (s : State) (ls : List (ℕ × DeckLine)) (a : Bench) (x y z : Sunk) (left : List (ℕ × DeckLine)) (n : ℕ) (l : DeckLine) (p q : Player N) (before after : R) (answer : Option Answer)
-        → Reached (text_by text) s ls a x ((n, l) ∷ left) p y → LineDone state bench told p l before after answer q → TellsLine q before after n answer y (Ok tt) z → Reached (text_by text) s ls a x left q z
+        → PlayReached (text_by text) s ls a x ((n, l) ∷ left) p y → LineDone state bench told p l before after answer q → TellsLine q before after n answer y (Ok tt) z → PlayReached (text_by text) s ls a x left q z
     reached_on s ls a x y z left n l p q before after answer h done tells =
         let line = done h.here n h.at in
         let puts = line_puts p q h.here (n, l) line.0 before after answer y z (Ok tt) line.1 tells in
@@ -62,7 +62,7 @@ module _ {N : Type 0} (state : N → DeviceState) (bench : N → BenchState) whe
 
     -- a line whose text failed
     pub reached_cut : (s : State) (ls : List (ℕ × DeckLine)) (a : Bench) (x y z : Sunk) (left : List (ℕ × DeckLine)) (n : ℕ) (l : DeckLine) (p q : Player N) (before after : R) (answer : Option Answer) (e : WriteFault)
-        → Reached (text_by text) s ls a x ((n, l) ∷ left) p y → LineDone state bench told p l before after answer q → TellsLine q before after n answer y (Err e) z → PlaysFrom (text_by text) s ls a x (Err e) (bench_of state bench q) z
+        → PlayReached (text_by text) s ls a x ((n, l) ∷ left) p y → LineDone state bench told p l before after answer q → TellsLine q before after n answer y (Err e) z → PlaysFrom (text_by text) s ls a x (Err e) (bench_of state bench q) z
     reached_cut s ls a x y z left n l p q before after answer e h done tells =
         let line = done h.here n h.at in
         let puts = line_puts p q h.here (n, l) line.0 before after answer y z (Err e) line.1 tells in
@@ -72,13 +72,13 @@ module _ {N : Type 0} (state : N → DeviceState) (bench : N → BenchState) whe
 
     -- a line whose text failed, by what the script says
     pub reached_failed : (s : State) (ls : List (ℕ × DeckLine)) (a : Bench) (x y z : Sunk) (left : List (ℕ × DeckLine)) (n : ℕ) (l : DeckLine) (p q : Player N) (before after : R) (answer : Option Answer) (r : Result (Unit {0}) WriteFault)
-        → is_err r ≡ true → Reached (text_by text) s ls a x ((n, l) ∷ left) p y → LineDone state bench told p l before after answer q → TellsLine q before after n answer y r z → PlaysFrom (text_by text) s ls a x r (bench_of state bench q) z
+        → is_err r ≡ true → PlayReached (text_by text) s ls a x ((n, l) ∷ left) p y → LineDone state bench told p l before after answer q → TellsLine q before after n answer y r z → PlaysFrom (text_by text) s ls a x r (bench_of state bench q) z
     reached_failed s ls a x y z left n l p q before after answer (Ok u) failed h done tells = absurd (cc failed)
     reached_failed s ls a x y z left n l p q before after answer (Err e) failed h done tells = reached_cut s ls a x y z left n l p q before after answer e h done tells
 
     -- a line whose text was written, by what the script says
     pub reached_written : (s : State) (ls : List (ℕ × DeckLine)) (a : Bench) (x y z : Sunk) (left : List (ℕ × DeckLine)) (n : ℕ) (l : DeckLine) (p q : Player N) (before after : R) (answer : Option Answer) (r : Result (Unit {0}) WriteFault)
-        → is_err r ≡ false → Reached (text_by text) s ls a x ((n, l) ∷ left) p y → LineDone state bench told p l before after answer q → TellsLine q before after n answer y r z → Reached (text_by text) s ls a x left q z
+        → is_err r ≡ false → PlayReached (text_by text) s ls a x ((n, l) ∷ left) p y → LineDone state bench told p l before after answer q → TellsLine q before after n answer y r z → PlayReached (text_by text) s ls a x left q z
     reached_written s ls a x y z left n l p q before after answer (Ok u) written h done tells = reached_on s ls a x y z left n l p q before after answer h done tells
     reached_written s ls a x y z left n l p q before after answer (Err e) written h done tells = absurd (cc written)
 

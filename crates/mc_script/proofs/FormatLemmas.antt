@@ -13,7 +13,7 @@ use Rattle.mc_script.specs.declared.player.Power.TheVariants as power
 use Rattle.mc_script.specs.declared.player.Player.{Player}
 use Rattle.mc_card.specs.declared.card.Card.{Card}
 use Rattle.mc_card.specs.Parts.{device_in}
-use Rattle.mc_script.specs.Players.{answer_value, device_of, IsUnfused, LiveIs, IsAt}
+use Rattle.mc_script.specs.Players.{answer_value, device_of, IsUnfused, LiveIs, IsPlayerAt}
 use Rattle.mc_script.specs.Counting.{raised, line_pokes, line_powers, line_cuts, line_fails, LineCounts}
 use Rattle.mc_script.specs.Lines.{Stepped, SilentDone, IsFormatted, IsPoked}
 use Rattle.mc_script.proofs.QuietLemmas.{steady_none, grows_none, still}
@@ -30,7 +30,7 @@ module _ {N : Type 0} (state : N → DeviceState) (bench : N → BenchState) whe
   -- a line that pokes words
   poked : (p : Player N) (e : Card N) (m : List (List ℕ)) (b : ℕ) (r : play.Armed) (n : ℕ) (l : DeckLine) (result : Option LineResult) (x : Option Answer) (new : List (List ℕ)) (j : ℕ)
       → Poked (device_of p) new j (device_in e) → line_pokes (Cold m b r) l ≡ j → line_powers l ≡ 0 → line_cuts l ≡ 0 → line_fails l ≡ 0 → is_card_line l ≡ false
-      → option_map (answer_value state (record p { card = e })) x ≡ result → IsAt state bench p (Cold m b r)
+      → option_map (answer_value state (record p { card = e })) x ≡ result → IsPlayerAt state bench p (Cold m b r)
       → Stepped state bench p (Cold m b r) (n, l) None (quiet n l (Cold m b r) result (Cold new b r)) x (record p { card = e })
   poked p e m b r n l result x new j did pokes powers cuts fails card answers at =
       let t = quiet n l (Cold m b r) result (Cold new b r) in
@@ -59,7 +59,7 @@ module _ {N : Type 0} (state : N → DeviceState) (bench : N → BenchState) whe
       }
 
   -- a player that has begun stands for no state before
-  begun : (p : Player N) (w : Warm) → p.power ≡ power.Cold → IsAt state bench p (Hot w) → ⊥
+  begun : (p : Player N) (w : Warm) → p.power ≡ power.Cold → IsPlayerAt state bench p (Hot w) → ⊥
   begun p w cold at = subst (λ (x : Power). LiveIs state x p.card w.base w.live) cold at.stands.0
 
   -- ---- format

@@ -2,7 +2,7 @@
 use Rattle.std.proofs.Common.{◌≡◌, ℕ, zero, suc, ◌+◌, ◌<◌, ◌≤◌, Bool, true, false, List, Option, Some, None, Ok, Err, refl, ◌∙◌, ap, arith}
 use Rattle.std.specs.Prelude.{slice_set}
 use Rattle.mc_model.specs.declared.device.Stop.TheVariants.{Off, Worn}
-use Rattle.mc_model.specs.Device.{DeviceState, Fuse, nearer, counted, fill_at, falling, due, Ends}
+use Rattle.mc_model.specs.Device.{DeviceState, Fuse, nearer, counted, fill_at, falling, due, NextWriteEnds}
 
 -- a fuse after so many writes
 abbrev pub after_writes : ℕ → Option Fuse → Option Fuse
@@ -71,14 +71,14 @@ past_none (Some f) = λ low. omega (arith, low)
 -- ---- both fuses
 
 -- a write that was done was due to no fuse
-pub none_due : (c w : Option (List ℕ)) (steady : Bool) (d : DeviceState) (at : ℕ) (e : DeviceState) → Ends (due c w) steady d at (Ok tt) e → (c ≡ None) × (w ≡ None)
+pub none_due : (c w : Option (List ℕ)) (steady : Bool) (d : DeviceState) (at : ℕ) (e : DeviceState) → NextWriteEnds (due c w) steady d at (Ok tt) e → (c ≡ None) × (w ≡ None)
 none_due (Some x) w steady d at e h = absurd (cc h.0)
 none_due None (Some x) true d at e h = absurd (cc h.0)
 none_due None (Some x) false d at e h = absurd (cc h)
 none_due None None steady d at e h = (refl, refl)
 
 -- a write that was cut was due to the cut fuse
-pub cut_due : (c w : Option (List ℕ)) (steady : Bool) (d : DeviceState) (at : ℕ) (e : DeviceState) → Ends (due c w) steady d at (Err Off) e → (x : List ℕ) × (c ≡ Some x) × (e.words ≡ slice_set d.words at x)
+pub cut_due : (c w : Option (List ℕ)) (steady : Bool) (d : DeviceState) (at : ℕ) (e : DeviceState) → NextWriteEnds (due c w) steady d at (Err Off) e → (x : List ℕ) × (c ≡ Some x) × (e.words ≡ slice_set d.words at x)
 cut_due (Some x) w steady d at e h = (x, refl, h.1)
 cut_due None (Some x) true d at e h = absurd (cc h.0)
 cut_due None (Some x) false d at e h = absurd (cc h)
@@ -86,7 +86,7 @@ cut_due None None true d at e h = absurd (cc h)
 cut_due None None false d at e h = absurd (h refl)
 
 -- a write that was refused was not due to the cut fuse, and on a steady bench it was due to the other
-pub worn_due : (c w : Option (List ℕ)) (steady : Bool) (d : DeviceState) (at : ℕ) (e : DeviceState) → Ends (due c w) steady d at (Err Worn) e
+pub worn_due : (c w : Option (List ℕ)) (steady : Bool) (d : DeviceState) (at : ℕ) (e : DeviceState) → NextWriteEnds (due c w) steady d at (Err Worn) e
     → (c ≡ None) × (steady ≡ true → (x : List ℕ) × (w ≡ Some x) × (e.words ≡ slice_set d.words at x))
 worn_due (Some x) w steady d at e h = absurd (cc h.0)
 worn_due None (Some x) true d at e h = (refl, λ s. (x, refl, h.1))

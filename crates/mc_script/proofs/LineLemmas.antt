@@ -5,17 +5,17 @@ use Rattle.mc_model.specs.declared.card.Cause.{Cause}
 use Rattle.mc_model.specs.Device.{DeviceState, BenchState}
 use Rattle.mc_model.specs.Card.{means}
 use Rattle.mc_model.specs.Layout.{fault}
-use Rattle.mc_model.specs.Play.{Base, OnCard, AtFault, Warm, State, Cold, Hot, Stands, StandsForBase, base_of, owing, static_of, Static}
-use Rattle.mc_store.specs.Power.{IsBase}
+use Rattle.mc_model.specs.Play.{Base, OnCard, AtFault, Warm, State, Cold, Hot, StandsForState, StandsForBase, base_of, owing, static_of, Static}
+use Rattle.mc_store.specs.Power.{HoldsBase}
 use Rattle.mc_script.specs.declared.player.Player.{Player}
-use Rattle.mc_card.specs.Parts.{card_in, IsReady}
+use Rattle.mc_card.specs.Parts.{card_in, IsReadyCard}
 use Rattle.mc_script.specs.declared.player.Power.{Power}
 use Rattle.mc_script.specs.declared.player.Power.TheVariants as power
 use Rattle.mc_model.specs.Bytes.{lookup}
 use Rattle.mc_model.specs.Card.{App}
 use Rattle.mc_card.specs.declared.card.Card.{Card}
 use Rattle.mc_script.specs.declared.answer.Answer.TheVariants as answer
-use Rattle.mc_script.specs.Players.{answer_value, device_of, dump_value, statics_by, statics_in, LiveIs, IsAt}
+use Rattle.mc_script.specs.Players.{answer_value, device_of, dump_value, statics_by, statics_in, LiveIs, IsPlayerAt}
 
 -- words that are a card, and words that are a fault
 on_card : (f : Option (Cause × ℕ)) (m : List (List ℕ)) (c : _) → base_of f m ≡ OnCard c → (f ≡ None) × (means m ≡ c)
@@ -26,19 +26,19 @@ at_fault : (f : Option (Cause × ℕ)) (m : List (List ℕ)) (cause : Cause) (p 
 at_fault None m cause p e = absurd (cc e)
 at_fault (Some (k, n)) m cause p e = cc e
 
-stands_base : (b : Base) (m : List (List ℕ)) (w : Warm) → IsBase b w.owed w.by m → StandsForBase m b w
+stands_base : (b : Base) (m : List (List ℕ)) (w : Warm) → HoldsBase b w.owed w.by m → StandsForBase m b w
 stands_base (OnCard c) m w h = let is = on_card (fault m) m c h.base in record { sound = is.0; meaning = is.1; owed = h.owed }
 stands_base (AtFault cause p) m w h = record { unsound = at_fault (fault m) m cause p h.base; owed = h.owed }
 
 -- the device of a player that stands for a state of a play holds the words that the state has
-pub player_stands : {N : Type 0} (state : N → DeviceState) (bench : N → BenchState) (p : Player N) (s : State) → IsAt state bench p s → Stands (state (device_of p)).words s
+pub player_stands : {N : Type 0} (state : N → DeviceState) (bench : N → BenchState) (p : Player N) (s : State) → IsPlayerAt state bench p s → StandsForState (state (device_of p)).words s
 player_stands state bench p (Cold m b a) at = at.stands.1
 player_stands state bench p (Hot w) at =
     let is = at.stands.1 in
     (stands_base w.base (state (device_of p)).words w is, λ some. ap owing (is.by some))
 
 -- the card of a player whose card runs
-pub player_ready : {N : Type 0} (state : N → DeviceState) (bench : N → BenchState) (p : Player N) (s : State) → IsAt state bench p s → p.power ≡ power.On → IsReady state p.card
+pub player_ready : {N : Type 0} (state : N → DeviceState) (bench : N → BenchState) (p : Player N) (s : State) → IsPlayerAt state bench p s → p.power ≡ power.On → IsReadyCard state p.card
 player_ready state bench p (Cold m b a) at on = absurd (cc (sym at.stands.0 ∙ on))
 player_ready state bench p (Hot w) at on = (subst (λ (x : Power). LiveIs state x p.card w.base w.live) on at.stands.0).ready
 

@@ -3,16 +3,16 @@ use Rattle.std.proofs.Common.{◌≡◌, ℕ, List, [], Option, Some, refl, sym,
 use Rattle.mc_model.specs.Device.{DeviceState, BenchState}
 use Rattle.mc_model.specs.DeckGrammar.{DeckLine}
 use Rattle.mc_model.specs.Chain.{Turn}
-use Rattle.mc_model.specs.Play.{State, Cold, Hot, WornAt, Step, step, Stands}
+use Rattle.mc_model.specs.Play.{State, Cold, Hot, WornAt, Step, step, StandsForState}
 use Rattle.mc_model.specs.TraceText.{shown_turns}
 use Rattle.mc_script.specs.declared.answer.Answer.{Answer}
 use Rattle.mc_script.specs.declared.player.Player.{Player}
-use Rattle.mc_script.specs.Players.{device_of, IsAt}
+use Rattle.mc_script.specs.Players.{device_of, IsPlayerAt}
 use Rattle.mc_script.specs.Lines.{Stepped, SilentDone, Lined, LineDone}
 use Rattle.mc_script.proofs.AccountLemmas.{stands_hot}
 
 -- the words of a player stand for the state of its play
-pub at_stands : {N : Type 0} (state : N → DeviceState) (bench : N → BenchState) (p : Player N) (s : State) → IsAt state bench p s → Stands (state (device_of p)).words s
+pub at_stands : {N : Type 0} (state : N → DeviceState) (bench : N → BenchState) (p : Player N) (s : State) → IsPlayerAt state bench p s → StandsForState (state (device_of p)).words s
 at_stands state bench p (Cold m b a) at = at.stands.1
 at_stands state bench p (Hot w) at = stands_hot (state (device_of p)).words w at.stands.1
 

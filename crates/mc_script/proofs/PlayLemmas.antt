@@ -4,13 +4,13 @@ use Rattle.std.proofs.lemmas.List.{append-nil}
 use Rattle.mc_model.specs.Device.{DeviceState, BenchState, Entry, next_count}
 use Rattle.mc_model.specs.DeckGrammar.{DeckLine}
 use Rattle.mc_model.specs.DeckGrammar as line
-use Rattle.mc_model.specs.Play.{Armed, Live, Running, Unpowered, Muted, Base, OnCard, AtFault, Warm, State, Cold, Hot, WornAt, Step, plays, step, card_line, armed_in, last_state, Stands, moves_of, steady_at, steady_worn, tape_worn}
+use Rattle.mc_model.specs.Play.{Armed, Live, Running, Unpowered, Muted, Base, OnCard, AtFault, Warm, State, Cold, Hot, WornAt, Step, plays, step, card_line, armed_in, last_state, StandsForState, moves_of, steady_at, steady_worn, tape_worn}
 use Rattle.mc_base.specs.Streams.{Grew}
 use Rattle.mc_base.specs.declared.refusals.WriteFault.{WriteFault}
 use Rattle.mc_base.proofs.StreamsLemmas.{Grew-append, Grew-none, Rose-later}
-use Rattle.mc_script.specs.Counting.{raised, Counts, LineCounts, PlayCounts}
+use Rattle.mc_script.specs.Counting.{raised, CountsCalls, LineCounts, PlayCounts}
 use Rattle.mc_script.specs.Players.{IsUnfused}
-use Rattle.mc_script.specs.Plays.{Bench, PlayedLine, TapeTells, TapeIs, Played, texts, Ends, PlaysFrom}
+use Rattle.mc_script.specs.Plays.{Bench, PlayedLine, TapeTells, TapeIs, Played, texts, PlayEnds, PlaysFrom}
 use Rattle.mc_text.specs.Texts.{Sunk, Writes, Fails}
 use Rattle.mc_script.proofs.TapeLemmas.{tape_on}
 
@@ -22,7 +22,7 @@ raised_add n zero b = let e : 0 + b ≡ b = omega arith in ap (λ k. raised n k)
 raised_add n (suc a) b = let e : suc a + b ≡ suc (a + b) = omega arith in ap (λ k. raised n k) e ∙ raised_add (next_count n) a b
 
 -- the counts of lines, and of those behind them
-pub counts_on : (b c e : BenchState) (d f g : DeviceState) (p q k m p' q' k' m' : ℕ) → Counts b d p q k m c f → Counts c f p' q' k' m' e g → Counts b d (p + p') (q + q') (k + k') (m + m') e g
+pub counts_on : (b c e : BenchState) (d f g : DeviceState) (p q k m p' q' k' m' : ℕ) → CountsCalls b d p q k m c f → CountsCalls c f p' q' k' m' e g → CountsCalls b d (p + p') (q + q') (k + k') (m + m') e g
 counts_on b c e d f g p q k m p' q' k' m' one rest =
     record {
       powers = rest.powers ∙ ap (λ n. raised n p') one.powers ∙ sym (raised_add b.powers p p');
@@ -148,7 +148,7 @@ played_on s l w ls ws a b c did rest =
     let e = plays_on s l w ls ws in
     record {
       possible = (did.may, rest.possible);
-      words = subst (λ (ts : List Step). Stands c.device.words (last_state s ts)) (sym e) rest.words;
+      words = subst (λ (ts : List Step). StandsForState c.device.words (last_state s ts)) (sym e) rest.words;
       counts = subst (λ (ts : List Step). PlayCounts a.bench a.device (armed_in s) ts c.bench c.device) (sym e) (counts_from s l w _ a b c did.counts rest.counts);
       steady = λ steady. steady_on s l w ls ws (did.steady steady) (rest.steady (did.counts.counts.steady ∙ steady));
       tape = let t = did.tape in tape_on a.device.words b.device.words s l ls w ws t.entries a.device.tape b.device.tape c.device.tape did.may t.accounts t.worn t.left t.grows rest.tape;
@@ -170,11 +170,11 @@ tape_none m s None = tt
 tape_none m s (Some t) = ([], sym (append-nil t), tells_none m s)
 
 -- a play of no line
-pub played_none : (s : State) (a : Bench) → Stands a.device.words s → IsUnfused a.bench → Played s [] [] a a
+pub played_none : (s : State) (a : Bench) → StandsForState a.device.words s → IsUnfused a.bench → Played s [] [] a a
 played_none s a stands unfused =
     record {
       possible = tt;
-      words = subst (λ (ts : List Step). Stands a.device.words (last_state s ts)) (sym (plays_none s)) stands;
+      words = subst (λ (ts : List Step). StandsForState a.device.words (last_state s ts)) (sym (plays_none s)) stands;
       counts = subst (λ (ts : List Step). PlayCounts a.bench a.device (armed_in s) ts a.bench a.device) (sym (plays_none s)) (counts_none a (armed_in s));
       steady = λ steady. steady_none s;
       tape = tape_none a.device.words s a.device.tape;
@@ -184,7 +184,7 @@ played_none s a stands unfused =
 -- ---- texts
 
 -- the texts of a line that was written, and of a play behind it
-pub ends_on : (f : Step → List ℕ) (x y z : Sunk) (rest : List (ℕ × DeckLine)) (t : Step) (ts : List Step) (r : Result (Unit {0}) WriteFault) → Writes x (f t) y → Ends f y rest ts r z → Ends f x rest (t ∷ ts) r z
+pub ends_on : (f : Step → List ℕ) (x y z : Sunk) (rest : List (ℕ × DeckLine)) (t : Step) (ts : List Step) (r : Result (Unit {0}) WriteFault) → Writes x (f t) y → PlayEnds f y rest ts r z → PlayEnds f x rest (t ∷ ts) r z
 ends_on f x y z rest t ts (Ok u) first h = (h.0, Grew-append x.taken y.taken z.taken (f t) (texts f ts) first.whole h.1)
 ends_on f x y z rest t ts (Err e) first h =
     record {
@@ -202,7 +202,7 @@ ends_on f x y z rest t ts (Err e) first h =
     }
 
 -- the text of a line that failed
-pub ends_cut : (f : Step → List ℕ) (x y : Sunk) (rest : List (ℕ × DeckLine)) (t : Step) (e : WriteFault) → Fails x (f t) y → Ends f x rest (t ∷ []) (Err e) y
+pub ends_cut : (f : Step → List ℕ) (x y : Sunk) (rest : List (ℕ × DeckLine)) (t : Step) (e : WriteFault) → Fails x (f t) y → PlayEnds f x rest (t ∷ []) (Err e) y
 ends_cut f x y rest t e h =
     record {
       before = [];
@@ -227,11 +227,11 @@ from_on f s l w ls a b c x y z r did wrote h =
       are = ap (λ (ks : List (ℕ × DeckLine)). l ∷ ks) h.are;
       worn = w ∷ h.worn;
       played = played_on s l w h.lines h.worn a b c did h.played;
-      text = subst (λ (ts : List Step). Ends f x h.rest ts r z) (sym (plays_on s l w h.lines h.worn)) (ends_on f x y z h.rest (step s l w) _ r wrote h.text);
+      text = subst (λ (ts : List Step). PlayEnds f x h.rest ts r z) (sym (plays_on s l w h.lines h.worn)) (ends_on f x y z h.rest (step s l w) _ r wrote h.text);
     }
 
 -- a line that was played, and whose text failed
-pub from_cut : (f : Step → List ℕ) (s : State) (l : ℕ × DeckLine) (w : Option WornAt) (ls : List (ℕ × DeckLine)) (a b : Bench) (x y : Sunk) (e : WriteFault) → PlayedLine s l w (step s l w) a b → Stands b.device.words (step s l w).after → IsUnfused b.bench → Fails x (f (step s l w)) y → PlaysFrom f s (l ∷ ls) a x (Err e) b y
+pub from_cut : (f : Step → List ℕ) (s : State) (l : ℕ × DeckLine) (w : Option WornAt) (ls : List (ℕ × DeckLine)) (a b : Bench) (x y : Sunk) (e : WriteFault) → PlayedLine s l w (step s l w) a b → StandsForState b.device.words (step s l w).after → IsUnfused b.bench → Fails x (f (step s l w)) y → PlaysFrom f s (l ∷ ls) a x (Err e) b y
 from_cut f s l w ls a b x y e did stands unfused failed =
     let steps = plays_on s l w [] [] ∙ ap (λ (ts : List Step). step s l w ∷ ts) (plays_none (step s l w).after) in
     record {
@@ -240,11 +240,11 @@ from_cut f s l w ls a b x y e did stands unfused failed =
       are = refl;
       worn = w ∷ [];
       played = played_on s l w [] [] a b b did (played_none (step s l w).after b stands unfused);
-      text = subst (λ (ts : List Step). Ends f x ls ts (Err e) y) (sym steps) (ends_cut f x y ls (step s l w) e failed);
+      text = subst (λ (ts : List Step). PlayEnds f x ls ts (Err e) y) (sym steps) (ends_cut f x y ls (step s l w) e failed);
     }
 
 -- no line is left
-pub from_none : (f : Step → List ℕ) (s : State) (a : Bench) (x : Sunk) → Stands a.device.words s → IsUnfused a.bench → PlaysFrom f s [] a x (Ok tt) a x
+pub from_none : (f : Step → List ℕ) (s : State) (a : Bench) (x : Sunk) → StandsForState a.device.words s → IsUnfused a.bench → PlaysFrom f s [] a x (Ok tt) a x
 from_none f s a x stands unfused =
     record {
       lines = [];

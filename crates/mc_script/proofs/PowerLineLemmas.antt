@@ -17,11 +17,11 @@ use Rattle.mc_model.specs.Manager.{empty_seat}
 use Rattle.mc_model.specs.Given.{budget_in}
 use Rattle.mc_model.specs.TraceText.{shown_turns}
 use Rattle.mc_model.specs.Play as play
-use Rattle.mc_model.specs.Play.{Unarmed, Live, Running, Base, OnCard, AtFault, Warm, State, Cold, Hot, Ready, WornAt, Step, step, warmed, owing, base_of, migrated, migration, power_moves, power_result, power_live, power_after, power_says, power_step, stopped_power, live_after, result_of_stop, hit_of, worn_entry, moves_of, armed_in, Stands, stopped}
-use Rattle.mc_store.specs.Power.{found, power_writes, power_count, IsBase, IsPowered, IsUnusable, IsHalted}
+use Rattle.mc_model.specs.Play.{Unarmed, Live, Running, Base, OnCard, AtFault, Warm, State, Cold, Hot, Ready, WornAt, Step, step, warmed, owing, base_of, migrated, migration, power_moves, power_result, power_live, power_after, power_says, power_step, stopped_power, live_after, result_of_stop, hit_of, worn_entry, moves_of, armed_in, StandsForState, stopped}
+use Rattle.mc_store.specs.Power.{found, power_writes, power_count, HoldsBase, IsPowered, IsUnusable, IsHalted}
 use Rattle.mc_store.proofs.PowerLemmas.{count_writes, power_halted}
 use Rattle.mc_card.specs.declared.card.Card.{Card}
-use Rattle.mc_card.specs.Parts.{device_in, card_in, seat_in, IsReady}
+use Rattle.mc_card.specs.Parts.{device_in, card_in, seat_in, IsReadyCard}
 use Rattle.mc_blocks.specs.declared.image.Unusable.{Unusable}
 use Rattle.mc_script.specs.declared.answer.Answer.{Answer}
 use Rattle.mc_script.specs.declared.answer.Answer.TheVariants as answer
@@ -29,10 +29,10 @@ use Rattle.mc_script.specs.declared.armed.Armed.{Armed}
 use Rattle.mc_script.specs.declared.armed.Armed.TheVariants as armed
 use Rattle.mc_script.specs.declared.player.Power.TheVariants as power
 use Rattle.mc_script.specs.declared.player.Player.{Player}
-use Rattle.mc_script.specs.Players.{answer_value, armed_value, cut_place, device_of, CanArm, LiveIs, StateIs, IsAt}
+use Rattle.mc_script.specs.Players.{answer_value, armed_value, cut_place, device_of, CanArm, LiveIs, StateIs, IsPlayerAt}
 use Rattle.mc_script.specs.Arming.{power_after_stop, answer_after_stop}
-use Rattle.mc_script.specs.Lines.{Stepped, Silent}
-use Rattle.mc_script.specs.Runs.{StoppedAt}
+use Rattle.mc_script.specs.Lines.{Stepped, SilentLine}
+use Rattle.mc_script.specs.Runs.{StoppedAtWrite}
 use Rattle.mc_script.proofs.AccountLemmas.{base_card, stands_hot, StopsStand}
 use Rattle.mc_script.proofs.HitLemmas.{HitBy}
 use Rattle.mc_script.proofs.TriedLemmas.{Handed, Freed, Worth, Went, went, went_stepped, Hit, hit, hit_stepped}
@@ -69,14 +69,14 @@ only_owing m Both h = absurd (h refl)
 only_owing m (Only j) h = refl
 only_owing m Neither h = absurd (h refl)
 
-warmed_base : (m : List (List ℕ)) (b : ℕ) (a : play.Armed) (words : List (List ℕ)) → words ≡ m → let w = warmed m b a in IsBase w.base w.owed w.by words
+warmed_base : (m : List (List ℕ)) (b : ℕ) (a : play.Armed) (words : List (List ℕ)) → words ≡ m → let w = warmed m b a in HoldsBase w.base w.owed w.by words
 unfolding warmed
 warmed_base m b a words same =
-    subst (λ (x : List (List ℕ)). IsBase (base_of (fault m) m) (owed m) (owing (which m)) x) (sym same) (record { base = refl; owed = refl; by = λ some. only_owing m (which m) some })
+    subst (λ (x : List (List ℕ)). HoldsBase (base_of (fault m) m) (owed m) (owing (which m)) x) (sym same) (record { base = refl; owed = refl; by = λ some. only_owing m (which m) some })
 
 -- ---- stops of a power line
 
-count_is : (m : List (List ℕ)) (w : Warm) → IsBase w.base w.owed w.by m → power_count m ≡ power_moves w
+count_is : (m : List (List ℕ)) (w : Warm) → HoldsBase w.base w.owed w.by m → power_count m ≡ power_moves w
 count_is m w r = ap (λ (x : ℕ). x + migration (found m)) r.owed ∙ ap (λ (b : Base). w.owed + migration b) r.base
 
 -- the play after a stop of a power line
@@ -89,8 +89,8 @@ after_stop : (w : Warm) (t : StopAt) (b : Bool) → AfterStop w t (stopped_power
 after_stop w t true = record { armed = refl; budget = refl; live = refl }
 after_stop w t false = record { armed = refl; budget = refl; live = refl }
 
-halted_by : (m : List (List ℕ)) (w : Warm) (t : StopAt) (n : List (List ℕ)) (b : Bool) → IsBase w.base w.owed w.by m → 1 ≤ t.at → IsHalted m t.at t.left n → nat_le t.at w.owed ≡ b
-    → let v = stopped_power w t b in IsBase v.base v.owed v.by n
+halted_by : (m : List (List ℕ)) (w : Warm) (t : StopAt) (n : List (List ℕ)) (b : Bool) → HoldsBase w.base w.owed w.by m → 1 ≤ t.at → IsHalted m t.at t.left n → nat_le t.at w.owed ≡ b
+    → let v = stopped_power w t b in HoldsBase v.base v.owed v.by n
 halted_by m w t n true r low h is =
     let early : t.at ≤ w.owed = leb-true t.at w.owed is in
     let many : owed m ≡ w.owed = r.owed in
@@ -98,46 +98,46 @@ halted_by m w t n true r low h is =
     let who : owing (which m) ≡ w.by = ap owing (r.by some) in
     let k = t.at in
     let x = t.left in
-    subst (λ (c : Base). IsBase c (remains w.by (w.owed - 1) k x) w.by n) r.base
-    (subst (λ (j : Journal). IsBase (found m) (remains j (w.owed - 1) k x) j n) who
-    (subst (λ (i : ℕ). IsBase (found m) (remains (owing (which m)) (i - 1) k x) (owing (which m)) n) many (h.0 (omega (arith, many, early)))))
+    subst (λ (c : Base). HoldsBase c (remains w.by (w.owed - 1) k x) w.by n) r.base
+    (subst (λ (j : Journal). HoldsBase (found m) (remains j (w.owed - 1) k x) j n) who
+    (subst (λ (i : ℕ). HoldsBase (found m) (remains (owing (which m)) (i - 1) k x) (owing (which m)) n) many (h.0 (omega (arith, many, early)))))
 halted_by m w t n false r low h is =
     let late : w.owed < t.at = leb-false t.at w.owed is in
     let many : owed m ≡ w.owed = r.owed in
     let k = t.at in
     let x = t.left in
-    subst (λ (c : Base). IsBase (cond (stands One 1 (k - w.owed) x) (migrated c) c) (owes One 1 (k - w.owed) x) One n) r.base
-    (subst (λ (i : ℕ). IsBase (cond (stands One 1 (k - i) x) (migrated (found m)) (found m)) (owes One 1 (k - i) x) One n) many (h.1 (omega (arith, many, late))))
+    subst (λ (c : Base). HoldsBase (cond (stands One 1 (k - w.owed) x) (migrated c) c) (owes One 1 (k - w.owed) x) One n) r.base
+    (subst (λ (i : ℕ). HoldsBase (cond (stands One 1 (k - i) x) (migrated (found m)) (found m)) (owes One 1 (k - i) x) One n) many (h.1 (omega (arith, many, late))))
 
-halted_base : (m : List (List ℕ)) (w : Warm) (t : StopAt) (n : List (List ℕ)) → IsBase w.base w.owed w.by m → 1 ≤ t.at → IsHalted m t.at t.left n → let v = power_after w (Some t) in IsBase v.base v.owed v.by n
+halted_base : (m : List (List ℕ)) (w : Warm) (t : StopAt) (n : List (List ℕ)) → HoldsBase w.base w.owed w.by m → 1 ≤ t.at → IsHalted m t.at t.left n → let v = power_after w (Some t) in HoldsBase v.base v.owed v.by n
 halted_base m w t n r low h = halted_by m w t n (nat_le t.at w.owed) r low h refl
 
 -- wherever a write of a power line stops, the words stand for the play
-power_stands : (m : List (List ℕ)) (s : State) (n : ℕ) → IsImage m → let w = warm_of s in IsBase w.base w.owed w.by m → StopsStand m s (n, line.Power) 0 (power_writes m)
+power_stands : (m : List (List ℕ)) (s : State) (n : ℕ) → IsImage m → let w = warm_of s in HoldsBase w.base w.owed w.by m → StopsStand m s (n, line.Power) 0 (power_writes m)
 power_stands m s n image r k x low high size =
     let w = warm_of s in
     let t : StopAt = record { kind = Worn; at = k; left = x } in
     let many : length (power_writes m) ≡ power_count m = count_writes m image.low image.high in
     let halted : IsHalted m k x (torn m (power_writes m) k x) = power_halted m image.low image.high k x low (omega (arith, high, many)) in
     let b = halted_base m w t (torn m (power_writes m) k x) r low halted in
-    let here : Stands (torn m (power_writes m) k x) (Hot (power_after w (Some t))) = stands_hot (torn m (power_writes m) k x) (power_after w (Some t)) b in
+    let here : StandsForState (torn m (power_writes m) k x) (Hot (power_after w (Some t))) = stands_hot (torn m (power_writes m) k x) (power_after w (Some t)) b in
     let zero_on : 0 + k ≡ k = omega arith in
-    subst (λ (i : ℕ). Stands (torn m (power_writes m) k x) (stopped s (n, line.Power) i x)) (sym zero_on)
-    (subst (λ (u : Step). Stands (torn m (power_writes m) k x) u.after) (sym (power_is s n (Some (record { at = k; left = x })))) here)
+    subst (λ (i : ℕ). StandsForState (torn m (power_writes m) k x) (stopped s (n, line.Power) i x)) (sym zero_on)
+    (subst (λ (u : Step). StandsForState (torn m (power_writes m) k x) u.after) (sym (power_is s n (Some (record { at = k; left = x })))) here)
 
 module _ {N : Type 0} (state : N → DeviceState) (bench : N → BenchState) (wrote : N → ℕ → List ℕ → Ended → N → Type 0)
     (obeys : (d : N) (at : ℕ) (w : List ℕ) (a : Ended) (e : N) → (state d).on ≡ true → wrote d at w a e → Wrote (state d) at w a (state e))
     (burns : (d : N) (at : ℕ) (w : List ℕ) (a : Ended) (e : N) → (state d).on ≡ true → wrote d at w a e → BenchWrote (state d) (bench d) at a (state e) (bench e))
     (fits : (d : N) (at : ℕ) (w : List ℕ) (a : Ended) (e : N) → wrote d at w a e → (at < length (state d).words) × (length w ≡ 8)) where
   -- the words of a player are those of the play that a power line finds
-  base_at : (p : Player N) (s : State) → IsAt state bench p s → let w = warm_of s in IsBase w.base w.owed w.by (state (device_of p)).words
+  base_at : (p : Player N) (s : State) → IsPlayerAt state bench p s → let w = warm_of s in HoldsBase w.base w.owed w.by (state (device_of p)).words
   unfolding warm_of
   base_at p (Cold m b a) at = warmed_base m b a (state (device_of p)).words at.stands.1
   base_at p (Hot w) at = at.stands.1
 
   -- the step of a power line is silent
   silently : (p q : Player N) (s : State) (n : ℕ) (x : Option WornAt) (t : Option StopAt) (r : Option Answer) → hit_of (armed_in s) (power_moves (warm_of s)) x ≡ t
-      → Stepped state bench p s (n, line.Power) x (power_step n s (warm_of s) t) r q → shown_turns [] t ≡ [] → Silent state bench p s (n, line.Power) x r q
+      → Stepped state bench p s (n, line.Power) x (power_step n s (warm_of s) t) r q → shown_turns [] t ≡ [] → SilentLine state bench p s (n, line.Power) x r q
   silently p q s n x t r hits stepped none =
       let is : step s (n, line.Power) x ≡ power_step n s (warm_of s) t = power_is s n x ∙ ap (λ (y : Option StopAt). power_step n s (warm_of s) y) hits in
       record {
@@ -147,22 +147,22 @@ module _ {N : Type 0} (state : N → DeviceState) (bench : N → BenchState) (wr
 
   -- ---- a power line that no stop hit
 
-  no_stop : (p q : Player N) (s : State) (n : ℕ) (u e : N) (r : Answer) → IsAt state bench p s → IsImage (state (device_of p)).words
+  no_stop : (p q : Player N) (s : State) (n : ℕ) (u e : N) (r : Answer) → IsPlayerAt state bench p s → IsImage (state (device_of p)).words
       → Handed (state (device_of p)) (bench (device_of p)) 1 p.armed (state u) (bench u) → Makes wrote u (power_writes (state u).words) (Ok tt) e
       → Freed (state e) (bench e) (state (device_of q)) (bench (device_of q)) → q.budget ≡ p.budget → q.armed ≡ armed.Not
       → (let w = warm_of s in StateIs state q.power q.card (Hot (power_after w None))) → answer_value state q r ≡ power_result (power_moves (warm_of s)) (warm_of s).base
-      → (x : Option WornAt) × Silent state bench p s (n, line.Power) x (Some r) q
+      → (x : Option WornAt) × SilentLine state bench p s (n, line.Power) x (Some r) q
   no_stop p q s n u e r at image handed made freed budget free stands answers =
       let w = warm_of s in
       let d = device_of p in
       let m = (state d).words in
       let made_on : Makes wrote u (power_writes m) (Ok tt) e = subst (λ (y : List (List ℕ)). Makes wrote u (power_writes y) (Ok tt) e) handed.words made in
       let did : Went state bench wrote obeys burns fits d (device_of q) p.armed 1 (power_writes m) = went state bench wrote obeys burns fits d u e (device_of q) p.armed 1 (power_writes m) at.can_arm handed made_on freed in
-      let base : IsBase w.base w.owed w.by m = base_at p s at in
+      let base : HoldsBase w.base w.owed w.by m = base_at p s at in
       let many : length (power_writes m) ≡ power_moves w = count_writes m image.low image.high ∙ count_is m w base in
       let misses : hit_of (armed_in s) (power_moves w) None ≡ None =
       subst (λ (i : ℕ). hit_of (armed_in s) i None ≡ None) many (subst (λ (y : play.Armed). hit_of y (length (power_writes m)) None ≡ None) at.armed did.missed.hit) in
-      let then : IsAt state bench q (Hot (power_after w None)) = record {
+      let then : IsPlayerAt state bench q (Hot (power_after w None)) = record {
         stands = stands;
         budget = budget ∙ at.budget ∙ sym (warm_budget s);
         armed = ap armed_value free;
@@ -188,21 +188,21 @@ module _ {N : Type 0} (state : N → DeviceState) (bench : N → BenchState) (wr
       )
 
   -- a card runs after it
-  pub runs_done : (p : Player N) (s : State) (n : ℕ) (u e : N) (c : Card N) (number count : ℕ) → IsAt state bench p s → IsImage (state (device_of p)).words
+  pub runs_done : (p : Player N) (s : State) (n : ℕ) (u e : N) (c : Card N) (number count : ℕ) → IsPlayerAt state bench p s → IsImage (state (device_of p)).words
       → Handed (state (device_of p)) (bench (device_of p)) 1 p.armed (state u) (bench u) → Makes wrote u (power_writes (state u).words) (Ok tt) e → IsPowered (state u) number count (state e)
-      → Freed (state e) (bench e) (state (device_in c)) (bench (device_in c)) → IsReady state c → seat_in state c ≡ empty_seat
-      → (x : Option WornAt) × Silent state bench p s (n, line.Power) x (Some (answer.Ready number)) (record p { card = c; power = power.On; armed = armed.Not })
+      → Freed (state e) (bench e) (state (device_in c)) (bench (device_in c)) → IsReadyCard state c → seat_in state c ≡ empty_seat
+      → (x : Option WornAt) × SilentLine state bench p s (n, line.Power) x (Some (answer.Ready number)) (record p { card = c; power = power.On; armed = armed.Not })
   runs_done p s n u e c number count at image handed made powered freed ready seat =
       let w = warm_of s in
       let m = (state (device_of p)).words in
       let q : Player N = record p { card = c; power = power.On; armed = armed.Not } in
-      let base : IsBase w.base w.owed w.by m = base_at p s at in
+      let base : HoldsBase w.base w.owed w.by m = base_at p s at in
       let same : (state u).words ≡ m = handed.words in
       let after : (state (device_in c)).words ≡ (state e).words = ap (λ (x : DeviceState). x.words) freed.state in
-      let left : IsBase (migrated (found (state u).words)) 0 One (state e).words = powered.base in
+      let left : HoldsBase (migrated (found (state u).words)) 0 One (state e).words = powered.base in
       let on = card_on (state u).words (state e).words w (ap found same ∙ base.base) powered.card left.base in
       let words : List (List ℕ) = (state (device_in c)).words in
-      let is : IsBase (migrated w.base) 0 w.by words = record {
+      let is : HoldsBase (migrated w.base) 0 w.by words = record {
         base = ap found after ∙ left.base ∙ ap migrated (ap found same ∙ base.base);
         owed = ap owed after ∙ left.owed;
         by = λ some. absurd (some refl);
@@ -213,21 +213,21 @@ module _ {N : Type 0} (state : N → DeviceState) (bench : N → BenchState) (wr
       no_stop p q s n u e (answer.Ready number) at image handed made freed refl refl (record { ready = ready; base = card; live = live }, is) (ap Ready many ∙ on.2 (power_moves w))
 
   -- the words are no card
-  pub unusable_done : (p : Player N) (s : State) (n : ℕ) (u e : N) (c : Card N) (r : Unusable) → IsAt state bench p s → IsImage (state (device_of p)).words
+  pub unusable_done : (p : Player N) (s : State) (n : ℕ) (u e : N) (c : Card N) (r : Unusable) → IsPlayerAt state bench p s → IsImage (state (device_of p)).words
       → Handed (state (device_of p)) (bench (device_of p)) 1 p.armed (state u) (bench u) → Makes wrote u (power_writes (state u).words) (Ok tt) e → IsUnusable (state u) r.cause r.place (state e)
       → Freed (state e) (bench e) (state (device_in c)) (bench (device_in c))
-      → (x : Option WornAt) × Silent state bench p s (n, line.Power) x (Some (answer.Unusable r)) (record p { card = c; power = power.Off; armed = armed.Not })
+      → (x : Option WornAt) × SilentLine state bench p s (n, line.Power) x (Some (answer.Unusable r)) (record p { card = c; power = power.Off; armed = armed.Not })
   unusable_done p s n u e c r at image handed made unusable freed =
       let w = warm_of s in
       let m = (state (device_of p)).words in
       let f = device_in c in
       let q : Player N = record p { card = c; power = power.Off; armed = armed.Not } in
-      let base : IsBase w.base w.owed w.by m = base_at p s at in
+      let base : HoldsBase w.base w.owed w.by m = base_at p s at in
       let same : (state u).words ≡ m = handed.words in
       let after : (state f).words ≡ (state e).words = ap (λ (x : DeviceState). x.words) freed.state in
-      let left : IsBase (found (state u).words) 0 One (state e).words = unusable.base in
+      let left : HoldsBase (found (state u).words) 0 One (state e).words = unusable.base in
       let broken : w.base ≡ AtFault r.cause r.place = sym (ap found same ∙ base.base) ∙ ap (λ (x : Option (Cause × ℕ)). base_of x (state u).words) unusable.fault in
-      let is : IsBase (migrated w.base) 0 w.by (state f).words = record {
+      let is : HoldsBase (migrated w.base) 0 w.by (state f).words = record {
         base = ap found after ∙ left.base ∙ ap found same ∙ base.base ∙ broken ∙ ap migrated (sym broken);
         owed = ap owed after ∙ left.owed;
         by = λ some. absurd (some refl);
@@ -244,21 +244,21 @@ module _ {N : Type 0} (state : N → DeviceState) (bench : N → BenchState) (wr
   answer_stopped Off p q t is place = ap play.OffAt (place refl) ∙ ap (λ (y : Stop). result_of_stop t y) (sym is)
   answer_stopped Worn p q t is place = ap (λ (y : Stop). result_of_stop t y) (sym is)
 
-  pub stop_done : (p : Player N) (s : State) (n : ℕ) (u e : N) (c : Card N) (k : ℕ) (how : Stop) → IsAt state bench p s → IsImage (state (device_of p)).words
-      → Handed (state (device_of p)) (bench (device_of p)) 1 p.armed (state u) (bench u) → StoppedAt wrote u (power_writes (state u).words) k how e → Freed (state e) (bench e) (state (device_in c)) (bench (device_in c))
-      → (x : Option WornAt) × Silent state bench p s (n, line.Power) x (Some (answer_after_stop how p.armed)) (record p { card = c; power = power_after_stop how; armed = armed.Not })
+  pub stop_done : (p : Player N) (s : State) (n : ℕ) (u e : N) (c : Card N) (k : ℕ) (how : Stop) → IsPlayerAt state bench p s → IsImage (state (device_of p)).words
+      → Handed (state (device_of p)) (bench (device_of p)) 1 p.armed (state u) (bench u) → StoppedAtWrite wrote u (power_writes (state u).words) k how e → Freed (state e) (bench e) (state (device_in c)) (bench (device_in c))
+      → (x : Option WornAt) × SilentLine state bench p s (n, line.Power) x (Some (answer_after_stop how p.armed)) (record p { card = c; power = power_after_stop how; armed = armed.Not })
   stop_done p s n u e c k how at image handed stop freed =
       let w = warm_of s in
       let d = device_of p in
       let m = (state d).words in
       let f = device_in c in
       let q : Player N = record p { card = c; power = power_after_stop how; armed = armed.Not } in
-      let stop_on : StoppedAt wrote u (power_writes m) k how e = subst (λ (y : List (List ℕ)). StoppedAt wrote u (power_writes y) k how e) handed.words stop in
+      let stop_on : StoppedAtWrite wrote u (power_writes m) k how e = subst (λ (y : List (List ℕ)). StoppedAtWrite wrote u (power_writes y) k how e) handed.words stop in
       let found_stop = hit state bench wrote obeys burns fits d u e f p.armed 1 (power_writes m) k how at.can_arm at.unfused handed stop_on freed in
       let x : List ℕ = found_stop.0 in
       let did : Hit state bench wrote obeys burns fits d f p.armed 1 (power_writes m) k how x = found_stop.1 in
       let t : StopAt = record { kind = how; at = k; left = x } in
-      let base : IsBase w.base w.owed w.by m = base_at p s at in
+      let base : HoldsBase w.base w.owed w.by m = base_at p s at in
       let many : length (power_writes m) ≡ power_moves w = count_writes m image.low image.high ∙ count_is m w base in
       let high : k ≤ power_moves w = let h = did.high in omega (arith, h, many) in
       let by : HitBy (armed_in s) (power_moves w) (bench d).steady how k x (worn_entry k x (Some how)) =
@@ -267,9 +267,9 @@ module _ {N : Type 0} (state : N → DeviceState) (bench : N → BenchState) (wr
       let then : AfterStop w t v = after_stop w t (nat_le k w.owed) in
       let count : length (power_writes m) ≡ power_count m = count_writes m image.low image.high in
       let halted : IsHalted m k x (torn m (power_writes m) k x) = power_halted m image.low image.high k x did.low (let h = did.high in omega (arith, h, count)) in
-      let torn_base : IsBase v.base v.owed v.by (torn m (power_writes m) k x) = halted_base m w t (torn m (power_writes m) k x) base did.low halted in
-      let is : IsBase v.base v.owed v.by (state f).words = subst (λ (y : List (List ℕ)). IsBase v.base v.owed v.by y) (sym did.words) torn_base in
-      let at_end : IsAt state bench q (Hot v) = record {
+      let torn_base : HoldsBase v.base v.owed v.by (torn m (power_writes m) k x) = halted_base m w t (torn m (power_writes m) k x) base did.low halted in
+      let is : HoldsBase v.base v.owed v.by (state f).words = subst (λ (y : List (List ℕ)). HoldsBase v.base v.owed v.by y) (sym did.words) torn_base in
+      let at_end : IsPlayerAt state bench q (Hot v) = record {
         stands = (live_stopped how c v.base v.live then.live, is);
         budget = at.budget ∙ sym (warm_budget s) ∙ sym then.budget;
         armed = sym then.armed;

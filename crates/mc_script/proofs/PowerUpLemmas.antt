@@ -9,7 +9,7 @@ use Rattle.mc_store.specs.declared.power.Up.{Up}
 use Rattle.mc_store.specs.declared.power.Up.TheVariants as up
 use Rattle.mc_card.specs.declared.card.Card.{Card}
 use Rattle.mc_card.specs.Ends.{restarted}
-use Rattle.mc_card.specs.Parts.{device_in, seat_in, with_device, IsReady}
+use Rattle.mc_card.specs.Parts.{device_in, seat_in, with_device, IsReadyCard}
 use Rattle.mc_script.specs.declared.answer.Answer.{Answer}
 use Rattle.mc_script.specs.declared.answer.Answer.TheVariants as answer
 use Rattle.mc_script.specs.declared.player.Power.{Power}
@@ -44,7 +44,7 @@ module _ {N : Type 0} (state : N → DeviceState) (bench : N → BenchState) (wr
     (fits : (d : N) (at : ℕ) (w : List ℕ) (a : Ended) (e : N) → wrote d at w a e → (at < length (state d).words) × (length w ≡ 8)) where
   -- a card runs
   pub ready_power : (p : Player N) (u : N) (c e : Card N) (writes count : ℕ) → IsImage (state (device_of p)).words → Handed (state (device_of p)) (bench (device_of p)) 1 p.armed (state u) (bench u)
-      → Makes wrote u (power_writes (state u).words) (Ok tt) (device_in c) → IsPowered (state u) writes count (state (device_in c)) → IsReady state c → seat_in state c ≡ empty_seat
+      → Makes wrote u (power_writes (state u).words) (Ok tt) (device_in c) → IsPowered (state u) writes count (state (device_in c)) → IsReadyCard state c → seat_in state c ≡ empty_seat
       → state (device_in e) ≡ state (device_in c) → bench (device_in e) ≡ record (bench (device_in c)) { cut = None; worn = None } → e ≡ with_device c (device_in e)
       → SilentDone state bench p line.Power (Some (answer.Ready writes)) (record p { card = e; power = power.On; armed = armed.Not })
   ready_power p u c e writes count image handed made powered ready seat same free rest s n at =
@@ -64,7 +64,7 @@ module _ {N : Type 0} (state : N → DeviceState) (bench : N → BenchState) (wr
 
   -- the same, by what the restart of the card answered
   pub restart_ready : (p : Player N) (u : N) (c e : Card N) (r : Result ℕ Up) (writes : ℕ) → r ≡ Ok writes → IsImage (state (device_of p)).words → Handed (state (device_of p)) (bench (device_of p)) 1 p.armed (state u) (bench u)
-      → Makes wrote u (power_writes (state u).words) (power_answer (restarted c r)) (device_in c) → PowersUp (state u) (restarted c r) (state (device_in c)) → IfOk r (λ n. IsReady state c) → IfOk r (λ n. seat_in state c ≡ empty_seat)
+      → Makes wrote u (power_writes (state u).words) (power_answer (restarted c r)) (device_in c) → PowersUp (state u) (restarted c r) (state (device_in c)) → IfOk r (λ n. IsReadyCard state c) → IfOk r (λ n. seat_in state c ≡ empty_seat)
       → state (device_in e) ≡ state (device_in c) → bench (device_in e) ≡ record (bench (device_in c)) { cut = None; worn = None } → e ≡ with_device c (device_in e)
       → SilentDone state bench p line.Power (Some (answer.Ready writes)) (record p { card = e; power = power.On; armed = armed.Not })
   restart_ready p u c e (Err r) writes is image handed made ends ready seat same free rest = absurd (cc is)

@@ -18,12 +18,12 @@ use Rattle.mc_script.specs.declared.commands.CardLine.{CardLine}
 use Rattle.mc_script.specs.declared.player.Power.{Power}
 use Rattle.mc_script.specs.declared.player.Power.TheVariants as power
 use Rattle.mc_script.specs.declared.player.Player.{Player}
-use Rattle.mc_script.specs.Players.{answer_value, armed_value, dump_value, device_of, CanArm, LiveIs, IsAt}
+use Rattle.mc_script.specs.Players.{answer_value, armed_value, dump_value, device_of, CanArm, LiveIs, IsPlayerAt}
 use Rattle.mc_script.specs.Counting.{raised, line_powers, line_pokes, line_cuts, line_fails, Arms, LineCounts}
 use Rattle.mc_script.specs.Arming.{armed_bench}
 use Rattle.mc_script.specs.Commands.{deck_line_of}
 use Rattle.mc_script.specs.Plays.{StepTape}
-use Rattle.mc_script.specs.Lines.{Stepped, Silent, SilentDone}
+use Rattle.mc_script.specs.Lines.{Stepped, SilentLine, SilentDone}
 use Rattle.mc_script.proofs.FuseLemmas.{past_none}
 use Rattle.mc_script.proofs.HitLemmas.{NotHit, not_hit}
 use Rattle.mc_script.proofs.CommandStepLemmas.{hot_is, cold_is, no_powers, no_pokes, no_cuts, no_fails, moves_hot, moves_cold}
@@ -64,7 +64,7 @@ module _ {N : Type 0} (state : N → DeviceState) (bench : N → BenchState) whe
       }
 
   -- a line that leaves its device as it is
-  pub quietly : (p q : Player N) (s : State) (n : ℕ) (l : DeckLine) (result : Option LineResult) (after : State) (r : Option Answer) → device_of q ≡ device_of p → IsAt state bench q after
+  pub quietly : (p q : Player N) (s : State) (n : ℕ) (l : DeckLine) (result : Option LineResult) (after : State) (r : Option Answer) → device_of q ≡ device_of p → IsPlayerAt state bench q after
       → option_map (answer_value state q) r ≡ result → line_powers l ≡ 0 → line_pokes s l ≡ 0 → Arms (bench (device_of p)) (armed_in s) (line_cuts l) (line_fails l) (bench (device_of p)) (armed_in after)
       → None ≡ steady_at (armed_in s) l (moves_of s (n, l)) → (state (device_of p)).words ≡ words_left (state (device_of p)).words [] after
       → Stepped state bench p s (n, l) None (quiet n l s result after) r q
@@ -89,7 +89,7 @@ module _ {N : Type 0} (state : N → DeviceState) (bench : N → BenchState) whe
   unfolding step
   budget_done p k some most (Cold m b a) n at =
       let q : Player N = record p { budget = k } in
-      let then : IsAt state bench q (Cold m k a) = record { stands = at.stands; budget = refl; armed = at.armed; some = some; most = most; can_arm = at.can_arm; unfused = at.unfused } in (
+      let then : IsPlayerAt state bench q (Cold m k a) = record { stands = at.stands; budget = refl; armed = at.armed; some = some; most = most; can_arm = at.can_arm; unfused = at.unfused } in (
         None,
         record {
           stepped = quietly p q (Cold m b a) n (line.Budget k) None (Cold m k a) None refl then refl refl refl (arms_same (bench (device_of p)) a) (steady_none a (line.Budget k) (moves_of (Cold m b a) (n, line.Budget k)) refl) at.stands.1;
@@ -98,7 +98,7 @@ module _ {N : Type 0} (state : N → DeviceState) (bench : N → BenchState) whe
       )
   budget_done p k some most (Hot w) n at =
       let q : Player N = record p { budget = k } in
-      let then : IsAt state bench q (Hot (record w { budget = k })) = record { stands = at.stands; budget = refl; armed = at.armed; some = some; most = most; can_arm = at.can_arm; unfused = at.unfused } in (
+      let then : IsPlayerAt state bench q (Hot (record w { budget = k })) = record { stands = at.stands; budget = refl; armed = at.armed; some = some; most = most; can_arm = at.can_arm; unfused = at.unfused } in (
         None,
         record {
           stepped = quietly p q (Hot w) n (line.Budget k) None (Hot (record w { budget = k })) None refl then refl refl refl (arms_same (bench (device_of p)) w.armed) (steady_none w.armed (line.Budget k) (moves_of (Hot w) (n, line.Budget k)) refl) refl;
@@ -110,7 +110,7 @@ module _ {N : Type 0} (state : N → DeviceState) (bench : N → BenchState) whe
   unfolding step
   cut_done p k x some size (Cold m b a) n at =
       let q : Player N = record p { armed = armed.Cut k x } in
-      let then : IsAt state bench q (Cold m b (ArmedCut k x)) = record { stands = at.stands; budget = at.budget; armed = refl; some = at.some; most = at.most; can_arm = (some, size); unfused = at.unfused } in (
+      let then : IsPlayerAt state bench q (Cold m b (ArmedCut k x)) = record { stands = at.stands; budget = at.budget; armed = refl; some = at.some; most = at.most; can_arm = (some, size); unfused = at.unfused } in (
         None,
         record {
           stepped = quietly p q (Cold m b a) n (line.Cut k x) None (Cold m b (ArmedCut k x)) None refl then refl refl refl (arms_cut (bench (device_of p)) a k x) (steady_none a (line.Cut k x) (moves_of (Cold m b a) (n, line.Cut k x)) refl) at.stands.1;
@@ -119,7 +119,7 @@ module _ {N : Type 0} (state : N → DeviceState) (bench : N → BenchState) whe
       )
   cut_done p k x some size (Hot w) n at =
       let q : Player N = record p { armed = armed.Cut k x } in
-      let then : IsAt state bench q (Hot (record w { armed = ArmedCut k x })) = record { stands = at.stands; budget = at.budget; armed = refl; some = at.some; most = at.most; can_arm = (some, size); unfused = at.unfused } in (
+      let then : IsPlayerAt state bench q (Hot (record w { armed = ArmedCut k x })) = record { stands = at.stands; budget = at.budget; armed = refl; some = at.some; most = at.most; can_arm = (some, size); unfused = at.unfused } in (
         None,
         record {
           stepped = quietly p q (Hot w) n (line.Cut k x) None (Hot (record w { armed = ArmedCut k x })) None refl then refl refl refl (arms_cut (bench (device_of p)) w.armed k x) (steady_none w.armed (line.Cut k x) (moves_of (Hot w) (n, line.Cut k x)) refl) refl;
@@ -131,7 +131,7 @@ module _ {N : Type 0} (state : N → DeviceState) (bench : N → BenchState) whe
   unfolding step
   fail_done p k some (Cold m b a) n at =
       let q : Player N = record p { armed = armed.Fail k } in
-      let then : IsAt state bench q (Cold m b (ArmedFail k)) = record { stands = at.stands; budget = at.budget; armed = refl; some = at.some; most = at.most; can_arm = some; unfused = at.unfused } in (
+      let then : IsPlayerAt state bench q (Cold m b (ArmedFail k)) = record { stands = at.stands; budget = at.budget; armed = refl; some = at.some; most = at.most; can_arm = some; unfused = at.unfused } in (
         None,
         record {
           stepped = quietly p q (Cold m b a) n (line.Fail k) None (Cold m b (ArmedFail k)) None refl then refl refl refl (arms_fail (bench (device_of p)) a k) (steady_none a (line.Fail k) (moves_of (Cold m b a) (n, line.Fail k)) refl) at.stands.1;
@@ -140,7 +140,7 @@ module _ {N : Type 0} (state : N → DeviceState) (bench : N → BenchState) whe
       )
   fail_done p k some (Hot w) n at =
       let q : Player N = record p { armed = armed.Fail k } in
-      let then : IsAt state bench q (Hot (record w { armed = ArmedFail k })) = record { stands = at.stands; budget = at.budget; armed = refl; some = at.some; most = at.most; can_arm = some; unfused = at.unfused } in (
+      let then : IsPlayerAt state bench q (Hot (record w { armed = ArmedFail k })) = record { stands = at.stands; budget = at.budget; armed = refl; some = at.some; most = at.most; can_arm = some; unfused = at.unfused } in (
         None,
         record {
           stepped = quietly p q (Hot w) n (line.Fail k) None (Hot (record w { armed = ArmedFail k })) None refl then refl refl refl (arms_fail (bench (device_of p)) w.armed k) (steady_none w.armed (line.Fail k) (moves_of (Hot w) (n, line.Fail k)) refl) refl;
@@ -158,7 +158,7 @@ module _ {N : Type 0} (state : N → DeviceState) (bench : N → BenchState) whe
   -- ---- lines from the first power line on, which leave their player as it is
 
   -- a line that is quiet in a play that has begun
-  pub still : (p : Player N) (w : Warm) (n : ℕ) (l : DeckLine) (result : Option LineResult) (r : Option Answer) → IsAt state bench p (Hot w) → option_map (answer_value state p) r ≡ result → line_powers l ≡ 0
+  pub still : (p : Player N) (w : Warm) (n : ℕ) (l : DeckLine) (result : Option LineResult) (r : Option Answer) → IsPlayerAt state bench p (Hot w) → option_map (answer_value state p) r ≡ result → line_powers l ≡ 0
       → line_pokes (Hot w) l ≡ 0 → line_cuts l ≡ 0 → line_fails l ≡ 0 → is_card_line l ≡ false → Stepped state bench p (Hot w) (n, l) None (quiet n l (Hot w) result (Hot w)) r p
   still p w n l result r at answers powers pokes cuts fails card =
       let b = bench (device_of p) in
@@ -196,7 +196,7 @@ module _ {N : Type 0} (state : N → DeviceState) (bench : N → BenchState) whe
   same_dump (Cold m b r) n aid w = refl
   same_dump (Hot v) n aid w = refl
 
-  pub dump_answer : (p : Player N) (aid : List ℕ) (s : State) (n : ℕ) → IsAt state bench p s → (step s (n, line.Dump aid) None).result ≡ Some (answer_value state p (answer.Dump aid))
+  pub dump_answer : (p : Player N) (aid : List ℕ) (s : State) (n : ℕ) → IsPlayerAt state bench p s → (step s (n, line.Dump aid) None).result ≡ Some (answer_value state p (answer.Dump aid))
   dump_answer p aid s n at = let h = dump_done p aid s n at in same_dump s n aid h.0 ∙ sym (h.1).stepped.answers
 
   -- ---- lines of commands without a card
@@ -211,7 +211,7 @@ module _ {N : Type 0} (state : N → DeviceState) (bench : N → BenchState) whe
 
   -- a quiet step is silent
   quiet_silent : (p q : Player N) (s : State) (n : ℕ) (l : DeckLine) (result : Option LineResult) (after : State) (r : Option Answer) → step s (n, l) None ≡ quiet n l s result after
-      → Stepped state bench p s (n, l) None (quiet n l s result after) r q → Silent state bench p s (n, l) None r q
+      → Stepped state bench p s (n, l) None (quiet n l s result after) r q → SilentLine state bench p s (n, l) None r q
   quiet_silent p q s n l result after r is stepped =
       record { stepped = subst (λ (t : Step). Stepped state bench p s (n, l) None t r q) (sym is) stepped; silent = subst (λ (t : Step). shown_turns t.turns t.stop ≡ []) (sym is) refl }
 
@@ -221,7 +221,7 @@ module _ {N : Type 0} (state : N → DeviceState) (bench : N → BenchState) whe
       let q : Player N = record p { armed = armed.Not } in
       let d = device_of p in
       let l = deck_line_of c in
-      let then : IsAt state bench q (Cold m b Unarmed) = record { stands = at.stands; budget = at.budget; armed = refl; some = at.some; most = at.most; can_arm = tt; unfused = at.unfused } in (
+      let then : IsPlayerAt state bench q (Cold m b Unarmed) = record { stands = at.stands; budget = at.budget; armed = refl; some = at.some; most = at.most; can_arm = tt; unfused = at.unfused } in (
         None,
         quiet_silent p q (Cold m b r) n l (Some NoCard) (Cold m b Unarmed) (Some answer.NoCard) (cold_is c m b r n None)
             (quietly p q (Cold m b r) n l (Some NoCard) (Cold m b Unarmed) (Some answer.NoCard) refl then refl (no_powers c) (no_pokes c (Cold m b r)) (no_arms c (bench d) r)
@@ -229,9 +229,9 @@ module _ {N : Type 0} (state : N → DeviceState) (bench : N → BenchState) whe
       )
 
   -- a line of commands in a play that has begun, where no card runs
-  none_hot : (p q : Player N) (w : Warm) (n : ℕ) (c : CardLine) (v : Live) (result : LineResult) (r : Answer) → device_of q ≡ device_of p → IsAt state bench p (Hot w) → IsAt state bench q (Hot (record w { armed = Unarmed }))
+  none_hot : (p q : Player N) (w : Warm) (n : ℕ) (c : CardLine) (v : Live) (result : LineResult) (r : Answer) → device_of q ≡ device_of p → IsPlayerAt state bench p (Hot w) → IsPlayerAt state bench q (Hot (record w { armed = Unarmed }))
       → w.live ≡ v → card_line n (deck_line_of c) w v w.base None ≡ quiet n (deck_line_of c) (Hot w) (Some result) (Hot (record w { armed = Unarmed })) → answer_value state q r ≡ result
-      → Silent state bench p (Hot w) (n, deck_line_of c) None (Some r) q
+      → SilentLine state bench p (Hot w) (n, deck_line_of c) None (Some r) q
   none_hot p q w n c v result r same at then live quiet_is answers =
       let l = deck_line_of c in
       let line_is : card_line n l w w.live w.base None ≡ quiet n l (Hot w) (Some result) (Hot (record w { armed = Unarmed })) = ap (λ (x : Live). card_line n l w x w.base None) live ∙ quiet_is in
@@ -245,7 +245,7 @@ module _ {N : Type 0} (state : N → DeviceState) (bench : N → BenchState) whe
   none_off p c off (Hot w) n at =
       let q : Player N = record p { armed = armed.Not } in
       let live : w.live ≡ Unpowered = subst (λ (x : Power). LiveIs state x p.card w.base w.live) off at.stands.0 in
-      let then : IsAt state bench q (Hot (record w { armed = Unarmed })) = record { stands = at.stands; budget = at.budget; armed = refl; some = at.some; most = at.most; can_arm = tt; unfused = at.unfused } in
+      let then : IsPlayerAt state bench q (Hot (record w { armed = Unarmed })) = record { stands = at.stands; budget = at.budget; armed = refl; some = at.some; most = at.most; can_arm = tt; unfused = at.unfused } in
       (None, none_hot p q w n c Unpowered NoCard answer.NoCard refl at then live refl refl)
 
   pub none_mute : (p : Player N) (c : CardLine) → p.power ≡ power.Mute → SilentDone state bench p (deck_line_of c) (Some answer.Mute) (record p { armed = armed.Not })
@@ -253,5 +253,5 @@ module _ {N : Type 0} (state : N → DeviceState) (bench : N → BenchState) whe
   none_mute p c mute (Hot w) n at =
       let q : Player N = record p { armed = armed.Not } in
       let live : w.live ≡ Muted = subst (λ (x : Power). LiveIs state x p.card w.base w.live) mute at.stands.0 in
-      let then : IsAt state bench q (Hot (record w { armed = Unarmed })) = record { stands = at.stands; budget = at.budget; armed = refl; some = at.some; most = at.most; can_arm = tt; unfused = at.unfused } in
+      let then : IsPlayerAt state bench q (Hot (record w { armed = Unarmed })) = record { stands = at.stands; budget = at.budget; armed = refl; some = at.some; most = at.most; can_arm = tt; unfused = at.unfused } in
       (None, none_hot p q w n c Muted Silenced answer.Mute refl at then live refl refl)

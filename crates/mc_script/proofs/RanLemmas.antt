@@ -17,16 +17,16 @@ use Rattle.mc_model.specs.TraceText.{before_stop}
 use Rattle.mc_model.proofs.OrdersLemmas.{InOrder-append}
 use Rattle.mc_model.proofs.DeviceLemmas.{DoneAll, makes-done}
 use Rattle.mc_model.proofs.StoppedLemmas.{torn-within, torn-past}
-use Rattle.mc_store.specs.Power.{IsBase}
+use Rattle.mc_store.specs.Power.{HoldsBase}
 use Rattle.mc_machine.specs.declared.outcome.Outcome.{Outcome}
 use Rattle.mc_machine.specs.declared.outcome.Turn.{Turn as CodeTurn}
 use Rattle.mc_machine.specs.Turns.{outcome_value, turn_value}
 use Rattle.mc_card.specs.declared.card.Card.{Card as CardOf}
-use Rattle.mc_card.specs.ItemWrites.{IsStopped, StopsAtEach, IsAll, IsDone, Made}
-use Rattle.mc_card.specs.Parts.{device_in, card_in, seat_in, with_session, IsReady, RunsChain}
-use Rattle.mc_card.specs.Ends.{GoesOn, Turned}
+use Rattle.mc_card.specs.ItemWrites.{IsCardAfterStop, StopsAtEach, CountsWrites, IsCardAfter, ItemsMade}
+use Rattle.mc_card.specs.Parts.{device_in, card_in, seat_in, with_session, IsReadyCard, RunsChain}
+use Rattle.mc_card.specs.Ends.{TurnGoesOn, ChainTurned}
 use Rattle.mc_card.proofs.MadeLemmas.{moves-append, card-append, behind, stop-within, stop-past, card-found}
-use Rattle.mc_script.specs.Runs.{Tells}
+use Rattle.mc_script.specs.Runs.{TellsTurns}
 use Rattle.mc_script.proofs.StopLemmas.{stopped_in, at_number, number_done}
 use Rattle.mc_script.proofs.TurnLemmas.{turn_moves, is_told, acted_counts, before_first, before_later}
 
@@ -42,13 +42,13 @@ unfolding ran
 ran_goes n ch next e = ap (λ (f : Follows). ran_on (acted ch) (chain_session ch) f (λ c. ran n c)) e
 
 -- a run begins with the writes and the turn of its first turn
-record Begins (n : ℕ) (ch : Chain) : Type 0 where
+record RunBegins (n : ℕ) (ch : Chain) : Type 0 where
   writes : List Write
   turns : List Turn
   all_writes : (ran n ch).writes ≡ (turn_of n ch).writes ++ writes
   all_turns : (ran n ch).turns ≡ (turn_of n ch).turn ∷ turns
 
-begins_ends : (n : ℕ) (ch : Chain) (o : ModelOutcome) → (turn_of n ch).follows ≡ Ends o → Begins n ch
+begins_ends : (n : ℕ) (ch : Chain) (o : ModelOutcome) → (turn_of n ch).follows ≡ Ends o → RunBegins n ch
 begins_ends n ch o e =
     let is = ran_ends n ch o e in
     record {
@@ -58,7 +58,7 @@ begins_ends n ch o e =
       all_turns = ap (λ (r : Ran). r.turns) is;
     }
 
-begins_by : (n : ℕ) (ch : Chain) (f : Follows) → (acted ch).follows ≡ f → Begins (suc n) ch
+begins_by : (n : ℕ) (ch : Chain) (f : Follows) → (acted ch).follows ≡ f → RunBegins (suc n) ch
 begins_by n ch (Ends o) e = begins_ends (suc n) ch o e
 begins_by n ch (Continues next) e =
     let is = ran_goes n ch next e in
@@ -69,7 +69,7 @@ begins_by n ch (Continues next) e =
       all_turns = ap (λ (r : Ran). r.turns) is;
     }
 
-begins : (n : ℕ) (ch : Chain) → Begins n ch
+begins : (n : ℕ) (ch : Chain) → RunBegins n ch
 begins zero ch = begins_ends zero ch (Abended A07) refl
 begins (suc n) ch = begins_by n ch (acted ch).follows refl
 
@@ -93,11 +93,11 @@ module _ {N : Type 0} (state : N → DeviceState) (wrote : N → ℕ → List �
   -- items made by these writes
   pub record MadeBy (c : Card) (is : List Item) (d : N) (a : Answer) (e : N) (ws : List (ℕ × List ℕ)) : Type 0 where
     pub makes : Makes wrote d ws a e
-    pub number : IsAll is a (length ws)
+    pub number : CountsWrites is a (length ws)
     pub stops : StopsAtEach c is (state d).words ws
-    pub done : IsDone c is a (state e).words
+    pub done : IsCardAfter c is a (state e).words
 
-  pub by_made : (c : Card) (is : List Item) (d e : N) (a : Answer) (m : Made state wrote c is d a e) → MadeBy c is d a e m.writes
+  pub by_made : (c : Card) (is : List Item) (d e : N) (a : Answer) (m : ItemsMade state wrote c is d a e) → MadeBy c is d a e m.writes
   by_made c is d e a m = record { makes = m.makes; number = m.number; stops = m.stops; done = m.done }
 
   -- items that stopped, whatever was to come after them
@@ -109,16 +109,16 @@ module _ {N : Type 0} (state : N → DeviceState) (wrote : N → ℕ → List �
         makes = m.makes;
         number = omega (arith, few, all);
         stops = λ k x low high size.
-            subst (λ (t : Stopped). IsStopped c t (torn (state d).words ws k x)) (sym (stop-within is js k x low (omega (arith, few, high)))) (m.stops k x low high size);
+            subst (λ (t : Stopped). IsCardAfterStop c t (torn (state d).words ws k x)) (sym (stop-within is js k x low (omega (arith, few, high)))) (m.stops k x low high size);
         done = tt;
       }
 
-  number_on : (is js : List Item) (n k : ℕ) (a : Answer) → n ≡ moves is → IsAll js a k → IsAll (is ++ js) a (n + k)
+  number_on : (is js : List Item) (n k : ℕ) (a : Answer) → n ≡ moves is → CountsWrites js a k → CountsWrites (is ++ js) a (n + k)
   number_on is js n k (Ok u) first second = let all = moves-append is js in omega (arith, first, second, all)
   number_on is js n k (Err s) first second = let all = moves-append is js in omega (arith, first, second, all)
 
-  done_on : (c : Card) (is js : List Item) (a : Answer) (m : List (List ℕ)) → IsDone (card_done c is) js a m → IsDone c (is ++ js) a m
-  done_on c is js (Ok u) m h = subst (λ (k : Card). IsBase (OnCard k) 0 Two m) (sym (card-append is js c)) h
+  done_on : (c : Card) (is js : List Item) (a : Answer) (m : List (List ℕ)) → IsCardAfter (card_done c is) js a m → IsCardAfter c (is ++ js) a m
+  done_on c is js (Ok u) m h = subst (λ (k : Card). HoldsBase (OnCard k) 0 Two m) (sym (card-append is js c)) h
   done_on c is js (Err s) m h = tt
 
   -- items behind items that were done
@@ -129,10 +129,10 @@ module _ {N : Type 0} (state : N → DeviceState) (wrote : N → ℕ → List �
       let size : length (ws ++ vs) ≡ length ws + length vs = length-append ws vs in
       record {
         makes = InOrder-append (λ d p a e. wrote d p.0 p.1 a e) ws vs d m e a first.makes second.makes;
-        number = subst (λ (n : ℕ). IsAll (is ++ js) a n) (sym size) (number_on is js (length ws) (length vs) a count second.number);
+        number = subst (λ (n : ℕ). CountsWrites (is ++ js) a n) (sym size) (number_on is js (length ws) (length vs) a count second.number);
         stops = λ k x low high long. elim (cases_lt (length ws) k) [
-          | inr in-first ↦ subst (λ (t : Stopped). IsStopped c t (torn (state d).words (ws ++ vs) k x)) (sym (stop-within is js k x low (omega (arith, in-first, count))))
-              (subst (λ (w : List (List ℕ)). IsStopped c (at_stop is k x) w) (sym (torn-within (state d).words ws vs k x low in-first)) (first.stops k x low in-first long))
+          | inr in-first ↦ subst (λ (t : Stopped). IsCardAfterStop c t (torn (state d).words (ws ++ vs) k x)) (sym (stop-within is js k x low (omega (arith, in-first, count))))
+              (subst (λ (w : List (List ℕ)). IsCardAfterStop c (at_stop is k x) w) (sym (torn-within (state d).words ws vs k x low in-first)) (first.stops k x low in-first long))
           | inl past ↦
               let j = k - length ws in
               let is-k : k ≡ length ws + j = omega (arith, past) in
@@ -140,10 +140,10 @@ module _ {N : Type 0} (state : N → DeviceState) (wrote : N → ℕ → List �
               let words : torn (state d).words (ws ++ vs) k x ≡ torn (state m).words vs j x =
               torn-past (state d).words ws vs k j x some is-k ∙ ap (λ (w : List (List ℕ)). torn w vs j x) (sym all.words) in
               let stop : at_stop (is ++ js) k x ≡ behind is (at_stop js j x) = stop-past is js k j x some (is-k ∙ ap (λ (n : ℕ). n + j) count) in
-              let there : IsStopped (card_done c is) (at_stop js j x) (torn (state m).words vs j x) = second.stops j x some (omega (arith, high, size, is-k)) long in
-              subst (λ (t : Stopped). IsStopped c t (torn (state d).words (ws ++ vs) k x)) (sym stop)
-              (subst (λ (w : List (List ℕ)). IsStopped c (behind is (at_stop js j x)) w) (sym words)
-              (subst (λ (b : Card). IsBase (OnCard b) (at_stop js j x).owed Two (torn (state m).words vs j x)) (sym (card-append is (at_stop js j x).whole c)) there))
+              let there : IsCardAfterStop (card_done c is) (at_stop js j x) (torn (state m).words vs j x) = second.stops j x some (omega (arith, high, size, is-k)) long in
+              subst (λ (t : Stopped). IsCardAfterStop c t (torn (state d).words (ws ++ vs) k x)) (sym stop)
+              (subst (λ (w : List (List ℕ)). IsCardAfterStop c (behind is (at_stop js j x)) w) (sym words)
+              (subst (λ (b : Card). HoldsBase (OnCard b) (at_stop js j x).owed Two (torn (state m).words vs j x)) (sym (card-append is (at_stop js j x).whole c)) there))
         ];
         done = done_on c is js a (state e).words second.done;
       }
@@ -158,20 +158,20 @@ module _ {N : Type 0} (state : N → DeviceState) (wrote : N → ℕ → List �
       pub made : MadeBy (card_in state c) (write_items run.writes) (device_in c) (answer_of result) (device_in d) writes
       pub outcome : IfOk result (λ o. outcome_value o ≡ run.outcome)
       pub seat : OnOk result (seat_in state d ≡ with_session run.session (seat_in state c))
-      pub ready : OnOk result (IsReady state d)
-      pub tells : Tells state wrote told c writes run.turns result d q r
+      pub ready : OnOk result (IsReadyCard state d)
+      pub tells : TellsTurns state wrote told c writes run.turns result d q r
 
     -- the end of a turn, in the definition's words
     end_told : (t : Acted) (turn : CodeTurn) → t.turn ≡ turn_value turn t.turn.wrote → t.turn.end ≡ end_of t.follows → end_of t.follows ≡ option_map outcome_value turn.end
     end_told t turn is end = sym end ∙ ap (λ (u : Turn). u.end) is
 
     -- a turn that ends its chain
-    pub run_ends : (c d : CardOf N) (ch : Chain) (n : ℕ) (turn : CodeTurn) (o : Outcome) (q r : R) → Turned state wrote c ch n (turn_of n ch) (Ok turn) d → turn.end ≡ Some o
+    pub run_ends : (c d : CardOf N) (ch : Chain) (n : ℕ) (turn : CodeTurn) (o : Outcome) (q r : R) → ChainTurned state wrote c ch n (turn_of n ch) (Ok turn) d → turn.end ≡ Some o
         → told q (turn_value turn (turn_of n ch).turn.wrote ∷ []) r → RunOf (ran n ch) c (Ok o) d q r
     run_ends c d ch n turn o q r turned end tells =
         let t = turn_of n ch in
         let follows : t.follows ≡ Ends (outcome_value o) = end_ends t.follows (outcome_value o) (end_told t turn turned.turn (is_told n ch).end ∙ ap (λ (e : Option Outcome). option_map outcome_value e) end) in
-        let ended : GoesOn state wrote c ch (n - t.count) (Ends (outcome_value o)) d = subst (λ (f : Follows). GoesOn state wrote c ch (n - t.count) f d) follows turned.follows in
+        let ended : TurnGoesOn state wrote c ch (n - t.count) (Ends (outcome_value o)) d = subst (λ (f : Follows). TurnGoesOn state wrote c ch (n - t.count) f d) follows turned.follows in
         subst (λ (run : Ran). RunOf run c (Ok o) d q r) (sym (ran_ends n ch (outcome_value o) follows))
         (record {
           writes = turned.made.writes;
@@ -183,7 +183,7 @@ module _ {N : Type 0} (state : N → DeviceState) (wrote : N → ℕ → List �
         })
 
     -- a turn whose write stopped
-    pub run_stops : (c d : CardOf N) (ch : Chain) (n : ℕ) (s : Stop) (q : R) → Turned state wrote c ch n (turn_of n ch) (Err s) d → RunOf (ran n ch) c (Err s) d q q
+    pub run_stops : (c d : CardOf N) (ch : Chain) (n : ℕ) (s : Stop) (q : R) → ChainTurned state wrote c ch n (turn_of n ch) (Err s) d → RunOf (ran n ch) c (Err s) d q q
     run_stops c d ch n s q turned =
         let t = turn_of n ch in
         let all = begins n ch in
@@ -214,13 +214,13 @@ module _ {N : Type 0} (state : N → DeviceState) (wrote : N → ℕ → List �
       pub runs : RunsChain state d next left
       pub seat : seat_in state d ≡ seat_in state c
 
-    pub run_goes : (c d : CardOf N) (ch : Chain) (n : ℕ) (turn : CodeTurn) → Turned state wrote c ch n (turn_of n ch) (Ok turn) d → turn.end ≡ None → Goes c ch n d
+    pub run_goes : (c d : CardOf N) (ch : Chain) (n : ℕ) (turn : CodeTurn) → ChainTurned state wrote c ch n (turn_of n ch) (Ok turn) d → turn.end ≡ None → Goes c ch n d
     run_goes c d ch zero turn turned end =
         absurd (cc (end_told (turn_of zero ch) turn turned.turn (is_told zero ch).end ∙ ap (λ (e : Option Outcome). option_map outcome_value e) end))
     run_goes c d ch (suc n) turn turned end =
         let t = acted ch in
         let next = end_goes t.follows (end_told t turn turned.turn (is_told (suc n) ch).end ∙ ap (λ (e : Option Outcome). option_map outcome_value e) end) in
-        let on : GoesOn state wrote c ch (suc n - t.count) (Continues next.0) d = subst (λ (f : Follows). GoesOn state wrote c ch (suc n - t.count) f d) next.1 turned.follows in
+        let on : TurnGoesOn state wrote c ch (suc n - t.count) (Continues next.0) d = subst (λ (f : Follows). TurnGoesOn state wrote c ch (suc n - t.count) f d) next.1 turned.follows in
         let left : suc n - t.count ≡ n = let one = acted_counts ch next.0 next.1 in omega (arith, one) in
         record { left = n; is = refl; next = next.0; follows = next.1; runs = subst (λ (k : ℕ). RunsChain state d next.0 k) left on.0; seat = on.1 }
 
@@ -230,7 +230,7 @@ module _ {N : Type 0} (state : N → DeviceState) (wrote : N → ℕ → List �
 
     -- what is told of turns behind a turn
     tells_on : (result : Result Outcome Stop) (c m d : CardOf N) (t : Turn) (ts : List Turn) (ws vs : List (ℕ × List ℕ)) (p q r : R) → Makes wrote (device_in c) ws (Ok tt) (device_in m) → length ws ≡ turn_moves t.wrote
-        → told p (t ∷ []) q → Tells state wrote told m vs ts result d q r → Tells state wrote told c (ws ++ vs) (t ∷ ts) result d p r
+        → told p (t ∷ []) q → TellsTurns state wrote told m vs ts result d q r → TellsTurns state wrote told c (ws ++ vs) (t ∷ ts) result d p r
     tells_on (Ok o) c m d t ts ws vs p q r makes size first rest = onward p q r (t ∷ []) ts first rest
     tells_on (Err s) c m d t ts ws vs p q r makes size first rest =
         let k = rest.0 in
@@ -238,16 +238,16 @@ module _ {N : Type 0} (state : N → DeviceState) (wrote : N → ℕ → List �
         (length ws + k, number_done wrote ws vs (device_in c) (device_in m) (device_in d) k s makes rest.1, subst (λ (us : List Turn). told p us r) (sym is) (onward p q r (t ∷ []) (before_stop ts k) first rest.2))
 
     -- a turn, and the run behind it
-    pub run_on : (c m d : CardOf N) (ch : Chain) (n : ℕ) (turn : CodeTurn) (result : Result Outcome Stop) (p q r : R) (goes : Goes c ch n m) → (state (device_in c)).on ≡ true → Turned state wrote c ch n (turn_of n ch) (Ok turn) m
+    pub run_on : (c m d : CardOf N) (ch : Chain) (n : ℕ) (turn : CodeTurn) (result : Result Outcome Stop) (p q r : R) (goes : Goes c ch n m) → (state (device_in c)).on ≡ true → ChainTurned state wrote c ch n (turn_of n ch) (Ok turn) m
         → told p (turn_value turn (turn_of n ch).turn.wrote ∷ []) q → RunOf (ran goes.left goes.next) m result d q r → RunOf (ran n ch) c result d p r
     run_on c m d ch n turn result p q r goes on turned tells rest =
         let one : ran (suc goes.left) ch ≡ goes_on (acted ch) (ran goes.left goes.next) = ran_goes goes.left ch goes.next goes.follows in
         subst (λ (k : ℕ). RunOf (ran k ch) c result d p r) (sym goes.is)
         (subst (λ (run : Ran). RunOf run c result d p r) (sym one)
-        (turn_and_run c m d ch goes.left turn result p q r (ran goes.left goes.next) goes.seat on (subst (λ (k : ℕ). Turned state wrote c ch k (turn_of k ch) (Ok turn) m) goes.is turned) (subst (λ (k : ℕ). told p (turn_value turn (turn_of k ch).turn.wrote ∷ []) q) goes.is tells) rest))
+        (turn_and_run c m d ch goes.left turn result p q r (ran goes.left goes.next) goes.seat on (subst (λ (k : ℕ). ChainTurned state wrote c ch k (turn_of k ch) (Ok turn) m) goes.is turned) (subst (λ (k : ℕ). told p (turn_value turn (turn_of k ch).turn.wrote ∷ []) q) goes.is tells) rest))
       where
         turn_and_run : (c m d : CardOf N) (ch : Chain) (n : ℕ) (turn : CodeTurn) (result : Result Outcome Stop) (p q r : R) (run : Ran) → seat_in state m ≡ seat_in state c → (state (device_in c)).on ≡ true
-            → Turned state wrote c ch (suc n) (acted ch) (Ok turn) m → told p (turn_value turn (acted ch).turn.wrote ∷ []) q → RunOf run m result d q r → RunOf (goes_on (acted ch) run) c result d p r
+            → ChainTurned state wrote c ch (suc n) (acted ch) (Ok turn) m → told p (turn_value turn (acted ch).turn.wrote ∷ []) q → RunOf run m result d q r → RunOf (goes_on (acted ch) run) c result d p r
         turn_and_run c m d ch n turn result p q r run seat on turned tells rest =
             let t = acted ch in
             let ws = turned.made.writes in

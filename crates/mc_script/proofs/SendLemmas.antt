@@ -17,11 +17,11 @@ use Rattle.mc_model.specs.TraceText.{before_stop}
 use Rattle.mc_machine.specs.declared.outcome.Outcome.{Outcome}
 use Rattle.mc_machine.specs.Turns.{outcome_value}
 use Rattle.mc_card.specs.declared.card.Card.{Card}
-use Rattle.mc_card.specs.Parts.{device_in, card_in, seat_in, due, IsReady}
+use Rattle.mc_card.specs.Parts.{device_in, card_in, seat_in, due, IsReadyCard}
 use Rattle.mc_card.specs.Ends.{is_passed}
 use Rattle.mc_card.proofs.MadeLemmas.{card-found}
 use Rattle.mc_script.specs.Classes.{IsManaged}
-use Rattle.mc_script.specs.Runs.{Tells, Ran}
+use Rattle.mc_script.specs.Runs.{TellsTurns, RanAndTold}
 use Rattle.mc_script.proofs.StopLemmas.{number_done}
 use Rattle.mc_script.proofs.RanLemmas.{MadeBy, by_made, made_on, made_before}
 use Rattle.mc_script.proofs.CommandLemmas.{command_turns}
@@ -74,13 +74,13 @@ module _ {N R : Type 0} (state : N → DeviceState) (wrote : N → ℕ → List 
     (told : R → List Turn → R → Type 0) (silent : (r : R) → told r [] r)
     (onward : (q r s : R) (ts us : List Turn) → told q ts r → told r us s → told q (ts ++ us) s) where
   -- nothing is told of commands without turns
-  untold : (result : Result Outcome Stop) (c d : Card N) (ws : List (ℕ × List ℕ)) (ts : List Turn) (q r : R) → ts ≡ [] → Tells state wrote told c ws ts result d q r → told q [] r
+  untold : (result : Result Outcome Stop) (c d : Card N) (ws : List (ℕ × List ℕ)) (ts : List Turn) (q r : R) → ts ≡ [] → TellsTurns state wrote told c ws ts result d q r → told q [] r
   untold (Ok o) c d ws ts q r none h = subst (λ (us : List Turn). told q us r) none h
   untold (Err s) c d ws ts q r none h = subst (λ (us : List Turn). told q (before_stop us h.0) r) none h.2
 
   -- what is told of commands without turns behind such a command
   tells_behind : (result : Result Outcome Stop) (c m d : Card N) (ws vs : List (ℕ × List ℕ)) (ts us : List Turn) (p q r : R) → Makes wrote (device_in c) ws (Ok tt) (device_in m) → ts ≡ [] → us ≡ [] → told p [] q
-      → Tells state wrote told m vs us result d q r → Tells state wrote told c (ws ++ vs) ts result d p r
+      → TellsTurns state wrote told m vs us result d q r → TellsTurns state wrote told c (ws ++ vs) ts result d p r
   tells_behind (Ok o) c m d ws vs ts us p q r makes none also first rest =
       subst (λ (ts : List Turn). told p ts r) (sym none) (onward p q r [] [] first (subst (λ (us : List Turn). told q us r) also rest))
   tells_behind (Err s) c m d ws vs ts us p q r makes none also first rest = (
@@ -91,7 +91,7 @@ module _ {N R : Type 0} (state : N → DeviceState) (wrote : N → ℕ → List 
 
   -- a command that was done, and those behind it
   both_ran : (c m d : Card N) (k l : Command) (o : Outcome) (result : Result Outcome Stop) (p q r : R) → (state (device_in c)).on ≡ true → k.turns ≡ [] → l.turns ≡ []
-      → Ran state wrote told c k (Ok o) m p q → Ran state wrote told m l result d q r → Ran state wrote told c (with_items k l) result d p r
+      → RanAndTold state wrote told c k (Ok o) m p q → RanAndTold state wrote told m l result d q r → RanAndTold state wrote told c (with_items k l) result d p r
   both_ran c m d k l o result p q r on none also first rest =
       let ws = first.commanded.made.writes in
       let vs = rest.commanded.made.writes in
@@ -111,7 +111,7 @@ module _ {N R : Type 0} (state : N → DeviceState) (wrote : N → ℕ → List 
       }
 
   -- a command that was stopped, whatever was to come behind it
-  first_ran : (b : Bool) (c d : Card N) (k l : Command) (s : Stop) (p r : R) → k.turns ≡ [] → l.turns ≡ [] → Ran state wrote told c k (Err s) d p r → Ran state wrote told c (sent_on b k l) (Err s) d p r
+  first_ran : (b : Bool) (c d : Card N) (k l : Command) (s : Stop) (p r : R) → k.turns ≡ [] → l.turns ≡ [] → RanAndTold state wrote told c k (Err s) d p r → RanAndTold state wrote told c (sent_on b k l) (Err s) d p r
   first_ran false c d k l s p r none also h = h
   first_ran true c d k l s p r none also h =
       let ws = h.commanded.made.writes in
@@ -124,15 +124,15 @@ module _ {N R : Type 0} (state : N → DeviceState) (wrote : N → ℕ → List 
 
   -- commands that are still to be sent: what they do and tell from here, all do and tell from the start
   pub record Sends (c : Card N) (budget : ℕ) (all : List (List ℕ)) (q : R) (left : List (List ℕ)) (m : Card N) (p : R) : Type 0 where
-    pub ready : IsReady state m
+    pub ready : IsReadyCard state m
     pub managed : AllByRecursion IsManaged left
-    pub rest : (result : Result Outcome Stop) (d : Card N) (r : R) → Ran state wrote told m (send (card_in state m) (seat_in state m) budget left) result d p r → Ran state wrote told c (send (card_in state c) (seat_in state c) budget all) result d q r
+    pub rest : (result : Result Outcome Stop) (d : Card N) (r : R) → RanAndTold state wrote told m (send (card_in state m) (seat_in state m) budget left) result d p r → RanAndTold state wrote told c (send (card_in state c) (seat_in state c) budget all) result d q r
 
-  pub sends_start : (c : Card N) (budget : ℕ) (all : List (List ℕ)) (q : R) → IsReady state c → AllByRecursion IsManaged all → Sends c budget all q all c q
+  pub sends_start : (c : Card N) (budget : ℕ) (all : List (List ℕ)) (q : R) → IsReadyCard state c → AllByRecursion IsManaged all → Sends c budget all q all c q
   sends_start c budget all q ready managed = record { ready = ready; managed = managed; rest = λ result d r h. h }
 
   -- a command that was answered by 9000 alone
-  pub sends_on : (c m d : Card N) (budget : ℕ) (all : List (List ℕ)) (q p r : R) (b : List ℕ) (left : List (List ℕ)) (o : Outcome) → Sends c budget all q (b ∷ left) m p → Ran state wrote told m (due state m b budget) (Ok o) d p r → is_done (outcome_value o) ≡ true → Sends c budget all q left d r
+  pub sends_on : (c m d : Card N) (budget : ℕ) (all : List (List ℕ)) (q p r : R) (b : List ℕ) (left : List (List ℕ)) (o : Outcome) → Sends c budget all q (b ∷ left) m p → RanAndTold state wrote told m (due state m b budget) (Ok o) d p r → is_done (outcome_value o) ≡ true → Sends c budget all q left d r
   sends_on c m d budget all q p r b left o h ran done =
       let k = command (card_in state m) (seat_in state m) b budget in
       let one = by_made state wrote obeys (card_in state m) k.items (device_in m) (device_in d) (Ok tt) ran.commanded.made in
@@ -146,36 +146,36 @@ module _ {N R : Type 0} (state : N → DeviceState) (wrote : N → ℕ → List 
         managed = h.managed.1;
         rest = λ result e s rest.
             h.rest result e s
-            (subst (λ (x : Command). Ran state wrote told m x result e p s) all-of
+            (subst (λ (x : Command). RanAndTold state wrote told m x result e p s) all-of
             (both_ran m d e k behind o result p r s (up_on state m h.ready.up) (managed_turns (card_in state m) (seat_in state m) b budget h.managed.0) (send_turns (card_done (card_in state m) k.items) k.seat budget left h.managed.1) ran
-            (subst (λ (x : Command). Ran state wrote told d x result e r s) same rest)));
+            (subst (λ (x : Command). RanAndTold state wrote told d x result e r s) same rest)));
       }
 
   -- a command that was answered otherwise
-  pub sends_end : (c m d : Card N) (budget : ℕ) (all : List (List ℕ)) (q p r : R) (b : List ℕ) (left : List (List ℕ)) (o : Outcome) → Sends c budget all q (b ∷ left) m p → Ran state wrote told m (due state m b budget) (Ok o) d p r → is_done (outcome_value o) ≡ false
-      → Ran state wrote told c (send (card_in state c) (seat_in state c) budget all) (Ok o) d q r
+  pub sends_end : (c m d : Card N) (budget : ℕ) (all : List (List ℕ)) (q p r : R) (b : List ℕ) (left : List (List ℕ)) (o : Outcome) → Sends c budget all q (b ∷ left) m p → RanAndTold state wrote told m (due state m b budget) (Ok o) d p r → is_done (outcome_value o) ≡ false
+      → RanAndTold state wrote told c (send (card_in state c) (seat_in state c) budget all) (Ok o) d q r
   sends_end c m d budget all q p r b left o h ran done =
       let k = command (card_in state m) (seat_in state m) b budget in
       let behind = send (card_done (card_in state m) k.items) k.seat budget left in
       let bad : is_done k.outcome ≡ false = ap is_done (sym ran.commanded.outcome) ∙ done in
       let all-of : k ≡ send (card_in state m) (seat_in state m) budget (b ∷ left) = sym (send_first (card_in state m) (seat_in state m) budget b left ∙ ap (λ (x : Bool). sent_on x k behind) bad) in
-      h.rest (Ok o) d r (subst (λ (x : Command). Ran state wrote told m x (Ok o) d p r) all-of ran)
+      h.rest (Ok o) d r (subst (λ (x : Command). RanAndTold state wrote told m x (Ok o) d p r) all-of ran)
 
   -- a command that was stopped
-  pub sends_stop : (c m d : Card N) (budget : ℕ) (all : List (List ℕ)) (q p r : R) (b : List ℕ) (left : List (List ℕ)) (s : Stop) → Sends c budget all q (b ∷ left) m p → Ran state wrote told m (due state m b budget) (Err s) d p r
-      → Ran state wrote told c (send (card_in state c) (seat_in state c) budget all) (Err s) d q r
+  pub sends_stop : (c m d : Card N) (budget : ℕ) (all : List (List ℕ)) (q p r : R) (b : List ℕ) (left : List (List ℕ)) (s : Stop) → Sends c budget all q (b ∷ left) m p → RanAndTold state wrote told m (due state m b budget) (Err s) d p r
+      → RanAndTold state wrote told c (send (card_in state c) (seat_in state c) budget all) (Err s) d q r
   sends_stop c m d budget all q p r b left s h ran =
       let k = command (card_in state m) (seat_in state m) b budget in
       let behind = send (card_done (card_in state m) k.items) k.seat budget left in
       h.rest (Err s) d r
-      (subst (λ (x : Command). Ran state wrote told m x (Err s) d p r) (sym (send_first (card_in state m) (seat_in state m) budget b left))
+      (subst (λ (x : Command). RanAndTold state wrote told m x (Err s) d p r) (sym (send_first (card_in state m) (seat_in state m) budget b left))
       (first_ran (is_done k.outcome) m d k behind s p r (managed_turns (card_in state m) (seat_in state m) b budget h.managed.0) (send_turns (card_done (card_in state m) k.items) k.seat budget left h.managed.1) ran))
 
   -- no command is left
-  pub sends_none : (c m : Card N) (budget : ℕ) (all : List (List ℕ)) (q p : R) (o : Outcome) → Sends c budget all q [] m p → outcome_value o ≡ status 0x9000 → Ran state wrote told c (send (card_in state c) (seat_in state c) budget all) (Ok o) m q p
+  pub sends_none : (c m : Card N) (budget : ℕ) (all : List (List ℕ)) (q p : R) (o : Outcome) → Sends c budget all q [] m p → outcome_value o ≡ status 0x9000 → RanAndTold state wrote told c (send (card_in state c) (seat_in state c) budget all) (Ok o) m q p
   sends_none c m budget all q p o h is =
       h.rest (Ok o) m p
-      (subst (λ (x : Command). Ran state wrote told m x (Ok o) m p p) (sym (send_none (card_in state m) (seat_in state m) budget))
+      (subst (λ (x : Command). RanAndTold state wrote told m x (Ok o) m p p) (sym (send_none (card_in state m) (seat_in state m) budget))
       (record {
         commanded =
             record {

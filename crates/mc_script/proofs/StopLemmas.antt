@@ -4,27 +4,27 @@ use Rattle.std.specs.Prelude.{slice_index_or}
 use Rattle.mc_model.specs.declared.device.Stop.{Stop}
 use Rattle.mc_model.specs.Orders.{Answer}
 use Rattle.mc_model.specs.Device.{Makes}
-use Rattle.mc_script.specs.Runs.{StoppedAt}
+use Rattle.mc_script.specs.Runs.{StoppedAtWrite}
 
 module _ {D : Type 0} (wrote : D → ℕ → List ℕ → Answer → D → Type 0) where
   -- the writes before the one at a place from 0 on were done, and that one stopped
-  pub record Behind (d : D) (ws : List (ℕ × List ℕ)) (j : ℕ) (s : Stop) (e : D) : Type 0 where
+  pub record StoppedAtPlace (d : D) (ws : List (ℕ × List ℕ)) (j : ℕ) (s : Stop) (e : D) : Type 0 where
     pub low : j < length ws
     pub middle : D
     pub before : Makes wrote d (take j ws) (Ok tt) middle
     pub stopped : wrote middle (slice_index_or ws j (0, [])).0 (slice_index_or ws j (0, [])).1 (Err s) e
 
-  later : (d m e : D) (p : ℕ × List ℕ) (ws : List (ℕ × List ℕ)) (j : ℕ) (s : Stop) → wrote d p.0 p.1 (Ok tt) m → Behind m ws j s e → Behind d (p ∷ ws) (suc j) s e
+  later : (d m e : D) (p : ℕ × List ℕ) (ws : List (ℕ × List ℕ)) (j : ℕ) (s : Stop) → wrote d p.0 p.1 (Ok tt) m → StoppedAtPlace m ws j s e → StoppedAtPlace d (p ∷ ws) (suc j) s e
   later d m e p ws j s first b = record { low = omega (arith, b.low); middle = b.middle; before = inl (m, first, b.before); stopped = b.stopped }
 
-  first_stops : (d e : D) (p : ℕ × List ℕ) (ws : List (ℕ × List ℕ)) (s : Stop) → wrote d p.0 p.1 (Err s) e → Behind d (p ∷ ws) 0 s e
+  first_stops : (d e : D) (p : ℕ × List ℕ) (ws : List (ℕ × List ℕ)) (s : Stop) → wrote d p.0 p.1 (Err s) e → StoppedAtPlace d (p ∷ ws) 0 s e
   first_stops d e p ws s h = record { low = omega arith; middle = d; before = refl; stopped = h }
 
   same_stop : (s t : Stop) → ◌≡◌ {A = Answer} (Err s) (Err t) → t ≡ s
   same_stop s t e = cc e
 
   -- writes that stopped, stopped at one of them
-  pub stopped_in : (ws : List (ℕ × List ℕ)) (d e : D) (s : Stop) → Makes wrote d ws (Err s) e → (j : ℕ) × Behind d ws j s e
+  pub stopped_in : (ws : List (ℕ × List ℕ)) (d e : D) (s : Stop) → Makes wrote d ws (Err s) e → (j : ℕ) × StoppedAtPlace d ws j s e
   stopped_in [] d e s made = absurd made
   stopped_in (p ∷ ws) d e s made =
       elim made [
@@ -33,20 +33,20 @@ module _ {D : Type 0} (wrote : D → ℕ → List ℕ → Answer → D → Type 
       ]
 
   -- writes that stopped behind writes that were done
-  pub behind_done : (ws vs : List (ℕ × List ℕ)) (d m e : D) (j : ℕ) (s : Stop) → Makes wrote d ws (Ok tt) m → Behind m vs j s e → Behind d (ws ++ vs) (length ws + j) s e
+  pub behind_done : (ws vs : List (ℕ × List ℕ)) (d m e : D) (j : ℕ) (s : Stop) → Makes wrote d ws (Ok tt) m → StoppedAtPlace m vs j s e → StoppedAtPlace d (ws ++ vs) (length ws + j) s e
   behind_done [] vs d m e j s done b =
       let none : j ≡ 0 + j = omega arith in
-      subst (λ (k : ℕ). Behind d vs k s e) none (subst (λ (x : D). Behind x vs j s e) done b)
+      subst (λ (k : ℕ). StoppedAtPlace d vs k s e) none (subst (λ (x : D). StoppedAtPlace x vs j s e) done b)
   behind_done (p ∷ ws) vs d m e j s done b =
       elim done [
         | inl first ↦
             let one : suc (length ws + j) ≡ suc (length ws) + j = omega arith in
-            subst (λ (k : ℕ). Behind d (p ∷ (ws ++ vs)) k s e) one (later d first.0 e p (ws ++ vs) (length ws + j) s first.1 (behind_done ws vs first.0 m e j s first.2 b))
+            subst (λ (k : ℕ). StoppedAtPlace d (p ∷ (ws ++ vs)) k s e) one (later d first.0 e p (ws ++ vs) (length ws + j) s first.1 (behind_done ws vs first.0 m e j s first.2 b))
         | inr stop ↦ absurd (cc stop.2)
       ]
 
   -- the same by the number of the write, from 1 on
-  pub at_number : (ws : List (ℕ × List ℕ)) (d e : D) (j : ℕ) (s : Stop) → Behind d ws j s e → StoppedAt wrote d ws (suc j) s e
+  pub at_number : (ws : List (ℕ × List ℕ)) (d e : D) (j : ℕ) (s : Stop) → StoppedAtPlace d ws j s e → StoppedAtWrite wrote d ws (suc j) s e
   at_number ws d e j s b =
       let is : j ≡ suc j - 1 = omega arith in
       record {
@@ -57,11 +57,11 @@ module _ {D : Type 0} (wrote : D → ℕ → List ℕ → Answer → D → Type 
         stopped = subst (λ (k : ℕ). wrote b.middle (slice_index_or ws k (0, [])).0 (slice_index_or ws k (0, [])).1 (Err s) e) is b.stopped;
       }
 
-  pub at_place : (ws : List (ℕ × List ℕ)) (d e : D) (k : ℕ) (s : Stop) → StoppedAt wrote d ws k s e → Behind d ws (k - 1) s e
+  pub at_place : (ws : List (ℕ × List ℕ)) (d e : D) (k : ℕ) (s : Stop) → StoppedAtWrite wrote d ws k s e → StoppedAtPlace d ws (k - 1) s e
   at_place ws d e k s h = record { low = omega (arith, h.low, h.high); middle = h.middle; before = h.before; stopped = h.stopped }
 
   -- writes that stopped behind writes that were done, by their numbers
-  pub number_done : (ws vs : List (ℕ × List ℕ)) (d m e : D) (k : ℕ) (s : Stop) → Makes wrote d ws (Ok tt) m → StoppedAt wrote m vs k s e → StoppedAt wrote d (ws ++ vs) (length ws + k) s e
+  pub number_done : (ws vs : List (ℕ × List ℕ)) (d m e : D) (k : ℕ) (s : Stop) → Makes wrote d ws (Ok tt) m → StoppedAtWrite wrote m vs k s e → StoppedAtWrite wrote d (ws ++ vs) (length ws + k) s e
   number_done ws vs d m e k s done h =
       let is : suc (length ws + (k - 1)) ≡ length ws + k = omega (arith, h.low) in
-      subst (λ (n : ℕ). StoppedAt wrote d (ws ++ vs) n s e) is (at_number (ws ++ vs) d e (length ws + (k - 1)) s (behind_done ws vs d m e (k - 1) s done (at_place vs m e k s h)))
+      subst (λ (n : ℕ). StoppedAtWrite wrote d (ws ++ vs) n s e) is (at_number (ws ++ vs) d e (length ws + (k - 1)) s (behind_done ws vs d m e (k - 1) s done (at_place vs m e k s h)))

@@ -13,7 +13,7 @@ use Rattle.mc_model.specs.Generator.{is_dump, results, count, dump_lines, count_
 use Rattle.mc_script.specs.declared.answer.Answer.{Answer}
 use Rattle.mc_script.specs.declared.player.Player.{Player}
 use Rattle.mc_script.specs.declared.summary.Counts.{Counts}
-use Rattle.mc_script.specs.Players.{answer_value, IsAt}
+use Rattle.mc_script.specs.Players.{answer_value, IsPlayerAt}
 use Rattle.mc_script.specs.Lines.{bench_of, LineDone}
 use Rattle.mc_script.specs.Plays.{Bench, Played}
 use Rattle.mc_script.specs.Sums.{Counted, listed, DumpsLast, result_line, dump_text, dumps_text, Tallied}
@@ -212,14 +212,14 @@ module _ {N : Type 0} (state : N → DeviceState) (bench : N → BenchState) whe
   -- a player at a state of a play, with these lines left, and what was counted: whatever they play from there, all lines play from the start
   pub record Counting (s : State) (ls : List (ℕ × DeckLine)) (a : Bench) (left : List (ℕ × DeckLine)) (p : Player N) (c : Counts) (i : ℕ) : Type 0 where
     pub here : State
-    pub at : IsAt state bench p here
+    pub at : IsPlayerAt state bench p here
     pub done : List LineResult
     pub counted : Counted c done
     pub few : length done ≤ i
     pub rest : (ws : List (Option WornAt)) (b : Bench) → Played here left ws (bench_of state bench p) b
         → (vs : List (Option WornAt)) × Played s ls vs a b × (results (plays s ls vs) ≡ done ++ results (plays here left ws)) × (last_state s (plays s ls vs) ≡ last_state here (plays here left ws))
 
-  pub counting_start : (s : State) (ls : List (ℕ × DeckLine)) (p : Player N) (c : Counts) → IsAt state bench p s → Counted c [] → Counting s ls (bench_of state bench p) ls p c 0
+  pub counting_start : (s : State) (ls : List (ℕ × DeckLine)) (p : Player N) (c : Counts) → IsPlayerAt state bench p s → Counted c [] → Counting s ls (bench_of state bench p) ls p c 0
   counting_start s ls p c at counted = record { here = s; at = at; done = []; counted = counted; few = omega arith; rest = λ ws b h. (ws, h, refl, refl) }
 
   pub counting_end : (s : State) (ls : List (ℕ × DeckLine)) (a : Bench) (p : Player N) (c : Counts) (i : ℕ) → Counting s ls a [] p c i → Tallied state bench s ls a p c
@@ -228,7 +228,7 @@ module _ {N : Type 0} (state : N → DeviceState) (bench : N → BenchState) whe
       let none = plays_none h.here in
       let are : results (plays s ls all.0) ≡ h.done = all.2 ∙ ap (λ (ts : List Step). h.done ++ results ts) none ∙ append-nil h.done in
       let end : last_state s (plays s ls all.0) ≡ h.here = all.3 ∙ ap (λ (ts : List Step). last_state h.here ts) none in
-      record { worn = all.0; played = all.1; at = subst (λ (u : State). IsAt state bench p u) (sym end) h.at; counted = subst (λ (rs : List LineResult). Counted c rs) (sym are) h.counted }
+      record { worn = all.0; played = all.1; at = subst (λ (u : State). IsPlayerAt state bench p u) (sym end) h.at; counted = subst (λ (rs : List LineResult). Counted c rs) (sym are) h.counted }
 
   few_on : (o : Option LineResult) (rs : List LineResult) (i : ℕ) → length rs ≤ i → length (rs ++ listed o) ≤ i + 1
   few_on None rs i h = let e : length (rs ++ []) ≡ length rs = ap length (append-nil rs) in omega (arith, h, e)

@@ -16,15 +16,15 @@ use Rattle.mc_model.proofs.DeviceLemmas.{DoneAll, makes-done}
 use Rattle.mc_script.specs.declared.answer.Answer.{Answer}
 use Rattle.mc_script.specs.declared.armed.Armed.{Armed}
 use Rattle.mc_script.specs.declared.player.Player.{Player}
-use Rattle.mc_script.specs.Players.{answer_value, armed_value, cut_place, device_of, CanArm, IsUnfused, IsAt}
+use Rattle.mc_script.specs.Players.{answer_value, armed_value, cut_place, device_of, CanArm, IsUnfused, IsPlayerAt}
 use Rattle.mc_script.specs.Counting.{raised, cuts_due, fails_due, line_powers, line_pokes, line_cuts, line_fails, cut_by, worn_by, LineCounts}
 use Rattle.mc_script.specs.Arming.{armed_bench}
 use Rattle.mc_script.specs.Lines.{Stepped}
-use Rattle.mc_script.specs.Runs.{StoppedAt}
+use Rattle.mc_script.specs.Runs.{StoppedAtWrite}
 use Rattle.mc_script.proofs.FuseLemmas.{Past}
 use Rattle.mc_script.proofs.EntryLemmas.{length-done, length-torn, ends-done, ends-torn, worn-done, worn-torn, laid-done, laid-torn}
 use Rattle.mc_script.proofs.AccountLemmas.{StopsStand, SizesTo, each_done, each_torn}
-use Rattle.mc_script.proofs.BenchLemmas.{Burnt, SameCalls, Raises, FusedAt, Halted, burnt_calls, burnt, halted, words_written, sizes_before}
+use Rattle.mc_script.proofs.BenchLemmas.{Burnt, SameCalls, Raises, FusedAt, HaltedList, burnt_calls, burnt, halted, words_written, sizes_before}
 use Rattle.mc_script.proofs.HitLemmas.{NotHit, not_hit, HitBy, hit_by, place_is, CallsOf, armed_calls}
 
 -- ---- a line
@@ -154,7 +154,7 @@ module _ {N : Type 0} (state : N → DeviceState) (bench : N → BenchState) (wr
 
   -- the line that made them, with the step that its play takes
   pub went_stepped : (p q : Player N) (s : State) (n np : ℕ) (l : DeckLine) (result : LineResult) (items whole : List Item) (pairs : List (List ℕ × List ℕ)) (turns : List Turn) (w : Warm) (r : Answer)
-      (ws : List (ℕ × List ℕ)) (m : ℕ) → IsAt state bench p s → Worth s l np → w.armed ≡ Unarmed → Went (device_of p) (device_of q) p.armed np ws → length ws ≡ m → moves_of s (n, l) ≡ m → IsAt state bench q (Hot w)
+      (ws : List (ℕ × List ℕ)) (m : ℕ) → IsPlayerAt state bench p s → Worth s l np → w.armed ≡ Unarmed → Went (device_of p) (device_of q) p.armed np ws → length ws ≡ m → moves_of s (n, l) ≡ m → IsPlayerAt state bench q (Hot w)
       → answer_value state q r ≡ result → StopsStand (state (device_of p)).words s (n, l) 0 ws
       → Stepped state bench p s (n, l) None (stopped_step n l s result items whole None m pairs turns w) (Some r) q
   went_stepped p q s n np l result items whole pairs turns w r ws m at worth free did number moves then answers stands =
@@ -196,12 +196,12 @@ module _ {N : Type 0} (state : N → DeviceState) (bench : N → BenchState) (wr
   raises_over : (s : Stop) (d u e f : DeviceState) → u.cuts ≡ d.cuts → u.faults ≡ d.faults → f ≡ e → Raises s u e → Raises s d f
   raises_over s d u e f cuts faults same r = subst (λ (y : DeviceState). Raises s d y) (sym same) (raises_from s d u e cuts faults r)
 
-  pub hit : (d u e f : N) (a : Armed) (n : ℕ) (ws : List (ℕ × List ℕ)) (k : ℕ) (s : Stop) → CanArm a → IsUnfused (bench d) → Handed (state d) (bench d) n a (state u) (bench u) → StoppedAt wrote u ws k s e
+  pub hit : (d u e f : N) (a : Armed) (n : ℕ) (ws : List (ℕ × List ℕ)) (k : ℕ) (s : Stop) → CanArm a → IsUnfused (bench d) → Handed (state d) (bench d) n a (state u) (bench u) → StoppedAtWrite wrote u ws k s e
       → Freed (state e) (bench e) (state f) (bench f) → (x : List ℕ) × Hit d f a n ws k s x
   hit d u e f a n ws k s can unfused handed stop freed =
       let r = halted state bench wrote obeys burns fits ws u e k s handed.on stop in
       let x : List ℕ = r.0 in
-      let h : Halted (state u) (bench u) ws k s x (state e) (bench e) = r.1 in
+      let h : HaltedList (state u) (bench u) ws k s x (state e) (bench e) = r.1 in
       let b : BenchState = called n (bench d) in
       let free : IsUnfused b = record { cut = unfused.cut; worn = unfused.worn } in
       let fused : FusedAt s (armed_bench a b) k x = subst (λ (y : BenchState). FusedAt s y k x) handed.bench h.fused in
@@ -218,7 +218,7 @@ module _ {N : Type 0} (state : N → DeviceState) (bench : N → BenchState) (wr
           unfused = freed_unfused (bench e) (bench f) freed.bench;
           by = λ m high. hit_by a b m s k x can free fused high;
           place = λ off. place_is a b k x free (subst (λ (y : Stop). FusedAt y (armed_bench a b) k x) off fused);
-          sizes = λ j is. sizes_before state bench wrote obeys burns fits ws u e j s (subst (λ (y : ℕ). StoppedAt wrote u ws y s e) is stop);
+          sizes = λ j is. sizes_before state bench wrote obeys burns fits ws u e j s (subst (λ (y : ℕ). StoppedAtWrite wrote u ws y s e) is stop);
         },
       )
 
@@ -237,8 +237,8 @@ module _ {N : Type 0} (state : N → DeviceState) (bench : N → BenchState) (wr
 
   -- the line that a stop hit, with the step that its play takes
   pub hit_stepped : (p q : Player N) (s : State) (n np : ℕ) (l : DeckLine) (result : LineResult) (items whole : List Item) (pairs : List (List ℕ × List ℕ)) (turns : List Turn) (w : Warm) (r : Answer)
-      (ws : List (ℕ × List ℕ)) (m k : ℕ) (how : Stop) (x : List ℕ) → IsAt state bench p s → Worth s l np → w.armed ≡ Unarmed → Hit (device_of p) (device_of q) p.armed np ws k how x → length ws ≤ m → moves_of s (n, l) ≡ m
-      → IsAt state bench q (Hot w) → answer_value state q r ≡ result → StopsStand (state (device_of p)).words s (n, l) 0 ws
+      (ws : List (ℕ × List ℕ)) (m k : ℕ) (how : Stop) (x : List ℕ) → IsPlayerAt state bench p s → Worth s l np → w.armed ≡ Unarmed → Hit (device_of p) (device_of q) p.armed np ws k how x → length ws ≤ m → moves_of s (n, l) ≡ m
+      → IsPlayerAt state bench q (Hot w) → answer_value state q r ≡ result → StopsStand (state (device_of p)).words s (n, l) 0 ws
       → Stepped state bench p s (n, l) (worn_entry k x (Some how)) (stopped_step n l s result items whole (Some (record { kind = how; at = k; left = x })) k pairs turns w) (Some r) q
   hit_stepped p q s n np l result items whole pairs turns w r ws m k how x at worth free did number moves then answers stands =
       let d = device_of p in

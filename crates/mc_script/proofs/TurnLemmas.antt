@@ -27,24 +27,24 @@ write_moves n None = refl
 write_moves n (Some ps) = let e : cost Two (length (touched ps)) + 0 ≡ cost Two (length (touched ps)) = omega arith in e
 
 -- what is true of a turn
-pub record IsTold (t : Acted) : Type 0 where
+pub record TurnIsTold (t : Acted) : Type 0 where
   pub moves : moves (write_items t.writes) ≡ turn_moves t.turn.wrote
   pub end : t.turn.end ≡ end_of t.follows
 
-row_told : (ch : Chain) (i : Ins) (r : RowEnd) → IsTold (row_turn ch i r)
+row_told : (ch : Chain) (i : Ins) (r : RowEnd) → TurnIsTold (row_turn ch i r)
 row_told ch i (Abends a) = record { moves = refl; end = refl }
 row_told ch i (Does d) = record { moves = write_moves ch.frame.name d.effect.changes; end = refl }
 
-fetched_told : (ch : Chain) (r : Result (Ins × ℕ) DecodeFault) → IsTold (fetched ch r)
+fetched_told : (ch : Chain) (r : Result (Ins × ℕ) DecodeFault) → TurnIsTold (fetched ch r)
 fetched_told ch (Err Undefined) = record { moves = refl; end = refl }
 fetched_told ch (Err Past) = record { moves = refl; end = refl }
 fetched_told ch (Ok i) = row_told ch i.0 (row i.0 (stepped ch.frame i.1) ch.public (around ch))
 
-acted_told : (ch : Chain) → IsTold (acted ch)
+acted_told : (ch : Chain) → TurnIsTold (acted ch)
 unfolding acted
 acted_told ch = fetched_told ch (decoded (code_in (lookup ch.map ch.frame.name)) ch.frame.at)
 
-pub is_told : (n : ℕ) (ch : Chain) → IsTold (turn_of n ch)
+pub is_told : (n : ℕ) (ch : Chain) → TurnIsTold (turn_of n ch)
 is_told zero ch = record { moves = refl; end = refl }
 is_told (suc n) ch = acted_told ch
 

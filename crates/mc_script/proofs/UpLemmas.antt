@@ -4,7 +4,7 @@ use Rattle.mc_model.specs.Device.{DeviceState}
 use Rattle.mc_model.specs.Image.{Two}
 use Rattle.mc_model.specs.Play.{OnCard}
 use Rattle.mc_store.specs.GoingLaws.{going_is}
-use Rattle.mc_store.specs.Power.{IsBase, count_of}
+use Rattle.mc_store.specs.Power.{HoldsBase, count_of}
 use Rattle.mc_card.specs.declared.card.Card.{Card}
 use Rattle.mc_card.specs.Parts.{device_in, card_in, IsUp}
 use Rattle.mc_card.proofs.ManagerLemmas.{going-base}
@@ -12,5 +12,5 @@ use Rattle.mc_card.proofs.ManagerLemmas.{going-base}
 pub up_on : {N : Type 0} (state : N → DeviceState) (c : Card N) → IsUp state c → (state (device_in c)).on ≡ true
 up_on state c up = (going_is (state (device_in c)) (count_of c.store) up.going).on
 
-pub up_base : {N : Type 0} (state : N → DeviceState) (c : Card N) → IsUp state c → IsBase (OnCard (card_in state c)) 0 Two (state (device_in c)).words
+pub up_base : {N : Type 0} (state : N → DeviceState) (c : Card N) → IsUp state c → HoldsBase (OnCard (card_in state c)) 0 Two (state (device_in c)).words
 up_base state c up = going-base (state (device_in c)) (count_of c.store) up.going

@@ -76,7 +76,7 @@ worn_by (Some t) = worn_kind t.kind
 -- ---- the counts
 
 -- the counts of a bench before and after lines that are worth so many calls and stops
-pub record Counts (b : BenchState) (d : DeviceState) (powered poked cut worn : ℕ) (c : BenchState) (e : DeviceState) : Type 0 where
+pub record CountsCalls (b : BenchState) (d : DeviceState) (powered poked cut worn : ℕ) (c : BenchState) (e : DeviceState) : Type 0 where
   pub powers : c.powers ≡ raised b.powers powered
   pub pokes : c.pokes ≡ raised b.pokes poked
   pub cuts : e.cuts ≡ raised d.cuts cut
@@ -90,11 +90,11 @@ pub record Arms (b : BenchState) (due : Armed) (cuts fails : ℕ) (c : BenchStat
 
 -- the counts of one line
 pub record LineCounts (b : BenchState) (d : DeviceState) (t : Step) (c : BenchState) (e : DeviceState) : Type 0 where
-  pub counts : Counts b d (line_powers t.line) (line_pokes t.before t.line) (cut_by t.stop) (worn_by t.stop) c e
+  pub counts : CountsCalls b d (line_powers t.line) (line_pokes t.before t.line) (cut_by t.stop) (worn_by t.stop) c e
   pub arms : Arms b (armed_in t.before) (line_cuts t.line) (line_fails t.line) c (armed_in t.after)
 
 -- the counts of a play that began with such a stop still to be handed to the device
 pub record PlayCounts (b : BenchState) (d : DeviceState) (due : Armed) (ts : List Step) (c : BenchState) (e : DeviceState) : Type 0 where
-  pub counts : Counts b d (total (λ t. line_powers t.line) ts) (total (λ t. line_pokes t.before t.line) ts) (total (λ t. cut_by t.stop) ts) (total (λ t. worn_by t.stop) ts) c e
+  pub counts : CountsCalls b d (total (λ t. line_powers t.line) ts) (total (λ t. line_pokes t.before t.line) ts) (total (λ t. cut_by t.stop) ts) (total (λ t. worn_by t.stop) ts) c e
   pub arms : c.arms ≤ b.arms + cuts_due due + total (λ t. line_cuts t.line) ts
   pub wears : c.wears ≤ b.wears + fails_due due + total (λ t. line_fails t.line) ts

@@ -7,7 +7,7 @@ use Rattle.mc_model.specs.Play.{State, WornAt, Step, step, formatted}
 use Rattle.mc_model.specs.TraceText.{shown_turns}
 use Rattle.mc_script.specs.declared.answer.Answer.{Answer}
 use Rattle.mc_script.specs.declared.player.Player.{Player}
-use Rattle.mc_script.specs.Players.{answer_value, device_of, IsAt}
+use Rattle.mc_script.specs.Players.{answer_value, device_of, IsPlayerAt}
 use Rattle.mc_script.specs.Counting.{raised}
 use Rattle.mc_script.specs.Plays.{Bench, PlayedLine, LeadsTo}
 
@@ -19,17 +19,17 @@ module _ {N : Type 0} (state : N → DeviceState) (bench : N → BenchState) whe
   -- A line was played as this step, and the player stands for the state behind it; what is told of its turns is not said.
   pub record Stepped (p : Player N) (s : State) (l : ℕ × DeckLine) (w : Option WornAt) (t : Step) (answer : Option Answer) (q : Player N) : Type 0 where
     pub played : PlayedLine s l w t (bench_of state bench p) (bench_of state bench q)
-    pub at : IsAt state bench q t.after
+    pub at : IsPlayerAt state bench q t.after
     pub answers : option_map (answer_value state q) answer ≡ t.result
 
   -- a line without turns that was played
-  pub record Silent (p : Player N) (s : State) (l : ℕ × DeckLine) (w : Option WornAt) (answer : Option Answer) (q : Player N) : Type 0 where
+  pub record SilentLine (p : Player N) (s : State) (l : ℕ × DeckLine) (w : Option WornAt) (answer : Option Answer) (q : Player N) : Type 0 where
     pub stepped : Stepped p s l w (step s l w) answer q
     pub silent : shown_turns (step s l w).turns (step s l w).stop ≡ []
 
   -- a line without turns of a player that stands for a state, whatever its number
   abbrev pub SilentDone : Player N → DeckLine → Option Answer → Player N → Type 0
-  SilentDone p l answer q = (s : State) (n : ℕ) → IsAt state bench p s → (w : Option WornAt) × Silent p s (n, l) w answer q
+  SilentDone p l answer q = (s : State) (n : ℕ) → IsPlayerAt state bench p s → (w : Option WornAt) × SilentLine p s (n, l) w answer q
 
   -- a device before the first power line that was formatted
   pub record IsFormatted (d e : N) : Type 0 where
@@ -49,7 +49,7 @@ module _ {N R : Type 0} (state : N → DeviceState) (bench : N → BenchState) (
 
   -- a line of a player that stands for a state, whatever its number
   abbrev pub LineDone : Player N → DeckLine → R → R → Option Answer → Player N → Type 0
-  LineDone p l before after answer q = (s : State) (n : ℕ) → IsAt state bench p s → (w : Option WornAt) × Lined p s (n, l) w before after answer q
+  LineDone p l before after answer q = (s : State) (n : ℕ) → IsPlayerAt state bench p s → (w : Option WornAt) × Lined p s (n, l) w before after answer q
 
 -- ---- whole decks
 
@@ -57,5 +57,5 @@ module _ {N R : Type 0} (state : N → DeviceState) (bench : N → BenchState) (
 pub record DeckPlayed {N : Type 0} (state : N → DeviceState) (bench : N → BenchState) (p : Player N) (s : State) (ls : List (ℕ × DeckLine)) (q : Player N) : Type 0 where
   pub worn : List (Option WornAt)
   pub here : State
-  pub at : IsAt state bench q here
+  pub at : IsPlayerAt state bench q here
   pub leads : LeadsTo s ls worn (bench_of state bench p) here (bench_of state bench q)

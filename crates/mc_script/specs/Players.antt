@@ -4,10 +4,10 @@ use Rattle.mc_model.specs.Device.{DeviceState, BenchState}
 use Rattle.mc_model.specs.Play as play
 use Rattle.mc_model.specs.Play.{LineResult, Unarmed, ArmedCut, ArmedFail, Live, Running, Unpowered, Muted, Base, OnCard, State, Cold, Hot, Formatted, Ready, Unusable, OffAt, WornStop, NoCard, Silenced, Answered, static_of}
 use Rattle.mc_model.specs.Given.{budget_in}
-use Rattle.mc_store.specs.Power.{IsBase}
+use Rattle.mc_store.specs.Power.{HoldsBase}
 use Rattle.mc_machine.specs.Turns.{outcome_value}
 use Rattle.mc_card.specs.declared.card.Card.{Card}
-use Rattle.mc_card.specs.Parts.{device_in, card_in, seat_in, IsReady}
+use Rattle.mc_card.specs.Parts.{device_in, card_in, seat_in, IsReadyCard}
 use Rattle.mc_script.specs.declared.armed.Armed.{Armed}
 use Rattle.mc_script.specs.declared.armed.Armed.TheVariants as armed
 use Rattle.mc_script.specs.declared.answer.Answer.{Answer}
@@ -82,8 +82,8 @@ module _ {N : Type 0} (state : N → DeviceState) where
   -- ---- states
 
   -- a card runs as the play says
-  pub record IsCard (c : Card N) (b : Base) (l : Live) : Type 0 where
-    pub ready : IsReady state c
+  pub record IsCardOfPlay (c : Card N) (b : Base) (l : Live) : Type 0 where
+    pub ready : IsReadyCard state c
     pub base : b ≡ OnCard (card_in state c)
     pub live : l ≡ Running (seat_in state c)
 
@@ -92,16 +92,16 @@ module _ {N : Type 0} (state : N → DeviceState) where
   LiveIs power.Cold c base live = ⊥
   LiveIs power.Off c base live = live ≡ Unpowered
   LiveIs power.Mute c base live = live ≡ Muted
-  LiveIs power.On c base live = IsCard c base live
+  LiveIs power.On c base live = IsCardOfPlay c base live
 
   -- the words and the power of a player are those of a state of a play
   abbrev pub StateIs : Power → Card N → State → Type 0
   StateIs p c (Cold m b a) = (p ≡ power.Cold) × ((state (device_in c)).words ≡ m)
-  StateIs p c (Hot w) = LiveIs p c w.base w.live × IsBase w.base w.owed w.by (state (device_in c)).words
+  StateIs p c (Hot w) = LiveIs p c w.base w.live × HoldsBase w.base w.owed w.by (state (device_in c)).words
 
 module _ {N : Type 0} (state : N → DeviceState) (bench : N → BenchState) where
   -- A player stands for a state of a play. Between two lines its device has no fuse.
-  pub record IsAt (p : Player N) (s : State) : Type 0 where
+  pub record IsPlayerAt (p : Player N) (s : State) : Type 0 where
     pub stands : StateIs state p.power p.card s
     pub budget : p.budget ≡ budget_in s
     pub armed : armed_value p.armed ≡ play.armed_in s
@@ -112,4 +112,4 @@ module _ {N : Type 0} (state : N → DeviceState) (bench : N → BenchState) whe
 
   -- a player stands for some state of a play
   abbrev pub IsPlaying : Player N → Type 0
-  IsPlaying p = (s : State) × IsAt p s
+  IsPlaying p = (s : State) × IsPlayerAt p s

@@ -3,7 +3,7 @@ use Rattle.std.specs.Prelude.{◌≡◌, ℕ, ◌<◌, true, false, List, [], �
 use Rattle.mc_model.specs.Counts.{Rose}
 use Rattle.mc_model.specs.Device.{DeviceState, BenchState, Entry, GrowsBy}
 use Rattle.mc_model.specs.DeckGrammar.{DeckLine}
-use Rattle.mc_model.specs.Play.{State, WornAt, Step, armed_in, plays, start, last_state, Possible, Stands, steady_worn, tape_worn, Accounts, MayHit, moves_of, steady_at, worn_in, words_left, AccountsForLine}
+use Rattle.mc_model.specs.Play.{State, WornAt, Step, armed_in, plays, start, last_state, Possible, StandsForState, steady_worn, tape_worn, Accounts, MayHit, moves_of, steady_at, worn_in, words_left, AccountsForLine}
 use Rattle.mc_model.specs.Laws.{HoldsOf}
 use Rattle.mc_model.specs.ReadyAgain.{AllFitJournal, ReadyAgain}
 pub use Rattle.mc_model.specs.Transcript.{plain_text, texts}
@@ -53,7 +53,7 @@ TapeIs m s ls ws (Some old) (Some new) = (entries : List Entry) × (new ≡ old 
 -- that was armed and hit no line goes with the player, and no fuse is left to the device.
 pub record Played (s : State) (ls : List (ℕ × DeckLine)) (ws : List (Option WornAt)) (a b : Bench) : Type 0 where
   pub possible : Possible s ls ws
-  pub words : Stands b.device.words (last_state s (plays s ls ws))
+  pub words : StandsForState b.device.words (last_state s (plays s ls ws))
   pub counts : PlayCounts a.bench a.device (armed_in s) (plays s ls ws) b.bench b.device
   pub steady : a.bench.steady ≡ true → ws ≡ steady_worn s ls
   pub tape : TapeIs a.device.words s ls ws a.device.tape b.device.tape
@@ -81,9 +81,9 @@ pub record CutText (f : Step → List ℕ) (a : Sunk) (ts : List Step) (b : Sunk
   pub cause : Rose a.faults b.faults
 
 -- the lines that were played, and what was written of their text: all lines, or those up to the first whose text is not wholly written
-abbrev pub Ends : (Step → List ℕ) → Sunk → List (ℕ × DeckLine) → List Step → Result (Unit {0}) WriteFault → Sunk → Type 0
-Ends f a rest ts (Ok u) b = (rest ≡ []) × Grew a.taken b.taken (texts f ts)
-Ends f a rest ts (Err e) b = CutText f a ts b
+abbrev pub PlayEnds : (Step → List ℕ) → Sunk → List (ℕ × DeckLine) → List Step → Result (Unit {0}) WriteFault → Sunk → Type 0
+PlayEnds f a rest ts (Ok u) b = (rest ≡ []) × Grew a.taken b.taken (texts f ts)
+PlayEnds f a rest ts (Err e) b = CutText f a ts b
 
 -- ---- calls
 
@@ -94,7 +94,7 @@ pub record PlaysFrom (f : Step → List ℕ) (s : State) (ls : List (ℕ × Deck
   pub are : ls ≡ lines ++ rest
   pub worn : List (Option WornAt)
   pub played : Played s lines worn a b
-  pub text : Ends f x rest (plays s lines worn) result y
+  pub text : PlayEnds f x rest (plays s lines worn) result y
 
 -- A deck played on a device, with its text. Every closed family of applications is told and holds what it is told and holds on a card of
 -- its own, each line leaves the card with its whole items, and no new application has a stale byte. Each item fits a journal, and a card that

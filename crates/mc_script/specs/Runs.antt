@@ -12,7 +12,7 @@ use Rattle.mc_card.specs.Parts.{device_in}
 use Rattle.mc_card.specs.Ends.{Commanded}
 
 -- the writes of a list before one of them were done, and that one stopped; they are counted from 1
-pub record StoppedAt {D : Type 0} (wrote : D → ℕ → List ℕ → Answer → D → Type 0) (d : D) (ws : List (ℕ × List ℕ)) (k : ℕ) (s : Stop) (e : D) : Type 0 where
+pub record StoppedAtWrite {D : Type 0} (wrote : D → ℕ → List ℕ → Answer → D → Type 0) (d : D) (ws : List (ℕ × List ℕ)) (k : ℕ) (s : Stop) (e : D) : Type 0 where
   pub low : 1 ≤ k
   pub high : k ≤ length ws
   pub middle : D
@@ -21,11 +21,11 @@ pub record StoppedAt {D : Type 0} (wrote : D → ℕ → List ℕ → Answer →
 
 module _ {N R : Type 0} (state : N → DeviceState) (wrote : N → ℕ → List ℕ → Answer → N → Type 0) (told : R → List Turn → R → Type 0) where
   -- the turns of a command that are told: all, or those before the write that stopped
-  abbrev pub Tells : Card N → List (ℕ × List ℕ) → List Turn → Result Outcome Stop → Card N → R → R → Type 0
-  Tells c ws ts (Ok o) d q r = told q ts r
-  Tells c ws ts (Err s) d q r = (k : ℕ) × StoppedAt wrote (device_in c) ws k s (device_in d) × told q (before_stop ts k) r
+  abbrev pub TellsTurns : Card N → List (ℕ × List ℕ) → List Turn → Result Outcome Stop → Card N → R → R → Type 0
+  TellsTurns c ws ts (Ok o) d q r = told q ts r
+  TellsTurns c ws ts (Err s) d q r = (k : ℕ) × StoppedAtWrite wrote (device_in c) ws k s (device_in d) × told q (before_stop ts k) r
 
   -- a command that was run, and told
-  pub record Ran (c : Card N) (r : Command) (result : Result Outcome Stop) (d : Card N) (before after : R) : Type 0 where
+  pub record RanAndTold (c : Card N) (r : Command) (result : Result Outcome Stop) (d : Card N) (before after : R) : Type 0 where
     pub commanded : Commanded state wrote c r result d
-    pub tells : Tells c commanded.made.writes r.turns result d before after
+    pub tells : TellsTurns c commanded.made.writes r.turns result d before after

@@ -11,7 +11,7 @@ use Rattle.mc_base.specs.declared.refusals.WriteFault.{WriteFault}
 use Rattle.mc_text.specs.Texts.{Sunk, Puts}
 use Rattle.mc_script.specs.declared.summary.Counts.{Counts}
 use Rattle.mc_script.specs.declared.player.Player.{Player}
-use Rattle.mc_script.specs.Players.{IsAt}
+use Rattle.mc_script.specs.Players.{IsPlayerAt}
 use Rattle.mc_script.specs.Plays.{Bench, Played}
 use Rattle.mc_script.specs.Lines.{bench_of}
 
@@ -60,7 +60,7 @@ module _ {N : Type 0} (state : N → DeviceState) (bench : N → BenchState) whe
   pub record Tallied (s : State) (ls : List (ℕ × DeckLine)) (a : Bench) (p : Player N) (c : Counts) : Type 0 where
     pub worn : List (Option WornAt)
     pub played : Played s ls worn a (bench_of state bench p)
-    pub at : IsAt state bench p (last_state s (plays s ls worn))
+    pub at : IsPlayerAt state bench p (last_state s (plays s ls worn))
     pub counted : Counted c (results (plays s ls worn))
 
 -- lines were played from a state, and a text of the whole play was written

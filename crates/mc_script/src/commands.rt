@@ -2,9 +2,9 @@
 ghost use Rattle.std.specs.Prelude.{◌≡◌, ◌≤◌, ◌++◌, ◌∷◌, length};
 ghost use Rattle.mc_model.specs.Play.{line_command};
 ghost use Rattle.mc_deck.specs.Lines.{GoodLine};
-ghost use Rattle.mc_card.specs.Parts.{device_in, card_in, seat_in, IsReady};
+ghost use Rattle.mc_card.specs.Parts.{device_in, card_in, seat_in, IsReadyCard};
 ghost use Rattle.mc_script.specs.Commands.{deck_line_of};
-ghost use Rattle.mc_script.specs.Runs.{Ran};
+ghost use Rattle.mc_script.specs.Runs.{RanAndTold};
 ghost use Rattle.mc_card.specs.Ends.{put_in};
 
 use crate::loading::{LoadCommands, send};
@@ -50,11 +50,11 @@ pub fn run_line<N: Nvm, R: Runner, L: Ledger>(
     into: &mut Outcome,
     steps: &mut Steps<L>,
 ) -> Result<(), Stop>
-    requires ready { IsReady N.state card.old }
+    requires ready { IsReadyCard N.state card.old }
     requires some { 1 ≤ budget }
     requires budget { budget ≤ 65536 }
     requires good { GoodLine (deck_line_of command.now) }
-    ensures done { Ran N.state N.wrote R.told card.old
+    ensures done { RanAndTold N.state N.wrote R.told card.old
         (line_command (card_in N.state card.old) (seat_in N.state card.old) budget (deck_line_of command.now))
         (put_in result into.new) card.new runner.old runner.new }
     ensures lent { N.same (device_in card.old) (device_in card.new) }

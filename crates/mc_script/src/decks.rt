@@ -1,7 +1,7 @@
 // All lines of a deck, of which nothing is told.
 ghost use Rattle.std.specs.Prelude.{◌≡◌};
 ghost use Rattle.mc_model.specs.Play.{State};
-ghost use Rattle.mc_script.specs.Players.{device_of, IsAt, IsPlaying};
+ghost use Rattle.mc_script.specs.Players.{device_of, IsPlayerAt, IsPlaying};
 ghost use Rattle.mc_script.specs.Lines.{DeckPlayed};
 
 use crate::player::Player;
@@ -15,7 +15,7 @@ impl<N: Bench> Player<N> {
     /// Plays all lines of a deck, and tells nothing of them.
     pub fn deck<L: Ledger>(&mut self, deck: &Deck, steps: &mut Steps<L>)
         requires playing { IsPlaying N.state N.bench self.old }
-        ensures done { (s : State) → IsAt N.state N.bench self.old s
+        ensures done { (s : State) → IsPlayerAt N.state N.bench self.old s
             → DeckPlayed N.state N.bench self.old s deck.now self.new }
         ensures lent { N.same (device_of self.old) (device_of self.new) }
     {

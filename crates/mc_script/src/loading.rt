@@ -1,14 +1,15 @@
 // The commands of a load, one behind the other.
 ghost use Rattle.std.specs.List.{AllByRecursion};
 ghost use Rattle.std.specs.Prelude.{◌≡◌, ◌+◌, ◌++◌, ◌∷◌, [], ◌≤◌, length, IfSome, IfNone};
+ghost use Rattle.mc_model.specs.Limits.{most_code};
 ghost use Rattle.mc_model.specs.Bytes.{bytes2};
 ghost use Rattle.mc_model.specs.Units.{FitsUnit};
 ghost use Rattle.mc_model.specs.Play.{is_done, load_commands, section_commands, send, status};
 ghost use Rattle.mc_unit.specs.Parts.{parts_of};
 ghost use Rattle.mc_machine.specs.Turns.{outcome_value};
-ghost use Rattle.mc_card.specs.Parts.{device_in, card_in, seat_in, IsReady};
+ghost use Rattle.mc_card.specs.Parts.{device_in, card_in, seat_in, IsReadyCard};
 ghost use Rattle.mc_script.specs.Classes.{IsManaged};
-ghost use Rattle.mc_script.specs.Runs.{Ran};
+ghost use Rattle.mc_script.specs.Runs.{RanAndTold};
 ghost use Rattle.mc_card.specs.Ends.{put_in};
 
 use crate::runner::Runner;
@@ -154,6 +155,7 @@ struct Section<'a> {
 impl<'a> Model for Section<'a> {
     ghost use Rattle.std.specs.List.{AllByRecursion};
     ghost use Rattle.std.specs.Prelude.{◌+◌, ◌≤◌, length, List, ℕ};
+    ghost use Rattle.mc_model.specs.Limits.{most_code};
 
     ghost Value = { List (List ℕ) };
 
@@ -161,13 +163,13 @@ impl<'a> Model for Section<'a> {
 
     ghost view = { pieces_left };
 
-    ghost invariant = { λ s. s.at + length s.rest.now ≤ 8192 };
+    ghost invariant = { λ s. s.at + length s.rest.now ≤ most_code };
 }
 
 impl<'a> Section<'a> {
     // All commands of a section.
     fn new(ins: u8, bytes: &'a [u8]) -> Section<'a>
-        requires { length bytes.now ≤ 8192 }
+        requires { length bytes.now ≤ most_code }
         ensures { result ≡ section_commands ins bytes.now }
     {
         Section {
@@ -255,11 +257,11 @@ pub fn send<N: Nvm, R: Runner, L: Ledger>(
     into: &mut Outcome,
     steps: &mut Steps<L>,
 ) -> Result<(), Stop>
-    requires ready { IsReady N.state card.old }
+    requires ready { IsReadyCard N.state card.old }
     requires some { 1 ≤ budget }
     requires budget { budget ≤ 65536 }
     requires managed { AllByRecursion IsManaged commands.old }
-    ensures done { Ran N.state N.wrote R.told card.old
+    ensures done { RanAndTold N.state N.wrote R.told card.old
         (send (card_in N.state card.old) (seat_in N.state card.old) budget commands.old)
         (put_in result into.new) card.new runner.old runner.new }
     ensures lent { N.same (device_in card.old) (device_in card.new) }

@@ -1,6 +1,6 @@
 ghost use Rattle.std.specs.Prelude.{◌≡◌};
 ghost use Rattle.mc_model.specs.Play.{start};
-ghost use Rattle.mc_script.specs.Players.{device_of, IsAt, IsUnfused};
+ghost use Rattle.mc_script.specs.Players.{device_of, IsPlayerAt, IsUnfused};
 
 use crate::armed::Armed;
 use crate::loading::done;
@@ -37,7 +37,7 @@ impl<N: Bench> Player<N> {
     /// A play before its first line, on a device without a fuse.
     pub fn new(device: N) -> Player<N>
         requires { IsUnfused (N.bench device) }
-        ensures at { IsAt N.state N.bench result (start (N.state device).words) }
+        ensures at { IsPlayerAt N.state N.bench result (start (N.state device).words) }
         ensures device { device_of result ≡ device }
     {
         Player {

@@ -2,7 +2,7 @@
 ghost use Rattle.std.specs.Prelude.{◌≡◌, ◌≤◌, Some, None};
 ghost use Rattle.mc_model.specs.DeckGrammar as line;
 ghost use Rattle.mc_deck.specs.Lines.{GoodLine};
-ghost use Rattle.mc_card.specs.Parts.{device_in, with_device, IsReady};
+ghost use Rattle.mc_card.specs.Parts.{device_in, with_device, IsReadyCard};
 ghost use Rattle.mc_script.specs.Arming.{armed_bench, power_after_stop, answer_after_stop, power_after_failure, answer_after_failure};
 ghost use Rattle.mc_script.specs.Players.{device_of, CanArm, IsPlaying};
 ghost use Rattle.mc_script.specs.declared.armed.Armed.TheVariants as armed;
@@ -142,7 +142,7 @@ impl<N: Bench> Player<N> {
         steps: &mut Steps<L>,
     ) -> Answer
         requires on { self.old.power ≡ live.On }
-        requires ready { IsReady N.state self.old.card }
+        requires ready { IsReadyCard N.state self.old.card }
         requires some { 1 ≤ self.old.budget }
         requires most { self.old.budget ≤ 65536 }
         requires can { CanArm self.old.armed }

@@ -1,8 +1,8 @@
 // Who runs the commands of a play, and what is told of their turns.
 ghost use Rattle.std.specs.Prelude.{◌≡◌, ◌≤◌, ◌++◌, List, []};
 ghost use Rattle.mc_model.specs.Chain.{Turn as ModelTurn};
-ghost use Rattle.mc_card.specs.Parts.{device_in, due, IsReady};
-ghost use Rattle.mc_script.specs.Runs.{Ran};
+ghost use Rattle.mc_card.specs.Parts.{device_in, due, IsReadyCard};
+ghost use Rattle.mc_script.specs.Runs.{RanAndTold};
 ghost use Rattle.mc_card.specs.Ends.{put_in};
 
 use mc_base::{Steps, Stop};
@@ -26,10 +26,10 @@ pub trait Runner {
         into: &mut Outcome,
         steps: &mut Steps<L>,
     ) -> Result<(), Stop>
-        requires ready { IsReady N.state card.old }
+        requires ready { IsReadyCard N.state card.old }
         requires some { 1 ≤ budget }
         requires budget { budget ≤ 65536 }
-        ensures done { Ran N.state N.wrote told card.old (due N.state card.old bytes.now budget)
+        ensures done { RanAndTold N.state N.wrote told card.old (due N.state card.old bytes.now budget)
             (put_in result into.new) card.new self.old self.new }
         ensures lent { N.same (device_in card.old) (device_in card.new) };
 

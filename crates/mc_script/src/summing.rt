@@ -7,7 +7,7 @@ ghost use Rattle.mc_model.specs.ReadyAgain.{IsLine};
 ghost use Rattle.mc_model.specs.Generator.{count_line, summary};
 ghost use Rattle.mc_deck.specs.Lines.{line_of};
 ghost use Rattle.mc_text.specs.Texts.{sunk_in, Puts};
-ghost use Rattle.mc_script.specs.Players.{device_of, IsAt, IsPlaying, IsUnfused};
+ghost use Rattle.mc_script.specs.Players.{device_of, IsPlayerAt, IsPlaying, IsUnfused};
 ghost use Rattle.mc_script.specs.Scripts.{ended};
 ghost use Rattle.mc_script.specs.Lines.{bench_of};
 ghost use Rattle.mc_script.specs.Sums.{Counted, DumpsLast, dump_text, dumps_text, Tallied, SumsFrom};
@@ -27,7 +27,7 @@ use std::sync::ledger::Ledger;
 // Plays all lines of a deck, and counts their results.
 fn tally<N: Bench, L: Ledger>(player: &mut Player<N>, deck: &Deck, steps: &mut Steps<L>) -> Counts
     requires { IsPlaying N.state N.bench player.old }
-    ensures tallied { (s : State) → IsAt N.state N.bench player.old s
+    ensures tallied { (s : State) → IsPlayerAt N.state N.bench player.old s
         → Tallied N.state N.bench s deck.now (bench_of N.state N.bench player.old) player.new result }
     ensures lent { N.same (device_of player.old) (device_of player.new) }
 {
@@ -49,7 +49,7 @@ fn put_dump<N: Bench, T: Sink>(
     line: &Line<'_>,
 ) -> Result<(), WriteFault>
     requires { IsPlaying N.state N.bench player.now }
-    ensures { (s : State) → IsAt N.state N.bench player.now s
+    ensures { (s : State) → IsPlayerAt N.state N.bench player.now s
         → Puts (sunk_in T.taken T.faults out.old) (dump_text s (line_of line.now)) result
         (sunk_in T.taken T.faults out.new) }
 {
@@ -70,7 +70,7 @@ fn put_dumps<N: Bench, T: Sink>(
     deck: &Deck,
 ) -> Result<(), WriteFault>
     requires { IsPlaying N.state N.bench player.now }
-    ensures { (s : State) → IsAt N.state N.bench player.now s
+    ensures { (s : State) → IsPlayerAt N.state N.bench player.now s
         → Puts (sunk_in T.taken T.faults out.old) (dumps_text s deck.now) result (sunk_in T.taken T.faults out.new) }
 {
     for i in 0..deck.len() {
@@ -89,7 +89,7 @@ fn put_summary<N: Bench, T: Sink>(
     deck: &Deck,
 ) -> Result<(), WriteFault>
     requires { IsPlaying N.state N.bench player.now }
-    ensures { (s : State) (rs : List LineResult) → IsAt N.state N.bench player.now s → Counted counts.now rs
+    ensures { (s : State) (rs : List LineResult) → IsPlayerAt N.state N.bench player.now s → Counted counts.now rs
         → Puts (sunk_in T.taken T.faults out.old) (count_line rs
         ++ dumps_text s deck.now) result (sunk_in T.taken T.faults out.new) }
 {

@@ -14,10 +14,10 @@ use Rattle.mc_model.proofs.ImageLemmas.{all-append}
 use Rattle.mc_trans.proofs.Overlay.{length-laid}
 use Rattle.mc_trans.proofs.Holding.{words_laid, none_held}
 use Rattle.mc_trans.proofs.Counting.{words_counted}
-use Rattle.mc_segs.specs.HeldFrames.{Held, Fits, shown, seen, no_pieces, pieces_of, ArePendingIn, app_under}
+use Rattle.mc_segs.specs.HeldFrames.{Held, FitsBank, shown, seen, no_pieces, pieces_of, ArePendingIn, app_under}
 use Rattle.mc_segs.specs.Inside.{frame_value}
 use Rattle.mc_segs.specs.Commits.{IsCommitted}
-use Rattle.mc_segs.specs.Ends.{Left, Committed, Commits, scene}
+use Rattle.mc_segs.specs.Ends.{EffectDone, IsOneCommit, Commits, scene}
 use Rattle.mc_segs.specs.Puts.{PutsBytes, words_under}
 use Rattle.mc_segs.specs.declared.frame.Frame.TheInside.{Inside}
 use Rattle.mc_segs.proofs.PendingLemmas.{pieces_held, pieces_lie}
@@ -50,7 +50,7 @@ there_after s s' o o' ws there same apps =
     subst (λ (f : Option App). IsSome f) (sym found) refl
 
 -- after a commit of words that hold some pieces
-pub is_committed : (s s' : BankState) (named named' : ℕ → Option (List ℕ)) (h : Held) (ps ws : List (ℕ × List ℕ)) → Fits s named h → LieIn (length (app_under s named h).fixed) ps → HoldPieces (app_under s named h).fixed ps ws
+pub is_committed : (s s' : BankState) (named named' : ℕ → Option (List ℕ)) (h : Held) (ps ws : List (ℕ × List ℕ)) → FitsBank s named h → LieIn (length (app_under s named h).fixed) ps → HoldPieces (app_under s named h).fixed ps ws
     → s'.apps ≡ committed s.apps (name_or (named h.slot)) ws → ((k : ℕ) → named' k ≡ named k) → IsCommitted s s' named named' h (laid_pieces (app_under s named h).fixed ps)
 is_committed s s' named named' h ps ws fits lie held apps slots =
     let l = (app_under s named h).fixed in
@@ -77,12 +77,12 @@ fixed_under state named b h = (app_under (state b) (named b) h).fixed
 
 module _ {B : Type 0} (did : B → BankItem → Answer → B → Type 0) (state : B → BankState) (named : B → ℕ → Option (List ℕ)) where
   commit_items : (b e : B) (h : Held) (at : ℕ) (from : List ℕ) (ws : List (ℕ × List ℕ)) (a : Answer) → PutsBytes (fixed_under state named b h) [] at from ws → InOrder did b (Commit (name_or (named b h.slot)) ws ∷ []) a e
-      → Committed did (name_or (named b h.slot)) (fixed_under state named b h) (Some ((at, from) ∷ [])) b a e
+      → IsOneCommit did (name_or (named b h.slot)) (fixed_under state named b h) (Some ((at, from) ∷ [])) b a e
   commit_items b e h at from ws a puts items = (ws, puts.holds [] tt (none_held (fixed_under state named b h)), items, puts.pending.few)
 
-  committed_at_once : (b e : B) (h : Held) (at : ℕ) (from : List ℕ) (ws : List (ℕ × List ℕ)) → Fits (state b) (named b) h → 1 ≤ length from → at + length from ≤ length h.frame.fixed → PutsBytes (fixed_under state named b h) [] at from ws
+  committed_at_once : (b e : B) (h : Held) (at : ℕ) (from : List ℕ) (ws : List (ℕ × List ℕ)) → FitsBank (state b) (named b) h → 1 ≤ length from → at + length from ≤ length h.frame.fixed → PutsBytes (fixed_under state named b h) [] at from ws
       → InOrder did b (Commit (name_or (named b h.slot)) ws ∷ []) (Ok tt) e → (state e).apps ≡ committed (state b).apps (name_or (named b h.slot)) ws → ((k : ℕ) → named e k ≡ named b k) → (state e).stopped ≡ false
-      → Left did state named (scene b e h h [] []) (static_written false (shown (state b) (named b) h) [] at from)
+      → EffectDone did state named (scene b e h h [] []) (static_written false (shown (state b) (named b) h) [] at from)
   committed_at_once b e h at from ws fits some range puts items apps slots going =
       let l = fixed_under state named b h in
       let held = puts.holds [] tt (none_held l) in
@@ -98,9 +98,9 @@ module _ {B : Type 0} (did : B → BankItem → Answer → B → Type 0) (state 
         going = going;
       }
 
-  done_by_answer : (b e : B) (h : Held) (at : ℕ) (from : List ℕ) (ws : List (ℕ × List ℕ)) (a : Answer) → Fits (state b) (named b) h → 1 ≤ length from → at + length from ≤ length h.frame.fixed → PutsBytes (fixed_under state named b h) [] at from ws
+  done_by_answer : (b e : B) (h : Held) (at : ℕ) (from : List ℕ) (ws : List (ℕ × List ℕ)) (a : Answer) → FitsBank (state b) (named b) h → 1 ≤ length from → at + length from ≤ length h.frame.fixed → PutsBytes (fixed_under state named b h) [] at from ws
       → InOrder did b (Commit (name_or (named b h.slot)) ws ∷ []) a e → Changes (state b) (committed (state b).apps (name_or (named b h.slot)) ws) a (state e) → ((k : ℕ) → named e k ≡ named b k)
-      → OnOk a (Left did state named (scene b e h h [] []) (static_written false (shown (state b) (named b) h) [] at from))
+      → OnOk a (EffectDone did state named (scene b e h h [] []) (static_written false (shown (state b) (named b) h) [] at from))
   done_by_answer b e h at from ws (Ok u) fits some range puts items changes slots = committed_at_once b e h at from ws fits some range puts items changes.apps slots changes.going
   done_by_answer b e h at from ws (Err s) fits some range puts items changes slots = tt
 
@@ -117,9 +117,9 @@ module _ {B : Type 0} (did : B → BankItem → Answer → B → Type 0) (state 
       → InOrder did b (Commit (name_or (named b k)) list ∷ []) a e → Commits did state named (scene b e h h [] []) (static_written false (shown (state b) (named b) h) [] at from) a
   items_at_once b e h k at from none ws list a same empty is puts items = commit_items b e h at from ws a (put_at_once b h k at from none ws same empty puts) (order_at_once b e h k ws list a same is items)
 
-  pub done_at_once : (b e : B) (h : Held) (k : ℕ) (at : ℕ) (from : List ℕ) (none ws list : List (ℕ × List ℕ)) (a : Answer) → k ≡ h.slot → none ≡ [] → list ≡ ws → Fits (state b) (named b) h → 1 ≤ length from → at + length from ≤ length h.frame.fixed
+  pub done_at_once : (b e : B) (h : Held) (k : ℕ) (at : ℕ) (from : List ℕ) (none ws list : List (ℕ × List ℕ)) (a : Answer) → k ≡ h.slot → none ≡ [] → list ≡ ws → FitsBank (state b) (named b) h → 1 ≤ length from → at + length from ≤ length h.frame.fixed
       → PutsBytes (app_of (state b).apps (named b k)).fixed none at from ws → InOrder did b (Commit (name_or (named b k)) list ∷ []) a e → Changes (state b) (committed (state b).apps (name_or (named b k)) list) a (state e) → ((k : ℕ) → named e k ≡ named b k)
-      → OnOk a (Left did state named (scene b e h h [] []) (static_written false (shown (state b) (named b) h) [] at from))
+      → OnOk a (EffectDone did state named (scene b e h h [] []) (static_written false (shown (state b) (named b) h) [] at from))
   done_at_once b e h k at from none ws list a same empty is fits some range puts items changes slots =
       done_by_answer b e h at from ws a fits some range (put_at_once b h k at from none ws same empty puts) (order_at_once b e h k ws list a same is items)
       (subst (λ (t : List (ℕ × List ℕ)). Changes (state b) (committed (state b).apps (name_or (named b h.slot)) t) a (state e)) is (subst (λ (i : ℕ). Changes (state b) (committed (state b).apps (name_or (named b i)) list) a (state e)) same changes))
@@ -160,9 +160,9 @@ limit_is m l ws at n pieces are some =
     ap (λ (ps : List (ℕ × List ℕ)). nat_lt 64 (length (touched (ps ++ (at, zeros n) ∷ [])))) pieces ∙ ap (λ (k : ℕ). nat_lt 64 k) count
 
 module _ {B : Type 0} (did : B → BankItem → Answer → B → Type 0) (state : B → BankState) (named : B → ℕ → Option (List ℕ)) where
-  pub kept_later : (b : B) (f : Inside) (h : Held) (at : ℕ) (from : List ℕ) (ws : List (ℕ × List ℕ)) → frame_value f ≡ h → Fits (state b) (named b) h → HasWords (fixed_under state named b h) f.fixed_len f.pending h → (state b).stopped ≡ false
+  pub kept_later : (b : B) (f : Inside) (h : Held) (at : ℕ) (from : List ℕ) (ws : List (ℕ × List ℕ)) → frame_value f ≡ h → FitsBank (state b) (named b) h → HasWords (fixed_under state named b h) f.fixed_len f.pending h → (state b).stopped ≡ false
       → 1 ≤ length from → at + length from ≤ length h.frame.fixed → PutsBytes (fixed_under state named b h) f.pending at from ws
-      → Left did state named (scene b b h (frame_value (record f { pending = ws })) [] []) (static_written true (shown (state b) (named b) h) [] at from)
+      → EffectDone did state named (scene b b h (frame_value (record f { pending = ws })) [] []) (static_written true (shown (state b) (named b) h) [] at from)
   kept_later b f h at from ws view fits has going some range puts =
       let l = fixed_under state named b h in
       let n = length l in
@@ -175,7 +175,7 @@ module _ {B : Type 0} (did : B → BankItem → Answer → B → Type 0) (state 
       ap (λ (t : Held). record t { frame = record t.frame { pieces = pieces_of f.fixed_len ws } }) view ∙ ap (λ (k : ℕ). record h { frame = record h.frame { pieces = pieces_of k ws } }) has.len in
       let m = shown (state b) (named b) h in
       let some_words : 1 ≤ length ws = some_put f.pending ws (at / 8) (words_under at (length from)) puts.count (omega arith) in
-      subst (λ (t : Held). Left did state named (scene b b h t [] []) (static_written true m [] at from)) (sym now)
+      subst (λ (t : Held). EffectDone did state named (scene b b h t [] []) (static_written true m [] at from)) (sym now)
       (record {
         commits = refl;
         bytes = refl;
@@ -198,13 +198,13 @@ limit_by m l ws list at n more pieces are some same is =
 -- ---- pending words at once
 
 some_changed : {B : Type 0} (did : B → BankItem → Answer → B → Type 0) (b e : B) (name l : List ℕ) (m : Frame) (ws : List (ℕ × List ℕ)) (a : Answer) → 1 ≤ length ws → length ws ≤ 64 → HoldPieces l (pieces_of (length l) ws) ws → InOrder did b (Commit name ws ∷ []) a e
-    → Committed did name l (changes_of m (pieces_of (length l) ws)) b a e
+    → IsOneCommit did name l (changes_of m (pieces_of (length l) ws)) b a e
 some_changed did b e name l m [] a some few held items = absurd (omega arith)
 some_changed did b e name l m (w ∷ ws) a some few held items = (w ∷ ws, held, items, few)
 
 module _ {B : Type 0} (did : B → BankItem → Answer → B → Type 0) (state : B → BankState) (named : B → ℕ → Option (List ℕ)) where
   abbrev pub pending_changed : B → B → Held → Answer → Type 0
-  pending_changed b e h a = Committed did (name_or (named b h.slot)) (fixed_under state named b h) (changes_of (shown (state b) (named b) h) h.frame.pieces) b a e
+  pending_changed b e h a = IsOneCommit did (name_or (named b h.slot)) (fixed_under state named b h) (changes_of (shown (state b) (named b) h) h.frame.pieces) b a e
 
   abbrev pub is_now : B → B → Held → Type 0
   is_now b e h = IsCommitted (state b) (state e) (named b) (named e) h (static_bytes (shown (state b) (named b) h))
@@ -216,10 +216,10 @@ module _ {B : Type 0} (did : B → BankItem → Answer → B → Type 0) (state 
       let name = name_or (named b h.slot) in
       let all : InOrder did b (Commit name f.pending ∷ []) a e = subst (λ (t : List (ℕ × List ℕ)). InOrder did b (Commit name t ∷ []) a e) is (subst (λ (i : ℕ). InOrder did b (Commit (name_or (named b i)) list ∷ []) a e) same items) in
       let long = ap (λ (t : List (ℕ × List ℕ)). length t) is in
-      subst (λ (ps : List (ℕ × List ℕ)). Committed did name l (changes_of (shown (state b) (named b) h) ps) b a e) (sym has.pieces)
+      subst (λ (ps : List (ℕ × List ℕ)). IsOneCommit did name l (changes_of (shown (state b) (named b) h) ps) b a e) (sym has.pieces)
       (some_changed did b e name l (shown (state b) (named b) h) f.pending a (omega arith) has.pending.few (pieces_held l f.pending has.pending) all)
 
-  pub all_words_now : (b e : B) (f : Inside) (h : Held) (k : ℕ) (list : List (ℕ × List ℕ)) → k ≡ h.slot → list ≡ f.pending → Fits (state b) (named b) h → HasWords (fixed_under state named b h) f.fixed_len f.pending h
+  pub all_words_now : (b e : B) (f : Inside) (h : Held) (k : ℕ) (list : List (ℕ × List ℕ)) → k ≡ h.slot → list ≡ f.pending → FitsBank (state b) (named b) h → HasWords (fixed_under state named b h) f.fixed_len f.pending h
       → (state e).apps ≡ committed (state b).apps (name_or (named b k)) list → ((i : ℕ) → named e i ≡ named b i) → is_now b e h
   all_words_now b e f h k list same is fits has apps slots =
       let l = fixed_under state named b h in

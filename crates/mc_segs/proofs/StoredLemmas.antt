@@ -10,9 +10,9 @@ use Rattle.mc_model.specs.Items.{BankItem}
 use Rattle.mc_model.specs.Bytes.{splice}
 use Rattle.mc_model.specs.Frame.{Frame, Effect, Place, Static, Dynamic, Public, where_is, is_outside, passes_limit, too_many, static_written, written_in, written}
 use Rattle.mc_bank.specs.Bank.{BankState}
-use Rattle.mc_segs.specs.HeldFrames.{Held, Fits, shown}
+use Rattle.mc_segs.specs.HeldFrames.{Held, FitsBank, shown}
 use Rattle.mc_segs.specs.Inside.{frame_value}
-use Rattle.mc_segs.specs.Ends.{Left, Commits, CanWrite, Stores, scene}
+use Rattle.mc_segs.specs.Ends.{EffectDone, Commits, CanWrite, Stores, scene}
 use Rattle.mc_segs.specs.declared.frame.Frame.TheInside.{Inside}
 use Rattle.mc_segs.specs.declared.ends.Halt.TheVariants as halt
 use Rattle.mc_segs.proofs.AccessLemmas.{where_shown}
@@ -49,22 +49,22 @@ static_is f public a i b on protected is = ap (λ (t : Bool). static_written t f
 
 module _ {B : Type 0} (did : B → BankItem → Answer → B → Type 0) (state : B → BankState) (named : B → ℕ → Option (List ℕ)) where
   -- a public segment beside a call that does not touch it
-  with_public : (b e : B) (h h' : Held) (f : Effect) (public : List ℕ) → Left did state named (scene b e h h' [] []) f → Left did state named (scene b e h h' public public) (record f { public = public })
+  with_public : (b e : B) (h h' : Held) (f : Effect) (public : List ℕ) → EffectDone did state named (scene b e h h' [] []) f → EffectDone did state named (scene b e h h' public public) (record f { public = public })
   with_public b e h h' f public left = record { commits = left.commits; bytes = left.bytes; frame = left.frame; public = refl; slot = left.slot; fits = left.fits; going = left.going }
 
   -- in the static segment, while protection is on
-  pub kept_stored : (b : B) (h h' : Held) (at i : ℕ) (from public : List ℕ) → Fits (state b) (named b) h → 1 ≤ length from → h.frame.protected ≡ true → Some (Static i) ≡ where_is h.frame at (length from)
-      → passes_limit true (shown (state b) (named b) h) (Some (Static i)) (length from) ≡ false → Left did state named (scene b b h h' [] []) (static_written true (shown (state b) (named b) h) [] i from)
+  pub kept_stored : (b : B) (h h' : Held) (at i : ℕ) (from public : List ℕ) → FitsBank (state b) (named b) h → 1 ≤ length from → h.frame.protected ≡ true → Some (Static i) ≡ where_is h.frame at (length from)
+      → passes_limit true (shown (state b) (named b) h) (Some (Static i)) (length from) ≡ false → EffectDone did state named (scene b b h h' [] []) (static_written true (shown (state b) (named b) h) [] i from)
       → Stores did state named (scene b b h h' public public) at (length from) (written (shown (state b) (named b) h) public at from) (Ok tt)
   kept_stored b h h' at i from public fits some on place limit left =
       let m = shown (state b) (named b) h in
       let n = length from in
       let is : where_is m at n ≡ Some (Static i) = where_shown (state b) (named b) h at n fits ∙ sym place in (
         can_write m at n (Static i) some is (ap (λ (t : Bool). passes_limit t m (Some (Static i)) n) on ∙ limit),
-        subst (λ (f : Effect). Left did state named (scene b b h h' public public) f) (static_is m public at i from true on is) (with_public b b h h' (static_written true m [] i from) public left),
+        subst (λ (f : Effect). EffectDone did state named (scene b b h h' public public) f) (static_is m public at i from true on is) (with_public b b h h' (static_written true m [] i from) public left),
       )
 
-  pub refused : (b : B) (h h' : Held) (at i : ℕ) (from public : List ℕ) (a : Abend) → Fits (state b) (named b) h → 1 ≤ length from → h.frame.protected ≡ true → Some (Static i) ≡ where_is h.frame at (length from)
+  pub refused : (b : B) (h h' : Held) (at i : ℕ) (from public : List ℕ) (a : Abend) → FitsBank (state b) (named b) h → 1 ≤ length from → h.frame.protected ≡ true → Some (Static i) ≡ where_is h.frame at (length from)
       → passes_limit true (shown (state b) (named b) h) (Some (Static i)) (length from) ≡ true → a ≡ A08 → h' ≡ h
       → Stores did state named (scene b b h h' public public) at (length from) (written (shown (state b) (named b) h) public at from) (Err (halt.Abend a))
   refused b h h' at i from public a fits some on place limit is_08 unchanged =
@@ -75,18 +75,18 @@ module _ {B : Type 0} (did : B → BankItem → Answer → B → Type 0) (state 
       (inr (outside_is m at n (Some (Static i)) some is, due, is_08), refl, unchanged, refl)
 
   -- in the static segment, while protection is off
-  pub committed_stored : (b e : B) (h : Held) (at i : ℕ) (from public : List ℕ) → Fits (state b) (named b) h → 1 ≤ length from → h.frame.protected ≡ false → Some (Static i) ≡ where_is h.frame at (length from)
-      → Left did state named (scene b e h h [] []) (static_written false (shown (state b) (named b) h) [] i from)
+  pub committed_stored : (b e : B) (h : Held) (at i : ℕ) (from public : List ℕ) → FitsBank (state b) (named b) h → 1 ≤ length from → h.frame.protected ≡ false → Some (Static i) ≡ where_is h.frame at (length from)
+      → EffectDone did state named (scene b e h h [] []) (static_written false (shown (state b) (named b) h) [] i from)
       → Stores did state named (scene b e h h public public) at (length from) (written (shown (state b) (named b) h) public at from) (Ok tt)
   committed_stored b e h at i from public fits some off place left =
       let m = shown (state b) (named b) h in
       let n = length from in
       let is : where_is m at n ≡ Some (Static i) = where_shown (state b) (named b) h at n fits ∙ sym place in (
         can_write m at n (Static i) some is (ap (λ (t : Bool). passes_limit t m (Some (Static i)) n) off),
-        subst (λ (f : Effect). Left did state named (scene b e h h public public) f) (static_is m public at i from false off is) (with_public b e h h (static_written false m [] i from) public left),
+        subst (λ (f : Effect). EffectDone did state named (scene b e h h public public) f) (static_is m public at i from false off is) (with_public b e h h (static_written false m [] i from) public left),
       )
 
-  pub stopped_stored : (b e : B) (h : Held) (at i : ℕ) (from public : List ℕ) (s : Stop) → Fits (state b) (named b) h → 1 ≤ length from → h.frame.protected ≡ false → Some (Static i) ≡ where_is h.frame at (length from)
+  pub stopped_stored : (b e : B) (h : Held) (at i : ℕ) (from public : List ℕ) (s : Stop) → FitsBank (state b) (named b) h → 1 ≤ length from → h.frame.protected ≡ false → Some (Static i) ≡ where_is h.frame at (length from)
       → Commits did state named (scene b e h h [] []) (static_written false (shown (state b) (named b) h) [] i from) (Err s)
       → Stores did state named (scene b e h h public public) at (length from) (written (shown (state b) (named b) h) public at from) (Err (halt.Stop s))
   stopped_stored b e h at i from public s fits some off place commits =
@@ -98,7 +98,7 @@ module _ {B : Type 0} (did : B → BankItem → Answer → B → Type 0) (state 
       )
 
   -- in the dynamic segment
-  pub dynamic_stored : (b : B) (f : Inside) (h : Held) (at i : ℕ) (from public dyn : List ℕ) → frame_value f ≡ h → Fits (state b) (named b) h → (state b).stopped ≡ false → 1 ≤ length from → Some (Dynamic i) ≡ where_is h.frame at (length from) → dyn ≡ splice f.dynamic i from
+  pub dynamic_stored : (b : B) (f : Inside) (h : Held) (at i : ℕ) (from public dyn : List ℕ) → frame_value f ≡ h → FitsBank (state b) (named b) h → (state b).stopped ≡ false → 1 ≤ length from → Some (Dynamic i) ≡ where_is h.frame at (length from) → dyn ≡ splice f.dynamic i from
       → Stores did state named (scene b b h (frame_value (record f { dynamic = dyn })) public public) at (length from) (written (shown (state b) (named b) h) public at from) (Ok tt)
   dynamic_stored b f h at i from public dyn view fits going some place spliced =
       let m = shown (state b) (named b) h in
@@ -106,7 +106,7 @@ module _ {B : Type 0} (did : B → BankItem → Answer → B → Type 0) (state 
       let next : Held = record h { frame = record h.frame { dyn = splice h.frame.dyn i from } } in
       let now : frame_value (record f { dynamic = dyn }) ≡ next = ap (λ (t : List ℕ). frame_value (record f { dynamic = t })) spliced ∙ ap (λ (t : Held). record t { frame = record t.frame { dyn = splice t.frame.dyn i from } }) view in
       let is : where_is m at n ≡ Some (Dynamic i) = where_shown (state b) (named b) h at n fits ∙ sym place in
-      let left : Left did state named (scene b b h next public public) (written_in m public from (Some (Dynamic i))) = record {
+      let left : EffectDone did state named (scene b b h next public public) (written_in m public from (Some (Dynamic i))) = record {
         commits = refl;
         bytes = refl;
         frame = refl;
@@ -116,15 +116,15 @@ module _ {B : Type 0} (did : B → BankItem → Answer → B → Type 0) (state 
         going = going;
       } in (
         can_write m at n (Dynamic i) some is (no_limit_dynamic m.protected m i n),
-        subst (λ (t : Held). Left did state named (scene b b h t public public) (written m public at from)) (sym now) (subst (λ (e : Effect). Left did state named (scene b b h next public public) e) (written_is m public at from (Some (Dynamic i)) is) left),
+        subst (λ (t : Held). EffectDone did state named (scene b b h t public public) (written m public at from)) (sym now) (subst (λ (e : Effect). EffectDone did state named (scene b b h next public public) e) (written_is m public at from (Some (Dynamic i)) is) left),
       )
 
   -- in the public segment
-  pub public_stored : (b : B) (h : Held) (at i : ℕ) (from public public_after : List ℕ) → Fits (state b) (named b) h → (state b).stopped ≡ false → 1 ≤ length from → Some (Public i) ≡ where_is h.frame at (length from) → public_after ≡ splice public i from
+  pub public_stored : (b : B) (h : Held) (at i : ℕ) (from public public_after : List ℕ) → FitsBank (state b) (named b) h → (state b).stopped ≡ false → 1 ≤ length from → Some (Public i) ≡ where_is h.frame at (length from) → public_after ≡ splice public i from
       → Stores did state named (scene b b h h public public_after) at (length from) (written (shown (state b) (named b) h) public at from) (Ok tt)
   public_stored b h at i from public public_after fits going some place spliced =
       let m = shown (state b) (named b) h in
       let n = length from in
       let is : where_is m at n ≡ Some (Public i) = where_shown (state b) (named b) h at n fits ∙ sym place in
-      let left : Left did state named (scene b b h h public public_after) (written_in m public from (Some (Public i))) = record { commits = refl; bytes = refl; frame = refl; public = spliced; slot = refl; fits = fits; going = going } in
-      (can_write m at n (Public i) some is (no_limit_public m.protected m i n), subst (λ (e : Effect). Left did state named (scene b b h h public public_after) e) (written_is m public at from (Some (Public i)) is) left)
+      let left : EffectDone did state named (scene b b h h public public_after) (written_in m public from (Some (Public i))) = record { commits = refl; bytes = refl; frame = refl; public = spliced; slot = refl; fits = fits; going = going } in
+      (can_write m at n (Public i) some is (no_limit_public m.protected m i n), subst (λ (e : Effect). EffectDone did state named (scene b b h h public public_after) e) (written_is m public at from (Some (Public i)) is) left)

@@ -11,7 +11,7 @@ use Rattle.mc_model.specs.Frame.{Frame, Effect, is_outside, too_many}
 use Rattle.mc_model.specs.Primitives.{Around, Then, Goes, Exits, Delegates}
 use Rattle.mc_model.specs.Row.{RowEnd, Abends, Does, row}
 use Rattle.mc_bank.specs.Bank.{BankState}
-use Rattle.mc_segs.specs.HeldFrames.{Held, Fits, shown, seen}
+use Rattle.mc_segs.specs.HeldFrames.{Held, FitsBank, shown, seen}
 use Rattle.mc_segs.specs.declared.ends.Halt.{Halt}
 use Rattle.mc_segs.specs.declared.ends.Halt.TheVariants as halt
 use Rattle.mc_segs.specs.declared.ends.Next.{Next}
@@ -23,9 +23,9 @@ IfDue (Ok u) due a = due ≡ false
 IfDue (Err b) due a = (due ≡ true) × (b ≡ a)
 
 -- a value, or this abend exactly where it is due
-abbrev pub Gives : Result ℕ Abend → Bool → Abend → ℕ → Type 0
-Gives (Ok v) due a w = (due ≡ false) × (v ≡ w)
-Gives (Err b) due a w = (due ≡ true) × (b ≡ a)
+abbrev pub GivesOrAbends : Result ℕ Abend → Bool → Abend → ℕ → Type 0
+GivesOrAbends (Ok v) due a w = (due ≡ false) × (v ≡ w)
+GivesOrAbends (Err b) due a w = (due ≡ true) × (b ≡ a)
 
 -- an address where there is one, else abend 03
 abbrev pub addressed : Option ℕ → Result ℕ Abend
@@ -35,9 +35,9 @@ addressed None = Err A03
 -- ---- static changes
 
 -- A change of static bytes is one commit of at most 64 words that hold its pieces; without a change there is none. An abend is no stop.
-abbrev pub Committed : {B : Type 0} → (B → BankItem → Answer → B → Type 0) → List ℕ → List ℕ → Option (List (ℕ × List ℕ)) → B → Answer → B → Type 0
-Committed did name fixed None b a e = InOrder did b [] a e
-Committed did name fixed (Some ps) b a e = (ws : List (ℕ × List ℕ)) × HoldPieces fixed ps ws × InOrder did b (Commit name ws ∷ []) a e × (length ws ≤ 64)
+abbrev pub IsOneCommit : {B : Type 0} → (B → BankItem → Answer → B → Type 0) → List ℕ → List ℕ → Option (List (ℕ × List ℕ)) → B → Answer → B → Type 0
+IsOneCommit did name fixed None b a e = InOrder did b [] a e
+IsOneCommit did name fixed (Some ps) b a e = (ws : List (ℕ × List ℕ)) × HoldPieces fixed ps ws × InOrder did b (Commit name ws ∷ []) a e × (length ws ≤ 64)
 
 -- static bytes after a change
 abbrev pub changed_bytes : List ℕ → Option (List (ℕ × List ℕ)) → List ℕ
@@ -67,20 +67,20 @@ after state named s = shown (state s.bank_after) (named s.bank_after) s.held_aft
 
 -- the static change of an effect, by the answer of the bank
 abbrev pub Commits : {B : Type 0} → (B → BankItem → Answer → B → Type 0) → (B → BankState) → (B → ℕ → Option (List ℕ)) → Scene B → Effect → Answer → Type 0
-Commits did state named s e a = Committed did (before state named s).name (before state named s).fixed e.changes s.bank a s.bank_after
+Commits did state named s e a = IsOneCommit did (before state named s).name (before state named s).fixed e.changes s.bank a s.bank_after
 
 -- an effect that was done: the frame fits the bank, which goes on
-pub record Left {B : Type 0} (did : B → BankItem → Answer → B → Type 0) (state : B → BankState) (named : B → ℕ → Option (List ℕ)) (s : Scene B) (e : Effect) : Type 0 where
+pub record EffectDone {B : Type 0} (did : B → BankItem → Answer → B → Type 0) (state : B → BankState) (named : B → ℕ → Option (List ℕ)) (s : Scene B) (e : Effect) : Type 0 where
   pub commits : Commits did state named s e (Ok tt)
   pub bytes : (after state named s).fixed ≡ changed_bytes (before state named s).fixed e.changes
   pub frame : seen (after state named s) ≡ seen e.frame
   pub public : s.public_after ≡ e.public
   pub slot : s.held_after.slot ≡ s.held.slot
-  pub fits : Fits (state s.bank_after) (named s.bank_after) s.held_after
+  pub fits : FitsBank (state s.bank_after) (named s.bank_after) s.held_after
   pub going : (state s.bank_after).stopped ≡ false
 
 -- an abend wrote no byte: the registers may have moved
-pub record Untouched {B : Type 0} (s : Scene B) : Type 0 where
+pub record WroteNoByte {B : Type 0} (s : Scene B) : Type 0 where
   pub bank : s.bank_after ≡ s.bank
   pub public : s.public_after ≡ s.public
   pub dyn : s.held_after.frame.dyn ≡ s.held.frame.dyn
@@ -97,17 +97,17 @@ abbrev pub scene : {B : Type 0} → B → B → Held → Held → List ℕ → L
 scene b c h k p q = record { bank = b; bank_after = c; held = h; held_after = k; public = p; public_after = q }
 
 -- the end of a row, by the result of the call
-abbrev pub Acts : {B : Type 0} → (B → BankItem → Answer → B → Type 0) → (B → BankState) → (B → ℕ → Option (List ℕ)) → Scene B → RowEnd → Result Next Halt → Type 0
-Acts did state named s (Abends a) (Ok next) = ⊥
-Acts did state named s (Abends a) (Err (halt.Abend b)) = (b ≡ a) × Untouched s
-Acts did state named s (Abends a) (Err (halt.Stop stop)) = ⊥
-Acts did state named s (Does d) (Ok next) = (then_of next ≡ d.next) × Left did state named s d.effect
-Acts did state named s (Does d) (Err (halt.Abend b)) = ⊥
-Acts did state named s (Does d) (Err (halt.Stop stop)) = Commits did state named s d.effect (Err stop)
+abbrev pub EndActs : {B : Type 0} → (B → BankItem → Answer → B → Type 0) → (B → BankState) → (B → ℕ → Option (List ℕ)) → Scene B → RowEnd → Result Next Halt → Type 0
+EndActs did state named s (Abends a) (Ok next) = ⊥
+EndActs did state named s (Abends a) (Err (halt.Abend b)) = (b ≡ a) × WroteNoByte s
+EndActs did state named s (Abends a) (Err (halt.Stop stop)) = ⊥
+EndActs did state named s (Does d) (Ok next) = (then_of next ≡ d.next) × EffectDone did state named s d.effect
+EndActs did state named s (Does d) (Err (halt.Abend b)) = ⊥
+EndActs did state named s (Does d) (Err (halt.Stop stop)) = Commits did state named s d.effect (Err stop)
 
 -- the row of an instruction, by the result of the call
 abbrev pub RowActs : {B : Type 0} → (B → BankItem → Answer → B → Type 0) → (B → BankState) → (B → ℕ → Option (List ℕ)) → Scene B → Ins → Around → Result Next Halt → Type 0
-RowActs did state named s i x r = Acts did state named s (row i (before state named s) s.public x) r
+RowActs did state named s i x r = EndActs did state named s (row i (before state named s) s.public x) r
 
 -- a write was refused: 03 where its n bytes lie in no segment, 08 where too many words would be pending
 abbrev pub WriteAbends : Frame → ℕ → ℕ → Abend → Type 0
@@ -119,11 +119,11 @@ CanWrite f a n = (is_outside f a n ≡ false) × (too_many f a n ≡ false)
 
 -- a write of n bytes at an address, by its effect and by the result of the call
 abbrev pub Stores : {B : Type 0} → (B → BankItem → Answer → B → Type 0) → (B → BankState) → (B → ℕ → Option (List ℕ)) → Scene B → ℕ → ℕ → Effect → Result (Unit {0}) Halt → Type 0
-Stores did state named s a n e (Ok u) = CanWrite (before state named s) a n × Left did state named s e
+Stores did state named s a n e (Ok u) = CanWrite (before state named s) a n × EffectDone did state named s e
 Stores did state named s a n e (Err (halt.Abend b)) = WriteAbends (before state named s) a n b × (s.bank_after ≡ s.bank) × (s.held_after ≡ s.held) × (s.public_after ≡ s.public)
 Stores did state named s a n e (Err (halt.Stop stop)) = CanWrite (before state named s) a n × Commits did state named s e (Err stop)
 
 -- a change of protection, by the result of the call
 abbrev pub Protects : {B : Type 0} → (B → BankItem → Answer → B → Type 0) → (B → BankState) → (B → ℕ → Option (List ℕ)) → Scene B → Effect → Result (Unit {0}) Stop → Type 0
-Protects did state named s e (Ok u) = Left did state named s e
+Protects did state named s e (Ok u) = EffectDone did state named s e
 Protects did state named s e (Err stop) = Commits did state named s e (Err stop)

@@ -40,7 +40,7 @@ abbrev pub shown : BankState → (ℕ → Option (List ℕ)) → Held → Frame
 shown s named h = record h.frame { name = name_or (named h.slot); fixed = (app_under s named h).fixed }
 
 -- its application is on the bank, with the facts that the frame was made with
-pub record Fits (s : BankState) (named : ℕ → Option (List ℕ)) (h : Held) : Type 0 where
+pub record FitsBank (s : BankState) (named : ℕ → Option (List ℕ)) (h : Held) : Type 0 where
   pub there : IsSome (named h.slot)
   pub app : IsSome (lookup s.apps (name_or (named h.slot)))
   pub code : h.frame.code_len ≡ length (app_under s named h).code

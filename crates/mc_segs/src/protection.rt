@@ -3,10 +3,10 @@ ghost use Rattle.std.specs.Prelude.{◌≡◌, ℕ, ◌+◌, ◌*◌, ◌/◌, �
 ghost use Rattle.mc_model.specs.Frame as model;
 ghost use Rattle.mc_model.specs.Pieces.{not_pending, pending_at, put_word};
 ghost use Rattle.mc_bank.specs.Bank.{app_of};
-ghost use Rattle.mc_segs.specs.HeldFrames.{Fits, shown, ArePendingIn};
+ghost use Rattle.mc_segs.specs.HeldFrames.{FitsBank, shown, ArePendingIn};
 ghost use Rattle.mc_segs.specs.Puts.{words_under, IsWordOf, PutsPiece, PutsBytes};
 ghost use Rattle.mc_segs.specs.Commits.{IsCommitted};
-ghost use Rattle.mc_segs.specs.Ends.{IfDue, Committed, Commits, Left, scene, Protects};
+ghost use Rattle.mc_segs.specs.Ends.{IfDue, IsOneCommit, Commits, EffectDone, scene, Protects};
 
 use crate::bytes::write;
 use crate::frame::Frame;
@@ -19,7 +19,7 @@ use mc_trans::Pending;
 /// them and begins it, 3 commits them and begins it. A commit is one commit of the bank; with no words there is none.
 pub fn protect<B: Bank>(bank: &mut B, frame: &mut Frame, mode: u8) -> Result<(), Stop>
     requires going { (B.state bank.old).stopped ≡ false }
-    requires fits { Fits (B.state bank.old) (B.named bank.old) frame.old }
+    requires fits { FitsBank (B.state bank.old) (B.named bank.old) frame.old }
     requires mode { mode ≤ 3 }
     ensures { Protects B.did B.state B.named (scene bank.old bank.new frame.old frame.new [] [])
         (model.protect (shown (B.state bank.old) (B.named bank.old) frame.old) [] mode) result }
@@ -51,9 +51,9 @@ fn drop_pending(frame: &mut Frame, protected: bool)
 // Commits the pending words, if there are some.
 fn commit_pending<B: Bank>(bank: &mut B, frame: &Frame) -> Result<(), Stop>
     requires going { (B.state bank.old).stopped ≡ false }
-    requires fits { Fits (B.state bank.old) (B.named bank.old) frame.now }
+    requires fits { FitsBank (B.state bank.old) (B.named bank.old) frame.now }
     ensures items { let m = shown (B.state bank.old) (B.named bank.old) frame.now in
-        Committed B.did m.name m.fixed (model.committed m m.pieces) bank.old result bank.new }
+        IsOneCommit B.did m.name m.fixed (model.committed m m.pieces) bank.old result bank.new }
     ensures fixed { OnOk result (IsCommitted (B.state bank.old) (B.state bank.new) (B.named bank.old)
         (B.named bank.new) frame.now (model.static_bytes (shown (B.state bank.old) (B.named bank.old) frame.now))) }
     ensures going { OnOk result ((B.state bank.new).stopped ≡ false) }
@@ -68,13 +68,13 @@ fn commit_pending<B: Bank>(bank: &mut B, frame: &Frame) -> Result<(), Stop>
 /// Writes static bytes at once: one commit of the words that they touch.
 pub fn commit_static<B: Bank>(bank: &mut B, frame: &Frame, at: u16, from: &[u8]) -> Result<(), Stop>
     requires going { (B.state bank.old).stopped ≡ false }
-    requires fits { Fits (B.state bank.old) (B.named bank.old) frame.now }
+    requires fits { FitsBank (B.state bank.old) (B.named bank.old) frame.now }
     requires low { 1 ≤ length from.now }
     requires high { length from.now ≤ 255 }
     requires range { at + length from.now ≤ length frame.now.frame.fixed }
     ensures items { Commits B.did B.state B.named (scene bank.old bank.new frame.now frame.now [] [])
         (model.static_written false (shown (B.state bank.old) (B.named bank.old) frame.now) [] at from.now) result }
-    ensures done { OnOk result (Left B.did B.state B.named (scene bank.old bank.new frame.now frame.now [] [])
+    ensures done { OnOk result (EffectDone B.did B.state B.named (scene bank.old bank.new frame.now frame.now [] [])
         (model.static_written false (shown (B.state bank.old) (B.named bank.old) frame.now) [] at from.now)) }
 {
     let mut words = Pending::new();
@@ -85,13 +85,13 @@ pub fn commit_static<B: Bank>(bank: &mut B, frame: &Frame, at: u16, from: &[u8])
 /// Keeps static bytes as pending words. Abend 08 where more than 64 words would be pending, and then nothing changes.
 pub fn keep_static<B: Bank>(bank: &B, frame: &mut Frame, at: u16, from: &[u8]) -> Result<(), Abend>
     requires going { (B.state bank.now).stopped ≡ false }
-    requires fits { Fits (B.state bank.now) (B.named bank.now) frame.old }
+    requires fits { FitsBank (B.state bank.now) (B.named bank.now) frame.old }
     requires low { 1 ≤ length from.now }
     requires high { length from.now ≤ 255 }
     requires range { at + length from.now ≤ length frame.old.frame.fixed }
     ensures abend { IfDue result (model.passes_limit true (shown (B.state bank.now) (B.named bank.now) frame.old)
         (Some (model.Static at)) (length from.now)) Abend.A08 }
-    ensures kept { OnOk result (Left B.did B.state B.named (scene bank.now bank.now frame.old frame.new [] [])
+    ensures kept { OnOk result (EffectDone B.did B.state B.named (scene bank.now bank.now frame.old frame.new [] [])
         (model.static_written true (shown (B.state bank.now) (B.named bank.now) frame.old) [] at from.now)) }
     ensures unchanged { OnErr result (frame.new ≡ frame.old) }
 {

@@ -1,7 +1,7 @@
 // The stack of a frame: bytes on its top, and the saved registers of calls.
 ghost use Rattle.std.specs.Prelude.{◌≡◌, ◌-◌, ◌+◌, ◌≤◌, false, length, not, OnOk, OnErr};
 ghost use Rattle.mc_model.specs.Frame as model;
-ghost use Rattle.mc_segs.specs.Ends.{Gives, IfDue};
+ghost use Rattle.mc_segs.specs.Ends.{GivesOrAbends, IfDue};
 
 use crate::bytes::{move_bytes, read, word_at, words, write};
 use crate::frame::{DYNAMIC, Frame};
@@ -84,7 +84,7 @@ pub fn enter(frame: &mut Frame, to: u16) -> Result<(), Abend>
 /// The code address to which a call with `i` bytes below it returns, with `o` bytes above LB. Abend 04 where no such call
 /// lies on the stack.
 pub fn return_address(frame: &Frame, i: u8, o: u8) -> Result<u16, Abend>
-    ensures { Gives result (model.no_return frame.now.frame i o) Abend.A04 (model.saved frame.now.frame 2) }
+    ensures { GivesOrAbends result (model.no_return frame.now.frame i o) Abend.A04 (model.saved frame.now.frame 2) }
 {
     if !returns(frame, i as u16, o as u16) {
         return Err(Abend::A04);

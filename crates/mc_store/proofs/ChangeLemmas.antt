@@ -13,14 +13,14 @@ use Rattle.mc_model.specs.Items.{Commit, Remove}
 use Rattle.mc_bank.specs.Bank.{CanCommit, no_app, app_of, name_or}
 use Rattle.mc_blocks.specs.Plans.{plan, without, has_span}
 use Rattle.mc_store.specs.Store.{apps_in, is_going, place_named, store_named, part_from, static_writes, card_without, count_after, StoreDid}
-use Rattle.mc_store.specs.Slots.{IsBlock}
+use Rattle.mc_store.specs.Slots.{IsUsedBlock}
 use Rattle.mc_store.specs.GoingLaws.{Going, going_is}
 use Rattle.mc_store.specs.AlikeLaws.{gates}
 use Rattle.mc_store.specs.SectionLaws.{length-section}
 use Rattle.mc_store.specs.DeletionLaws.{Deletes, deletes-plan, deletes-count}
 use Rattle.mc_store.specs.SpliceLaws.{placed_words}
 use Rattle.mc_store.specs.StaticLaws.{static_from, StaticIn, static-in}
-use Rattle.mc_store.specs.CommitLaws.{Committed, commits}
+use Rattle.mc_store.specs.CommitLaws.{CommittedCard, commits}
 use Rattle.mc_store.specs.TurnLaws.{Standing, standing-of, some-is}
 use Rattle.mc_store.specs.StoreItems.{SlotIs, slot_is}
 use Rattle.mc_bank.specs.Slots.{slot_place, slot_sizes}
@@ -85,7 +85,7 @@ module _ {D : Type 0} (state : D → DeviceState) (wrote : D → ℕ → List �
 -- ---- a commit
 
 -- the first word of static bytes, by the record
-pub static-first : (m : List (List ℕ)) (p : ℕ) (a : App) → IsSized m → IsBlock m p → app_at m p ≡ a → static_from a ≡ p + 5 + up (be2 (record_at m p) 20) 8
+pub static-first : (m : List (List ℕ)) (p : ℕ) (a : App) → IsSized m → IsUsedBlock m p → app_at m p ≡ a → static_from a ≡ p + 5 + up (be2 (record_at m p) 20) 8
 static-first m p a image block is =
     let r = record_at m p in
     let k : RecordIs r block.words = record_is r block.words block.good in
@@ -96,7 +96,7 @@ static-first m p a image block is =
 pub record CommitIs (d : DeviceState) (p : ℕ) (ws : List (ℕ × List ℕ)) : Type 0 where
   pub on : d.on ≡ true
   pub gate : is_open Two d.words ≡ false
-  pub block : IsBlock d.words p
+  pub block : IsUsedBlock d.words p
   pub atomic : IsAtomic (length d.words) (placed_words (p + 5 + up (be2 (record_at d.words p) 20) 8) ws)
   pub few : length ws ≤ 64
   pub within : AllByRecursion (λ w. p + 5 + up (be2 (record_at d.words p) 20) 8 + w.0 ≤ 65535) ws
@@ -120,14 +120,14 @@ commit-is d c p ws image going there can =
     let a = slot.app in
     let found : lookup (card_of m).apps n ≡ Some a = ap (λ (es : List (List ℕ × App)). lookup es n) (sym s.apps) ∙ slot.there in
     let st : StaticIn m n a = static-in m n a image g.laid found in
-    let block : IsBlock m p = subst (λ (q : ℕ). IsBlock m q) slot.place st.block in
+    let block : IsUsedBlock m p = subst (λ (q : ℕ). IsUsedBlock m q) slot.place st.block in
     let self : app_at m p ≡ a = subst (λ (q : ℕ). app_at m q ≡ a) slot.place st.self in
     let first : static_from a ≡ p + 5 + up (be2 (record_at m p) 20) 8 = static-first m p a image block self in
     let app : app_of (means m).apps (Some (name_or (place_named d p))) ≡ a = ap (λ (k : List ℕ). unwrap_or (lookup (means m).apps k) no_app) name ∙ ap (λ (o : Option App). unwrap_or o no_app) slot.there in
     let here : app_of (apps_in m) (place_named d p) ≡ a =
     ap (λ (o : Option (List ℕ)). app_of (apps_in m) o) named.1 ∙ ap (λ (es : List (List ℕ × App)). unwrap_or (lookup es n) no_app) (s.map ∙ sym s.apps) ∙ ap (λ (o : Option App). unwrap_or o no_app) slot.there in
     let ok : CanCommit a.fixed ws = subst (λ (x : App). CanCommit x.fixed ws) here can in
-    let t : Committed m n a ws = commits m n a ws image g.laid found ok in
+    let t : CommittedCard m n a ws = commits m n a ws image g.laid found ok in
     record {
       on = g.on;
       gate = (gates m g.closed).two;

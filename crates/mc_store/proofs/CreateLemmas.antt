@@ -15,7 +15,7 @@ use Rattle.mc_model.specs.Layout.{gaps, spans, put_at, step_of, IsWellLaid}
 use Rattle.mc_model.specs.Items.{Site, Blank, Note, Enter}
 use Rattle.mc_base.specs.Name.{IsName}
 use Rattle.mc_blocks.specs.Plans.{plan, has_room}
-use Rattle.mc_store.specs.Store.{is_going, needed_by, part_from, record_bytes, record_word, card_with, count_after, IsGoodIn, IsInWord, IsReady, StoreDid}
+use Rattle.mc_store.specs.Store.{is_going, needed_by, part_from, record_bytes, record_word, card_with, count_after, IsGoodIn, IsInWord, IsReadySite, StoreDid}
 use Rattle.mc_store.specs.GoingLaws.{Going, going_is}
 use Rattle.mc_store.specs.AlikeLaws.{gates}
 use Rattle.mc_store.specs.CreationLaws.{AtSite, at-site, Creates, creates-plan}
@@ -82,7 +82,7 @@ pub record EnterIs (d : DeviceState) (c : ℕ) (s : Site) (n : List ℕ) : Type 
   pub few : c < 32
   pub plan : plan (means d.words) (put_at s.place (needed_by s.sizes) (spans (means d.words))) ≡ step_of (means d.words) (card_with d.words s n)
 
-pub enter-is : (d : DeviceState) (c : ℕ) (s : Site) (n : List ℕ) → IsSized d.words → is_going d c ≡ true → IsReady d.words s n → EnterIs d c s n
+pub enter-is : (d : DeviceState) (c : ℕ) (s : Site) (n : List ℕ) → IsSized d.words → is_going d c ≡ true → IsReadySite d.words s n → EnterIs d c s n
 enter-is d c s n image going ready =
     let m = d.words in
     let g : Going d c = going_is d c going in
@@ -94,7 +94,7 @@ enter-is d c s n image going ready =
     record { on = g.on; closed = g.closed; well = t.well; gate = (gates m g.closed).two; room = site.room; few = omega (arith, few, old); plan = sym p.plan }
 
 module _ {D : Type 0} (state : D → DeviceState) (wrote : D → ℕ → List ℕ → Answer → D → Type 0) where
-  pub enter-did : (d e : D) (c p need : ℕ) (s : Site) (n : List ℕ) (items : List (ℕ × List ℕ)) (a : Answer) → IsSized (state d).words → is_going (state d) c ≡ true → IsReady (state d).words s n → p ≡ s.place → need ≡ needed_by s.sizes
+  pub enter-did : (d e : D) (c p need : ℕ) (s : Site) (n : List ℕ) (items : List (ℕ × List ℕ)) (a : Answer) → IsSized (state d).words → is_going (state d) c ≡ true → IsReadySite (state d).words s n → p ≡ s.place → need ≡ needed_by s.sizes
       → items ≡ plan (means (state d).words) (put_at p need (spans (means (state d).words))) → Makes wrote d (writes Two items) a e → StoreDid state wrote d c (Enter s n) a e (count_after (Enter s n) a c)
   enter-did d e c p need s n items a image going ready place sizes is made =
       let k : EnterIs (state d) c s n = enter-is (state d) c s n image going ready in

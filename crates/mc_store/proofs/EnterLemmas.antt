@@ -8,7 +8,7 @@ use Rattle.mc_model.specs.Card.{Card, means}
 use Rattle.mc_model.specs.Items.{Site, Blank, Note}
 use Rattle.mc_base.specs.Name.{IsName}
 use Rattle.mc_store.specs.declared.store.Store.{Store}
-use Rattle.mc_store.specs.Store.{is_going, IsGoodIn, IsReady}
+use Rattle.mc_store.specs.Store.{is_going, IsGoodIn, IsReadySite}
 use Rattle.mc_store.specs.GoingLaws.{going_is, closed_means}
 use Rattle.mc_store.specs.StoreItems.{store_did, blank_items}
 use Rattle.mc_store.proofs.FillLemmas.{PlainOn}
@@ -27,7 +27,7 @@ same-size d e c going on =
 module _ {N : Type 0} (state : N → DeviceState) (wrote : N → ℕ → List ℕ → Answer → N → Type 0)
     (obeys : (d : N) (at : ℕ) (w : List ℕ) (a : Answer) (e : N) → (state d).on ≡ true → wrote d at w a e → Wrote (state d) at w a (state e)) where
   pub create-ready : (x y z : Store N) (s : Site) (k : List ℕ) → IsSized (state x.device).words → is_going (state x.device) x.count ≡ true → IsGoodIn (state x.device).words s → IsName k → lookup (means (state x.device).words).apps k ≡ None
-      → InOrder (store_did state wrote) x (blank_items s s.sizes.init (zeros (s.sizes.fixed - s.sizes.init))) (Ok tt) y → InOrder (store_did state wrote) y (Note s k 0 ∷ Note s k 1 ∷ Note s k 2 ∷ Note s k 3 ∷ []) (Ok tt) z → IsGoodIn (state z.device).words s → IsReady (state z.device).words s k
+      → InOrder (store_did state wrote) x (blank_items s s.sizes.init (zeros (s.sizes.fixed - s.sizes.init))) (Ok tt) y → InOrder (store_did state wrote) y (Note s k 0 ∷ Note s k 1 ∷ Note s k 2 ∷ Note s k 3 ∷ []) (Ok tt) z → IsGoodIn (state z.device).words s → IsReadySite (state z.device).words s k
   create-ready x y z s k image going good name fresh blanks notes good-z =
       let one = items-on (λ (t : Store N). t.device) (λ (t : Store N). t.count) state wrote obeys (blank_items s s.sizes.init (zeros (s.sizes.fixed - s.sizes.init))) x y (plain-blanks s _) going blanks in
       let on : is_going (state y.device) y.count ≡ true = subst (λ (c : ℕ). is_going (state y.device) c ≡ true) (sym one.1) one.0.going in

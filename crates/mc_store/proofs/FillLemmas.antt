@@ -15,7 +15,7 @@ use Rattle.mc_bank.specs.Bank.{part_len}
 use Rattle.mc_store.specs.Store.{apps_in, is_going, needed_by, part_from, IsGoodIn, IsInWord, StoreDid}
 use Rattle.mc_store.specs.GoingLaws.{Going, going_is, is_going_of, closed_means}
 use Rattle.mc_store.specs.CreationLaws.{AtSite, at-site}
-use Rattle.mc_store.specs.TurnLaws.{Turned, Standing, standing-of, turns, parted}
+use Rattle.mc_store.specs.TurnLaws.{CardChanged, Standing, standing-of, turns, parted}
 
 -- ---- the parts of a piece
 
@@ -72,15 +72,15 @@ piece-next s p at done j b lt some few fits least =
 -- ---- items in order
 
 -- what is left of some items leads where all of them lead
-pub record Leads {S : Type 0} (one : S → BankItem → Answer → S → Type 0) (start : S) (all : List BankItem) (now : S) (left : List BankItem) : Type 0 where
+pub record ItemsLead {S : Type 0} (one : S → BankItem → Answer → S → Type 0) (start : S) (all : List BankItem) (now : S) (left : List BankItem) : Type 0 where
   pub rest : (a : Answer) (e : S) → InOrder one now left a e → InOrder one start all a e
 
 module _ {S : Type 0} (one : S → BankItem → Answer → S → Type 0) where
-  pub leads-on : (start now next : S) (all left rest : List BankItem) (i : BankItem) → Leads one start all now left → left ≡ i ∷ rest → one now i (Ok tt) next → Leads one start all next rest
+  pub leads-on : (start now next : S) (all left rest : List BankItem) (i : BankItem) → ItemsLead one start all now left → left ≡ i ∷ rest → one now i (Ok tt) next → ItemsLead one start all next rest
   leads-on start now next all left rest i leads is did =
       record { rest = λ a e h. leads.rest a e (subst (λ (l : List BankItem). InOrder one now l a e) (sym is) (inl (next, did, h))) }
 
-  pub leads-stop : (start now e : S) (all left rest : List BankItem) (i : BankItem) (s : Stop) → Leads one start all now left → left ≡ i ∷ rest → one now i (Err s) e → InOrder one start all (Err s) e
+  pub leads-stop : (start now e : S) (all left rest : List BankItem) (i : BankItem) (s : Stop) → ItemsLead one start all now left → left ≡ i ∷ rest → one now i (Err s) e → InOrder one start all (Err s) e
   leads-stop start now e all left rest i s leads is did = leads.rest (Err s) e (subst (λ (l : List BankItem). InOrder one now l (Err s) e) (sym is) (inr (s, did, refl)))
 
 -- ---- one write
@@ -102,7 +102,7 @@ pub record PlainOn (d e : DeviceState) (c : ℕ) : Type 0 where
   pub cuts : e.cuts ≡ d.cuts
   pub faults : e.faults ≡ d.faults
 
-pub plain-on : (d e : DeviceState) (c : ℕ) → is_going d c ≡ true → Turned d (apps_in d.words) e c → PlainOn d e c
+pub plain-on : (d e : DeviceState) (c : ℕ) → is_going d c ≡ true → CardChanged d (apps_in d.words) e c → PlainOn d e c
 plain-on d e c going t =
     let g : Going d c = going_is d c going in
     let s : Standing d.words = standing-of d c g in

@@ -17,17 +17,18 @@ use Rattle.mc_model.specs.Card.{App, Card, means, card_of}
 use Rattle.mc_model.specs.Layout.{gaps, first_fitting}
 use Rattle.mc_model.specs.Items.{Site, BankItem, Piece, Blank, Note, Commit, Enter, Remove}
 use Rattle.mc_model.proofs.ImageLemmas.{all-map}
-use Rattle.mc_bank.specs.Bank.{BankState, IsGood, StayGood, entered, item_done, part_len, IsChanged, IsStopped, StopRose, Changes}
+use Rattle.mc_bank.specs.Bank.{BankState, IsGoodSite, StayGood, entered, item_done, part_len, IsChanged, IsStopped, StopRose, Changes}
 use Rattle.mc_store.specs.declared.store.Store.{Store}
 use Rattle.mc_bank.specs.Slots.{slot_place, name_of_slot}
 use Rattle.mc_store.specs.Store.{apps_in, is_going, store_state, store_named, store_room, store_standing, name_of_place, part_in, needed_by, IsGoodIn, IsInWord, item_writes}
 use Rattle.mc_store.specs.GoingLaws.{Going, going_is, closed_means, closed_settled, closed_apps, laid_apps}
 use Rattle.mc_store.specs.GapLaws.{just-one}
 use Rattle.mc_store.specs.CreationLaws.{at-site}
-use Rattle.mc_store.specs.TurnLaws.{some-is, Turns, Standing, standing-of, turns}
+use Rattle.mc_store.specs.TurnLaws.{some-is, ChangesCard, Standing, standing-of, turns}
 use Rattle.mc_store.specs.Laws.{store_obeys, store_keeps}
 use Rattle.mc_store.specs.StoreItems.{store_did}
 use Rattle.mc_store.proofs.SiteLemmas.{piece_part, piece_other, blank_part, note_part, laid_parts, none_laid, part_length}
+use Rattle.mc_store.proofs.ItemLemmas.{IsPlain}
 
 -- ---- changes one after another
 
@@ -44,15 +45,6 @@ change_after b m e after (Err t) first then =
 
 stopped_changes : (b e : BankState) (t : Stop) (after : List (List ℕ × App)) → IsStopped b b.apps t e → IsStopped b after t e
 stopped_changes b e t after h = record { apps = elim h.apps [ inl old ↦ inl old | inr new ↦ inl new ]; rose = h.rose }
-
--- an item that changes no application
-abbrev pub IsPlain : BankItem → Type 0
-IsPlain (Piece s p at b) = Unit {0}
-IsPlain (Blank s at n) = Unit {0}
-IsPlain (Note s n i) = Unit {0}
-IsPlain (Commit n ws) = ⊥
-IsPlain (Enter s n) = ⊥
-IsPlain (Remove n) = ⊥
 
 plain_done : (standing : Site → Part → List ℕ) (i : BankItem) (apps : List (List ℕ × App)) → IsPlain i → item_done standing i apps ≡ apps
 plain_done standing (Piece s p at b) apps h = refl
@@ -95,11 +87,11 @@ module _ {N : Type 0} (state : N → DeviceState) (wrote : N → ℕ → List �
   -- ---- one item
 
   -- the card and the applications are the same
-  pub record Kept (s e : Store N) : Type 0 where
+  pub record CardKept (s e : Store N) : Type 0 where
     pub card : means (state e.device).words ≡ means (state s.device).words
     pub apps : apps_in (state e.device).words ≡ apps_in (state s.device).words
 
-  kept_by : (s e : Store N) (a : Answer) (apps : List (List ℕ × App)) → Going (state s.device) s.count → apps ≡ apps_in (state s.device).words → Turns (state s.device) apps a (state e.device) e.count → Kept s e
+  kept_by : (s e : Store N) (a : Answer) (apps : List (List ℕ × App)) → Going (state s.device) s.count → apps ≡ apps_in (state s.device).words → ChangesCard (state s.device) apps a (state e.device) e.count → CardKept s e
   kept_by s e (Ok tt) apps g is t =
       let m = (state s.device).words in
       let w = (state e.device).words in
@@ -119,7 +111,7 @@ module _ {N : Type 0} (state : N → DeviceState) (wrote : N → ℕ → List �
         apps = laid_apps w t.good ∙ ap (λ (x : Card). x.apps) same ∙ sym (closed_apps m g.closed g.laid);
       }
 
-  plain_kept : (s e : Store N) (i : BankItem) (a : Answer) → IsPlain i → store_did state wrote s i a e → Kept s e
+  plain_kept : (s e : Store N) (i : BankItem) (a : Answer) → IsPlain i → store_did state wrote s i a e → CardKept s e
   plain_kept s e i a plain did =
       kept_by s e a (item_done (store_standing (state s.device)) i (apps_in (state s.device).words)) (going_is (state s.device) s.count did.going) (plain_done (store_standing (state s.device)) i (apps_in (state s.device).words) plain)
       (turns state wrote obeys i s.device e.device s.count e.count a did)
@@ -131,14 +123,14 @@ module _ {N : Type 0} (state : N → DeviceState) (wrote : N → ℕ → List �
 
   -- ---- plain items in order
 
-  pub all_kept : (is : List BankItem) (s e : Store N) (a : Answer) → AllByRecursion IsPlain is → InOrder (store_did state wrote) s is a e → Kept s e
-  all_kept [] s e (Ok u) plain h = subst (λ (x : Store N). Kept s x) (sym h) (record { card = refl; apps = refl })
+  pub all_kept : (is : List BankItem) (s e : Store N) (a : Answer) → AllByRecursion IsPlain is → InOrder (store_did state wrote) s is a e → CardKept s e
+  all_kept [] s e (Ok u) plain h = subst (λ (x : Store N). CardKept s x) (sym h) (record { card = refl; apps = refl })
   all_kept [] s e (Err x) plain h = absurd h
   all_kept (i ∷ is) s e a plain h =
       elim h [
         | inl done ↦
-            let first : Kept s done.0 = plain_kept s done.0 i (Ok tt) plain.0 done.1 in
-            let rest : Kept done.0 e = all_kept is done.0 e a plain.1 done.2 in
+            let first : CardKept s done.0 = plain_kept s done.0 i (Ok tt) plain.0 done.1 in
+            let rest : CardKept done.0 e = all_kept is done.0 e a plain.1 done.2 in
             record { card = rest.card ∙ first.card; apps = rest.apps ∙ first.apps }
         | inr stop ↦ plain_kept s e i (Err stop.0) plain.0 stop.1
       ]
@@ -157,7 +149,7 @@ module _ {N : Type 0} (state : N → DeviceState) (wrote : N → ℕ → List �
         | inr stop ↦ subst (λ (x : Answer). Changes (st s) (apps_in (state s.device).words) x (st e)) (sym stop.2) (plain_changes s e i (Err stop.0) plain.0 stop.1)
       ]
 
-  pub kept_good : (s e : Store N) → Kept s e → StayGood (apps_in (state s.device).words) (store_room (state s.device)) (apps_in (state e.device).words) (store_room (state e.device))
+  pub kept_good : (s e : Store N) → CardKept s e → StayGood (apps_in (state s.device).words) (store_room (state s.device)) (apps_in (state e.device).words) (store_room (state e.device))
   kept_good s e k t good =
       record {
         limits = good.limits;
@@ -165,7 +157,7 @@ module _ {N : Type 0} (state : N → DeviceState) (wrote : N → ℕ → List �
         place = ap (λ (x : Card). first_fitting (needed_by t.sizes) (gaps x)) k.card ∙ good.place;
       }
 
-  pub kept_slots : (s e : Store N) → Kept s e → (k : ℕ) → store_named (state e.device) k ≡ store_named (state s.device) k
+  pub kept_slots : (s e : Store N) → CardKept s e → (k : ℕ) → store_named (state e.device) k ≡ store_named (state s.device) k
   kept_slots s e k q = ap (λ (es : List (List ℕ × App)). name_of_slot es q (name_of_place es (slot_place q))) k.apps
 
   -- ---- the bytes at a site
@@ -269,29 +261,29 @@ module _ {N : Type 0} (state : N → DeviceState) (wrote : N → ℕ → List �
       ]
 
   -- the application is there or not, and all others keep their slots
-  pub record Created (s e : Store N) (t : Site) (n : List ℕ) (a : Answer) : Type 0 where
+  pub record ApplicationCreated (s e : Store N) (t : Site) (n : List ℕ) (a : Answer) : Type 0 where
     pub apps : Changes (st s) (insert (apps_in (state s.device).words) n (entered t (store_standing (state s.device) t))) a (st e)
     pub slots : (k : ℕ) (l : List ℕ) → store_named (state s.device) k ≡ Some l → store_named (state e.device) k ≡ Some l
 
-  enter_created : (s e : Store N) (t : Site) (n : List ℕ) (a : Answer) → InOrder (store_did state wrote) s (Enter t n ∷ []) a e → Created s e t n a
+  enter_created : (s e : Store N) (t : Site) (n : List ℕ) (a : Answer) → InOrder (store_did state wrote) s (Enter t n ∷ []) a e → ApplicationCreated s e t n a
   enter_created s e t n a h =
       elim h [
         | inl done ↦ enter_done done.0 a done.1 done.2
-        | inr stop ↦ subst (λ (x : Answer). Created s e t n x) (sym stop.2) (entered_by e (Err stop.0) stop.1)
+        | inr stop ↦ subst (λ (x : Answer). ApplicationCreated s e t n x) (sym stop.2) (entered_by e (Err stop.0) stop.1)
       ]
     where
-      entered_by : (m : Store N) (b : Answer) → store_did state wrote s (Enter t n) b m → Created s m t n b
+      entered_by : (m : Store N) (b : Answer) → store_did state wrote s (Enter t n) b m → ApplicationCreated s m t n b
       entered_by m b did =
           record {
             apps = store_obeys state wrote obeys s.device m.device s.count m.count (Enter t n) b did;
             slots = λ k l is. store_keeps state wrote obeys s.device m.device s.count m.count (Enter t n) b did k l is tt;
           }
 
-      enter_done : (m : Store N) (b : Answer) → store_did state wrote s (Enter t n) (Ok tt) m → InOrder (store_did state wrote) m [] b e → Created s e t n b
-      enter_done m (Ok tt) did same = subst (λ (x : Store N). Created s x t n (Ok tt)) (sym same) (entered_by m (Ok tt) did)
+      enter_done : (m : Store N) (b : Answer) → store_did state wrote s (Enter t n) (Ok tt) m → InOrder (store_did state wrote) m [] b e → ApplicationCreated s e t n b
+      enter_done m (Ok tt) did same = subst (λ (x : Store N). ApplicationCreated s x t n (Ok tt)) (sym same) (entered_by m (Ok tt) did)
       enter_done m (Err x) did same = absurd same
 
-  pub all_created : (is : List BankItem) (s e : Store N) (t : Site) (n : List ℕ) (a : Answer) → AllByRecursion (IsQuiet t) is → InOrder (store_did state wrote) s (is ++ Enter t n ∷ []) a e → Created s e t n a
+  pub all_created : (is : List BankItem) (s e : Store N) (t : Site) (n : List ℕ) (a : Answer) → AllByRecursion (IsQuiet t) is → InOrder (store_did state wrote) s (is ++ Enter t n ∷ []) a e → ApplicationCreated s e t n a
   all_created [] s e t n a quiet h = enter_created s e t n a h
   all_created (i ∷ is) s e t n a quiet h =
       elim h [
@@ -299,8 +291,8 @@ module _ {N : Type 0} (state : N → DeviceState) (wrote : N → ℕ → List �
             let m = done.0 in
             let plain : IsPlain i = quiet_plain t i quiet.0 in
             let first : IsChanged (st s) (apps_in (state s.device).words) (st m) = plain_changes s m i (Ok tt) plain done.1 in
-            let kept : Kept s m = plain_kept s m i (Ok tt) plain done.1 in
-            let rest : Created m e t n a = all_created is m e t n a quiet.1 done.2 in
+            let kept : CardKept s m = plain_kept s m i (Ok tt) plain done.1 in
+            let rest : ApplicationCreated m e t n a = all_created is m e t n a quiet.1 done.2 in
             let same : entered t (store_standing (state m.device) t) ≡ entered t (store_standing (state s.device) t) =
             same_entered t (store_standing (state m.device) t) (store_standing (state s.device) t) (λ o. quiet_stands s m i t o quiet.0 done.1) in
             record {
@@ -311,8 +303,8 @@ module _ {N : Type 0} (state : N → DeviceState) (wrote : N → ℕ → List �
             }
         | inr stop ↦
             let plain : IsPlain i = quiet_plain t i quiet.0 in
-            let kept : Kept s e = plain_kept s e i (Err stop.0) plain stop.1 in
-            subst (λ (x : Answer). Created s e t n x) (sym stop.2)
+            let kept : CardKept s e = plain_kept s e i (Err stop.0) plain stop.1 in
+            subst (λ (x : Answer). ApplicationCreated s e t n x) (sym stop.2)
             (record {
               apps = stopped_changes (st s) (st e) stop.0 (insert (apps_in (state s.device).words) n (entered t (store_standing (state s.device) t))) (plain_changes s e i (Err stop.0) plain stop.1);
               slots = λ k l is. kept_slots s e kept k ∙ is;
@@ -346,11 +338,11 @@ creation_quiet t n = blanks_quiet t (word_parts t.sizes.init (zeros (t.sizes.fix
 
 module _ {N : Type 0} (state : N → DeviceState) (wrote : N → ℕ → List ℕ → Answer → N → Type 0)
     (obeys : (d : N) (at : ℕ) (w : List ℕ) (a : Answer) (e : N) → (state d).on ≡ true → wrote d at w a e → Wrote (state d) at w a (state e)) where
-  pub create_ends : (s e : Store N) (t : Site) (n : List ℕ) (a : Answer) → InOrder (store_did state wrote) s (create_items t n) a e → Created state wrote obeys s e t n a
+  pub create_ends : (s e : Store N) (t : Site) (n : List ℕ) (a : Answer) → InOrder (store_did state wrote) s (create_items t n) a e → ApplicationCreated state wrote obeys s e t n a
   create_ends s e t n a h =
       all_created state wrote obeys (before_enter t n) s e t n a (creation_quiet t n) (subst (λ (is : List BankItem). InOrder (store_did state wrote) s is a e) (creation_is t n) h)
 
-  pub create_slots : (s e : Store N) (t : Site) (n : List ℕ) (a : Answer) → Created state wrote obeys s e t n a → (k : ℕ) → IsSome (store_named (state s.device) k) → store_named (state e.device) k ≡ store_named (state s.device) k
+  pub create_slots : (s e : Store N) (t : Site) (n : List ℕ) (a : Answer) → ApplicationCreated state wrote obeys s e t n a → (k : ℕ) → IsSome (store_named (state s.device) k) → store_named (state e.device) k ≡ store_named (state s.device) k
   create_slots s e t n a c k some = let x = some-is (store_named (state s.device) k) some in c.slots k x.0 x.1 ∙ sym x.1
 
   -- a piece of a section, in its words
@@ -388,7 +380,7 @@ module _ {N : Type 0} (state : N → DeviceState) (wrote : N → ℕ → List �
 -- ---- good sites
 
 -- a site that is good by the bank is good in the words
-pub good_in : (d : DeviceState) (c : ℕ) (t : Site) → is_going d c ≡ true → IsGood (apps_in d.words) (store_room d) t → IsGoodIn d.words t
+pub good_in : (d : DeviceState) (c : ℕ) (t : Site) → is_going d c ≡ true → IsGoodSite (apps_in d.words) (store_room d) t → IsGoodIn d.words t
 good_in d c t going good =
     let s : Standing d.words = standing-of d c (going_is d c going) in
     record { limits = good.limits; few = subst (λ (n : ℕ). n < 32) (ap length (s.map ∙ sym s.apps)) good.few; place = good.place }

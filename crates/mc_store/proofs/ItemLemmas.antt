@@ -24,10 +24,10 @@ on-then d e f c x y = record { going = y.going; means = y.means ∙ x.means; cut
 
 module _ {D S : Type 0} (dev : S → D) (cnt : S → ℕ) (state : D → DeviceState) (wrote : D → ℕ → List ℕ → Answer → D → Type 0)
     (obeys : (d : D) (at : ℕ) (w : List ℕ) (a : Answer) (e : D) → (state d).on ≡ true → wrote d at w a e → Wrote (state d) at w a (state e)) where
-  abbrev Did : S → BankItem → Answer → S → Type 0
-  Did x i a y = StoreDid state wrote (dev x) (cnt x) i a (dev y) (cnt y)
+  abbrev ItemDid : S → BankItem → Answer → S → Type 0
+  ItemDid x i a y = StoreDid state wrote (dev x) (cnt x) i a (dev y) (cnt y)
 
-  plain-count : (x y : S) (i : BankItem) (a : Answer) → IsPlain i → Did x i a y → cnt y ≡ cnt x
+  plain-count : (x y : S) (i : BankItem) (a : Answer) → IsPlain i → ItemDid x i a y → cnt y ≡ cnt x
   plain-count x y (Piece s p at b) a h did = did.count
   plain-count x y (Blank s at n) a h did = did.count
   plain-count x y (Note s n i) a h did = did.count
@@ -36,10 +36,10 @@ module _ {D S : Type 0} (dev : S → D) (cnt : S → ℕ) (state : D → DeviceS
   plain-count x y (Remove n) a h did = absurd h
 
   -- with the count that stays
-  held : (x y : S) (i : BankItem) (a : Answer) → cnt y ≡ cnt x → Did x i a y → StoreDid state wrote (dev x) (cnt x) i a (dev y) (cnt x)
+  held : (x y : S) (i : BankItem) (a : Answer) → cnt y ≡ cnt x → ItemDid x i a y → StoreDid state wrote (dev x) (cnt x) i a (dev y) (cnt x)
   held x y i a e did = subst (λ (k : ℕ). StoreDid state wrote (dev x) (cnt x) i a (dev y) k) e did
 
-  pub item-on : (x y : S) (i : BankItem) → IsPlain i → Did x i (Ok tt) y → PlainOn (state (dev x)) (state (dev y)) (cnt x)
+  pub item-on : (x y : S) (i : BankItem) → IsPlain i → ItemDid x i (Ok tt) y → PlainOn (state (dev x)) (state (dev y)) (cnt x)
   item-on x y (Piece s p at b) h did = piece-on state wrote obeys (dev x) (dev y) (cnt x) s p at b (held x y (Piece s p at b) (Ok tt) did.count did)
   item-on x y (Blank s at n) h did = blank-on state wrote obeys (dev x) (dev y) (cnt x) s at n (held x y (Blank s at n) (Ok tt) did.count did)
   item-on x y (Note s n i) h did = note-on state wrote obeys (dev x) (dev y) (cnt x) s n i (held x y (Note s n i) (Ok tt) did.count did)
@@ -48,7 +48,7 @@ module _ {D S : Type 0} (dev : S → D) (cnt : S → ℕ) (state : D → DeviceS
   item-on x y (Remove n) h did = absurd h
 
   -- items that were done leave the card
-  pub items-on : (is : List BankItem) (x y : S) → AllByRecursion IsPlain is → is_going (state (dev x)) (cnt x) ≡ true → InOrder Did x is (Ok tt) y → PlainOn (state (dev x)) (state (dev y)) (cnt x) × (cnt y ≡ cnt x)
+  pub items-on : (is : List BankItem) (x y : S) → AllByRecursion IsPlain is → is_going (state (dev x)) (cnt x) ≡ true → InOrder ItemDid x is (Ok tt) y → PlainOn (state (dev x)) (state (dev y)) (cnt x) × (cnt y ≡ cnt x)
   items-on [] x y all going h = subst (λ (z : S). PlainOn (state (dev x)) (state (dev z)) (cnt x) × (cnt z ≡ cnt x)) (sym h) (on-self (state (dev x)) (cnt x) going, refl)
   items-on (i ∷ is) x y all going h =
       elim h [

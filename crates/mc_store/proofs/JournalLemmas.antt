@@ -4,7 +4,7 @@ use Rattle.std.specs.Prelude.{bytes_eq, Result, Ok, Err, ◌⊎◌}
 use Rattle.std.specs.List.{AllByRecursion}
 use Rattle.mc_model.specs.declared.card.Cause.{Cause}
 use Rattle.mc_model.specs.Image.{Journal, One, Two, opening, shut, gate, is_open, Only, which, which_of, Look, Refused, Closed, Pending, look_j, look_at, look, laid, After, Words, after, after_j, owed_j, replayed, debt, opened, within, count, aimed, headed, targets}
-use Rattle.mc_model.specs.Stopped.{Inside, replay, remains, torn, Resumes}
+use Rattle.mc_model.specs.Stopped.{InJournal, replay, remains, torn, Resumes}
 use Rattle.mc_model.specs.Card.{Card, card_of, means, word, words_after}
 use Rattle.mc_model.specs.Layout.{words_fault, fault, fault_of}
 use Rattle.mc_model.specs.Play.{Base, OnCard, AtFault, base_of}
@@ -12,7 +12,7 @@ use Rattle.mc_model.proofs.ImageLemmas.{all-append, length-laid, laid-other}
 use Rattle.mc_model.proofs.LookLemmas.{GoodPending, good-pending}
 use Rattle.mc_model.proofs.StoppedLemmas.{torn-other, shut-closed, targets-outside, closed-look}
 use Rattle.mc_model.proofs.RecoveryLemmas.{resume, resumed, look-one, look-two}
-use Rattle.mc_store.specs.Power.{found, IsBase}
+use Rattle.mc_store.specs.Power.{found, HoldsBase}
 use Rattle.mc_store.proofs.HeapLemmas.{SameHeap, same_drop, same_fault, same_card}
 
 -- the other journal
@@ -24,7 +24,7 @@ pub gates_apart : (j : Journal) → gate j ≢ gate (other j)
 gates_apart One h = absurd (cc h)
 gates_apart Two h = absurd (cc h)
 
-gate_within : (j : Journal) → Inside j (gate j)
+gate_within : (j : Journal) → InJournal j (gate j)
 gate_within One = (omega arith, omega arith)
 gate_within Two = inr refl
 
@@ -128,7 +128,7 @@ owes_open j m true e h = e
 owes_open j m false e h = absurd (h (ap debt (closed-look j m e)))
 
 -- an image that owes by one journal, and whose replay leaves words like others but inside it
-pub stays : (j : Journal) (m a b : List (List ℕ)) (n : ℕ) → is_open (other j) m ≡ false → owed_j j m ≡ n → after_j j m ≡ Words a → raw a ≡ raw b → IsBase (raw b) n j m
+pub stays : (j : Journal) (m a b : List (List ℕ)) (n : ℕ) → is_open (other j) m ≡ false → owed_j j m ≡ n → after_j j m ≡ Words a → raw a ≡ raw b → HoldsBase (raw b) n j m
 stays j m a b n h o is same =
     let alone : look m ≡ look_j j m = look_alone j m h in
     record {
@@ -153,7 +153,7 @@ module _ (m : List (List ℕ)) (j : Journal) (ps : List (ℕ × List ℕ)) (low 
       (ap (λ (x : List ℕ). bytes_eq x (opening j)) (resumed j m ps low p.look) ∙ shut-closed j)
 
   -- stopped at write k, which left x, the image is what it was
-  pub recovery_halted : (k : ℕ) (x : List ℕ) → 1 ≤ k → k ≤ length ps + 1 → IsBase (raw (laid m (replay j ps))) (remains j (length ps) k x) j (torn m (replay j ps) k x)
+  pub recovery_halted : (k : ℕ) (x : List ℕ) → 1 ≤ k → k ≤ length ps + 1 → HoldsBase (raw (laid m (replay j ps))) (remains j (length ps) k x) j (torn m (replay j ps) k x)
   recovery_halted k x first last =
       let e = torn m (replay j ps) k x in
       let r : Resumes j e (remains j (length ps) k x) (laid m (replay j ps)) = resume j m ps low p.look k x first last in

@@ -7,13 +7,13 @@ use Rattle.std.proofs.lemmas.Bool.{eqb-true}
 use Rattle.mc_model.specs.declared.card.Cause.TheVariants.{NoRoot, BadBlock, BadRecord, BadChain}
 use Rattle.mc_model.specs.Bytes.{be2, or_else}
 use Rattle.mc_model.specs.Image.{One, Two, opening, is_open, Closed, look, laid}
-use Rattle.mc_model.specs.Stopped.{Inside, writes, stands, owes, torn, stood, IsAtomic, SameOutside, Leaves, Stands}
+use Rattle.mc_model.specs.Stopped.{InJournal, writes, stands, owes, torn, stood, IsAtomic, SameOutside, LeavesOwing, LaidWhole}
 use Rattle.mc_model.specs.Card.{App, Block, card_of, word, blocks, heap_start}
 use Rattle.mc_model.specs.Layout.{words_fault, root, no_root, bad_block, bad_record, bad_link, bad_chain, first_hole, by_cause}
 use Rattle.mc_model.proofs.ImageLemmas.{laid-other}
 use Rattle.mc_model.proofs.StoppedLemmas.{torn-other, shut-closed, tear, done}
 use Rattle.mc_blocks.proofs.Bridge.{Faultless, faultless}
-use Rattle.mc_store.specs.Power.{new_root, IsBase}
+use Rattle.mc_store.specs.Power.{new_root, HoldsBase}
 use Rattle.mc_store.proofs.HeapLemmas.{SameHeap, root_test, same_drop, all_blocks, all_apps, bad_blocks, bad_records}
 use Rattle.mc_store.proofs.JournalLemmas.{closed_alone, raw, same_raw, stays}
 
@@ -113,7 +113,7 @@ one_word w = record { low = omega arith; high = omega arith; targets = refl }
 spares_gate : (w : List (List ℕ)) → AllByRecursion (λ p. p.0 ≢ 130) (writes One (new_root w))
 spares_gate w = (λ h. absurd (cc h), (λ h. absurd (cc h), (λ h. absurd (cc h), (λ h. absurd (cc h), (λ h. absurd (cc h), (λ h. absurd (cc h), tt))))))
 
-outside_one : (i : ℕ) → (i ≡ 0) ⊎ (131 ≤ i) → Inside One i → ⊥
+outside_one : (i : ℕ) → (i ≡ 0) ⊎ (131 ≤ i) → InJournal One i → ⊥
 outside_one i (inl z) h = let low = h.0 in absurd (omega (arith, z, low))
 outside_one i (inr g) h = let high = h.1 in absurd (omega (arith, g, high))
 
@@ -123,11 +123,11 @@ module _ (w : List (List ℕ)) (low : 256 ≤ length w) (high : length w ≤ 163
   stood_size false = refl
 
   -- stopped at write k, which left x, the card has the new root where the write stands, and else the old one
-  pub migration_halted : (k : ℕ) (x : List ℕ) → 1 ≤ k → k ≤ 6 → IsBase (raw (stood (stands One 1 k x) w (new_root w))) (owes One 1 k x) One (torn w (writes One (new_root w)) k x)
+  pub migration_halted : (k : ℕ) (x : List ℕ) → 1 ≤ k → k ≤ 6 → HoldsBase (raw (stood (stands One 1 k x) w (new_root w))) (owes One 1 k x) One (torn w (writes One (new_root w)) k x)
   migration_halted k x first last =
       let e = torn w (writes One (new_root w)) k x in
       let to = stood (stands One 1 k x) w (new_root w) in
-      let l : Leaves One e (owes One 1 k x) to = tear One w (new_root w) low high (one_word w) one k x first last in
+      let l : LeavesOwing One e (owes One 1 k x) to = tear One w (new_root w) low high (one_word w) one k x first last in
       let size : length l.after ≡ length to = l.same.size in
       let long : length to ≡ length w = stood_size (stands One 1 k x) in
       stays One e l.after to (owes One 1 k x)
@@ -139,7 +139,7 @@ module _ (w : List (List ℕ)) (low : 256 ≤ length w) (high : length w ≤ 163
   pub migration_closed : look (laid w (writes One (new_root w))) ≡ Closed
   migration_closed =
       let e = laid w (writes One (new_root w)) in
-      let s : Stands One w (new_root w) e = done One w (new_root w) low high (one_word w) one in
+      let s : LaidWhole One w (new_root w) e = done One w (new_root w) low high (one_word w) one in
       closed_alone One e
       (ap (λ (y : List ℕ). bytes_eq y (opening Two)) (laid-other w (writes One (new_root w)) 130 (spares_gate w)) ∙ two)
       (ap (λ (y : List ℕ). bytes_eq y (opening One)) s.gate ∙ shut-closed One)

@@ -14,7 +14,7 @@ use Rattle.mc_model.proofs.ImageLemmas.{length-laid, laid-append}
 use Rattle.mc_model.proofs.StoppedLemmas.{torn-within, torn-past}
 use Rattle.mc_model.proofs.DeviceLemmas.{DoneAll, StoppedAt, makes-done, makes-stopped}
 use Rattle.mc_store.specs.Store.{settled}
-use Rattle.mc_store.specs.Power.{found, new_root, migrating, power_writes, power_count, IsBase, IsHalted, Powered, Runs, Halts, Fails, PowersUp, power_answer, PowerFollows}
+use Rattle.mc_store.specs.Power.{found, new_root, migrating, power_writes, power_count, HoldsBase, IsHalted, Powered, Runs, Halts, Fails, PowersUp, power_answer, PowerFollows}
 use Rattle.mc_store.specs.GoingLaws.{is_going_of, closed_settled, closed_means}
 use Rattle.mc_store.proofs.HeapLemmas.{same_fault, same_card}
 use Rattle.mc_store.proofs.JournalLemmas.{IsPending, is_pending, NoneOpen, none_open, open_alone, base_in, raw, found_after, recovered_closed, recovery_halted}
@@ -23,25 +23,25 @@ use Rattle.mc_store.proofs.MigrationLemmas.{version_is, upgrade, IsUpgraded, is_
 -- ---- after the owed writes
 
 -- words that are a card once they are settled
-pub record IsCard (m : List (List ℕ)) : Type 0 where
+pub record IsCardOnceSettled (m : List (List ℕ)) : Type 0 where
   pub closed : look (settled m) ≡ Closed
   pub fault : words_fault (settled m) ≡ None
   pub card : means m ≡ card_of (settled m)
 
 -- what the owed writes of an image leave
-pub record Settles (m : List (List ℕ)) : Type 0 where
+pub record OwedSettles (m : List (List ℕ)) : Type 0 where
   pub laid : laid m (owed_writes (look m)) ≡ settled m
   pub count : length (owed_writes (look m)) ≡ owed m
   pub size : length (settled m) ≡ length m
   pub owes : owed (settled m) ≡ 0
   pub found : found (settled m) ≡ found m
-  pub card : fault m ≡ None → IsCard m
+  pub card : fault m ≡ None → IsCardOnceSettled m
 
 pub closed_words : (m : List (List ℕ)) → look m ≡ Closed → after m ≡ Words m
 closed_words m h = ap (λ (l : Look). replayed m l) h
 
 module _ (m : List (List ℕ)) (low : 256 ≤ length m) where
-  settles_refused : (p : ℕ) → look m ≡ Refused p → Settles m
+  settles_refused : (p : ℕ) → look m ≡ Refused p → OwedSettles m
   settles_refused p h =
       let same : settled m ≡ m = ap (λ (l : Look). words_after (replayed m l) m) h in
       record {
@@ -53,7 +53,7 @@ module _ (m : List (List ℕ)) (low : 256 ≤ length m) where
         card = λ f. absurd (cc (sym (ap (λ (l : Look). fault_of l m) h) ∙ f));
       }
 
-  settles_closed : look m ≡ Closed → Settles m
+  settles_closed : look m ≡ Closed → OwedSettles m
   settles_closed h =
       let same : settled m ≡ m = closed_settled m h in
       record {
@@ -65,7 +65,7 @@ module _ (m : List (List ℕ)) (low : 256 ≤ length m) where
         card = λ f. record { closed = ap look same ∙ h; fault = ap words_fault same ∙ sym (ap (λ (l : Look). fault_of l m) h) ∙ f; card = refl };
       }
 
-  settles_pending : (j : Journal) (ps : List (ℕ × List ℕ)) → look m ≡ Pending j ps → Settles m
+  settles_pending : (j : Journal) (ps : List (ℕ × List ℕ)) → look m ≡ Pending j ps → OwedSettles m
   settles_pending j ps h =
       let p : IsPending m j ps = is_pending m j ps h in
       let w = laid m (replay j ps) in
@@ -84,17 +84,17 @@ module _ (m : List (List ℕ)) (low : 256 ≤ length m) where
       fault_pending : look m ≡ Pending j ps → fault m ≡ None → words_fault (settled m) ≡ None
       fault_pending e f = sym (ap (λ (l : Look). fault_of l m) e) ∙ f
 
-  settles_by : (l : Look) → look m ≡ l → Settles m
+  settles_by : (l : Look) → look m ≡ l → OwedSettles m
   settles_by (Refused p) h = settles_refused p h
   settles_by Closed h = settles_closed h
   settles_by (Pending j ps) h = settles_pending j ps h
 
-  pub settles : Settles m
+  pub settles : OwedSettles m
   settles = settles_by (look m) refl
 
   -- a stop in the owed writes
   halted_by : (l : Look) → look m ≡ l → (k : ℕ) (x : List ℕ) → 1 ≤ k → k ≤ owed m
-      → IsBase (found m) (remains (owing (which m)) (owed m - 1) k x) (owing (which m)) (torn m (owed_writes (look m)) k x)
+      → HoldsBase (found m) (remains (owing (which m)) (owed m - 1) k x) (owing (which m)) (torn m (owed_writes (look m)) k x)
   halted_by (Refused p) h k x first last = let none : owed m ≡ 0 = ap debt h in absurd (omega (arith, none))
   halted_by Closed h k x first last = let none : owed m ≡ 0 = ap debt h in absurd (omega (arith, none))
   halted_by (Pending j ps) h k x first last =
@@ -104,13 +104,13 @@ module _ (m : List (List ℕ)) (low : 256 ≤ length m) where
       let left : owed m - 1 ≡ length ps = omega (arith, many) in
       let all : after m ≡ Words w = ap (λ (l : Look). replayed m l) h in
       let who : owing (which m) ≡ j = ap owing (open_alone j m p.shut p.opens) in
-      let is : IsBase (raw w) (remains j (length ps) k x) j (torn m (replay j ps) k x) = recovery_halted m j ps low p k x first (omega (arith, many)) in
-      subst (λ (l : Look). IsBase (found m) (remains (owing (which m)) (owed m - 1) k x) (owing (which m)) (torn m (owed_writes l) k x)) (sym h)
-      (subst (λ (i : Journal). IsBase (found m) (remains i (owed m - 1) k x) i (torn m (replay j ps) k x)) (sym who)
-      (subst (λ (n : ℕ). IsBase (found m) (remains j n k x) j (torn m (replay j ps) k x)) (sym left)
-      (subst (λ (b : Base). IsBase b (remains j (length ps) k x) j (torn m (replay j ps) k x)) (sym (found_after m w all)) is)))
+      let is : HoldsBase (raw w) (remains j (length ps) k x) j (torn m (replay j ps) k x) = recovery_halted m j ps low p k x first (omega (arith, many)) in
+      subst (λ (l : Look). HoldsBase (found m) (remains (owing (which m)) (owed m - 1) k x) (owing (which m)) (torn m (owed_writes l) k x)) (sym h)
+      (subst (λ (i : Journal). HoldsBase (found m) (remains i (owed m - 1) k x) i (torn m (replay j ps) k x)) (sym who)
+      (subst (λ (n : ℕ). HoldsBase (found m) (remains j n k x) j (torn m (replay j ps) k x)) (sym left)
+      (subst (λ (b : Base). HoldsBase b (remains j (length ps) k x) j (torn m (replay j ps) k x)) (sym (found_after m w all)) is)))
 
-  pub recovery_part : (k : ℕ) (x : List ℕ) → 1 ≤ k → k ≤ owed m → IsBase (found m) (remains (owing (which m)) (owed m - 1) k x) (owing (which m)) (torn m (owed_writes (look m)) k x)
+  pub recovery_part : (k : ℕ) (x : List ℕ) → 1 ≤ k → k ≤ owed m → HoldsBase (found m) (remains (owing (which m)) (owed m - 1) k x) (owing (which m)) (torn m (owed_writes (look m)) k x)
   recovery_part k x first last = halted_by (look m) refl k x first last
 
 -- ---- the migration
@@ -131,7 +131,7 @@ raw_card w c f e = ap (λ (o : Option (Cause × ℕ)). base_in o (card_of w)) f 
 
 module _ (m : List (List ℕ)) (low : 256 ≤ length m) (high : length m ≤ 16384) where
   -- a stop in the migration of a card of layout 1
-  stood_base : (c : Card) (b : Bool) → found m ≡ OnCard c → IsCard m → means m ≡ c → c.layout ≡ 1 → raw (stood b (settled m) (new_root (settled m))) ≡ cond b (migrated (found m)) (found m)
+  stood_base : (c : Card) (b : Bool) → found m ≡ OnCard c → IsCardOnceSettled m → means m ≡ c → c.layout ≡ 1 → raw (stood b (settled m) (new_root (settled m))) ≡ cond b (migrated (found m)) (found m)
   stood_base c false h k e one = raw_card (settled m) c k.fault (sym k.card ∙ e) ∙ sym h
   stood_base c true h k e one =
       let w = settled m in
@@ -141,22 +141,22 @@ module _ (m : List (List ℕ)) (low : 256 ≤ length m) (high : length m ≤ 163
       raw_card (upgrade w) (record c { layout = 2 }) u.fault (u.card ∙ ap (λ (x : Card). record x { layout = 2 }) is) ∙ sym (ap migrated h)
 
   migration_part : (b : Base) (k : ℕ) (x : List ℕ) → found m ≡ b → 1 ≤ k → k ≤ migration b
-      → IsBase (cond (stands One 1 k x) (migrated (found m)) (found m)) (owes One 1 k x) One (torn (settled m) (migrating b (settled m)) k x)
+      → HoldsBase (cond (stands One 1 k x) (migrated (found m)) (found m)) (owes One 1 k x) One (torn (settled m) (migrating b (settled m)) k x)
   migration_part (AtFault f p) k x h first last = absurd (omega arith)
   migration_part (OnCard c) k x h first last = by_layout (c.layout == 1) refl last
     where
       by_layout : (t : Bool) → (c.layout == 1) ≡ t → k ≤ cond t 6 0
-          → IsBase (cond (stands One 1 k x) (migrated (found m)) (found m)) (owes One 1 k x) One (torn (settled m) (cond t (writes One (new_root (settled m))) []) k x)
+          → HoldsBase (cond (stands One 1 k x) (migrated (found m)) (found m)) (owes One 1 k x) One (torn (settled m) (cond t (writes One (new_root (settled m))) []) k x)
       by_layout false e few = absurd (omega arith)
       by_layout true e few =
           let w = settled m in
           let card = card_is m c h in
-          let s : Settles m = settles m low in
-          let is : IsCard m = s.card card.0 in
+          let s : OwedSettles m = settles m low in
+          let is : IsCardOnceSettled m = s.card card.0 in
           let size : length w ≡ length m = s.size in
           let gates : NoneOpen w = none_open w is.closed in
           let one : c.layout ≡ 1 = eqb-true c.layout 1 e in
-          subst (λ (b : Base). IsBase b (owes One 1 k x) One (torn w (writes One (new_root w)) k x)) (stood_base c (stands One 1 k x) h is card.1 one)
+          subst (λ (b : Base). HoldsBase b (owes One 1 k x) One (torn w (writes One (new_root w)) k x)) (stood_base c (stands One 1 k x) h is card.1 one)
           (migration_halted w (omega (arith, size)) (omega (arith, size)) gates.one gates.two k x first few)
 
   -- ---- the whole
@@ -180,30 +180,30 @@ module _ (m : List (List ℕ)) (low : 256 ≤ length m) (high : length m ≤ 163
   pub power_halted : (k : ℕ) (x : List ℕ) → 1 ≤ k → k ≤ power_count m → IsHalted m k x (torn m (power_writes m) k x)
   unfolding power_writes
   power_halted k x first last =
-      let s : Settles m = settles m low in
+      let s : OwedSettles m = settles m low in
       let a = owed_writes (look m) in
       let b = migrating (found m) (settled m) in
       let many : length a ≡ owed m = s.count in (
         λ early.
-            subst (λ (n : List (List ℕ)). IsBase (found m) (remains (owing (which m)) (owed m - 1) k x) (owing (which m)) n) (sym (torn-within m a b k x first (omega (arith, many, early))))
+            subst (λ (n : List (List ℕ)). HoldsBase (found m) (remains (owing (which m)) (owed m - 1) k x) (owing (which m)) n) (sym (torn-within m a b k x first (omega (arith, many, early))))
             (recovery_part m low k x first early),
         λ late.
             let j = k - owed m in
             let e : torn m (a ++ b) k x ≡ torn (settled m) b j x = torn-past m a b k j x (omega (arith, late)) (omega (arith, many, late)) ∙ ap (λ (n : List (List ℕ)). torn n b j x) s.laid in
-            subst (λ (n : List (List ℕ)). IsBase (cond (stands One 1 j x) (migrated (found m)) (found m)) (owes One 1 j x) One n) (sym e)
+            subst (λ (n : List (List ℕ)). HoldsBase (cond (stands One 1 j x) (migrated (found m)) (found m)) (owes One 1 j x) One n) (sym e)
             (migration_part (found m) j x refl (omega (arith, late)) (omega (arith, late, last))),
       )
 
   -- done, the words of a card are those of a card of layout 2 that runs
-  pub record IsDone (n : List (List ℕ)) : Type 0 where
+  pub record IsPoweredUp (n : List (List ℕ)) : Type 0 where
     pub closed : look n ≡ Closed
     pub fault : words_fault n ≡ None
     pub card : card_of n ≡ record (means m) { layout = 2 }
 
-  done_by : IsCard m → ((card_of (settled m)).layout ≡ 1) ⊎ ((card_of (settled m)).layout ≡ 2) → IsDone (laid (settled m) (cond ((means m).layout == 1) (writes One (new_root (settled m))) []))
+  done_by : IsCardOnceSettled m → ((card_of (settled m)).layout ≡ 1) ⊎ ((card_of (settled m)).layout ≡ 2) → IsPoweredUp (laid (settled m) (cond ((means m).layout == 1) (writes One (new_root (settled m))) []))
   done_by k (inl old) =
       let w = settled m in
-      let s : Settles m = settles m low in
+      let s : OwedSettles m = settles m low in
       let size : length w ≡ length m = s.size in
       let gates : NoneOpen w = none_open w k.closed in
       let lo : 256 ≤ length w = omega (arith, size) in
@@ -213,7 +213,7 @@ module _ (m : List (List ℕ)) (low : 256 ≤ length m) (high : length m ≤ 163
       let heap = migration_heap w lo hi gates.one gates.two in
       let root = migration_root w lo hi gates.one gates.two in
       let test : ((means m).layout == 1) ≡ true = eq-eqb (means m).layout 1 (ap (λ (x : Card). x.layout) k.card ∙ old) in
-      subst (λ (t : Bool). IsDone (laid w (cond t (writes One (new_root w)) []))) (sym test)
+      subst (λ (t : Bool). IsPoweredUp (laid w (cond t (writes One (new_root w)) []))) (sym test)
       (record {
         closed = migration_closed w lo hi gates.one gates.two;
         fault = same_fault n (upgrade w) heap root ∙ u.fault;
@@ -223,7 +223,7 @@ module _ (m : List (List ℕ)) (low : 256 ≤ length m) (high : length m ≤ 163
       let w = settled m in
       let two : (means m).layout ≡ 2 = ap (λ (x : Card). x.layout) k.card ∙ new in
       let test : ((means m).layout == 1) ≡ false = ne_eqb (means m).layout 1 (λ e. absurd (omega (arith, e, two))) in
-      subst (λ (t : Bool). IsDone (laid w (cond t (writes One (new_root w)) []))) (sym test)
+      subst (λ (t : Bool). IsPoweredUp (laid w (cond t (writes One (new_root w)) []))) (sym test)
       (record {
         closed = k.closed;
         fault = k.fault;
@@ -234,13 +234,13 @@ module _ (m : List (List ℕ)) (low : 256 ≤ length m) (high : length m ≤ 163
   unfolding power_writes
   laid_all = laid-append m (owed_writes (look m)) (migrating (found m) (settled m)) ∙ ap (λ (n : List (List ℕ)). laid n (migrating (found m) (settled m))) (settles m low).laid
 
-  pub power_done : fault m ≡ None → IsDone (laid m (power_writes m))
+  pub power_done : fault m ≡ None → IsPoweredUp (laid m (power_writes m))
   power_done f =
-      let k : IsCard m = (settles m low).card f in
-      subst (λ (n : List (List ℕ)). IsDone n) (sym (laid_all ∙ ap (λ (b : Base). laid (settled m) (migrating b (settled m))) (none_is_card m f)))
+      let k : IsCardOnceSettled m = (settles m low).card f in
+      subst (λ (n : List (List ℕ)). IsPoweredUp n) (sym (laid_all ∙ ap (λ (b : Base). laid (settled m) (migrating b (settled m))) (none_is_card m f)))
       (done_by k (version_is (settled m) k.fault))
 
-  pub done_base : fault m ≡ None → (n : List (List ℕ)) → IsDone n → IsBase (migrated (found m)) 0 One n
+  pub done_base : fault m ≡ None → (n : List (List ℕ)) → IsPoweredUp n → HoldsBase (migrated (found m)) 0 One n
   done_base f n d =
       record {
         base = found_after n n (closed_words n d.closed) ∙ raw_card n (record (means m) { layout = 2 }) d.fault d.card ∙ sym (ap migrated (none_is_card m f));
@@ -251,8 +251,8 @@ module _ (m : List (List ℕ)) (low : 256 ≤ length m) (high : length m ≤ 163
   pub fault_writes : (f : Cause × ℕ) → fault m ≡ Some f → laid m (power_writes m) ≡ settled m
   fault_writes f h = laid_all ∙ ap (λ (o : Option (Cause × ℕ)). laid (settled m) (migrating (base_of o m) (settled m))) h
 
-  pub fault_base : IsBase (found m) 0 One (settled m)
-  fault_base = let s : Settles m = settles m low in record { base = s.found; owed = s.owes; by = λ ne. absurd (ne refl) }
+  pub fault_base : HoldsBase (found m) 0 One (settled m)
+  fault_base = let s : OwedSettles m = settles m low in record { base = s.found; owed = s.owes; by = λ ne. absurd (ne refl) }
 
 -- ---- on a device
 
@@ -266,7 +266,7 @@ module _ {D : Type 0} (state : D → DeviceState) (wrote : D → ℕ → List �
       let apps = follows.2 in
       let m = (state d).words in
       let all : DoneAll (state d) (power_writes m) (state e) = makes-done state wrote obeys (power_writes m) d e on made in
-      let is : IsDone m image.low image.high (state e).words = subst (λ (n : List (List ℕ)). IsDone m image.low image.high n) (sym all.words) (power_done m image.low image.high card) in
+      let is : IsPoweredUp m image.low image.high (state e).words = subst (λ (n : List (List ℕ)). IsPoweredUp m image.low image.high n) (sym all.words) (power_done m image.low image.high card) in
       record {
         card = card;
         number = writes;
@@ -304,7 +304,7 @@ module _ {D : Type 0} (state : D → DeviceState) (wrote : D → ℕ → List �
       record {
         fault = follows;
         words = words;
-        base = subst (λ (n : List (List ℕ)). IsBase (found m) 0 One n) (sym words) (fault_base m image.low image.high);
+        base = subst (λ (n : List (List ℕ)). HoldsBase (found m) 0 One n) (sym words) (fault_base m image.low image.high);
         ended = (all.power, all.cuts, all.faults);
         tape = all.tape;
       }

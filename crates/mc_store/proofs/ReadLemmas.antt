@@ -12,12 +12,12 @@ use Rattle.mc_model.specs.Card.{App, Card, record_at, name_at, app_at, section, 
 use Rattle.mc_model.specs.Layout.{words_fault, gaps, IsWellLaid}
 use Rattle.mc_model.specs.Image.{look, Closed}
 use Rattle.mc_model.specs.Items.{Site}
-use Rattle.mc_bank.specs.Bank.{app_of, sizes_of, FitsLimits, AreApps, opened, IsGood, HasParts, part_len}
+use Rattle.mc_bank.specs.Bank.{app_of, sizes_of, FitsLimits, AreApps, opened, IsGoodSite, HasParts, part_len}
 use Rattle.mc_bank.specs.Slots.{slot_place, slot_sizes}
 use Rattle.mc_bank.specs.SlotLaws.{name_there, some_there, slot_sized, slot_named}
 use Rattle.mc_blocks.specs.Chains.{looked_at}
 use Rattle.mc_store.specs.Store.{apps_in, search_steps, is_going, place_named, store_named, store_room, store_standing, name_of_place, part_from, part_in, needed_by}
-use Rattle.mc_store.specs.Slots.{first_named, record_sizes, IsBlock, part_of_app, flat}
+use Rattle.mc_store.specs.Slots.{first_named, record_sizes, IsUsedBlock, part_of_app, flat}
 use Rattle.mc_store.specs.GoingLaws.{Going, closed_means, closed_fault, closed_settled}
 use Rattle.mc_store.specs.SectionLaws.{length-section}
 use Rattle.mc_store.specs.CreationLaws.{AtSite, at-site}
@@ -27,7 +27,7 @@ use Rattle.mc_store.proofs.SlotLemmas.{runs, map_is, name_there as found_there, 
 
 -- ---- sections
 
-part_ends : (m : List (List ℕ)) (k : ℕ) (p : Part) → IsBlock m k → part_from p (record_sizes (record_at m k)) k + up (part_len p (record_sizes (record_at m k))) 8 ≤ length m
+part_ends : (m : List (List ℕ)) (k : ℕ) (p : Part) → IsUsedBlock m k → part_from p (record_sizes (record_at m k)) k + up (part_len p (record_sizes (record_at m k))) 8 ≤ length m
 part_ends m k p b =
     let r : RecordIs (record_at m k) b.words = record_is (record_at m k) b.words b.good in
     let fits : b.words ≡ needed_of (be2 (record_at m k) 20) (be2 (record_at m k) 22) (slice_index (record_at m k) 17) (slice_index (record_at m k) 18) = r.words in
@@ -48,7 +48,7 @@ part_is m k Dir = refl
 part_is m k Fci = refl
 
 -- bytes of a section of a slot
-pub record Reads (d : DeviceState) (k : ℕ) (p : Part) (at count from : ℕ) : Type 0 where
+pub record ReadsSection (d : DeviceState) (k : ℕ) (p : Part) (at count from : ℕ) : Type 0 where
   pub inside : 8 * from + at + count ≤ 8 * length d.words
   pub bytes : take count (drop (8 * from + at) (flat d.words)) ≡ take count (drop at (part_of_app p (app_of (apps_in d.words) (store_named d k))))
 
@@ -73,7 +73,7 @@ of_slot d c j image h some =
     }
 
 pub reads : (d : DeviceState) (c k : ℕ) (p : Part) (at count from : ℕ) → IsSized d.words → not (is_going d c) ≡ false → IsSome (store_named d k)
-    → at + count ≤ length (part_of_app p (app_of (apps_in d.words) (store_named d k))) → from ≡ part_from p (slot_sizes k) (slot_place k) → Reads d k p at count from
+    → at + count ≤ length (part_of_app p (app_of (apps_in d.words) (store_named d k))) → from ≡ part_from p (slot_sizes k) (slot_place k) → ReadsSection d k p at count from
 reads d c k p at count from image h some range place =
     let m = d.words in
     let s : OfSlot d k = of_slot d c k image h some in
@@ -123,13 +123,13 @@ finds_slot d c n (Some k) image h is sizes =
     record { there = is_there d c n (Some (slot_place k)) image h is; slot = is_slot d c n k image h is sizes }
 
 -- what is told of the application of a slot
-pub record Told (d : DeviceState) (k : ℕ) (n : List ℕ) (z : Sizes) : Type 0 where
+pub record SlotTold (d : DeviceState) (k : ℕ) (n : List ℕ) (z : Sizes) : Type 0 where
   pub name : store_named d k ≡ Some n
   pub app : IsSome (lookup (apps_in d.words) n)
   pub sizes : z ≡ sizes_of (app_of (apps_in d.words) (store_named d k))
   pub limits : FitsLimits z
 
-pub told : (d : DeviceState) (c k : ℕ) (n : List ℕ) (z : Sizes) → IsSized d.words → not (is_going d c) ≡ false → IsSome (store_named d k) → n ≡ name_at d.words (slot_place k) → z ≡ slot_sizes k → Told d k n z
+pub told : (d : DeviceState) (c k : ℕ) (n : List ℕ) (z : Sizes) → IsSized d.words → not (is_going d c) ≡ false → IsSome (store_named d k) → n ≡ name_at d.words (slot_place k) → z ≡ slot_sizes k → SlotTold d k n z
 told d c k n z image h some named sized =
     let m = d.words in
     let s : OfSlot d k = of_slot d c k image h some in
@@ -183,16 +183,16 @@ open_steps d c n old new h is = by_test (nat_le 32 c) refl is
         let count = counted d c h in
         record { rises = omega arith; ticks = omega (arith, k, few); full = λ many. absurd (omega (arith, many, past, count)) }
 
-site_by : (apps : List (List ℕ × App)) (room : Sizes → Option ℕ) (s : Sizes) (t : Bool) (o : Option ℕ) → FitsLimits s → nat_le 32 (length apps) ≡ t → room s ≡ o → IfOk (opened s t o) (λ site. IsGood apps room site)
+site_by : (apps : List (List ℕ × App)) (room : Sizes → Option ℕ) (s : Sizes) (t : Bool) (o : Option ℕ) → FitsLimits s → nat_le 32 (length apps) ≡ t → room s ≡ o → IfOk (opened s t o) (λ site. IsGoodSite apps room site)
 site_by apps room s true o limits e f = tt
 site_by apps room s false None limits e f = tt
 site_by apps room s false (Some p) limits e f = record { limits = limits; few = let past = leb-false 32 (length apps) e in omega (arith, past); place = f }
 
-pub good_site : (apps : List (List ℕ × App)) (room : Sizes → Option ℕ) (s : Sizes) (r : Result Site OpenRefusal) → FitsLimits s → r ≡ opened s (nat_le 32 (length apps)) (room s) → IfOk r (λ site. IsGood apps room site)
-good_site apps room s r limits is = subst (λ (x : Result Site OpenRefusal). IfOk x (λ site. IsGood apps room site)) (sym is) (site_by apps room s (nat_le 32 (length apps)) (room s) limits refl refl)
+pub good_site : (apps : List (List ℕ × App)) (room : Sizes → Option ℕ) (s : Sizes) (r : Result Site OpenRefusal) → FitsLimits s → r ≡ opened s (nat_le 32 (length apps)) (room s) → IfOk r (λ site. IsGoodSite apps room site)
+good_site apps room s r limits is = subst (λ (x : Result Site OpenRefusal). IfOk x (λ site. IsGoodSite apps room site)) (sym is) (site_by apps room s (nat_le 32 (length apps)) (room s) limits refl refl)
 
 -- the sections of a good site have their lengths
-site_parts : (d : DeviceState) (c : ℕ) (s : Site) → IsSized d.words → not (is_going d c) ≡ false → IsGood (apps_in d.words) (store_room d) s → HasParts s (store_standing d s)
+site_parts : (d : DeviceState) (c : ℕ) (s : Site) → IsSized d.words → not (is_going d c) ≡ false → IsGoodSite (apps_in d.words) (store_room d) s → HasParts s (store_standing d s)
 unfolding part_in
 site_parts d c s image h good p =
     let m = d.words in
@@ -208,6 +208,6 @@ site_parts d c s image h good p =
     by_part Dir l e = omega (arith, e)
     by_part Fci l e = omega (arith, e)
 
-pub open_parts : (d : DeviceState) (c : ℕ) (r : Result Site OpenRefusal) → IsSized d.words → not (is_going d c) ≡ false → IfOk r (λ site. IsGood (apps_in d.words) (store_room d) site) → IfOk r (λ site. HasParts site (store_standing d site))
+pub open_parts : (d : DeviceState) (c : ℕ) (r : Result Site OpenRefusal) → IsSized d.words → not (is_going d c) ≡ false → IfOk r (λ site. IsGoodSite (apps_in d.words) (store_room d) site) → IfOk r (λ site. HasParts site (store_standing d site))
 open_parts d c (Ok s) image h good = site_parts d c s image h good
 open_parts d c (Err e) image h good = tt

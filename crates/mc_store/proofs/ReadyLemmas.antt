@@ -10,7 +10,7 @@ use Rattle.mc_model.specs.Card.{Card, means, word, cells, section, record_at}
 use Rattle.mc_model.specs.Items.{Site, BankItem, Blank, Note}
 use Rattle.mc_model.specs.Manager.{in_words}
 use Rattle.mc_base.specs.Name.{IsName}
-use Rattle.mc_store.specs.Store.{is_going, needed_by, part_from, record_bytes, record_word, IsGoodIn, IsInWord, IsReady, StoreDid}
+use Rattle.mc_store.specs.Store.{is_going, needed_by, part_from, record_bytes, record_word, IsGoodIn, IsInWord, IsReadySite, StoreDid}
 use Rattle.mc_store.specs.GoingLaws.{Going, going_is}
 use Rattle.mc_store.specs.GapLaws.{just-one}
 use Rattle.mc_store.specs.SectionLaws.{length-section, cells-more, same-section}
@@ -90,10 +90,10 @@ pub record Noted (m n : List (List ℕ)) (s : Site) (k : List ℕ) (i : ℕ) : T
 
 module _ {D S : Type 0} (dev : S → D) (cnt : S → ℕ) (state : D → DeviceState) (wrote : D → ℕ → List ℕ → Answer → D → Type 0)
     (obeys : (d : D) (at : ℕ) (w : List ℕ) (a : Answer) (e : D) → (state d).on ≡ true → wrote d at w a e → Wrote (state d) at w a (state e)) where
-  abbrev Did : S → BankItem → Answer → S → Type 0
-  Did x i a y = StoreDid state wrote (dev x) (cnt x) i a (dev y) (cnt y)
+  abbrev BlanksDid : S → BankItem → Answer → S → Type 0
+  BlanksDid x i a y = StoreDid state wrote (dev x) (cnt x) i a (dev y) (cnt y)
 
-  blank-left : (x y : S) (s : Site) (at n : ℕ) → Did x (Blank s at n) (Ok tt) y → static_of (state (dev y)).words s ≡ splice (static_of (state (dev x)).words s) at (zeros n)
+  blank-left : (x y : S) (s : Site) (at n : ℕ) → BlanksDid x (Blank s at n) (Ok tt) y → static_of (state (dev y)).words s ≡ splice (static_of (state (dev x)).words s) at (zeros n)
   blank-left x y s at n did =
       let m = (state (dev x)).words in
       let g : Going (state (dev x)) (cnt x) = going_is (state (dev x)) (cnt x) did.going in
@@ -102,11 +102,11 @@ module _ {D S : Type 0} (dev : S → D) (cnt : S → ℕ) (state : D → DeviceS
       ap (λ (w : List (List ℕ)). static_of w s) done.words
       ∙ section-write m (part_from Data s.sizes s.place) s.sizes.fixed at (zeros n) did.image (omega (arith, site.ends)) (subst (λ (k : ℕ). IsInWord s.sizes.fixed at k) (sym (length-replicate {A = ℕ} n 0)) did.allowed.1)
 
-  on-of : (x y : S) (s : Site) (at n : ℕ) → Did x (Blank s at n) (Ok tt) y → PlainOn (state (dev x)) (state (dev y)) (cnt x)
+  on-of : (x y : S) (s : Site) (at n : ℕ) → BlanksDid x (Blank s at n) (Ok tt) y → PlainOn (state (dev x)) (state (dev y)) (cnt x)
   on-of x y s at n did = blank-on state wrote obeys (dev x) (dev y) (cnt x) s at n (subst (λ (k : ℕ). StoreDid state wrote (dev x) (cnt x) (Blank s at n) (Ok tt) (dev y) k) did.count did)
 
   -- zeros in order
-  pub blanks-left : (n : ℕ) (x y : S) (s : Site) (at k : ℕ) → k ≤ n → is_going (state (dev x)) (cnt x) ≡ true → (0 < k → at + k ≤ s.sizes.fixed) → InOrder Did x (map (λ c. Blank s c.0 (length c.1)) (in_words n at (zeros k))) (Ok tt) y
+  pub blanks-left : (n : ℕ) (x y : S) (s : Site) (at k : ℕ) → k ≤ n → is_going (state (dev x)) (cnt x) ≡ true → (0 < k → at + k ≤ s.sizes.fixed) → InOrder BlanksDid x (map (λ c. Blank s c.0 (length c.1)) (in_words n at (zeros k))) (Ok tt) y
       → static_of (state (dev y)).words s ≡ splice (static_of (state (dev x)).words s) at (zeros k)
   blanks-left zero x y s at zero few going room h = ap (λ (z : S). static_of (state (dev z)).words s) h ∙ sym (splice-nothing (static_of (state (dev x)).words s) at)
   blanks-left zero x y s at (suc k) few going room h = absurd (omega (arith, few))
@@ -120,7 +120,7 @@ module _ {D S : Type 0} (dev : S → D) (cnt : S → ℕ) (state : D → DeviceS
             let did = done.1 in
             let on : PlainOn (state (dev x)) (state (dev z)) (cnt x) = on-of x z s at (length (take j c)) did in
             let one : static_of (state (dev z)).words s ≡ splice (static_of (state (dev x)).words s) at (take j c) = blank-left x z s at (length (take j c)) did ∙ ap (λ (l : List ℕ). splice (static_of (state (dev x)).words s) at l) (zeros-of j (suc k)) in
-            let next = subst (λ (l : List ℕ). InOrder Did z (map (λ (c : ℕ × List ℕ). Blank s c.0 (length c.1)) (in_words n (at + j) l)) (Ok tt) y) (zeros-behind j (suc k)) done.2 in
+            let next = subst (λ (l : List ℕ). InOrder BlanksDid z (map (λ (c : ℕ × List ℕ). Blank s c.0 (length c.1)) (in_words n (at + j) l)) (Ok tt) y) (zeros-behind j (suc k)) done.2 in
             let fits : at + suc k ≤ s.sizes.fixed = room (omega arith) in
             let rest : static_of (state (dev y)).words s ≡ splice (static_of (state (dev z)).words s) (at + j) (zeros (suc k - j)) =
             blanks-left n z y s (at + j) (suc k - j) (omega (arith, few)) (subst (λ (q : ℕ). is_going (state (dev z)) q ≡ true) (sym did.count) on.going) (λ some. omega (arith, some, fits)) next in
@@ -132,7 +132,7 @@ module _ {D S : Type 0} (dev : S → D) (cnt : S → ℕ) (state : D → DeviceS
         | inr stop ↦ absurd (cc stop.2)
       ]
 
-  note-left : (x y : S) (s : Site) (k : List ℕ) (i : ℕ) → Did x (Note s k i) (Ok tt) y → Noted (state (dev x)).words (state (dev y)).words s k i
+  note-left : (x y : S) (s : Site) (k : List ℕ) (i : ℕ) → BlanksDid x (Note s k i) (Ok tt) y → Noted (state (dev x)).words (state (dev y)).words s k i
   note-left x y s k i did =
       let m = (state (dev x)).words in
       let g : Going (state (dev x)) (cnt x) = going_is (state (dev x)) (cnt x) did.going in
@@ -167,7 +167,7 @@ module _ {D S : Type 0} (dev : S → D) (cnt : S → ℕ) (state : D → DeviceS
         other = λ j low. n3.other j (λ e. absurd (omega (arith, e))) ∙ n2.other j (λ e. absurd (omega (arith, e))) ∙ n1.other j (λ e. absurd (omega (arith, e))) ∙ n0.other j (λ e. absurd (omega (arith, e)));
       }
 
-  notes-left : (x y : S) (s : Site) (k : List ℕ) → InOrder Did x (Note s k 0 ∷ Note s k 1 ∷ Note s k 2 ∷ Note s k 3 ∷ []) (Ok tt) y → NotesLeft (state (dev x)).words (state (dev y)).words s k
+  notes-left : (x y : S) (s : Site) (k : List ℕ) → InOrder BlanksDid x (Note s k 0 ∷ Note s k 1 ∷ Note s k 2 ∷ Note s k 3 ∷ []) (Ok tt) y → NotesLeft (state (dev x)).words (state (dev y)).words s k
   notes-left x y s k h =
       elim h [
         | inl one ↦ elim one.2 [
@@ -185,8 +185,8 @@ module _ {D S : Type 0} (dev : S → D) (cnt : S → ℕ) (state : D → DeviceS
       ]
 
   pub ready : (x y z : S) (s : Site) (k : List ℕ) → IsSized (state (dev x)).words → is_going (state (dev x)) (cnt x) ≡ true → IsGoodIn (state (dev x)).words s → IsName k → lookup (means (state (dev x)).words).apps k ≡ None
-      → InOrder Did x (blank_items s s.sizes.init (zeros (s.sizes.fixed - s.sizes.init))) (Ok tt) y → InOrder Did y (Note s k 0 ∷ Note s k 1 ∷ Note s k 2 ∷ Note s k 3 ∷ []) (Ok tt) z
-      → PlainOn (state (dev x)) (state (dev y)) (cnt x) → PlainOn (state (dev y)) (state (dev z)) (cnt y) → IsGoodIn (state (dev z)).words s → length (state (dev y)).words ≡ length (state (dev x)).words → IsReady (state (dev z)).words s k
+      → InOrder BlanksDid x (blank_items s s.sizes.init (zeros (s.sizes.fixed - s.sizes.init))) (Ok tt) y → InOrder BlanksDid y (Note s k 0 ∷ Note s k 1 ∷ Note s k 2 ∷ Note s k 3 ∷ []) (Ok tt) z
+      → PlainOn (state (dev x)) (state (dev y)) (cnt x) → PlainOn (state (dev y)) (state (dev z)) (cnt y) → IsGoodIn (state (dev z)).words s → length (state (dev y)).words ≡ length (state (dev x)).words → IsReadySite (state (dev z)).words s k
   ready x y z s k image going good name fresh blanks notes on-y on-z good-z same =
       let m = (state (dev x)).words in
       let q = part_from Data s.sizes s.place in

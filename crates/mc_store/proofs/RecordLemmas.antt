@@ -8,7 +8,7 @@ use Rattle.mc_model.specs.Card.{word, needed_of, record_at, name_in, name_at}
 use Rattle.mc_model.specs.Layout.{is_record}
 use Rattle.mc_bank.specs.NameLaws.{same_name, name_is_itself}
 use Rattle.mc_blocks.proofs.Records.{record_is as record_bytes_are}
-use Rattle.mc_store.specs.Slots.{IsBlock}
+use Rattle.mc_store.specs.Slots.{IsUsedBlock}
 
 -- the limits that a good record keeps, and the words of its block
 pub record RecordIs (r : List ℕ) (w : ℕ) : Type 0 where
@@ -72,7 +72,7 @@ long_enough r w h =
     omega (arith, e, one)
 
 -- its header and its record end in time
-pub block_fits : (m : List (List ℕ)) (p : ℕ) → IsBlock m p → p + 5 ≤ length m
+pub block_fits : (m : List (List ℕ)) (p : ℕ) → IsUsedBlock m p → p + 5 ≤ length m
 block_fits m p b =
     let six : 6 ≤ b.words = long_enough (record_at m p) b.words b.good in
     let end : p + b.words ≤ length m = b.end in

@@ -5,7 +5,7 @@ use Rattle.mc_model.specs.declared.card.Cause.{Cause}
 use Rattle.mc_model.specs.Orders.{Answer}
 use Rattle.mc_model.specs.Device.{DeviceState, Wrote, Makes}
 use Rattle.mc_model.specs.Image.{Journal, One, is_open, Look, Refused, Closed, Pending, look, look_j, owed, debt, replayed}
-use Rattle.mc_model.specs.Stopped.{writes, owed_writes, Recovered, Follows, RecoverEnds}
+use Rattle.mc_model.specs.Stopped.{writes, owed_writes, Recovered, LookAllows, RecoverEnds}
 use Rattle.mc_model.specs.Card.{Card, means, word, words_after}
 use Rattle.mc_model.specs.Layout.{words_fault, fault, fault_of}
 use Rattle.mc_model.specs.Play.{Base, base_of, migration}
@@ -17,16 +17,16 @@ use Rattle.mc_store.specs.Store.{settled}
 use Rattle.mc_store.specs.Power.{found, new_root, migrating, power_writes, Powered, Runs, Halts, Fails, power_answer, PowerFollows, RecoverFollows, FinishFollows, failed, recovered}
 use Rattle.mc_store.specs.GoingLaws.{closed_settled, closed_means, closed_fault}
 use Rattle.mc_store.proofs.JournalLemmas.{other, look_alone, IsPending, is_pending, recovered_closed}
-use Rattle.mc_store.proofs.PowerLemmas.{Settles, settles}
+use Rattle.mc_store.proofs.PowerLemmas.{OwedSettles, settles}
 
 -- ---- a replay that was done
 
-ends_follow : (j : Journal) (l : Look) (d e : DeviceState) (n : ℕ) → RecoverEnds j l d (Recovered n) e → Follows l (Recovered n)
+ends_follow : (j : Journal) (l : Look) (d e : DeviceState) (n : ℕ) → RecoverEnds j l d (Recovered n) e → LookAllows l (Recovered n)
 ends_follow j (Refused p) d e n h = h.0
 ends_follow j Closed d e n h = h.0
 ends_follow j (Pending i ps) d e n h = h.0
 
-follows_by : (m : List (List ℕ)) (n : ℕ) (l : Look) → 256 ≤ length m → look m ≡ l → Follows l (Recovered n) → (n ≡ owed m) × (look (settled m) ≡ Closed)
+follows_by : (m : List (List ℕ)) (n : ℕ) (l : Look) → 256 ≤ length m → look m ≡ l → LookAllows l (Recovered n) → (n ≡ owed m) × (look (settled m) ≡ Closed)
 follows_by m n (Refused p) low e f = absurd (cc f)
 follows_by m n Closed low e f =
     let none : n ≡ 0 = cc f in
@@ -40,7 +40,7 @@ pub replay_follows : (j : Journal) (d e : DeviceState) (n : ℕ) → 256 ≤ len
 replay_follows j d e n low h r =
     let m = d.words in
     let alone : look m ≡ look_j j m = look_alone j m h in
-    follows_by m n (look m) low refl (subst (λ (l : Look). Follows l (Recovered n)) (sym alone) (ends_follow j (look_j j m) d e n r))
+    follows_by m n (look m) low refl (subst (λ (l : Look). LookAllows l (Recovered n)) (sym alone) (ends_follow j (look_j j m) d e n r))
 
 -- ---- what is settled
 
@@ -113,7 +113,7 @@ module _ {D : Type 0} (state : D → DeviceState) (wrote : D → ℕ → List �
   unfolding power_writes
   whole_makes d e f p low is first second =
       let m = (state d).words in
-      let s : Settles m = settles m low in
+      let s : OwedSettles m = settles m low in
       let same : migrating (found (state e).words) (state e).words ≡ migrating (found m) (settled m) =
       ap (λ (w : List (List ℕ)). migrating (found w) w) is ∙ ap (λ (b : Base). migrating b (settled m)) s.found in
       InOrder-append (λ x q a y. wrote x q.0 q.1 a y) (owed_writes (look m)) (migrating (found m) (settled m)) d e f (power_answer p) first

@@ -11,14 +11,14 @@ use Rattle.mc_model.specs.Card.{App, Card, Block, blocks, record_at, name_at, ap
 use Rattle.mc_model.specs.Layout.{words_fault}
 use Rattle.mc_model.proofs.ImageLemmas.{all-map}
 use Rattle.mc_base.specs.Name.{IsName}
-use Rattle.mc_bank.specs.Bank.{app_of, no_app, sizes_of, FitsLimits, IsEntry, AscendByName, AreApps}
+use Rattle.mc_bank.specs.Bank.{app_of, no_app, sizes_of, FitsLimits, IsApplication, AscendByName, AreApps}
 use Rattle.mc_bank.specs.NameLaws.{same_name, name_is_itself, not_after, lookup-inserted, lookup-beside, each-inserted, ascend-inserted}
 use Rattle.mc_blocks.proofs.Steps.{blocks_all}
-use Rattle.mc_blocks.proofs.Tiles.{AreRead}
+use Rattle.mc_blocks.proofs.Tiles.{HeadersRead}
 use Rattle.mc_blocks.proofs.Bridge.{some-apps, no-apps, with-block, fault-closed}
 use Rattle.mc_blocks.proofs.Applications.{few-applications}
 use Rattle.mc_store.specs.Store.{apps_in, is_going, name_of_place, place_named}
-use Rattle.mc_store.specs.Slots.{first_named, record_sizes, IsBlock}
+use Rattle.mc_store.specs.Slots.{first_named, record_sizes, IsUsedBlock}
 use Rattle.mc_store.specs.GoingLaws.{Going, going_is, closed_apps, closed_means}
 use Rattle.mc_store.specs.SectionLaws.{length-cells, length-section}
 use Rattle.mc_store.specs.TurnLaws.{some-is}
@@ -31,10 +31,10 @@ use Rattle.mc_store.proofs.WalkLemmas.{HasRecord, Walk, walk_begins}
 pub record IsOf (m : List (List ℕ)) (e : List ℕ × App) : Type 0 where
   pub name : e.0 ≡ name_at m (e.1).place
   pub app : e.1 ≡ app_at m (e.1).place
-  pub block : IsBlock m (e.1).place
+  pub block : IsUsedBlock m (e.1).place
 
 module _ (m : List (List ℕ)) where
-  entries : (bs : List Block) → AreRead m bs → AllByRecursion (HasRecord m) bs → AllByRecursion (IsOf m) (apps_of m bs) × AscendByName (apps_of m bs)
+  entries : (bs : List Block) → HeadersRead m bs → AllByRecursion (HasRecord m) bs → AllByRecursion (IsOf m) (apps_of m bs) × AscendByName (apps_of m bs)
   entries [] r h = (subst (λ (es : List (List ℕ × App)). AllByRecursion (IsOf m) es) (sym (no-apps m)) tt, subst (λ (es : List (List ℕ × App)). AscendByName es) (sym (no-apps m)) tt)
   entries (b ∷ bs) r h =
       let rest = entries bs r.2 h.1 in
@@ -103,12 +103,12 @@ module _ (m : List (List ℕ)) where
       by_test false false is at k rest = rest k
 
   -- the application of a slot
-  pub record IsHeld (es : List (List ℕ × App)) (k : ℕ) (n : List ℕ) : Type 0 where
+  pub record IsSlotApplication (es : List (List ℕ × App)) (k : ℕ) (n : List ℕ) : Type 0 where
     pub name : n ≡ name_at m k
     pub app : lookup es n ≡ Some (app_at m k)
-    pub block : IsBlock m k
+    pub block : IsUsedBlock m k
 
-  held : (es : List (List ℕ × App)) (k : ℕ) (n : List ℕ) → AllByRecursion (IsOf m) es → AscendByName es → name_of_place es k ≡ Some n → IsHeld es k n
+  held : (es : List (List ℕ × App)) (k : ℕ) (n : List ℕ) → AllByRecursion (IsOf m) es → AscendByName es → name_of_place es k ≡ Some n → IsSlotApplication es k n
   held [] k n h sorted is = absurd (cc is)
   held (e ∷ es) k n h sorted is = by_test ((e.1).place == k) refl is (λ j. held es k n h.1 sorted.1 j)
     where
@@ -119,17 +119,17 @@ module _ (m : List (List ℕ)) where
           let before : name_before n n ≡ true = subst (λ (x : List ℕ). name_before x n ≡ true) same h in
           absurd (cc (sym before ∙ not_after n n before))
 
-      by_test : (t : Bool) → ((e.1).place == k) ≡ t → cond t (Some e.0) (name_of_place es k) ≡ Some n → (name_of_place es k ≡ Some n → IsHeld es k n) → IsHeld (e ∷ es) k n
+      by_test : (t : Bool) → ((e.1).place == k) ≡ t → cond t (Some e.0) (name_of_place es k) ≡ Some n → (name_of_place es k ≡ Some n → IsSlotApplication es k n) → IsSlotApplication (e ∷ es) k n
       by_test true at j rest =
           let same : e.0 ≡ n = cc in
           let place : (e.1).place ≡ k = eqb-true (e.1).place k at in
           record {
             name = sym same ∙ h.0.name ∙ ap (λ (q : ℕ). name_at m q) place;
             app = ap (λ (t : Bool). cond t (Some e.1) (lookup es n)) (ap (λ (x : List ℕ). bytes_eq x n) same ∙ name_is_itself n) ∙ ap (λ (x : App). Some x) (h.0.app ∙ ap (λ (q : ℕ). app_at m q) place);
-            block = subst (λ (q : ℕ). IsBlock m q) place h.0.block;
+            block = subst (λ (q : ℕ). IsUsedBlock m q) place h.0.block;
           }
       by_test false at j rest =
-          let r : IsHeld es k n = rest j in
+          let r : IsSlotApplication es k n = rest j in
           let after : name_before e.0 n ≡ true = each_found (λ f. name_before e.0 f.0 ≡ true) es n (app_at m k) sorted.0 r.app in
           record { name = r.name; app = behind (bytes_eq e.0 n) refl after (lookup es n) ∙ r.app; block = r.block }
 
@@ -141,7 +141,7 @@ module _ (m : List (List ℕ)) (image : IsSized m) (good : words_fault m ≡ Non
       let w : Walk m 131 (blocks m) = subst (λ (bs : List Block). Walk m 131 bs) (sym (blocks_all m)) (walk_begins m image good) in
       entries m (blocks m) w.read w.records
 
-  pub slot_held : (k : ℕ) (n : List ℕ) → name_of_place (card_of m).apps k ≡ Some n → IsHeld m (card_of m).apps k n
+  pub slot_held : (k : ℕ) (n : List ℕ) → name_of_place (card_of m).apps k ≡ Some n → IsSlotApplication m (card_of m).apps k n
   slot_held k n is = held m (card_of m).apps k n all_entries.0 all_entries.1 is
 
   -- a name that is looked for
@@ -153,7 +153,7 @@ module _ (m : List (List ℕ)) (image : IsSized m) (good : words_fault m ≡ Non
   name_slot n p is = place_of m (card_of m).apps n (app_at m p) all_entries.0 (found m n (blocks m) p (sym is))
 
   -- the sizes of an application are those in its record
-  pub sizes_are : (p : ℕ) → IsBlock m p → sizes_of (app_at m p) ≡ record_sizes (record_at m p)
+  pub sizes_are : (p : ℕ) → IsUsedBlock m p → sizes_of (app_at m p) ≡ record_sizes (record_at m p)
   sizes_are p b =
       let r = record_at m p in
       let k : RecordIs r b.words = record_is r b.words b.good in
@@ -169,16 +169,16 @@ module _ (m : List (List ℕ)) (image : IsSized m) (good : words_fault m ≡ Non
       ∙ ap (λ (n : ℕ). record s { code = be2 r 20; fixed = be2 r 22; init = be2 r 22; dir = n }) three
       ∙ ap (λ (n : ℕ). record s { code = be2 r 20; fixed = be2 r 22; init = be2 r 22; dir = slice_index r 17; fci = n }) four
 
-  pub fits_limits : (p : ℕ) → IsBlock m p → FitsLimits (record_sizes (record_at m p))
+  pub fits_limits : (p : ℕ) → IsUsedBlock m p → FitsLimits (record_sizes (record_at m p))
   fits_limits p b =
       let k : RecordIs (record_at m p) b.words = record_is (record_at m p) b.words b.good in
       let deny : be2 (record_at m p) 26 ≤ 15 = k.deny in
       record { some_code = k.code_low; code = k.code_high; fixed = k.fixed; init = omega arith; session = k.session; dir = k.dir; fci = k.fci; deny = omega arith }
 
-  entry_is : (e : List ℕ × App) → IsOf m e → IsEntry e
+  entry_is : (e : List ℕ × App) → IsOf m e → IsApplication e
   entry_is e h =
       let p = (e.1).place in
-      let b : IsBlock m p = h.block in
+      let b : IsUsedBlock m p = h.block in
       let six : 6 ≤ b.words = long_enough (record_at m p) b.words b.good in
       let end : p + b.words ≤ length m = b.end in
       let long : length (record_at m p) ≡ 32 = length-cells m 4 (p + 1) image (omega arith) in
@@ -191,7 +191,7 @@ module _ (m : List (List ℕ)) (image : IsSized m) (good : words_fault m ≡ Non
   are_apps closed =
       record {
         few = subst (λ (n : ℕ). n ≤ 32) (ap (λ (c : Card). length c.apps) (closed_means m closed)) (few-applications m image closed (fault-closed m closed ∙ good));
-        each = all-map (IsOf m) IsEntry (λ e h. entry_is e h) (card_of m).apps all_entries.0;
+        each = all-map (IsOf m) IsApplication (λ e h. entry_is e h) (card_of m).apps all_entries.0;
         ascending = all_entries.1;
       }
 
@@ -212,7 +212,7 @@ pub record Slot (d : DeviceState) (k : ℕ) : Type 0 where
   pub name : place_named d k ≡ Some (name_at d.words k)
   pub there : lookup (apps_in d.words) (name_at d.words k) ≡ Some (app_at d.words k)
   pub app : app_of (apps_in d.words) (place_named d k) ≡ app_at d.words k
-  pub block : IsBlock d.words k
+  pub block : IsUsedBlock d.words k
 
 pub slot : (d : DeviceState) (c k : ℕ) → IsSized d.words → not (is_going d c) ≡ false → IsSome (place_named d k) → Slot d k
 slot d c k image h some =
@@ -220,7 +220,7 @@ slot d c k image h some =
     let g : Going d c = runs d c h in
     let apps : apps_in m ≡ (card_of m).apps = closed_apps m g.closed g.laid in
     let n = some-is (place_named d k) some in
-    let held : IsHeld m (card_of m).apps k n.0 = slot_held m image g.laid k n.0 (sym (ap (λ (es : List (List ℕ × App)). name_of_place es k) apps) ∙ n.1) in
+    let held : IsSlotApplication m (card_of m).apps k n.0 = slot_held m image g.laid k n.0 (sym (ap (λ (es : List (List ℕ × App)). name_of_place es k) apps) ∙ n.1) in
     let name : place_named d k ≡ Some (name_at m k) = n.1 ∙ ap (λ (x : List ℕ). Some x) held.name in
     let there : lookup (apps_in m) (name_at m k) ≡ Some (app_at m k) = ap (λ (es : List (List ℕ × App)). lookup es (name_at m k)) apps ∙ ap (λ (x : List ℕ). lookup (card_of m).apps x) (sym held.name) ∙ held.app in
     record {

@@ -5,7 +5,7 @@ use Rattle.std.proofs.lemmas.List.{length-map}
 use Rattle.mc_model.specs.Bytes.{up, lookup, insert}
 use Rattle.mc_model.specs.Device.{IsSized}
 use Rattle.mc_model.specs.Image.{One, Two, opening, look, Closed, laid, debt}
-use Rattle.mc_model.specs.Stopped.{writes, cost, stands, owes, torn, stood, IsAtomic, Inside, Leaves}
+use Rattle.mc_model.specs.Stopped.{writes, cost, stands, owes, torn, stood, IsAtomic, InJournal, LeavesOwing}
 use Rattle.mc_model.specs.Card.{App, Card, card_of, means}
 use Rattle.mc_model.specs.Layout.{words_fault, gaps, step_of, IsWellLaid}
 use Rattle.mc_model.specs.Play.{Base, OnCard}
@@ -17,20 +17,20 @@ use Rattle.mc_bank.specs.Bank.{no_app, app_of, CanCommit, with_words}
 use Rattle.mc_blocks.specs.Plans.{has_room}
 use Rattle.mc_store.specs.Store.{needed_by, static_writes, card_with, card_without, item_writes, IsGoodIn, Allows}
 use Rattle.mc_store.specs.GoingLaws.{closed_means, closed_fault}
-use Rattle.mc_store.specs.Power.{IsBase}
+use Rattle.mc_store.specs.Power.{HoldsBase}
 use Rattle.mc_store.specs.Stops.{card_after, IsStoppedAt}
 use Rattle.mc_store.specs.AlikeLaws.{alike-self}
 use Rattle.mc_store.specs.AtomicLaws.{writes-apart}
 use Rattle.mc_store.specs.PlanningLaws.{first-room}
-use Rattle.mc_store.specs.GapLaws.{Keeps, keeps-gap, besides-set}
-use Rattle.mc_store.specs.CommitLaws.{Committed, commits}
+use Rattle.mc_store.specs.GapLaws.{KeepsCard, keeps-gap, besides-set}
+use Rattle.mc_store.specs.CommitLaws.{CommittedCard, commits}
 use Rattle.mc_store.specs.CreationLaws.{Creates, creates-plan, creates-card}
 use Rattle.mc_store.specs.DeletionLaws.{Deletes, deletes-plan, deletes-card}
 use Rattle.mc_store.specs.TurnLaws.{some-is, parted, blanked}
 use Rattle.mc_store.proofs.JournalLemmas.{NoneOpen, none_open, raw, found_after, same_raw, stays}
 use Rattle.mc_store.proofs.PowerLemmas.{raw_card, closed_words}
 
-outside_two : (i : ℕ) → (i ≡ 0) ⊎ (131 ≤ i) → Inside Two i → ⊥
+outside_two : (i : ℕ) → (i ≡ 0) ⊎ (131 ≤ i) → InJournal Two i → ⊥
 outside_two i (inl z) (inl h) = let low = h.0 in absurd (omega (arith, z, low))
 outside_two i (inl z) (inr e) = absurd (omega (arith, z, e))
 outside_two i (inr g) (inl h) = let high = h.1 in absurd (omega (arith, g, high))
@@ -54,17 +54,17 @@ module _ (m : List (List ℕ)) (image : IsSized m) (closed : look m ≡ Closed) 
   stood_size list false = refl
 
   atomic_stops : (list : List (ℕ × List ℕ)) (c : Card) (k : ℕ) (x : List ℕ) → IsAtomic (length m) list → words_fault (laid m list) ≡ None → card_of (laid m list) ≡ c → 1 ≤ k → k ≤ length (writes Two list)
-      → IsBase (OnCard (cond (stands Two (length list) k x) c (means m))) (owes Two (length list) k x) Two (torn m (writes Two list) k x)
+      → HoldsBase (OnCard (cond (stands Two (length list) k x) c (means m))) (owes Two (length list) k x) Two (torn m (writes Two list) k x)
   atomic_stops list c k x atomic f card first last =
       let gates : NoneOpen m = none_open m closed in
       let e = torn m (writes Two list) k x in
       let few : k ≤ cost Two (length list) = subst (λ (n : ℕ). k ≤ n) (length-writes Two (length m) list image.high atomic) last in
       let t = stands Two (length list) k x in
-      let l : Leaves Two e (owes Two (length list) k x) (stood t m list) = tear Two m list image.low image.high atomic gates.two k x first few in
+      let l : LeavesOwing Two e (owes Two (length list) k x) (stood t m list) = tear Two m list image.low image.high atomic gates.two k x first few in
       let size : length l.after ≡ length (stood t m list) = l.same.size in
       let long : length (stood t m list) ≡ length m = stood_size list t in
       let low : 256 ≤ length m = image.low in
-      subst (λ (b : Base). IsBase b (owes Two (length list) k x) Two e) (stood_card list c t f card)
+      subst (λ (b : Base). HoldsBase b (owes Two (length list) k x) Two e) (stood_card list c t f card)
       (stays Two e l.after (stood t m list) (owes Two (length list) k x)
       (ap (λ (y : List ℕ). bytes_eq y (opening One)) (torn-other m (writes Two list) k x 1 (writes-apart (length m) list image.high atomic)) ∙ gates.one)
       l.owed l.is
@@ -75,13 +75,13 @@ module _ (m : List (List ℕ)) (image : IsSized m) (closed : look m ≡ Closed) 
   torn_one : (w : ℕ × List ℕ) (k : ℕ) (x : List ℕ) → 1 ≤ k → k ≤ 1 → torn m (w ∷ []) k x ≡ slice_set m w.0 x
   torn_one w k x first last = let one : k ≡ 1 = omega arith in ap (λ (n : ℕ). torn m (w ∷ []) n x) one
 
-  plain_stops : (s : Site) (w : ℕ × List ℕ) (k : ℕ) (x : List ℕ) → IsGoodIn m s → s.place < w.0 → w.0 < s.place + needed_by s.sizes → 1 ≤ k → k ≤ 1 → IsBase (OnCard (means m)) 0 Two (torn m (w ∷ []) k x)
+  plain_stops : (s : Site) (w : ℕ × List ℕ) (k : ℕ) (x : List ℕ) → IsGoodIn m s → s.place < w.0 → w.0 < s.place + needed_by s.sizes → 1 ≤ k → k ≤ 1 → HoldsBase (OnCard (means m)) 0 Two (torn m (w ∷ []) k x)
   plain_stops s w k x site low high first last =
       let room : has_room s.place (needed_by s.sizes) (gaps (card_of m)) ≡ true =
       subst (λ (c : Card). has_room s.place (needed_by s.sizes) (gaps c) ≡ true) (sym own_card) (first-room (needed_by s.sizes) s.place (gaps (means m)) site.place) in
       let n = slice_set m w.0 x in
-      let kept : Keeps m n = keeps-gap m n s.place (needed_by s.sizes) w.0 image closed good room low high (besides-set m w.0 x) in
-      subst (λ (e : List (List ℕ)). IsBase (OnCard (means m)) 0 Two e) (sym (torn_one w k x first last))
+      let kept : KeepsCard m n = keeps-gap m n s.place (needed_by s.sizes) w.0 image closed good room low high (besides-set m w.0 x) in
+      subst (λ (e : List (List ℕ)). HoldsBase (OnCard (means m)) 0 Two e) (sym (torn_one w k x first last))
       (record {
         base = found_after n n (closed_words n kept.closed) ∙ raw_card n (means m) kept.good (kept.card ∙ own_card);
         owed = ap debt kept.closed;
@@ -91,11 +91,11 @@ module _ (m : List (List ℕ)) (image : IsSized m) (closed : look m ≡ Closed) 
   -- ---- an item
 
   by_atomic : (list ps : List (ℕ × List ℕ)) (w : ℕ) (b : Base) (c : Card) (k : ℕ) (x : List ℕ) → list ≡ ps → w ≡ length ps
-      → IsBase (OnCard (cond (stands Two (length list) k x) c (means m))) (owes Two (length list) k x) Two (torn m (writes Two list) k x)
-      → IsBase (OnCard (cond (stands Two w k x) c (means m))) (owes Two w k x) Two (torn m (writes Two ps) k x)
+      → HoldsBase (OnCard (cond (stands Two (length list) k x) c (means m))) (owes Two (length list) k x) Two (torn m (writes Two list) k x)
+      → HoldsBase (OnCard (cond (stands Two w k x) c (means m))) (owes Two w k x) Two (torn m (writes Two ps) k x)
   by_atomic list ps w b c k x e n h =
-      subst (λ (v : ℕ). IsBase (OnCard (cond (stands Two v k x) c (means m))) (owes Two v k x) Two (torn m (writes Two ps) k x)) (sym n)
-      (subst (λ (l : List (ℕ × List ℕ)). IsBase (OnCard (cond (stands Two (length l) k x) c (means m))) (owes Two (length l) k x) Two (torn m (writes Two l) k x)) e h)
+      subst (λ (v : ℕ). HoldsBase (OnCard (cond (stands Two v k x) c (means m))) (owes Two v k x) Two (torn m (writes Two ps) k x)) (sym n)
+      (subst (λ (l : List (ℕ × List ℕ)). HoldsBase (OnCard (cond (stands Two (length l) k x) c (means m))) (owes Two (length l) k x) Two (torn m (writes Two l) k x)) e h)
 
   pub item_stops : (i : BankItem) (k : ℕ) (x : List ℕ) → Allows m i → 1 ≤ k → k ≤ length (item_writes m i) → IsStoppedAt m i k x (torn m (item_writes m i) k x)
   item_stops (Piece s p at b) k x allowed first last =
@@ -112,7 +112,7 @@ module _ (m : List (List ℕ)) (image : IsSized m) (closed : look m ≡ Closed) 
       let a = found.0 in
       let app : app_of (means m).apps (Some n) ≡ a = ap (λ (o : Option App). unwrap_or o no_app) found.1 in
       let there : lookup (card_of m).apps n ≡ Some a = ap (λ (c : Card). lookup c.apps n) own_card ∙ found.1 in
-      let t : Committed m n a ws = commits m n a ws image good there (subst (λ (y : App). CanCommit y.fixed ws) app allowed.1) in
+      let t : CommittedCard m n a ws = commits m n a ws image good there (subst (λ (y : App). CanCommit y.fixed ws) app allowed.1) in
       let list : static_writes a ws ≡ static_writes (app_of (means m).apps (Some n)) ws = ap (λ (y : App). static_writes y ws) (sym app) in
       let card : card_of (laid m (static_writes a ws)) ≡ card_after m (Commit n ws) =
       t.card ∙ ap (λ (c : Card). record c { apps = insert c.apps n (with_words ws a) }) own_card

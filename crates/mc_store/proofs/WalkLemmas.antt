@@ -9,9 +9,9 @@ use Rattle.mc_model.specs.Card.{Block, word, header, blocks, record_at, name_at,
 use Rattle.mc_model.specs.Layout.{is_record, words_fault}
 use Rattle.mc_blocks.specs.Blocks.{fitting, blocks_at}
 use Rattle.mc_blocks.proofs.Steps.{HeaderIs, header-is, blocks_step, blocks_all}
-use Rattle.mc_blocks.proofs.Tiles.{Tiled, AreRead}
-use Rattle.mc_blocks.proofs.Bridge.{Laid, laid, AreNamed, named, faultless}
-use Rattle.mc_store.specs.Slots.{first_named, IsBlock}
+use Rattle.mc_blocks.proofs.Tiles.{Tiled, HeadersRead}
+use Rattle.mc_blocks.proofs.Bridge.{WellLaid, laid, AreNamed, named, faultless}
+use Rattle.mc_store.specs.Slots.{first_named, IsUsedBlock}
 
 -- a used block has a good record
 abbrev pub HasRecord : List (List ℕ) → Block → Type 0
@@ -33,20 +33,20 @@ all-records m (b ∷ bs) names n =
 pub record Walk (m : List (List ℕ)) (p : ℕ) (bs : List Block) : Type 0 where
   pub after : Bool
   pub tiled : Tiled p after bs (length m)
-  pub read : AreRead m bs
+  pub read : HeadersRead m bs
   pub records : AllByRecursion (HasRecord m) bs
 
 pub walk_begins : (m : List (List ℕ)) → IsSized m → words_fault m ≡ None → Walk m 131 (blocks_at m 131)
 walk_begins m image h =
-    let l : Laid m = laid m image h in
+    let l : WellLaid m = laid m image h in
     subst (λ (bs : List Block). Walk m 131 bs) (blocks_all m)
     (record { after = false; tiled = l.tiled; read = l.read; records = all-records m (blocks m) [] (named m (blocks m) [] 0 (faultless m h).records) })
 
 -- the block at place p: what its header says, and the walk behind it
-pub record Stands (m : List (List ℕ)) (p : ℕ) (used : Bool) (words : ℕ) : Type 0 where
+pub record BlockStands (m : List (List ℕ)) (p : ℕ) (used : Bool) (words : ℕ) : Type 0 where
   pub low : 1 ≤ words
   pub high : p + words ≤ length m
-  pub block : used ≡ true → IsBlock m p
+  pub block : used ≡ true → IsUsedBlock m p
   pub next : Walk m (p + words) (blocks_at m (p + words))
   pub first : (n : List ℕ) → first_named m (blocks_at m p) n ≡ cond (used && bytes_eq (name_at m p) n) (Some p) (first_named m (blocks_at m (p + words)) n)
 
@@ -58,7 +58,7 @@ module _ (m : List (List ℕ)) where
   fits-here : (b : Block) → header b.place (word m b.place) ≡ Some b → b.place + b.words ≤ length m → Some b ≡ fitting (length m) (header b.place (word m b.place))
   fits-here b e h = sym (ap (λ (o : Option Block). fitting (length m) o) e ∙ ap (λ (t : Bool). cond t (Some b) None) (le-leb (b.place + b.words) (length m) h))
 
-  stands : (b : Block) (bs : List Block) → blocks_at m b.place ≡ b ∷ bs → Walk m b.place (b ∷ bs) → Stands m b.place b.used b.words
+  stands : (b : Block) (bs : List Block) → blocks_at m b.place ≡ b ∷ bs → Walk m b.place (b ∷ bs) → BlockStands m b.place b.used b.words
   stands b bs e w =
       let step : blocks_at m b.place ≡ b ∷ blocks_at m (b.place + b.words) = blocks_step m b.place b (fits-here b w.read.0 w.read.1) in
       let both : b ∷ bs ≡ b ∷ blocks_at m (b.place + b.words) = sym e ∙ step in
@@ -72,26 +72,26 @@ module _ (m : List (List ℕ)) where
         first = λ n. ap (λ (l : List Block). first_named m l n) step ∙ first-is b (blocks_at m (b.place + b.words)) n;
       }
 
-  stands-at : (p : ℕ) (b : Block) (bs : List Block) → b.place ≡ p → blocks_at m p ≡ b ∷ bs → Walk m p (b ∷ bs) → Stands m p b.used b.words
+  stands-at : (p : ℕ) (b : Block) (bs : List Block) → b.place ≡ p → blocks_at m p ≡ b ∷ bs → Walk m p (b ∷ bs) → BlockStands m p b.used b.words
   stands-at p b bs place e w =
-      subst (λ (q : ℕ). Stands m q b.used b.words) place
+      subst (λ (q : ℕ). BlockStands m q b.used b.words) place
       (stands b bs (ap (λ (q : ℕ). blocks_at m q) place ∙ e) (subst (λ (q : ℕ). Walk m q (b ∷ bs)) (sym place) w))
 
-  stands-by : (p : ℕ) (bs : List Block) → p < length m → blocks_at m p ≡ bs → Walk m p bs → Stands m p (slice_index (word m p) 0 == used_tag) (be2 (word m p) 2)
+  stands-by : (p : ℕ) (bs : List Block) → p < length m → blocks_at m p ≡ bs → Walk m p bs → BlockStands m p (slice_index (word m p) 0 == used_tag) (be2 (word m p) 2)
   stands-by p [] lt e w = let end : p ≡ length m = w.tiled in absurd (omega (arith, end))
   stands-by p (b ∷ bs) lt e w =
       let place : b.place ≡ p = w.tiled.0 in
       let read : header p (word m p) ≡ Some b = subst (λ (q : ℕ). header q (word m q) ≡ Some b) place w.read.0 in
       let h : HeaderIs p (word m p) b = header-is p (word m p) b read in
-      subst (λ (u : Bool). Stands m p u (be2 (word m p) 2)) h.used (subst (λ (k : ℕ). Stands m p b.used k) h.words (stands-at p b bs place e w))
+      subst (λ (u : Bool). BlockStands m p u (be2 (word m p) 2)) h.used (subst (λ (k : ℕ). BlockStands m p b.used k) h.words (stands-at p b bs place e w))
 
-  block_stands : (p : ℕ) → p < length m → Walk m p (blocks_at m p) → Stands m p (slice_index (word m p) 0 == used_tag) (be2 (word m p) 2)
+  block_stands : (p : ℕ) → p < length m → Walk m p (blocks_at m p) → BlockStands m p (slice_index (word m p) 0 == used_tag) (be2 (word m p) 2)
   block_stands p lt w = stands-by p (blocks_at m p) lt refl w
 
   -- the same of the header that was read
-  pub header_stands : (p : ℕ) (used : Bool) (words : ℕ) → p < length m → Walk m p (blocks_at m p) → used ≡ (slice_index (word m p) 0 == used_tag) → words ≡ be2 (word m p) 2 → Stands m p used words
+  pub header_stands : (p : ℕ) (used : Bool) (words : ℕ) → p < length m → Walk m p (blocks_at m p) → used ≡ (slice_index (word m p) 0 == used_tag) → words ≡ be2 (word m p) 2 → BlockStands m p used words
   header_stands p used words lt w u k =
-      subst (λ (t : Bool). Stands m p t words) (sym u) (subst (λ (n : ℕ). Stands m p (slice_index (word m p) 0 == used_tag) n) (sym k) (block_stands p lt w))
+      subst (λ (t : Bool). BlockStands m p t words) (sym u) (subst (λ (n : ℕ). BlockStands m p (slice_index (word m p) 0 == used_tag) n) (sym k) (block_stands p lt w))
 
   -- past the end no block has the name
   none-left : (p : ℕ) (bs : List Block) (n : List ℕ) → Walk m p bs → length m ≤ p → first_named m bs n ≡ None

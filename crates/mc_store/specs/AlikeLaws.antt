@@ -2,47 +2,47 @@
 use Rattle.std.proofs.Common.{◌≡◌, ℕ, ◌+◌, ◌≤◌, Bool, true, false, List, [], ◌∷◌, length, Option, Some, None, Result, Ok, Err, refl, sym, ◌∙◌, ap, arith}
 use Rattle.mc_model.specs.Device.{IsSized}
 use Rattle.mc_model.specs.Image.{Journal, One, Two, is_open, count, targets, Look, Refused, Closed, Pending, which_of, look, look_at, look_j, headed, aimed, opened, After, Words, after, replayed}
-use Rattle.mc_model.specs.Stopped.{Inside, SameOutside}
+use Rattle.mc_model.specs.Stopped.{InJournal, SameOutside}
 use Rattle.mc_model.specs.Card.{Block, word, blocks, card_of, means, words_after}
 use Rattle.mc_model.specs.Layout.{words_fault, fault, fault_of}
-use Rattle.mc_blocks.specs.Blocks.{Agree}
+use Rattle.mc_blocks.specs.Blocks.{WordsAgree}
 use Rattle.mc_blocks.proofs.Tiles.{Tiled}
-use Rattle.mc_blocks.proofs.Bridge.{Laid, laid}
+use Rattle.mc_blocks.proofs.Bridge.{WellLaid, laid}
 use Rattle.mc_blocks.proofs.Built.{SameCard, same-card}
 use Rattle.mc_store.specs.Store.{settled}
 
 -- ---- the same root and heap
 
 -- the same words in word 0 and from word 131 on
-pub record Alike (n m : List (List ℕ)) : Type 0 where
+pub record HeapsAlike (n m : List (List ℕ)) : Type 0 where
   pub size : length n ≡ length m
   pub root : word n 0 ≡ word m 0
   pub heap : (i : ℕ) → 131 ≤ i → word n i ≡ word m i
 
-pub alike-self : (m : List (List ℕ)) → Alike m m
+pub alike-self : (m : List (List ℕ)) → HeapsAlike m m
 alike-self m = record { size = refl; root = refl; heap = λ i low. refl }
 
-root-outside : (j : Journal) → Inside j 0 → ⊥
+root-outside : (j : Journal) → InJournal j 0 → ⊥
 root-outside One inside = omega (arith, inside)
 root-outside Two inside = omega (arith, inside)
 
-heap-outside : (j : Journal) (i : ℕ) → 131 ≤ i → Inside j i → ⊥
+heap-outside : (j : Journal) (i : ℕ) → 131 ≤ i → InJournal j i → ⊥
 heap-outside One i low inside = omega (arith, low, inside)
 heap-outside Two i low inside = omega (arith, low, inside)
 
 -- what is outside a journal
-pub alike-outside : (j : Journal) (n m : List (List ℕ)) → SameOutside j n m → Alike n m
+pub alike-outside : (j : Journal) (n m : List (List ℕ)) → SameOutside j n m → HeapsAlike n m
 alike-outside j n m s = record { size = s.size; root = s.words 0 (root-outside j); heap = λ i low. s.words i (heap-outside j i low) }
 
-agree : (m n : List (List ℕ)) (p : ℕ) (a : Bool) (bs : List Block) (end : ℕ) → 131 ≤ p → Tiled p a bs end → Alike n m → Agree m n bs
+agree : (m n : List (List ℕ)) (p : ℕ) (a : Bool) (bs : List Block) (end : ℕ) → 131 ≤ p → Tiled p a bs end → HeapsAlike n m → WordsAgree m n bs
 agree m n p a [] end low t s = tt
 agree m n p a (b ∷ bs) end low t s =
     let place : b.place ≡ p = t.0 in
     (s.heap b.place (omega (arith, place)), (λ used i from below. s.heap i (omega (arith, place))), agree m n (p + b.words) _ bs end (omega arith) t.3 s)
 
-pub alike-card : (m n : List (List ℕ)) → IsSized m → words_fault m ≡ None → Alike n m → SameCard m n
+pub alike-card : (m n : List (List ℕ)) → IsSized m → words_fault m ≡ None → HeapsAlike n m → SameCard m n
 alike-card m n image good s =
-    let l : Laid m = laid m image good in
+    let l : WellLaid m = laid m image good in
     same-card m n image good s.size s.root (agree m n 131 false (blocks m) (length m) (omega arith) l.tiled s)
 
 -- ---- no open journal
@@ -78,10 +78,10 @@ shut-look m two one = ap (λ (b : Bool). look_at m (which_of b (is_open One m)))
 -- ---- words once their journal is replayed
 
 -- they are like these
-pub record Settles (t n : List (List ℕ)) : Type 0 where
+pub record SettlesAlike (t n : List (List ℕ)) : Type 0 where
   pub left : List (List ℕ)
   pub is : after n ≡ Words left
-  pub alike : Alike left t
+  pub alike : HeapsAlike left t
 
 fault-by : (n w : List (List ℕ)) (l : Look) → look n ≡ l → replayed n l ≡ Words w → fault_of l n ≡ words_fault w
 fault-by n w (Refused p) e h = absurd (cc h)

@@ -13,7 +13,7 @@ use Rattle.mc_model.proofs.GeometryLemmas.{InEntries, Geometry, geometry, target
 use Rattle.mc_model.proofs.StoppedLemmas.{torn-other, shut-closed, targets-outside}
 use Rattle.mc_model.proofs.RecoveryLemmas.{look-two}
 use Rattle.mc_model.proofs.CallLemmas.{write-ends}
-use Rattle.mc_store.specs.AlikeLaws.{Alike, alike-outside, Gates, gates, shut-look, Settles}
+use Rattle.mc_store.specs.AlikeLaws.{HeapsAlike, alike-outside, Gates, gates, shut-look, SettlesAlike}
 
 -- ---- the gate of journal 1
 
@@ -34,10 +34,10 @@ writes-apart size list high atomic =
 
 -- done, the words have no open journal and are like the new ones; stopped, they settle to the old or to the new ones
 abbrev pub AtomicEnds : DeviceState → List (ℕ × List ℕ) → Answer → DeviceState → Type 0
-AtomicEnds d list (Ok u) e = (look e.words ≡ Closed) × Alike e.words (laid d.words list) × Ended (Ok tt) d e
-AtomicEnds d list (Err s) e = (Settles d.words e.words ⊎ Settles (laid d.words list) e.words) × Ended (Err s) d e
+AtomicEnds d list (Ok u) e = (look e.words ≡ Closed) × HeapsAlike e.words (laid d.words list) × Ended (Ok tt) d e
+AtomicEnds d list (Err s) e = (SettlesAlike d.words e.words ⊎ SettlesAlike (laid d.words list) e.words) × Ended (Err s) d e
 
-by-stand : (m n : List (List ℕ)) (list : List (ℕ × List ℕ)) (t : Bool) (w : List (List ℕ)) → after n ≡ Words w → SameOutside Two w (stood t m list) → Settles m n ⊎ Settles (laid m list) n
+by-stand : (m n : List (List ℕ)) (list : List (ℕ × List ℕ)) (t : Bool) (w : List (List ℕ)) → after n ≡ Words w → SameOutside Two w (stood t m list) → SettlesAlike m n ⊎ SettlesAlike (laid m list) n
 by-stand m n list true w is same = inr (record { left = w; is = is; alike = alike-outside Two w (laid m list) same })
 by-stand m n list false w is same = inl (record { left = w; is = is; alike = alike-outside Two w m same })
 

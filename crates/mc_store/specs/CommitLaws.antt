@@ -15,7 +15,7 @@ use Rattle.mc_model.proofs.ImageLemmas.{laid-other, length-laid}
 use Rattle.mc_bank.specs.Bank.{CanCommit, with_words}
 use Rattle.mc_blocks.specs.Blocks.{hole_spans, used_spans}
 use Rattle.mc_blocks.specs.Plans.{has_room}
-use Rattle.mc_blocks.proofs.Bridge.{Laid, laid as laid-blocks}
+use Rattle.mc_blocks.proofs.Bridge.{WellLaid, laid as laid-blocks}
 use Rattle.mc_store.specs.Store.{static_writes}
 use Rattle.mc_store.specs.SpliceLaws.{placed_words, SectionLaid, section-laid}
 use Rattle.mc_store.specs.StaticLaws.{static_from, Restated, Restates, restates, StaticIn, static-in}
@@ -37,7 +37,7 @@ static-ascend size q n least k (w ∷ ws) heap ends low up all =
     (static-ascend size q n (t + 1) (w.0 + 1) ws heap ends (omega arith) up.1 all.1))
 
 -- the words with the commit, as a card
-pub record Committed (m : List (List ℕ)) (k : List ℕ) (a : App) (ws : List (ℕ × List ℕ)) : Type 0 where
+pub record CommittedCard (m : List (List ℕ)) (k : List ℕ) (a : App) (ws : List (ℕ × List ℕ)) : Type 0 where
   pub atomic : IsAtomic (length m) (static_writes a ws)
   pub image : IsSized (laid m (static_writes a ws))
   pub good : words_fault (laid m (static_writes a ws)) ≡ None
@@ -46,7 +46,7 @@ pub record Committed (m : List (List ℕ)) (k : List ℕ) (a : App) (ws : List (
   pub count : length (insert (card_of m).apps k (with_words ws a)) ≡ length (card_of m).apps
   pub holes : (p need i : ℕ) → has_room p need (gaps (card_of m)) ≡ true → p ≤ i → i < p + need → word (laid m (static_writes a ws)) i ≡ word m i
 
-pub commits : (m : List (List ℕ)) (k : List ℕ) (a : App) (ws : List (ℕ × List ℕ)) → IsSized m → words_fault m ≡ None → lookup (card_of m).apps k ≡ Some a → CanCommit a.fixed ws → Committed m k a ws
+pub commits : (m : List (List ℕ)) (k : List ℕ) (a : App) (ws : List (ℕ × List ℕ)) → IsSized m → words_fault m ≡ None → lookup (card_of m).apps k ≡ Some a → CanCommit a.fixed ws → CommittedCard m k a ws
 commits m k a ws image good there can =
     let list = static_writes a ws in
     let t = laid m list in
@@ -58,8 +58,8 @@ commits m k a ws image good there can =
     let other = λ (i : ℕ) (out : (i < q) ⊎ (q + n ≤ i)). laid-other m list i (apart-words q n i ws l.numbers out) in
     let r : Restated m t a (with_words ws a).fixed = record { size = length-laid m list; words = λ i heap out. other i out; bytes = l.bytes ∙ ap (λ (f : List ℕ). laid_words f ws) s.bytes } in
     let c : Restates m t k a (with_words ws a).fixed = restates m t k a (with_words ws a).fixed image good there (other 0 (inl (omega arith))) r in
-    let before : Laid m = laid-blocks m image good in
-    let after : Laid t = laid-blocks t l.image c.good in
+    let before : WellLaid m = laid-blocks m image good in
+    let after : WellLaid t = laid-blocks t l.image c.good in
     let same : gaps (card_of t) ≡ gaps (card_of m) = after.gaps ∙ ap hole_spans c.blocks ∙ sym before.gaps in
     let size : length list ≡ length ws = length-map {A = ℕ × List ℕ} {B = ℕ × List ℕ} ws (λ w. (q + w.0, w.1)) in
     let some : 1 ≤ length ws = can.some in

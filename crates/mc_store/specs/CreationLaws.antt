@@ -13,27 +13,27 @@ use Rattle.mc_model.specs.Layout.{gaps, spans, put_at, step_of, used_header, hol
 use Rattle.mc_model.specs.Items.{Site}
 use Rattle.mc_model.proofs.ImageLemmas.{laid-other, length-laid}
 use Rattle.mc_bank.specs.Bank.{FitsLimits, entered}
-use Rattle.mc_blocks.specs.Chains.{Above}
+use Rattle.mc_blocks.specs.Chains.{SpansAbove}
 use Rattle.mc_blocks.specs.Blocks.{used_spans, hole_spans}
 use Rattle.mc_blocks.specs.Plans.{plan, has_room, has_span, gap_before, link_word}
 use Rattle.mc_blocks.proofs.Tiles.{Tiled}
 use Rattle.mc_blocks.proofs.Maps.{Free, free-from, spans-insert}
-use Rattle.mc_blocks.proofs.Bridge.{Laid, well-laid, used-above}
+use Rattle.mc_blocks.proofs.Bridge.{WellLaid, well-laid, used-above}
 use Rattle.mc_blocks.proofs.Taking.{RoomAt, room-at, room-from}
 use Rattle.mc_blocks.proofs.Search.{holes-above}
 use Rattle.std.proofs.lemmas.List.{length-append, length-replicate}
 use Rattle.mc_blocks.proofs.Plans.{gaps-are, spans-are, TakeIs, take-is}
-use Rattle.mc_blocks.specs.Outcomes.{Leaves}
+use Rattle.mc_blocks.specs.Outcomes.{HoldsApplications}
 use Rattle.mc_blocks.proofs.Outcome.{creates}
-use Rattle.mc_store.specs.Store.{part_in, needed_by, record_bytes, card_with, IsGoodIn, IsReady}
-use Rattle.mc_store.specs.AlikeLaws.{Alike}
+use Rattle.mc_store.specs.Store.{part_in, needed_by, record_bytes, card_with, IsGoodIn, IsReadySite}
+use Rattle.mc_store.specs.AlikeLaws.{HeapsAlike}
 use Rattle.mc_store.specs.RecordLaws.{Fields, fields, is-record}
 use Rattle.mc_store.specs.SectionLaws.{length-section, section-split, same-cells, same-section}
 use Rattle.mc_store.specs.PlanningLaws.{planned, step-plan, first-room}
 
 -- ---- the place of a hole
 
-above-none : (q p : ℕ) (l : List (ℕ × ℕ)) → Above q l → p < q → has_span p l ≡ false
+above-none : (q p : ℕ) (l : List (ℕ × ℕ)) → SpansAbove q l → p < q → has_span p l ≡ false
 above-none q p [] a lt = refl
 above-none q p (s ∷ ss) a lt =
     let low : q ≤ s.0 = a.0 in
@@ -74,7 +74,7 @@ at-site m s image closed h good =
     let need = needed_by s.sizes in
     let room : has_room p need (gaps (means m)) ≡ true = first-room need p (gaps (means m)) good.place in
     let t : TakeIs m p need = take-is m p need image closed h (omega arith) room in
-    let l : Laid m = well-laid m image closed h in
+    let l : WellLaid m = well-laid m image closed h in
     record {
       room = room;
       take = t;
@@ -126,18 +126,18 @@ take-keeps m p need i t low high =
 
 -- ---- the application
 
-App-of : ℕ → ℕ → ℕ → List ℕ → List ℕ → List ℕ → List ℕ → App
-App-of p session deny code fixed dir fci = record { code = code; fixed = fixed; session = session; deny = deny; dir = dir; fci = fci; place = p }
+created_app : ℕ → ℕ → ℕ → List ℕ → List ℕ → List ℕ → List ℕ → App
+created_app p session deny code fixed dir fci = record { code = code; fixed = fixed; session = session; deny = deny; dir = dir; fci = fci; place = p }
 
 -- an application whose record says these sizes
 by-fields : (w : List (List ℕ)) (p : ℕ) (z : Sizes) (n r : List ℕ) → Fields z n r
-    → app_of w p r ≡ App-of p z.session z.deny (section w (p + 5) z.code) (section w (p + 5 + up z.code 8) z.fixed) (section w (p + 5 + up z.code 8 + up z.fixed 8) z.dir) (section w (p + 5 + up z.code 8 + up z.fixed 8 + up z.dir 8) z.fci)
-unfolding App-of
+    → app_of w p r ≡ created_app p z.session z.deny (section w (p + 5) z.code) (section w (p + 5 + up z.code 8) z.fixed) (section w (p + 5 + up z.code 8 + up z.fixed 8) z.dir) (section w (p + 5 + up z.code 8 + up z.fixed 8 + up z.dir 8) z.fci)
+unfolding created_app
 by-fields w p z n r f = rw (f.code, f.fixed, f.session, f.deny, f.dir, f.fci) refl
 
-pub stands-app : (m w : List (List ℕ)) (s : Site) (n : List ℕ) → IsSized m → IsReady m s n → s.place + needed_by s.sizes ≤ length m → length w ≡ length m
+pub stands-app : (m w : List (List ℕ)) (s : Site) (n : List ℕ) → IsSized m → IsReadySite m s n → s.place + needed_by s.sizes ≤ length m → length w ≡ length m
     → ((i : ℕ) → s.place < i → i < s.place + needed_by s.sizes → word w i ≡ word m i) → (record_at w s.place ≡ record_bytes s.sizes n) × (app_at w s.place ≡ entered s (part_in m s))
-unfolding part_in App-of
+unfolding part_in created_app
 stands-app m w s n image ready ends size same =
     let z = s.sizes in
     let p = s.place in
@@ -152,10 +152,10 @@ stands-app m w s n image ready ends size same =
     section-split m (p + 5 + up z.code 8) z.init z.fixed image init (omega arith) ∙ ap (λ (l : List ℕ). section m (p + 5 + up z.code 8) z.init ++ l) ready.blank in (
       r,
       by-fields w p z n (record_at w p) (subst (λ (x : List ℕ). Fields z n x) (sym r) (fields z n limits ready.name))
-          ∙ ap (λ (x : List ℕ). App-of p z.session z.deny x (section w (p + 5 + up z.code 8) z.fixed) (section w (p + 5 + up z.code 8 + up z.fixed 8) z.dir) (section w (p + 5 + up z.code 8 + up z.fixed 8 + up z.dir 8) z.fci)) a
-          ∙ ap (λ (x : List ℕ). App-of p z.session z.deny (section m (p + 5) z.code) x (section w (p + 5 + up z.code 8 + up z.fixed 8) z.dir) (section w (p + 5 + up z.code 8 + up z.fixed 8 + up z.dir 8) z.fci)) (b ∙ blank)
-          ∙ ap (λ (x : List ℕ). App-of p z.session z.deny (section m (p + 5) z.code) (section m (p + 5 + up z.code 8) z.init ++ zeros (z.fixed - z.init)) x (section w (p + 5 + up z.code 8 + up z.fixed 8 + up z.dir 8) z.fci)) c
-          ∙ ap (λ (x : List ℕ). App-of p z.session z.deny (section m (p + 5) z.code) (section m (p + 5 + up z.code 8) z.init ++ zeros (z.fixed - z.init)) (section m (p + 5 + up z.code 8 + up z.fixed 8) z.dir) x) d,
+          ∙ ap (λ (x : List ℕ). created_app p z.session z.deny x (section w (p + 5 + up z.code 8) z.fixed) (section w (p + 5 + up z.code 8 + up z.fixed 8) z.dir) (section w (p + 5 + up z.code 8 + up z.fixed 8 + up z.dir 8) z.fci)) a
+          ∙ ap (λ (x : List ℕ). created_app p z.session z.deny (section m (p + 5) z.code) x (section w (p + 5 + up z.code 8 + up z.fixed 8) z.dir) (section w (p + 5 + up z.code 8 + up z.fixed 8 + up z.dir 8) z.fci)) (b ∙ blank)
+          ∙ ap (λ (x : List ℕ). created_app p z.session z.deny (section m (p + 5) z.code) (section m (p + 5 + up z.code 8) z.init ++ zeros (z.fixed - z.init)) x (section w (p + 5 + up z.code 8 + up z.fixed 8 + up z.dir 8) z.fci)) c
+          ∙ ap (λ (x : List ℕ). created_app p z.session z.deny (section m (p + 5) z.code) (section m (p + 5 + up z.code 8) z.init ++ zeros (z.fixed - z.init)) (section m (p + 5 + up z.code 8 + up z.fixed 8) z.dir) x) d,
     )
 
 -- ---- the creation
@@ -184,7 +184,7 @@ creates-plan m s n image closed h good fresh =
     }
 
 -- done, it leaves the card with the application
-pub creates-card : (m w : List (List ℕ)) (s : Site) (n : List ℕ) → IsSized m → look m ≡ Closed → IsWellLaid m → IsReady m s n → Alike w (laid m (step_of (means m) (card_with m s n))) → Leaves m w (insert (means m).apps n (entered s (part_in m s)))
+pub creates-card : (m w : List (List ℕ)) (s : Site) (n : List ℕ) → IsSized m → look m ≡ Closed → IsWellLaid m → IsReadySite m s n → HeapsAlike w (laid m (step_of (means m) (card_with m s n))) → HoldsApplications m w (insert (means m).apps n (entered s (part_in m s)))
 creates-card m w s n image closed h ready alike =
     let p = s.place in
     let need = needed_by s.sizes in
@@ -192,12 +192,12 @@ creates-card m w s n image closed h ready alike =
     let c : Creates m s n = creates-plan m s n image closed h ready.good ready.fresh in
     let list = plan (means m) (put_at p need (spans (means m))) in
     let atomic : IsAtomic (length m) list = subst (λ (l : List (ℕ × List ℕ)). IsAtomic (length m) l) c.plan c.atomic in
-    let new : Alike w (laid m list) = subst (λ (l : List (ℕ × List ℕ)). Alike w (laid m l)) c.plan alike in
+    let new : HeapsAlike w (laid m list) = subst (λ (l : List (ℕ × List ℕ)). HeapsAlike w (laid m l)) c.plan alike in
     let low : 131 ≤ p = site.low in
     let stands = stands-app m w s n image ready site.ends (new.size ∙ length-laid m list) (λ i above below. new.heap i (omega arith) ∙ laid-other m list i (take-keeps m p need i site.take above below)) in
     let f : Fields s.sizes n (record_at w p) = subst (λ (x : List ℕ). Fields s.sizes n x) (sym stands.0) (fields s.sizes n ready.good.limits ready.name) in
     let name : name_at w p ≡ n = f.name in
-    let left : Leaves m w (insert (means m).apps (name_at w p) (app_at w p)) =
+    let left : HoldsApplications m w (insert (means m).apps (name_at w p) (app_at w p)) =
     creates m w p need image closed h (omega arith) site.room (planned m w (put_at p need (spans (means m))) image.low atomic new)
     (is-record s.sizes n (record_at w p) ready.good.limits ready.name stands.0) (ap (λ (k : List ℕ). lookup (means m).apps k) name ∙ ready.fresh) ready.good.few in
-    subst (λ (k : List ℕ). Leaves m w (insert (means m).apps k (entered s (part_in m s)))) name (subst (λ (x : App). Leaves m w (insert (means m).apps (name_at w p) x)) stands.1 left)
+    subst (λ (k : List ℕ). HoldsApplications m w (insert (means m).apps k (entered s (part_in m s)))) name (subst (λ (x : App). HoldsApplications m w (insert (means m).apps (name_at w p) x)) stands.1 left)

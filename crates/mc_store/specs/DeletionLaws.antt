@@ -12,13 +12,13 @@ use Rattle.mc_blocks.proofs.Maps.{spans-remove}
 use Rattle.mc_blocks.proofs.Applications.{found-application}
 use Rattle.mc_blocks.proofs.Plans.{FreeIs, free-is, spans-are}
 use Rattle.mc_blocks.specs.Blocks.{used_spans}
-use Rattle.mc_blocks.specs.Outcomes.{Leaves}
-use Rattle.mc_blocks.proofs.Bridge.{Laid, well-laid, means-closed, named, Faultless, faultless, fault-closed}
+use Rattle.mc_blocks.specs.Outcomes.{HoldsApplications}
+use Rattle.mc_blocks.proofs.Bridge.{WellLaid, well-laid, means-closed, named, Faultless, faultless, fault-closed}
 use Rattle.mc_blocks.proofs.Freeing.{free_in}
 use Rattle.mc_blocks.proofs.Cards.{SameUsed, Deleted, deleted}
 use Rattle.mc_blocks.proofs.Outcome.{deletes}
 use Rattle.mc_store.specs.Store.{card_without}
-use Rattle.mc_store.specs.AlikeLaws.{Alike}
+use Rattle.mc_store.specs.AlikeLaws.{HeapsAlike}
 use Rattle.mc_store.specs.PlanningLaws.{planned, step-plan}
 
 -- the atomic write of a deletion is a plan
@@ -42,12 +42,12 @@ deletes-plan m n a image closed h there =
     }
 
 -- done, it leaves the card without the application
-pub deletes-card : (m w : List (List ℕ)) (n : List ℕ) (a : App) → IsSized m → look m ≡ Closed → IsWellLaid m → lookup (means m).apps n ≡ Some a → Alike w (laid m (step_of (means m) (card_without m n))) → Leaves m w (remove (means m).apps n)
+pub deletes-card : (m w : List (List ℕ)) (n : List ℕ) (a : App) → IsSized m → look m ≡ Closed → IsWellLaid m → lookup (means m).apps n ≡ Some a → HeapsAlike w (laid m (step_of (means m) (card_without m n))) → HoldsApplications m w (remove (means m).apps n)
 deletes-card m w n a image closed h there alike =
     let d : Deletes m n a = deletes-plan m n a image closed h there in
     let list = plan (means m) (without a.place (spans (means m))) in
     let atomic : IsAtomic (length m) list = subst (λ (l : List (ℕ × List ℕ)). IsAtomic (length m) l) d.plan d.atomic in
-    let new : Alike w (laid m list) = subst (λ (l : List (ℕ × List ℕ)). Alike w (laid m l)) d.plan alike in
+    let new : HeapsAlike w (laid m list) = subst (λ (l : List (ℕ × List ℕ)). HeapsAlike w (laid m l)) d.plan alike in
     deletes m w n a image closed h there (planned m w (without a.place (spans (means m))) image.low atomic new)
 
 same-used : (m : List (List ℕ)) (p : ℕ) (bs : List Block) → SameUsed m m p bs
@@ -59,7 +59,7 @@ pub deletes-count : (m : List (List ℕ)) (n : List ℕ) (a : App) → IsSized m
 deletes-count m n a image closed h there =
     let bs = blocks m in
     let p = a.place in
-    let l : Laid m = well-laid m image closed h in
+    let l : WellLaid m = well-laid m image closed h in
     let f : Faultless m = faultless m (sym (fault-closed m closed) ∙ h) in
     let found = found-application m n a image closed h there in
     let span : has_span p (used_spans bs) ≡ true = subst (λ (x : List (ℕ × ℕ)). has_span p x ≡ true) (spans-are m image closed h) found.span in

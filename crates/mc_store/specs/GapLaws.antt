@@ -8,10 +8,10 @@ use Rattle.mc_model.specs.Device.{DeviceState, IsSized, Wrote, WriteDone, WriteC
 use Rattle.mc_model.specs.Image.{One, Two, opening, look, Closed}
 use Rattle.mc_model.specs.Card.{Block, word, blocks, card_of}
 use Rattle.mc_model.specs.Layout.{gaps, words_fault}
-use Rattle.mc_blocks.specs.Blocks.{Agree, hole_spans}
+use Rattle.mc_blocks.specs.Blocks.{WordsAgree, hole_spans}
 use Rattle.mc_blocks.specs.Plans.{has_room}
 use Rattle.mc_blocks.proofs.Tiles.{Tiled}
-use Rattle.mc_blocks.proofs.Bridge.{Laid, laid}
+use Rattle.mc_blocks.proofs.Bridge.{WellLaid, laid}
 use Rattle.mc_blocks.proofs.Taking.{RoomAt, room-at, room-from}
 use Rattle.mc_blocks.proofs.Search.{holes-above}
 use Rattle.mc_blocks.proofs.Built.{SameCard, same-card}
@@ -26,7 +26,7 @@ pub besides-set : (m : List (List ℕ)) (at : ℕ) (w : List ℕ) → Besides at
 besides-set m at w = record { size = length-set m at w; words = λ i ne. get_or-set_other m at i w [] ne }
 
 -- a word before all these blocks, or behind the header of a hole among them, is none of theirs
-agree-past : (m n : List (List ℕ)) (at q : ℕ) (a : Bool) (bs : List Block) (end : ℕ) → Besides at n m → at < q → Tiled q a bs end → Agree m n bs
+agree-past : (m n : List (List ℕ)) (at q : ℕ) (a : Bool) (bs : List Block) (end : ℕ) → Besides at n m → at < q → Tiled q a bs end → WordsAgree m n bs
 agree-past m n at q a [] end s lt t = tt
 agree-past m n at q a (b ∷ bs) end s lt t =
     let place : b.place ≡ q = t.0 in
@@ -36,7 +36,7 @@ agree-past m n at q a (b ∷ bs) end s lt t =
       agree-past m n at (q + b.words) (not b.used) bs end s (omega arith) t.3,
     )
 
-agree-in : (m n : List (List ℕ)) (p need at q : ℕ) (a : Bool) (bs : List Block) (end : ℕ) → Besides at n m → Tiled q a bs end → has_room p need (hole_spans bs) ≡ true → p < at → at < p + need → Agree m n bs
+agree-in : (m n : List (List ℕ)) (p need at q : ℕ) (a : Bool) (bs : List Block) (end : ℕ) → Besides at n m → Tiled q a bs end → has_room p need (hole_spans bs) ≡ true → p < at → at < p + need → WordsAgree m n bs
 unfolding RoomAt
 agree-in m n p need at q a [] end s t room low high = absurd (cc room)
 agree-in m n p need at q a (b ∷ bs) end s t room low high =
@@ -52,7 +52,7 @@ agree-in m n p need at q a (b ∷ bs) end s t room low high =
           )
       | inr later ↦
           let before : b.place < p = later.2 in
-          let rest : Agree m n bs = agree-in m n p need at (q + b.words) (not b.used) bs end s t.3 later.1 low high in
+          let rest : WordsAgree m n bs = agree-in m n p need at (q + b.words) (not b.used) bs end s t.3 later.1 low high in
           let far : q + b.words ≤ p = room-behind p need (q + b.words) (not b.used) bs end t.3 later.1 in
           (s.words b.place (λ e. absurd (omega (arith, e))), (λ used i from below. s.words i (λ e. absurd (omega (arith, e, place)))), rest)
     ]
@@ -63,20 +63,20 @@ agree-in m n p need at q a (b ∷ bs) end s t room low high =
 -- ---- the card stays
 
 -- other words of the same card, without a fault
-pub record Keeps (m n : List (List ℕ)) : Type 0 where
+pub record KeepsCard (m n : List (List ℕ)) : Type 0 where
   pub size : length n ≡ length m
   pub closed : look n ≡ Closed
   pub good : words_fault n ≡ None
   pub blocks : blocks n ≡ blocks m
   pub card : card_of n ≡ card_of m
 
-room-low : (m : List (List ℕ)) (p need : ℕ) → Laid m → has_room p need (hole_spans (blocks m)) ≡ true → 131 ≤ p
+room-low : (m : List (List ℕ)) (p need : ℕ) → WellLaid m → has_room p need (hole_spans (blocks m)) ≡ true → 131 ≤ p
 room-low m p need l room = room-from 131 p need (hole_spans (blocks m)) (holes-above 131 false (blocks m) (length m) l.tiled) room
 
 -- whatever stands in a word of a hole behind its header
-pub keeps-gap : (m n : List (List ℕ)) (p need at : ℕ) → IsSized m → look m ≡ Closed → words_fault m ≡ None → has_room p need (gaps (card_of m)) ≡ true → p < at → at < p + need → Besides at n m → Keeps m n
+pub keeps-gap : (m n : List (List ℕ)) (p need at : ℕ) → IsSized m → look m ≡ Closed → words_fault m ≡ None → has_room p need (gaps (card_of m)) ≡ true → p < at → at < p + need → Besides at n m → KeepsCard m n
 keeps-gap m n p need at image closed good room low high s =
-    let l : Laid m = laid m image good in
+    let l : WellLaid m = laid m image good in
     let there : has_room p need (hole_spans (blocks m)) ≡ true = subst (λ (x : List (ℕ × ℕ)). has_room p need x ≡ true) l.gaps room in
     let heap : 131 ≤ p = room-low m p need l there in
     let same : SameCard m n = same-card m n image good s.size (s.words 0 (λ e. absurd (omega (arith, e)))) (agree-in m n p need at 131 false (blocks m) (length m) s l.tiled there low high) in

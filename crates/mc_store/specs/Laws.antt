@@ -22,14 +22,14 @@ use Rattle.mc_blocks.proofs.Maps.{OneAt}
 use Rattle.mc_blocks.proofs.Applications.{found-application}
 use Rattle.mc_store.specs.Store.{settled, apps_in, store_state, place_named, store_named, store_room, store_standing, needed_by, part_from, part_in, static_writes, name_of_place, IsGoodIn, StoreDid}
 use Rattle.mc_store.specs.GoingLaws.{Going, going_is, is_going_of, closed_settled, closed_means, closed_apps, laid_apps}
-use Rattle.mc_store.specs.AlikeLaws.{Alike, means-after}
+use Rattle.mc_store.specs.AlikeLaws.{HeapsAlike, means-after}
 use Rattle.mc_store.specs.AtomicLaws.{AtomicEnds, atomic-ends}
 use Rattle.mc_store.specs.SectionLaws.{same-section}
 use Rattle.mc_store.specs.CreationLaws.{AtSite, at-site, Creates, creates-plan}
-use Rattle.mc_store.specs.CommitLaws.{Committed, commits}
+use Rattle.mc_store.specs.CommitLaws.{CommittedCard, commits}
 use Rattle.mc_store.specs.PlaceLaws.{place-changed, place-new, place-removed}
 use Rattle.mc_store.specs.StoreItems.{named-there}
-use Rattle.mc_store.specs.TurnLaws.{Turns, Standing, standing-of, some-is, turns}
+use Rattle.mc_store.specs.TurnLaws.{ChangesCard, Standing, standing-of, some-is, turns}
 
 -- ---- the applications
 
@@ -37,7 +37,7 @@ rose-of : (s : Stop) (d e : DeviceState) (c k : ℕ) → Ended (Err s) d e → S
 rose-of Off d e c k h = (h.1, h.2, h.3)
 rose-of Worn d e c k h = (h.1, h.2, h.3)
 
-pub changes-of : (d e : DeviceState) (c k : ℕ) (apps : List (List ℕ × App)) (a : Answer) → Going d c → Turns d apps a e k → Changes (store_state d c) apps a (store_state e k)
+pub changes-of : (d e : DeviceState) (c k : ℕ) (apps : List (List ℕ × App)) (a : Answer) → Going d c → ChangesCard d apps a e k → Changes (store_state d c) apps a (store_state e k)
 changes-of d e c k apps (Ok tt) g t =
     record {
       apps = closed_apps e.words t.closed t.good ∙ ap (λ (x : Card). x.apps) t.card;
@@ -60,11 +60,11 @@ changes-of d e c k apps (Err s) g t =
     }
 
 -- the card is the old or the new one
-means-of : (d e : DeviceState) (k : ℕ) (apps : List (List ℕ × App)) (a : Answer) → Turns d apps a e k → (means e.words ≡ card_of d.words) ⊎ (means e.words ≡ record (card_of d.words) { apps = apps })
+means-of : (d e : DeviceState) (k : ℕ) (apps : List (List ℕ × App)) (a : Answer) → ChangesCard d apps a e k → (means e.words ≡ card_of d.words) ⊎ (means e.words ≡ record (card_of d.words) { apps = apps })
 means-of d e k apps (Ok tt) t = inr (closed_means e.words t.closed ∙ t.card)
 means-of d e k apps (Err s) t = t.card
 
-map-of : (d e : DeviceState) (c k : ℕ) (apps : List (List ℕ × App)) (a : Answer) → Going d c → Turns d apps a e k → (apps_in e.words ≡ apps_in d.words) ⊎ (apps_in e.words ≡ apps)
+map-of : (d e : DeviceState) (c k : ℕ) (apps : List (List ℕ × App)) (a : Answer) → Going d c → ChangesCard d apps a e k → (apps_in e.words ≡ apps_in d.words) ⊎ (apps_in e.words ≡ apps)
 map-of d e c k apps (Ok tt) g t = inr (changes-of d e c k apps (Ok tt) g t).apps
 map-of d e c k apps (Err s) g t = (changes-of d e c k apps (Err s) g t).apps
 
@@ -78,12 +78,12 @@ site-stays m w s Data limits ends size same = let few = limits.init in same-sect
 site-stays m w s Dir limits ends size same = same-section m w (part_from Dir s.sizes s.place) (part_len Dir s.sizes) size (omega arith) (λ i low high. same i (omega arith) (omega arith))
 site-stays m w s Fci limits ends size same = same-section m w (part_from Fci s.sizes s.place) (part_len Fci s.sizes) size (omega arith) (λ i low high. same i (omega arith) (omega arith))
 
-settled-alike : (d e : DeviceState) (list : List (ℕ × List ℕ)) (a : Answer) → AtomicEnds d list a e → Alike (settled e.words) d.words ⊎ Alike (settled e.words) (laid d.words list)
-settled-alike d e list (Ok tt) t = inr (subst (λ (x : List (List ℕ)). Alike x (laid d.words list)) (sym (closed_settled e.words t.0)) t.1)
+settled-alike : (d e : DeviceState) (list : List (ℕ × List ℕ)) (a : Answer) → AtomicEnds d list a e → HeapsAlike (settled e.words) d.words ⊎ HeapsAlike (settled e.words) (laid d.words list)
+settled-alike d e list (Ok tt) t = inr (subst (λ (x : List (List ℕ)). HeapsAlike x (laid d.words list)) (sym (closed_settled e.words t.0)) t.1)
 settled-alike d e list (Err s) t =
     elim t.0 [
-      | inl old ↦ inl (subst (λ (x : List (List ℕ)). Alike x d.words) (sym (means-after e.words old.left old.is).words) old.alike)
-      | inr new ↦ inr (subst (λ (x : List (List ℕ)). Alike x (laid d.words list)) (sym (means-after e.words new.left new.is).words) new.alike)
+      | inl old ↦ inl (subst (λ (x : List (List ℕ)). HeapsAlike x d.words) (sym (means-after e.words old.left old.is).words) old.alike)
+      | inr new ↦ inr (subst (λ (x : List (List ℕ)). HeapsAlike x (laid d.words list)) (sym (means-after e.words new.left new.is).words) new.alike)
     ]
 
 module _ {D : Type 0} (state : D → DeviceState) (wrote : D → ℕ → List ℕ → Answer → D → Type 0)
@@ -93,7 +93,7 @@ module _ {D : Type 0} (state : D → DeviceState) (wrote : D → ℕ → List �
   store_obeys d e c k i a did = changes-of (state d) (state e) c k _ a (going_is (state d) c did.going) (turns state wrote obeys i d e c k a did)
 
   -- what a commit's words are
-  commit-of : (d e : D) (c k : ℕ) (n : List ℕ) (ws : List (ℕ × List ℕ)) (a : Answer) → StoreDid state wrote d c (Commit n ws) a e k → (x : App) × (app_of (means (state d).words).apps (Some n) ≡ x) × (lookup (means (state d).words).apps n ≡ Some x) × Committed (state d).words n x ws
+  commit-of : (d e : D) (c k : ℕ) (n : List ℕ) (ws : List (ℕ × List ℕ)) (a : Answer) → StoreDid state wrote d c (Commit n ws) a e k → (x : App) × (app_of (means (state d).words).apps (Some n) ≡ x) × (lookup (means (state d).words).apps n ≡ Some x) × CommittedCard (state d).words n x ws
   commit-of d e c k n ws a did =
       let m = (state d).words in
       let g : Going (state d) c = going_is (state d) c did.going in

@@ -7,13 +7,13 @@ use Rattle.mc_model.specs.Image.{within, laid}
 use Rattle.mc_model.specs.Stopped.{IsAtomic}
 use Rattle.mc_model.specs.Card.{Card, word, means}
 use Rattle.mc_model.specs.Layout.{layout, spans, step_of, first_fitting}
-use Rattle.mc_model.proofs.ImageLemmas.{Holds, all-map, laid-other, laid-holds, length-laid, holds-point}
+use Rattle.mc_model.proofs.ImageLemmas.{HoldsWords, all-map, laid-other, laid-holds, length-laid, holds-point}
 use Rattle.mc_model.proofs.GeometryLemmas.{targets-within}
 use Rattle.mc_blocks.specs.Plans.{changes, layout_of, plan, has_room}
 use Rattle.mc_blocks.proofs.Heads.{layout-spans}
 use Rattle.mc_blocks.specs.Outcomes.{Planned}
 use Rattle.mc_model.proofs.StoppedLemmas.{ascends-list, within-below as below}
-use Rattle.mc_store.specs.AlikeLaws.{Alike}
+use Rattle.mc_store.specs.AlikeLaws.{HeapsAlike}
 
 -- ---- targets
 
@@ -24,7 +24,7 @@ target-is size t h =
       | inr heap ↦ let parts = and_parts (nat_le 131 t) (nat_lt t size) heap in inr (leb-true 131 t parts.0, ltb-true t size parts.1)
     ]
 
-alike-target : (w n : List (List ℕ)) (size t : ℕ) → Alike w n → within size t ≡ true → word w t ≡ word n t
+alike-target : (w n : List (List ℕ)) (size t : ℕ) → HeapsAlike w n → within size t ≡ true → word w t ≡ word n t
 alike-target w n size t a h =
     elim (target-is size t h) [
       | inl is ↦ subst (λ (x : ℕ). word w x ≡ word n x) (sym is) a.root
@@ -32,14 +32,14 @@ alike-target w n size t a h =
     ]
 
 -- the words of an atomic write stand in words that are like those with them
-pub holds-alike : (m w : List (List ℕ)) (list : List (ℕ × List ℕ)) → 256 ≤ length m → IsAtomic (length m) list → Alike w (laid m list) → Holds w list
+pub holds-alike : (m w : List (List ℕ)) (list : List (ℕ × List ℕ)) → 256 ≤ length m → IsAtomic (length m) list → HeapsAlike w (laid m list) → HoldsWords w list
 holds-alike m w list low atomic alike =
     let inside : AllByRecursion (λ p. within (length m) p.0 ≡ true) list = targets-within (length m) list atomic in
     holds-point (laid m list) w list
     (all-map (λ p. within (length m) p.0 ≡ true) (λ p. word w p.0 ≡ word (laid m list) p.0) (λ p h. alike-target w (laid m list) (length m) p.0 alike h) list inside)
     (laid-holds m 0 list (ascends-list (length m) 0 list atomic.targets) (all-map (λ p. within (length m) p.0 ≡ true) (λ p. p.0 < length m) (λ p h. below (length m) p.0 low h) list inside))
 
-pub planned : (m w : List (List ℕ)) (ss : List (ℕ × ℕ)) → 256 ≤ length m → IsAtomic (length m) (plan (means m) ss) → Alike w (laid m (plan (means m) ss)) → Planned m w ss
+pub planned : (m w : List (List ℕ)) (ss : List (ℕ × ℕ)) → 256 ≤ length m → IsAtomic (length m) (plan (means m) ss) → HeapsAlike w (laid m (plan (means m) ss)) → Planned m w ss
 planned m w ss low atomic alike =
     let list = plan (means m) ss in
     record {

@@ -42,7 +42,7 @@ power_count m = owed m + migration (found m)
 -- ---- how it ends
 
 -- words that are a base and owe so many writes, by this journal where they owe any
-pub record IsBase (b : Base) (n : ℕ) (j : Journal) (m : List (List ℕ)) : Type 0 where
+pub record HoldsBase (b : Base) (n : ℕ) (j : Journal) (m : List (List ℕ)) : Type 0 where
   pub base : found m ≡ b
   pub owed : owed m ≡ n
   pub by : n ≢ 0 → which m ≡ Only j
@@ -53,7 +53,7 @@ pub record IsPowered (d : DeviceState) (n c : ℕ) (e : DeviceState) : Type 0 wh
   pub number : n ≡ power_count d.words
   pub means : means e.words ≡ record (means d.words) { layout = 2 }
   pub going : is_going e c ≡ true
-  pub base : IsBase (migrated (found d.words)) 0 One e.words
+  pub base : HoldsBase (migrated (found d.words)) 0 One e.words
   pub ended : Ended (Ok tt) d e
   pub tape : GrowsBy d.tape (done_entries (power_writes d.words)) e.tape
 
@@ -61,15 +61,15 @@ pub record IsPowered (d : DeviceState) (n c : ℕ) (e : DeviceState) : Type 0 wh
 pub record IsUnusable (d : DeviceState) (c : Cause) (p : ℕ) (e : DeviceState) : Type 0 where
   pub fault : fault d.words ≡ Some (c, p)
   pub words : e.words ≡ settled d.words
-  pub base : IsBase (found d.words) 0 One e.words
+  pub base : HoldsBase (found d.words) 0 One e.words
   pub ended : Ended (Ok tt) d e
   pub tape : GrowsBy d.tape (done_entries (power_writes d.words)) e.tape
 
 -- what words are that a stop at write k, which left x, made of words m: as before while writes are owed, and in the migration by journal 1
 abbrev pub IsHalted : List (List ℕ) → ℕ → List ℕ → List (List ℕ) → Type 0
 IsHalted m k x n =
-    (k ≤ owed m → IsBase (found m) (remains (owing (which m)) (owed m - 1) k x) (owing (which m)) n)
-    × (owed m < k → IsBase (cond (stands One 1 (k - owed m) x) (migrated (found m)) (found m)) (owes One 1 (k - owed m) x) One n)
+    (k ≤ owed m → HoldsBase (found m) (remains (owing (which m)) (owed m - 1) k x) (owing (which m)) n)
+    × (owed m < k → HoldsBase (cond (stands One 1 (k - owed m) x) (migrated (found m)) (found m)) (owes One 1 (k - owed m) x) One n)
 
 -- it was stopped at write k, which left x
 pub record IsTorn (d : DeviceState) (s : Stop) (e : DeviceState) : Type 0 where

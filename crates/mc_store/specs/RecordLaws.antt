@@ -6,6 +6,7 @@ use Rattle.std.proofs.Math.Seq.{drop-append-add}
 use Rattle.std.proofs.lemmas.Bool.{le-leb, eq-eqb}
 use Rattle.std.proofs.lemmas.Slice.Eq.{bytes_eq-Decides}
 use Rattle.mc_model.specs.declared.card.Sizes.{Sizes}
+use Rattle.mc_model.specs.Limits.{most_code}
 use Rattle.mc_model.specs.Bytes.{zeros, be2, bytes2}
 use Rattle.mc_model.specs.Card.{needed_of, name_in}
 use Rattle.mc_model.specs.Layout.{is_record}
@@ -52,7 +53,7 @@ be2-at r i a b v ea eb e = ap (λ (x : ℕ). 256 * x + slice_index r (i + 1)) ea
 
 pub fields : (s : Sizes) (n : List ℕ) → FitsLimits s → IsName n → Fields s n (record_bytes s n)
 fields s n limits is =
-    let code : s.code ≤ 8192 = limits.code in
+    let code : s.code ≤ most_code = limits.code in
     let fixed : s.fixed ≤ 4096 = limits.fixed in
     let session : s.session ≤ 256 = limits.session in
     let deny : s.deny < 16 = limits.deny in
@@ -85,7 +86,7 @@ pub is-record : (s : Sizes) (n r : List ℕ) → FitsLimits s → IsName n → r
 is-record s n r limits is same =
     let f : Fields s n r = subst (λ (x : List ℕ). Fields s n x) (sym same) (fields s n limits is) in
     let some : 1 ≤ s.code = limits.some_code in
-    let code : s.code ≤ 8192 = limits.code in
+    let code : s.code ≤ most_code = limits.code in
     let fixed : s.fixed ≤ 4096 = limits.fixed in
     let session : s.session ≤ 256 = limits.session in
     let dir : s.dir ≤ 128 = limits.dir in
@@ -101,7 +102,7 @@ is-record s n r limits is same =
     (le-leb (slice_index r 18) 128 (omega (arith, f.fci)))
     (eq-eqb (slice_index r 19) 0 f.zero)
     (le-leb 1 (be2 r 20) (omega (arith, f.code)))
-    (le-leb (be2 r 20) 8192 (omega (arith, f.code)))
+    (le-leb (be2 r 20) most_code (omega (arith, f.code)))
     (le-leb (be2 r 22) 4096 (omega (arith, f.fixed)))
     (le-leb (be2 r 24) 256 (omega (arith, f.session)))
     (le-leb (be2 r 26) 15 (omega (arith, f.deny)))

@@ -27,7 +27,7 @@ record_sizes r =
     }
 
 -- a used block with a good record that ends in time
-pub record IsBlock (m : List (List ℕ)) (p : ℕ) : Type 0 where
+pub record IsUsedBlock (m : List (List ℕ)) (p : ℕ) : Type 0 where
   pub words : ℕ
   pub good : is_record (record_at m p) words ≡ true
   pub end : p + words ≤ length m

@@ -7,23 +7,23 @@ use Rattle.mc_model.specs.Device.{IsSized}
 use Rattle.mc_model.specs.Card.{App, Block, word, header, blocks, section, record_at, name_in, name_at, app_of, app_at, apps_of, card_of, needed_of}
 use Rattle.mc_model.specs.Layout.{is_record, words_fault, first_hole, bad_link}
 use Rattle.mc_bank.specs.NameLaws.{same_name, name_is_itself, insert-swap, insert-twice, other_way}
-use Rattle.mc_blocks.specs.Chains.{Above}
+use Rattle.mc_blocks.specs.Chains.{SpansAbove}
 use Rattle.mc_blocks.specs.Blocks.{hole_spans, is_root_word}
 use Rattle.mc_blocks.specs.Plans.{has_room}
 use Rattle.mc_blocks.proofs.Search.{holes-above}
 use Rattle.mc_blocks.proofs.Taking.{room-from}
-use Rattle.mc_blocks.proofs.Tiles.{Tiled, AreRead}
-use Rattle.mc_blocks.proofs.Bridge.{Laid, laid, AreNamed, named, Faultless, faultless, with-block, some-apps, no-apps}
+use Rattle.mc_blocks.proofs.Tiles.{Tiled, HeadersRead}
+use Rattle.mc_blocks.proofs.Bridge.{WellLaid, laid, AreNamed, named, Faultless, faultless, with-block, some-apps, no-apps}
 use Rattle.mc_blocks.proofs.Applications.{few-blocks, lookup-insert}
-use Rattle.mc_blocks.proofs.Built.{Stands, built, SameBlock, same-block, root-good, chain-parts}
-use Rattle.mc_store.specs.Slots.{IsBlock}
+use Rattle.mc_blocks.proofs.Built.{HoldsBlocks, built, SameBlock, same-block, root-good, chain-parts}
+use Rattle.mc_store.specs.Slots.{IsUsedBlock}
 use Rattle.mc_store.specs.SectionLaws.{length-section, same-cells, same-section}
 
 -- ---- blocks that stay
 
 -- what is read of the blocks is the same in both words
 record Stay (m n : List (List ℕ)) (names : List (List ℕ)) (bs : List Block) : Type 0 where
-  read : AreRead n bs
+  read : HeadersRead n bs
   named : AreNamed n names bs
   apps : apps_of n bs ≡ apps_of m bs
 
@@ -32,7 +32,7 @@ stay-kind : (m n : List (List ℕ)) (names : List (List ℕ)) (b : Block) (bs : 
     → MatchBool u ((is_record (record_at m b.place) b.words ≡ true) × (has_name (name_at m b.place) names ≡ false) × AreNamed m (name_at m b.place ∷ names) bs) (AreNamed m names bs)
     → ((ns : List (List ℕ)) → AreNamed m ns bs → Stay m n ns bs)
     → MatchBool u ((is_record (record_at n b.place) b.words ≡ true) × (has_name (name_at n b.place) names ≡ false) × AreNamed n (name_at n b.place ∷ names) bs) (AreNamed n names bs)
-    × (AreRead n bs) × (cond u (insert (apps_of n bs) (name_at n b.place) (app_at n b.place)) (apps_of n bs) ≡ cond u (insert (apps_of m bs) (name_at m b.place) (app_at m b.place)) (apps_of m bs))
+    × (HeadersRead n bs) × (cond u (insert (apps_of n bs) (name_at n b.place) (app_at n b.place)) (apps_of n bs) ≡ cond u (insert (apps_of m bs) (name_at m b.place) (app_at m b.place)) (apps_of m bs))
 stay-kind m n names b bs false size h same nm rest = let s = rest names nm in (s.named, s.read, s.apps)
 stay-kind m n names b bs true size h same nm rest =
     let k = name_at m b.place in
@@ -51,7 +51,7 @@ stay-kind m n names b bs true size h same nm rest =
 header-same : (m n : List (List ℕ)) (b : Block) → length n ≡ length m → word n b.place ≡ word m b.place → (header b.place (word m b.place) ≡ Some b) → b.place + b.words ≤ length m → (header b.place (word n b.place) ≡ Some b) × (b.place + b.words ≤ length n)
 header-same m n b size same is ends = (ap (λ (x : List ℕ). header b.place x) same ∙ is, subst (λ (l : ℕ). b.place + b.words ≤ l) (sym size) ends)
 
-stay-all : (m n : List (List ℕ)) (names : List (List ℕ)) (q : ℕ) (a : Bool) (bs : List Block) (end : ℕ) → length n ≡ length m → Tiled q a bs end → AreRead m bs → AreNamed m names bs → ((i : ℕ) → q ≤ i → word n i ≡ word m i) → Stay m n names bs
+stay-all : (m n : List (List ℕ)) (names : List (List ℕ)) (q : ℕ) (a : Bool) (bs : List Block) (end : ℕ) → length n ≡ length m → Tiled q a bs end → HeadersRead m bs → AreNamed m names bs → ((i : ℕ) → q ≤ i → word n i ≡ word m i) → Stay m n names bs
 stay-all m n names q a [] end size t r nm same = record { read = tt; named = tt; apps = no-apps n ∙ sym (no-apps m) }
 stay-all m n names q a (b ∷ bs) end size t r nm same =
     let place : b.place ≡ q = t.0 in
@@ -71,17 +71,17 @@ pub record Restated (m n : List (List ℕ)) (a : App) (fixed : List ℕ) : Type 
   pub words : (i : ℕ) → 131 ≤ i → (i < static_from a) ⊎ (static_from a + up (length a.fixed) 8 ≤ i) → word n i ≡ word m i
   pub bytes : section n (static_from a) (length a.fixed) ≡ fixed
 
-App-of : ℕ → List ℕ → List ℕ → List ℕ → List ℕ → List ℕ → App
-App-of p r code fixed dir fci = record { code = code; fixed = fixed; session = be2 r 24; deny = be2 r 26; dir = dir; fci = fci; place = p }
+recorded_app : ℕ → List ℕ → List ℕ → List ℕ → List ℕ → List ℕ → App
+recorded_app p r code fixed dir fci = record { code = code; fixed = fixed; session = be2 r 24; deny = be2 r 26; dir = dir; fci = fci; place = p }
 
-record Here (m n : List (List ℕ)) (p : ℕ) (fixed : List ℕ) : Type 0 where
+record OnlyStaticChanged (m n : List (List ℕ)) (p : ℕ) (fixed : List ℕ) : Type 0 where
   entry : record_at n p ≡ record_at m p
   app : app_at n p ≡ record (app_at m p) { fixed = fixed }
   ends : static_from (app_at m p) + up (length (app_at m p).fixed) 8 ≤ p + needed_of (be2 (record_at m p) 20) (be2 (record_at m p) 22) (slice_index (record_at m p) 17) (slice_index (record_at m p) 18)
 
 -- the block itself
-here-is : (m n : List (List ℕ)) (p words : ℕ) (fixed : List ℕ) → IsSized m → 131 ≤ p → p + words ≤ length m → is_record (record_at m p) words ≡ true → Restated m n (app_at m p) fixed → Here m n p fixed
-unfolding App-of
+here-is : (m n : List (List ℕ)) (p words : ℕ) (fixed : List ℕ) → IsSized m → 131 ≤ p → p + words ≤ length m → is_record (record_at m p) words ≡ true → Restated m n (app_at m p) fixed → OnlyStaticChanged m n p fixed
+unfolding recorded_app
 here-is m n p words fixed image low h good s =
     let r = record_at m p in
     let code = be2 r 20 in
@@ -104,10 +104,10 @@ here-is m n p words fixed image low h good s =
     record {
       entry = entry;
       app = ap (λ (t : List ℕ). app_of n p t) entry
-          ∙ ap (λ (w : List ℕ). App-of p r w (section n (p + 5 + up code 8) static) (section n (p + 5 + up code 8 + up static 8) dir) (section n (p + 5 + up code 8 + up static 8 + up dir 8) fci)) a
-          ∙ ap (λ (w : List ℕ). App-of p r (section m (p + 5) code) w (section n (p + 5 + up code 8 + up static 8) dir) (section n (p + 5 + up code 8 + up static 8 + up dir 8) fci)) b
-          ∙ ap (λ (w : List ℕ). App-of p r (section m (p + 5) code) fixed w (section n (p + 5 + up code 8 + up static 8 + up dir 8) fci)) c
-          ∙ ap (λ (w : List ℕ). App-of p r (section m (p + 5) code) fixed (section m (p + 5 + up code 8 + up static 8) dir) w) d;
+          ∙ ap (λ (w : List ℕ). recorded_app p r w (section n (p + 5 + up code 8) static) (section n (p + 5 + up code 8 + up static 8) dir) (section n (p + 5 + up code 8 + up static 8 + up dir 8) fci)) a
+          ∙ ap (λ (w : List ℕ). recorded_app p r (section m (p + 5) code) w (section n (p + 5 + up code 8 + up static 8) dir) (section n (p + 5 + up code 8 + up static 8 + up dir 8) fci)) b
+          ∙ ap (λ (w : List ℕ). recorded_app p r (section m (p + 5) code) fixed w (section n (p + 5 + up code 8 + up static 8 + up dir 8) fci)) c
+          ∙ ap (λ (w : List ℕ). recorded_app p r (section m (p + 5) code) fixed (section m (p + 5 + up code 8 + up static 8) dir) w) d;
       ends = omega (arith, to);
     }
 
@@ -118,22 +118,22 @@ record Again (m n : List (List ℕ)) (names : List (List ℕ)) (k : List ℕ) (a
   low : q ≤ a.place
   self : app_at m a.place ≡ a
   name : name_at m a.place ≡ k
-  block : IsBlock m a.place
+  block : IsUsedBlock m a.place
   ends : static_from a + up (length a.fixed) 8 ≤ length m
-  read : AreRead n bs
+  read : HeadersRead n bs
   named : AreNamed n names bs
   apps : apps_of n bs ≡ insert (apps_of m bs) k (record a { fixed = fixed })
   apart : (p need : ℕ) → has_room p need (hole_spans bs) ≡ true → (p + need ≤ a.place) ⊎ (static_from a + up (length a.fixed) 8 ≤ p)
 
 -- one block of it
-record Step (m n : List (List ℕ)) (names : List (List ℕ)) (k : List ℕ) (a : App) (fixed : List ℕ) (b : Block) (bs : List Block) (u : Bool) : Type 0 where
+record BlockStep (m n : List (List ℕ)) (names : List (List ℕ)) (k : List ℕ) (a : App) (fixed : List ℕ) (b : Block) (bs : List Block) (u : Bool) : Type 0 where
   low : b.place ≤ a.place
   self : app_at m a.place ≡ a
   name : name_at m a.place ≡ k
-  block : IsBlock m a.place
+  block : IsUsedBlock m a.place
   ends : static_from a + up (length a.fixed) 8 ≤ length m
   same : word n b.place ≡ word m b.place
-  read : AreRead n bs
+  read : HeadersRead n bs
   named : MatchBool u ((is_record (record_at n b.place) b.words ≡ true) × (has_name (name_at n b.place) names ≡ false) × AreNamed n (name_at n b.place ∷ names) bs) (AreNamed n names bs)
   apps : cond u (with-block n b bs) (apps_of n bs) ≡ insert (cond u (with-block m b bs) (apps_of m bs)) k (record a { fixed = fixed })
   apart : (p need : ℕ) → has_room p need (cond u (hole_spans bs) ((b.place, b.words) ∷ hole_spans bs)) ≡ true → (p + need ≤ a.place) ⊎ (static_from a + up (length a.fixed) 8 ≤ p)
@@ -150,11 +150,11 @@ hole-apart p need q words at end hs low room rest =
     ]
 
 again-kind : (m n : List (List ℕ)) (names : List (List ℕ)) (k : List ℕ) (a : App) (fixed : List ℕ) (b : Block) (bs : List Block) (u t : Bool) → IsSized m → 131 ≤ b.place → 1 ≤ b.words → b.place + b.words ≤ length m
-    → Above (b.place + b.words) (hole_spans bs) → Restated m n a fixed → bytes_eq (name_at m b.place) k ≡ t
+    → SpansAbove (b.place + b.words) (hole_spans bs) → Restated m n a fixed → bytes_eq (name_at m b.place) k ≡ t
     → MatchBool u ((is_record (record_at m b.place) b.words ≡ true) × (has_name (name_at m b.place) names ≡ false) × AreNamed m (name_at m b.place ∷ names) bs) (AreNamed m names bs)
     → ((ns : List (List ℕ)) → AreNamed m ns bs → lookup (apps_of m bs) k ≡ Some a → Again m n ns k a fixed (b.place + b.words) bs)
     → ((ns : List (List ℕ)) → AreNamed m ns bs → ((i : ℕ) → b.place + b.words ≤ i → word n i ≡ word m i) → Stay m n ns bs)
-    → lookup (cond u (with-block m b bs) (apps_of m bs)) k ≡ Some a → Step m n names k a fixed b bs u
+    → lookup (cond u (with-block m b bs) (apps_of m bs)) k ≡ Some a → BlockStep m n names k a fixed b bs u
 again-kind m n names k a fixed b bs false t image heap long h above s e nm rest stay l =
     let g = rest names nm l in
     let low : b.place + b.words ≤ a.place = g.low in
@@ -164,7 +164,7 @@ again-kind m n names k a fixed b bs true true image heap long h above s e nm res
     let is : Some (app_at m b.place) ≡ Some a = sym (lookup-insert (apps_of m bs) x k (app_at m b.place) ∙ ap (λ (y : Bool). cond y (Some (app_at m b.place)) (lookup (apps_of m bs) k)) e) ∙ l in
     let same : app_at m b.place ≡ a = cc in
     let place : b.place ≡ a.place = ap (λ (y : App). y.place) same in
-    let here : Here m n b.place fixed = here-is m n b.place b.words fixed image heap h nm.0 (subst (λ (y : App). Restated m n y fixed) (sym same) s) in
+    let here : OnlyStaticChanged m n b.place fixed = here-is m n b.place b.words fixed image heap h nm.0 (subst (λ (y : App). Restated m n y fixed) (sym same) s) in
     let r = record_at m b.place in
     let need : b.words ≡ needed_of (be2 r 20) (be2 r 22) (slice_index r 17) (slice_index r 18) = eqb-true b.words _ (and_parts _ (b.words == needed_of (be2 r 20) (be2 r 22) (slice_index r 17) (slice_index r 18)) nm.0).1 in
     let ends : static_from a + up (length a.fixed) 8 ≤ b.place + b.words = subst (λ (y : App). static_from y + up (length y.fixed) 8 ≤ b.place + b.words) same (subst (λ (y : ℕ). static_from (app_at m b.place) + up (length (app_at m b.place).fixed) 8 ≤ b.place + y) (sym need) here.ends) in
@@ -175,7 +175,7 @@ again-kind m n names k a fixed b bs true true image heap long h above s e nm res
       low = omega (arith, place);
       self = ap (λ (y : ℕ). app_at m y) (sym place) ∙ same;
       name = ap (λ (y : ℕ). name_at m y) (sym place) ∙ same_name x k e;
-      block = subst (λ (y : ℕ). IsBlock m y) place (record { words = b.words; good = nm.0; end = h });
+      block = subst (λ (y : ℕ). IsUsedBlock m y) place (record { words = b.words; good = nm.0; end = h });
       ends = omega (arith, ends);
       same = s.words b.place heap (inl (omega (arith, place)));
       read = behind.read;
@@ -209,7 +209,7 @@ again-kind m n names k a fixed b bs true false image heap long h above s e nm re
       apart = g.apart;
     }
 
-again-all : (m n : List (List ℕ)) (names : List (List ℕ)) (k : List ℕ) (a : App) (fixed : List ℕ) (q : ℕ) (f : Bool) (bs : List Block) (end : ℕ) → IsSized m → 131 ≤ q → Tiled q f bs end → AreRead m bs → AreNamed m names bs
+again-all : (m n : List (List ℕ)) (names : List (List ℕ)) (k : List ℕ) (a : App) (fixed : List ℕ) (q : ℕ) (f : Bool) (bs : List Block) (end : ℕ) → IsSized m → 131 ≤ q → Tiled q f bs end → HeadersRead m bs → AreNamed m names bs
     → Restated m n a fixed → lookup (apps_of m bs) k ≡ Some a → Again m n names k a fixed q bs
 again-all m n names k a fixed q f [] end image heap t r nm s l = absurd (cc (sym (ap (λ (es : List (List ℕ × App)). lookup es k) (no-apps m)) ∙ l))
 again-all m n names k a fixed q f (b ∷ bs) end image heap t r nm s l =
@@ -244,12 +244,12 @@ pub record Restates (m n : List (List ℕ)) (k : List ℕ) (a : App) (fixed : Li
 pub restates : (m n : List (List ℕ)) (k : List ℕ) (a : App) (fixed : List ℕ) → IsSized m → words_fault m ≡ None → lookup (card_of m).apps k ≡ Some a → word n 0 ≡ word m 0 → Restated m n a fixed → Restates m n k a fixed
 restates m n k a fixed image h there root s =
     let f : Faultless m = faultless m h in
-    let l : Laid m = laid m image h in
+    let l : WellLaid m = laid m image h in
     let bs = blocks m in
     let g : Again m n [] k a fixed 131 bs = again-all m n [] k a fixed 131 false bs (length m) image (omega arith) l.tiled l.read (named m bs [] 0 f.records) s there in
     let good : is_root_word (word m 0) (length m) ≡ true = root-good m (is_root_word (word m 0) (length m)) f.root in
     let links = chain-parts (be2 (word m 0) 6) (first_hole bs) (bad_link bs) (be2 (word m 0) 6 == first_hole bs) refl f.chain in
-    let stands : Stands n bs = built n bs (record {
+    let stands : HoldsBlocks n bs = built n bs (record {
       root = ap (λ (x : List ℕ). is_root_word x (length n)) root ∙ ap (λ (x : ℕ). is_root_word (word m 0) x) s.size ∙ good;
       first = ap (λ (x : List ℕ). be2 x 6) root ∙ links.0;
       tiled = subst (λ (e : ℕ). Tiled 131 false bs e) (sym s.size) l.tiled;
@@ -271,7 +271,7 @@ pub record StaticIn (m : List (List ℕ)) (k : List ℕ) (a : App) : Type 0 wher
   pub low : 131 ≤ a.place
   pub self : app_at m a.place ≡ a
   pub name : name_at m a.place ≡ k
-  pub block : IsBlock m a.place
+  pub block : IsUsedBlock m a.place
   pub ends : static_from a + up (length a.fixed) 8 ≤ length m
   pub bytes : section m (static_from a) (length a.fixed) ≡ a.fixed
   pub apart : (p need : ℕ) → has_room p need (hole_spans (blocks m)) ≡ true → (p + need ≤ a.place) ⊎ (static_from a + up (length a.fixed) 8 ≤ p)
@@ -279,7 +279,7 @@ pub record StaticIn (m : List (List ℕ)) (k : List ℕ) (a : App) : Type 0 wher
 pub static-in : (m : List (List ℕ)) (k : List ℕ) (a : App) → IsSized m → words_fault m ≡ None → lookup (card_of m).apps k ≡ Some a → StaticIn m k a
 static-in m k a image h there =
     let f : Faultless m = faultless m h in
-    let l : Laid m = laid m image h in
+    let l : WellLaid m = laid m image h in
     let bs = blocks m in
     let now = section m (static_from a) (length a.fixed) in
     let s : Restated m m a now = record { size = refl; words = λ i low out. refl; bytes = refl } in

@@ -8,7 +8,7 @@ use Rattle.mc_model.specs.Items.{BankItem, Piece, Blank, Note, Commit, Enter, Re
 use Rattle.mc_model.specs.Play.{OnCard}
 use Rattle.mc_bank.specs.Bank.{item_done}
 use Rattle.mc_store.specs.Store.{part_in, card_with, card_without}
-use Rattle.mc_store.specs.Power.{IsBase}
+use Rattle.mc_store.specs.Power.{HoldsBase}
 
 -- the card after an item
 abbrev pub card_after : List (List ℕ) → BankItem → Card
@@ -16,13 +16,13 @@ card_after m i = record (means m) { apps = item_done (part_in m) i (means m).app
 
 -- an atomic write of a list that was stopped at its write k, which left x: the new card where it stands, and what it owes
 abbrev pub IsTornAt : List (List ℕ) → BankItem → ℕ → ℕ → List ℕ → List (List ℕ) → Type 0
-IsTornAt m i w k x e = IsBase (OnCard (cond (stands Two w k x) (card_after m i) (means m))) (owes Two w k x) Two e
+IsTornAt m i w k x e = HoldsBase (OnCard (cond (stands Two w k x) (card_after m i) (means m))) (owes Two w k x) Two e
 
 -- what a stop at write k of an item, which left x, makes of words m
 abbrev pub IsStoppedAt : List (List ℕ) → BankItem → ℕ → List ℕ → List (List ℕ) → Type 0
-IsStoppedAt m (Piece s p at b) k x e = IsBase (OnCard (means m)) 0 Two e
-IsStoppedAt m (Blank s at n) k x e = IsBase (OnCard (means m)) 0 Two e
-IsStoppedAt m (Note s n i) k x e = IsBase (OnCard (means m)) 0 Two e
+IsStoppedAt m (Piece s p at b) k x e = HoldsBase (OnCard (means m)) 0 Two e
+IsStoppedAt m (Blank s at n) k x e = HoldsBase (OnCard (means m)) 0 Two e
+IsStoppedAt m (Note s n i) k x e = HoldsBase (OnCard (means m)) 0 Two e
 IsStoppedAt m (Commit n ws) k x e = IsTornAt m (Commit n ws) (length ws) k x e
 IsStoppedAt m (Enter s n) k x e = IsTornAt m (Enter s n) (length (step_of (means m) (card_with m s n))) k x e
 IsStoppedAt m (Remove n) k x e = IsTornAt m (Remove n) (length (step_of (means m) (card_without m n))) k x e

@@ -12,7 +12,7 @@ use Rattle.mc_model.specs.Card.{App, Card, needed_of, word, section, record_at, 
 use Rattle.mc_model.specs.Layout.{gaps, first_fitting, words_fault, fault, step_of}
 use Rattle.mc_model.specs.Items.{Site, BankItem, Piece, Blank, Note, Commit, Enter, Remove}
 use Rattle.mc_base.specs.Name.{IsName}
-use Rattle.mc_bank.specs.Bank.{BankState, app_of, part_len, IsGood, CanCommit, entered}
+use Rattle.mc_bank.specs.Bank.{BankState, app_of, part_len, IsGoodSite, CanCommit, entered}
 use Rattle.mc_bank.specs.Slots.{slot_place, name_of_slot}
 use Rattle.mc_blocks.specs.Chains.{looked_at}
 
@@ -128,7 +128,7 @@ item_writes m (Remove n) = writes Two (step_of (means m) (card_without m n))
 
 -- a site that a search for room on these words could answer
 abbrev pub IsGoodIn : List (List ℕ) → Site → Type 0
-IsGoodIn m s = IsGood (means m).apps (λ z. first_fitting (needed_by z) (gaps (means m))) s
+IsGoodIn m s = IsGoodSite (means m).apps (λ z. first_fitting (needed_by z) (gaps (means m))) s
 
 -- bytes in one word of a section of so many bytes
 pub record IsInWord (len at count : ℕ) : Type 0 where
@@ -137,7 +137,7 @@ pub record IsInWord (len at count : ℕ) : Type 0 where
   pub word : at % 8 + count ≤ 8
 
 -- A site is ready to be an application under a name: its record stands there, and zeros behind its data.
-pub record IsReady (m : List (List ℕ)) (s : Site) (n : List ℕ) : Type 0 where
+pub record IsReadySite (m : List (List ℕ)) (s : Site) (n : List ℕ) : Type 0 where
   pub good : IsGoodIn m s
   pub name : IsName n
   pub fresh : lookup (means m).apps n ≡ None
@@ -150,7 +150,7 @@ Allows m (Piece s p at b) = IsGoodIn m s × IsInWord (part_len p s.sizes) at (le
 Allows m (Blank s at n) = IsGoodIn m s × IsInWord s.sizes.fixed at n
 Allows m (Note s n i) = IsGoodIn m s × IsName n × (i < 4)
 Allows m (Commit n ws) = IsSome (lookup (means m).apps n) × CanCommit (app_of (means m).apps (Some n)).fixed ws
-Allows m (Enter s n) = IsReady m s n
+Allows m (Enter s n) = IsReadySite m s n
 Allows m (Remove n) = IsSome (lookup (means m).apps n)
 
 -- the number of applications that the store counts after an item

@@ -17,21 +17,21 @@ use Rattle.mc_bank.specs.Bank.{FitsLimits, CanCommit, part_len, no_app, app_of, 
 use Rattle.mc_bank.specs.NameLaws.{length-inserted}
 use Rattle.mc_blocks.specs.Plans.{has_room}
 use Rattle.mc_blocks.proofs.Built.{SameCard}
-use Rattle.mc_blocks.specs.Outcomes.{Leaves}
-use Rattle.mc_store.specs.Store.{settled, apps_in, store_standing, needed_by, part_from, part_in, item_writes, static_writes, card_with, card_without, IsGoodIn, IsInWord, IsReady, Allows, count_after, StoreDid}
+use Rattle.mc_blocks.specs.Outcomes.{HoldsApplications}
+use Rattle.mc_store.specs.Store.{settled, apps_in, store_standing, needed_by, part_from, part_in, item_writes, static_writes, card_with, card_without, IsGoodIn, IsInWord, IsReadySite, Allows, count_after, StoreDid}
 use Rattle.mc_store.specs.GoingLaws.{Going, going_is, closed_settled, closed_means, closed_fault, closed_apps}
-use Rattle.mc_store.specs.AlikeLaws.{Alike, alike-card, Settles, Means, means-after}
+use Rattle.mc_store.specs.AlikeLaws.{HeapsAlike, alike-card, SettlesAlike, Means, means-after}
 use Rattle.mc_store.specs.AtomicLaws.{AtomicEnds, atomic-ends}
-use Rattle.mc_store.specs.GapLaws.{Keeps, keeps-gap, OneWrite, one-write, just-one}
+use Rattle.mc_store.specs.GapLaws.{KeepsCard, keeps-gap, OneWrite, one-write, just-one}
 use Rattle.mc_store.specs.PlanningLaws.{first-room}
 use Rattle.mc_store.specs.CreationLaws.{Creates, creates-plan, creates-card}
 use Rattle.mc_store.specs.DeletionLaws.{Deletes, deletes-plan, deletes-card, deletes-count}
-use Rattle.mc_store.specs.CommitLaws.{Committed, commits}
+use Rattle.mc_store.specs.CommitLaws.{CommittedCard, commits}
 
 -- ---- words that turn
 
 -- a card with these applications, no journal open, and their number
-pub record Turned (d : DeviceState) (apps : List (List ℕ × App)) (e : DeviceState) (c : ℕ) : Type 0 where
+pub record CardChanged (d : DeviceState) (apps : List (List ℕ × App)) (e : DeviceState) (c : ℕ) : Type 0 where
   pub closed : look e.words ≡ Closed
   pub good : words_fault e.words ≡ None
   pub card : card_of e.words ≡ record (card_of d.words) { apps = apps }
@@ -39,15 +39,15 @@ pub record Turned (d : DeviceState) (apps : List (List ℕ × App)) (e : DeviceS
   pub ended : Ended (Ok tt) d e
 
 -- stopped, they mean the old card or the new one
-pub record Halted (d : DeviceState) (apps : List (List ℕ × App)) (s : Stop) (e : DeviceState) : Type 0 where
+pub record CardChangeStopped (d : DeviceState) (apps : List (List ℕ × App)) (s : Stop) (e : DeviceState) : Type 0 where
   pub good : fault e.words ≡ None
   pub card : (means e.words ≡ card_of d.words) ⊎ (means e.words ≡ record (card_of d.words) { apps = apps })
   pub ended : Ended (Err s) d e
 
 -- words that become others by the atomic write of a change of the card
-abbrev pub Turns : DeviceState → List (List ℕ × App) → Answer → DeviceState → ℕ → Type 0
-Turns d apps (Ok u) e c = Turned d apps e c
-Turns d apps (Err s) e c = Halted d apps s e
+abbrev pub ChangesCard : DeviceState → List (List ℕ × App) → Answer → DeviceState → ℕ → Type 0
+ChangesCard d apps (Ok u) e c = CardChanged d apps e c
+ChangesCard d apps (Err s) e c = CardChangeStopped d apps s e
 
 -- words that are the new card
 pub record New (m w : List (List ℕ)) (apps : List (List ℕ × App)) : Type 0 where
@@ -82,7 +82,7 @@ standing-of d c g = record { well = closed_fault d.words g.closed ∙ g.laid; ap
 module _ {D : Type 0} (state : D → DeviceState) (wrote : D → ℕ → List ℕ → Answer → D → Type 0)
     (obeys : (d : D) (at : ℕ) (w : List ℕ) (a : Answer) (e : D) → (state d).on ≡ true → wrote d at w a e → Wrote (state d) at w a (state e)) where
   halted-by : (d e : DeviceState) (list : List (ℕ × List ℕ)) (apps : List (List ℕ × App)) (s : Stop) → IsSized d.words → words_fault d.words ≡ None
-      → ((w : List (List ℕ)) → Alike w (laid d.words list) → New d.words w apps) → Settles d.words e.words ⊎ Settles (laid d.words list) e.words → Ended (Err s) d e → Halted d apps s e
+      → ((w : List (List ℕ)) → HeapsAlike w (laid d.words list) → New d.words w apps) → SettlesAlike d.words e.words ⊎ SettlesAlike (laid d.words list) e.words → Ended (Err s) d e → CardChangeStopped d apps s e
   halted-by d e list apps s image good new (inl old) ended =
       let same : SameCard d.words old.left = alike-card d.words old.left image good old.alike in
       let m : Means e.words old.left = means-after e.words old.left old.is in
@@ -94,7 +94,7 @@ module _ {D : Type 0} (state : D → DeviceState) (wrote : D → ℕ → List �
 
   -- an atomic write
   pub atomic-turns : (list : List (ℕ × List ℕ)) (apps : List (List ℕ × App)) (d e : D) (c k : ℕ) (a : Answer) → IsSized (state d).words → Going (state d) c → IsAtomic (length (state d).words) list → Makes wrote d (writes Two list) a e
-      → ((w : List (List ℕ)) → Alike w (laid (state d).words list) → New (state d).words w apps) → (a ≡ Ok tt → k ≡ length apps) → Turns (state d) apps a (state e) k
+      → ((w : List (List ℕ)) → HeapsAlike w (laid (state d).words list) → New (state d).words w apps) → (a ≡ Ok tt → k ≡ length apps) → ChangesCard (state d) apps a (state e) k
   atomic-turns list apps d e c k (Ok tt) image going atomic made new count =
       let ends : AtomicEnds (state d) list (Ok tt) (state e) = atomic-ends state wrote obeys list d e (Ok tt) image going.on going.closed atomic made in
       let n : New (state d).words (state e).words apps = new (state e).words ends.1 in
@@ -103,13 +103,13 @@ module _ {D : Type 0} (state : D → DeviceState) (wrote : D → ℕ → List �
       let ends : AtomicEnds (state d) list (Err s) (state e) = atomic-ends state wrote obeys list d e (Err s) image going.on going.closed atomic made in
       halted-by (state d) (state e) list apps s image going.laid new ends.0 ends.1
 
-  plain-by : (d e : DeviceState) (c k : ℕ) (a : Answer) → Going d c → Keeps d.words e.words → Ended a d e → k ≡ c → Turns d (card_of d.words).apps a e k
+  plain-by : (d e : DeviceState) (c k : ℕ) (a : Answer) → Going d c → KeepsCard d.words e.words → Ended a d e → k ≡ c → ChangesCard d (card_of d.words).apps a e k
   plain-by d e c k (Ok tt) going keeps ended count = record { closed = keeps.closed; good = keeps.good; card = keeps.card; count = count ∙ going.count; ended = ended }
   plain-by d e c k (Err s) going keeps ended count = record { good = closed_fault e.words keeps.closed ∙ keeps.good; card = inl (closed_means e.words keeps.closed ∙ keeps.card); ended = ended }
 
   -- a write into a hole
   pub plain-turns : (s : Site) (at : ℕ) (w : List ℕ) (d e : D) (c k : ℕ) (a : Answer) → IsSized (state d).words → Going (state d) c → IsGoodIn (state d).words s → s.place < at → at < s.place + needed_by s.sizes → Makes wrote d ((at, w) ∷ []) a e → k ≡ c
-      → Turns (state d) (card_of (state d).words).apps a (state e) k
+      → ChangesCard (state d) (card_of (state d).words).apps a (state e) k
   plain-turns s at w d e c k a image going good low high made count =
       let m = (state d).words in
       let one : OneWrite (state d) at w a (state e) = one-write (state d) at w a (state e) (obeys d at w a e going.on (just-one wrote d e at w a made)) in
@@ -117,14 +117,14 @@ module _ {D : Type 0} (state : D → DeviceState) (wrote : D → ℕ → List �
       subst (λ (x : Card). has_room s.place (needed_by s.sizes) (gaps x) ≡ true) (closed_means m going.closed) (first-room (needed_by s.sizes) s.place (gaps (means m)) good.place) in
       plain-by (state d) (state e) c k a going (keeps-gap m (state e).words s.place (needed_by s.sizes) at image going.closed going.laid room low high one.besides) one.ended count
 
-  by-leaves : (m w : List (List ℕ)) (apps : List (List ℕ × App)) → look m ≡ Closed → Leaves m w apps → New m w apps
+  by-leaves : (m w : List (List ℕ)) (apps : List (List ℕ × App)) → look m ≡ Closed → HoldsApplications m w apps → New m w apps
   by-leaves m w apps closed l = record { good = l.laid; card = l.card ∙ ap (λ (x : Card). record x { apps = apps }) (closed_means m closed) }
 
-  plain-item : (d e : D) (c k : ℕ) (a : Answer) → Going (state d) c → Turns (state d) (card_of (state d).words).apps a (state e) k → Turns (state d) (apps_in (state d).words) a (state e) k
-  plain-item d e c k a g t = subst (λ (es : List (List ℕ × App)). Turns (state d) es a (state e) k) (sym (standing-of (state d) c g).map) t
+  plain-item : (d e : D) (c k : ℕ) (a : Answer) → Going (state d) c → ChangesCard (state d) (card_of (state d).words).apps a (state e) k → ChangesCard (state d) (apps_in (state d).words) a (state e) k
+  plain-item d e c k a g t = subst (λ (es : List (List ℕ × App)). ChangesCard (state d) es a (state e) k) (sym (standing-of (state d) c g).map) t
 
   pub commit-turns : (n : List ℕ) (ws : List (ℕ × List ℕ)) (d e : D) (c k : ℕ) (a : Answer) → IsSized (state d).words → Going (state d) c → Allows (state d).words (Commit n ws) → Makes wrote d (item_writes (state d).words (Commit n ws)) a e → k ≡ c
-      → Turns (state d) (committed (apps_in (state d).words) n ws) a (state e) k
+      → ChangesCard (state d) (committed (apps_in (state d).words) n ws) a (state e) k
   commit-turns n ws d e c k a image going allowed made count =
       let m = (state d).words in
       let s : Standing m = standing-of (state d) c going in
@@ -132,18 +132,18 @@ module _ {D : Type 0} (state : D → DeviceState) (wrote : D → ℕ → List �
       let x = found.0 in
       let app : app_of (means m).apps (Some n) ≡ x = ap (λ (o : Option App). unwrap_or o no_app) found.1 in
       let there : lookup (card_of m).apps n ≡ Some x = sym (ap (λ (es : List (List ℕ × App)). lookup es n) s.apps) ∙ found.1 in
-      let t : Committed m n x ws = commits m n x ws image going.laid there (subst (λ (y : App). CanCommit y.fixed ws) app allowed.1) in
+      let t : CommittedCard m n x ws = commits m n x ws image going.laid there (subst (λ (y : App). CanCommit y.fixed ws) app allowed.1) in
       let apps = insert (card_of m).apps n (with_words ws x) in
       let same : committed (apps_in m) n ws ≡ apps =
       ap (λ (es : List (List ℕ × App)). insert es n (with_words ws (app_of es (Some n)))) s.map
       ∙ ap (λ (y : App). insert (card_of m).apps n (with_words ws y)) (ap (λ (o : Option App). unwrap_or o no_app) there) in
-      subst (λ (es : List (List ℕ × App)). Turns (state d) es a (state e) k) (sym same)
+      subst (λ (es : List (List ℕ × App)). ChangesCard (state d) es a (state e) k) (sym same)
       (atomic-turns (static_writes x ws) apps d e c k a image going t.atomic (subst (λ (y : App). Makes wrote d (writes Two (static_writes y ws)) a e) app made)
       (λ w alike. let k : SameCard (laid m (static_writes x ws)) w = alike-card (laid m (static_writes x ws)) w t.image t.good alike in record { good = k.good; card = k.card ∙ t.card })
       (λ ok. count ∙ going.count ∙ sym t.count))
 
-  enter-turns : (s : Site) (n : List ℕ) (d e : D) (c k : ℕ) (a : Answer) → IsSized (state d).words → Going (state d) c → IsReady (state d).words s n → Makes wrote d (item_writes (state d).words (Enter s n)) a e → (a ≡ Ok tt → k ≡ c + 1)
-      → Turns (state d) (insert (apps_in (state d).words) n (entered s (store_standing (state d) s))) a (state e) k
+  enter-turns : (s : Site) (n : List ℕ) (d e : D) (c k : ℕ) (a : Answer) → IsSized (state d).words → Going (state d) c → IsReadySite (state d).words s n → Makes wrote d (item_writes (state d).words (Enter s n)) a e → (a ≡ Ok tt → k ≡ c + 1)
+      → ChangesCard (state d) (insert (apps_in (state d).words) n (entered s (store_standing (state d) s))) a (state e) k
   enter-turns s n d e c k a image going ready made count =
       let m = (state d).words in
       let t : Standing m = standing-of (state d) c going in
@@ -154,13 +154,13 @@ module _ {D : Type 0} (state : D → DeviceState) (wrote : D → ℕ → List �
       ∙ ap (λ (x : List (List ℕ)). insert (means m).apps n (entered s (part_in x s))) t.self in
       let more : length apps ≡ suc (length (means m).apps) = length-inserted (means m).apps n (entered s (part_in m s)) ready.fresh in
       let old : c ≡ length (means m).apps = going.count ∙ sym (ap length t.apps) in
-      subst (λ (es : List (List ℕ × App)). Turns (state d) es a (state e) k) (sym same)
+      subst (λ (es : List (List ℕ × App)). ChangesCard (state d) es a (state e) k) (sym same)
       (atomic-turns (step_of (means m) (card_with m s n)) apps d e c k a image going p.atomic made
       (λ w alike. by-leaves m w apps going.closed (creates-card m w s n image going.closed t.well ready alike))
       (λ ok. let one = count ok in omega (arith, one, more, old)))
 
   remove-turns : (n : List ℕ) (d e : D) (c k : ℕ) (a : Answer) → IsSized (state d).words → Going (state d) c → IsSome (lookup (means (state d).words).apps n) → Makes wrote d (item_writes (state d).words (Remove n)) a e → (a ≡ Ok tt → k ≡ c - 1)
-      → Turns (state d) (remove (apps_in (state d).words) n) a (state e) k
+      → ChangesCard (state d) (remove (apps_in (state d).words) n) a (state e) k
   remove-turns n d e c k a image going there made count =
       let m = (state d).words in
       let t : Standing m = standing-of (state d) c going in
@@ -170,7 +170,7 @@ module _ {D : Type 0} (state : D → DeviceState) (wrote : D → ℕ → List �
       let same : remove (apps_in m) n ≡ apps = ap (λ (es : List (List ℕ × App)). remove es n) (t.map ∙ sym t.apps) in
       let less : length (means m).apps ≡ suc (length apps) = deletes-count m n found.0 image going.closed t.well found.1 in
       let old : c ≡ length (means m).apps = going.count ∙ sym (ap length t.apps) in
-      subst (λ (es : List (List ℕ × App)). Turns (state d) es a (state e) k) (sym same)
+      subst (λ (es : List (List ℕ × App)). ChangesCard (state d) es a (state e) k) (sym same)
       (atomic-turns (step_of (means m) (card_without m n)) apps d e c k a image going p.atomic made
       (λ w alike. by-leaves m w apps going.closed (deletes-card m w n found.0 image going.closed t.well found.1 alike))
       (λ ok. let one = count ok in omega (arith, one, less, old)))
@@ -179,7 +179,7 @@ module _ {D : Type 0} (state : D → DeviceState) (wrote : D → ℕ → List �
   counted i a c k n is to ok = is ∙ ap (λ (x : Answer). count_after i x c) ok ∙ to
 
   -- an item by the relation of a store
-  pub turns : (i : BankItem) (d e : D) (c k : ℕ) (a : Answer) → StoreDid state wrote d c i a e k → Turns (state d) (item_done (store_standing (state d)) i (apps_in (state d).words)) a (state e) k
+  pub turns : (i : BankItem) (d e : D) (c k : ℕ) (a : Answer) → StoreDid state wrote d c i a e k → ChangesCard (state d) (item_done (store_standing (state d)) i (apps_in (state d).words)) a (state e) k
   turns (Piece s p at b) d e c k a did =
       let g : Going (state d) c = going_is (state d) c did.going in
       let in-gap = parted p s.sizes s.place at (length b) did.allowed.0.limits did.allowed.1 in

@@ -5,7 +5,7 @@ ghost use Rattle.mc_model.specs.Device.{IsImage};
 ghost use Rattle.mc_model.specs.Card.{word, blocks, used_tag, record_at, name_at, name_in};
 ghost use Rattle.mc_model.specs.Layout.{words_fault};
 ghost use Rattle.mc_bank.specs.Slots.{slot_place, slot_sizes};
-ghost use Rattle.mc_store.specs.Slots.{first_named, record_sizes, IsBlock};
+ghost use Rattle.mc_store.specs.Slots.{first_named, record_sizes, IsUsedBlock};
 
 use mc_bank::{Sizes, Slot};
 use mc_base::{Aid, Word};
@@ -101,7 +101,7 @@ fn begins(aid: &Aid, first: &Word) -> bool
 
 /// The name in the record of the used block at a place.
 pub fn name_of_block<N: Nvm>(device: &N, place: u16) -> Aid
-    requires { IsBlock (N.state device.now).words place }
+    requires { IsUsedBlock (N.state device.now).words place }
     ensures { result ≡ name_at (N.state device.now).words place }
 {
     let _size = device.len();

@@ -7,7 +7,7 @@ ghost use Rattle.mc_model.specs.Items.{Blank, Note, Enter};
 ghost use Rattle.mc_model.specs.Manager.{create_items};
 ghost use Rattle.mc_base.specs.Name.{IsName};
 ghost use Rattle.mc_bank.specs.Bank.{FitsLimits};
-ghost use Rattle.mc_store.specs.Store.{is_going, record_word, IsGoodIn, IsInWord, IsReady};
+ghost use Rattle.mc_store.specs.Store.{is_going, record_word, IsGoodIn, IsInWord, IsReadySite};
 ghost use Rattle.mc_store.specs.StoreItems.{store_did, blank_items};
 
 use crate::filling::{room_in_word, write_part};
@@ -168,7 +168,7 @@ fn access_word(sizes: &Sizes) -> Word
 // Makes the application, whose record and sections stand there.
 fn enter<N: Nvm>(store: &mut Store<N>, site: &Site, aid: &Aid) -> Result<(), Stop>
     requires going { is_going (N.state store.old.device) store.old.count ≡ true }
-    requires ready { IsReady (N.state store.old.device).words site.now aid.now }
+    requires ready { IsReadySite (N.state store.old.device).words site.now aid.now }
     ensures did { store_did N.state N.wrote store.old (Enter site.now aid.now) result store.new }
 {
     let _size = store.device.len();

@@ -7,7 +7,7 @@ ghost use Rattle.mc_model.specs.Layout.{fault, words_fault};
 ghost use Rattle.mc_model.specs.Items.{BankItem};
 ghost use Rattle.mc_model.specs.Play.{migrated};
 ghost use Rattle.mc_store.specs.Store.{settled, item_writes, Allows};
-ghost use Rattle.mc_store.specs.Power.{found, power_writes, power_count, IsBase, IsHalted};
+ghost use Rattle.mc_store.specs.Power.{found, power_writes, power_count, HoldsBase, IsHalted};
 ghost use Rattle.mc_store.specs.Stops.{IsStoppedAt};
 
 /// The writes of a power-up on every image: at each of them, whatever word a stop leaves, the image is what it was
@@ -31,9 +31,9 @@ pub fn item_stops()
 /// owed writes and no other.
 pub fn power_ends()
     ensures card { (m : List (List ℕ)) → IsSized m → fault m ≡ None
-        → IsBase (migrated (found m)) 0 One (laid m (power_writes m)) }
+        → HoldsBase (migrated (found m)) 0 One (laid m (power_writes m)) }
     ensures fault { (m : List (List ℕ)) (f : Cause × ℕ) → IsSized m → fault m ≡ Some f
         → laid m (power_writes m) ≡ settled m }
     ensures base { (m : List (List ℕ)) (f : Cause × ℕ) → IsSized m → fault m ≡ Some f
-        → IsBase (found m) 0 One (settled m) }
+        → HoldsBase (found m) 0 One (settled m) }
 {}

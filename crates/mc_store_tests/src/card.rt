@@ -1,6 +1,6 @@
 // Applications loaded into a bank, changed and compared.
 ghost use Rattle.std.specs.Prelude.{◌≡◌, ◌≤◌, ◌<◌, false, true, length, IfSome, OnOk, None, IsSome};
-ghost use Rattle.mc_bank.specs.Bank.{FitsLimits, IsGood};
+ghost use Rattle.mc_bank.specs.Bank.{FitsLimits, IsGoodSite};
 
 use mc_bank::{Bank, OpenRefusal, Part, Site, Sizes, Slot};
 use mc_base::{Aid, Steps, Stop, Word};
@@ -90,13 +90,13 @@ pub fn load<B: Bank, L: Ledger>(
 /// Fills the sections of a site.
 pub fn fill<B: Bank>(bank: &mut B, site: &Site, unit: &Unit) -> Result<(), Stop>
     requires going { (B.state bank.old).stopped ≡ false }
-    requires good { IsGood (B.state bank.old).apps (B.room bank.old) site.now }
+    requires good { IsGoodSite (B.state bank.old).apps (B.room bank.old) site.now }
     requires code { site.now.sizes.code ≡ length unit.now.code.now }
     requires init { site.now.sizes.init ≡ length unit.now.init.now }
     requires dir { site.now.sizes.dir ≡ 9 }
     requires fci { site.now.sizes.fci ≡ 9 }
     ensures going { OnOk result ((B.state bank.new).stopped ≡ false) }
-    ensures good { OnOk result (IsGood (B.state bank.new).apps (B.room bank.new) site.now) }
+    ensures good { OnOk result (IsGoodSite (B.state bank.new).apps (B.room bank.new) site.now) }
 {
     let [a, b, c, d, e] = unit.name;
     bank.fill(site, Part::Code, 0, unit.code)?;
@@ -108,7 +108,7 @@ pub fn fill<B: Bank>(bank: &mut B, site: &Site, unit: &Unit) -> Result<(), Stop>
 /// Makes an application of what stands at a site.
 pub fn create<B: Bank>(bank: &mut B, site: &Site, unit: &Unit) -> Result<Came, Stop>
     requires going { (B.state bank.old).stopped ≡ false }
-    requires good { IsGood (B.state bank.old).apps (B.room bank.old) site.now }
+    requires good { IsGoodSite (B.state bank.old).apps (B.room bank.old) site.now }
     ensures going { OnOk result ((B.state bank.new).stopped ≡ false) }
 {
     let Some(aid) = Aid::new(&unit.name) else {

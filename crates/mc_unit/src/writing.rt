@@ -1,4 +1,5 @@
 ghost use Rattle.std.specs.Prelude.{◌≡◌, ◌≤◌, ◌<◌, ◌++◌, ℕ, List, length, Ok, IsOk, IfOk, OnOk};
+ghost use Rattle.mc_model.specs.Limits.{most_code};
 ghost use Rattle.mc_model.specs.Bytes.{zeros};
 ghost use Rattle.mc_model.specs.Units.{field, name_of, unit_bytes, unit_read, FitsUnit};
 
@@ -51,7 +52,7 @@ fn write_fields(
 
 // A two-byte length, and the bytes.
 fn push_field(out: &mut Vec<u8>, bytes: &[u8]) -> Result<(), NoMemory>
-    requires { length bytes.now ≤ 8192 }
+    requires { length bytes.now ≤ most_code }
     ensures { OnOk result (out.new.items ≡ out.old.items ++ field bytes.now) }
 {
     let len = bytes.len() as u16;

@@ -51,18 +51,18 @@ verdict_before n _ ls text behind one rest = nothing_before ls text behind one r
 -- ---- all lines
 
 -- whatever is due for the lines from a place on, laid behind this text, is due for all lines
-abbrev pub Leads : List (ℕ × DeckLine) → ℕ → List ℕ → Type 0
-Leads ls i text = (behind : List ℕ) → AreVerdicts (drop i ls) behind → AreVerdicts ls (text ++ behind)
+abbrev pub VerdictsLead : List (ℕ × DeckLine) → ℕ → List ℕ → Type 0
+VerdictsLead ls i text = (behind : List ℕ) → AreVerdicts (drop i ls) behind → AreVerdicts ls (text ++ behind)
 
 -- one line more
-pub leads_next : (ls : List (ℕ × DeckLine)) (i n : ℕ) (l : DeckLine) (old new : List ℕ) → slice_get ls i ≡ Some (n, l) → AddsVerdict (n, l) old new → Leads ls i old → Leads ls (i + 1) new
+pub leads_next : (ls : List (ℕ × DeckLine)) (i n : ℕ) (l : DeckLine) (old new : List ℕ) → slice_get ls i ≡ Some (n, l) → AddsVerdict (n, l) old new → VerdictsLead ls i old → VerdictsLead ls (i + 1) new
 leads_next ls i n l old new here adds leads behind rest =
     let text = adds.0 in
     let due : AreVerdicts (drop i ls) (text ++ behind) = subst (λ (ks : List (ℕ × DeckLine)). AreVerdicts ks (text ++ behind)) (sym (next_line ls i n l here)) (verdict_before n l (drop (i + 1) ls) text behind adds.2 rest) in
     subst (λ t. AreVerdicts ls t) (sym (ap (λ t. t ++ behind) adds.1 ∙ append_assoc old text behind)) (leads (text ++ behind) due)
 
 -- behind the last line
-pub leads_last : (ls : List (ℕ × DeckLine)) (i : ℕ) (text : List ℕ) → length ls ≤ i → Leads ls i text → AreVerdicts ls text
+pub leads_last : (ls : List (ℕ × DeckLine)) (i : ℕ) (text : List ℕ) → length ls ≤ i → VerdictsLead ls i text → AreVerdicts ls text
 unfolding AreVerdicts
 leads_last ls i text end leads =
     let none : AreVerdicts (drop i ls) [] = subst (λ (ks : List (ℕ × DeckLine)). AreVerdicts ks []) (sym (no_line ls i end)) refl in

@@ -129,11 +129,11 @@ bytes_found items o p held digits e k h = ap (option_map items) (sym e) ∙ h �
 -- ---- digits and their values
 
 -- digits have these values, or both are refused alike
-abbrev Spells : Result (List ℕ) CodeFault → Result (List ℕ) CodeFault → Type 0
-Spells (Ok t) (Ok vs) = hex_values t ≡ Some vs
-Spells (Ok t) (Err e) = ⊥
-Spells (Err e) (Ok vs) = ⊥
-Spells (Err e) (Err f) = e ≡ f
+abbrev SpellsAlike : Result (List ℕ) CodeFault → Result (List ℕ) CodeFault → Type 0
+SpellsAlike (Ok t) (Ok vs) = hex_values t ≡ Some vs
+SpellsAlike (Ok t) (Err e) = ⊥
+SpellsAlike (Err e) (Ok vs) = ⊥
+SpellsAlike (Err e) (Err f) = e ≡ f
 
 -- a digit before others that have values
 value_before : (o : Option ℕ) (os : Option (List ℕ)) (vs ws : List ℕ) (all : Option (List ℕ)) → before_values o os ≡ Some vs → ((us : List ℕ) → os ≡ Some us → all ≡ Some (us ++ ws)) → before_values o all ≡ Some (vs ++ ws)
@@ -145,11 +145,11 @@ values_behind : (t u vs ws : List ℕ) → hex_values t ≡ Some vs → hex_valu
 values_behind [] u vs ws h k = let e : [] ≡ vs = cc h in k ∙ ap (λ (l : List ℕ). Some (l ++ ws)) e
 values_behind (c ∷ t) u vs ws h k = value_before (hex_value c) (hex_values t) vs ws (hex_values (t ++ u)) h (λ us e. values_behind t u us ws e k)
 
-spells_or : (t : List ℕ) (o : Option (List ℕ)) (e : CodeFault) → hex_values t ≡ o → Spells (ok_or (valued t o) e) (ok_or o e)
+spells_or : (t : List ℕ) (o : Option (List ℕ)) (e : CodeFault) → hex_values t ≡ o → SpellsAlike (ok_or (valued t o) e) (ok_or o e)
 spells_or t (Some vs) e h = h
 spells_or t None e h = refl
 
-spells_first : (one rest : Result (List ℕ) CodeFault) (ones rests : Result (List ℕ) CodeFault) → Spells one ones → Spells rest rests → Spells (first_then one rest) (first_then ones rests)
+spells_first : (one rest : Result (List ℕ) CodeFault) (ones rests : Result (List ℕ) CodeFault) → SpellsAlike one ones → SpellsAlike rest rests → SpellsAlike (first_then one rest) (first_then ones rests)
 spells_first (Ok t) (Ok u) (Ok vs) (Ok ws) h k = values_behind t u vs ws h k
 spells_first (Ok t) (Ok u) (Ok vs) (Err f) h k = absurd k
 spells_first (Ok t) (Err e) (Ok vs) (Ok ws) h k = absurd k
@@ -158,7 +158,7 @@ spells_first (Ok t) rest (Err f) rests h k = absurd h
 spells_first (Err e) rest (Ok vs) rests h k = absurd h
 spells_first (Err e) rest (Err f) rests h k = h
 
-spells_lines : (ls : List (ℕ × List ℕ)) → Spells (text_digits ls) (code_digits ls)
+spells_lines : (ls : List (ℕ × List ℕ)) → SpellsAlike (text_digits ls) (code_digits ls)
 spells_lines [] = refl
 spells_lines (l ∷ ls) =
     let t = filter (λ c. not (is_blank c)) l.1 in
@@ -178,11 +178,11 @@ code_text : (t : List ℕ) → code_text_read t ≡ by_values (length (lines t))
 unfolding code_text_read
 code_text t = refl
 
-fault_spelled : (f : CodeFault) (r : Result (List ℕ) CodeFault) → Spells (Err f) r → r ≡ Err f
+fault_spelled : (f : CodeFault) (r : Result (List ℕ) CodeFault) → SpellsAlike (Err f) r → r ≡ Err f
 fault_spelled f (Ok vs) h = absurd h
 fault_spelled f (Err e) h = ap Err (sym h)
 
-bytes_spelled : (last : ℕ) (digits : List ℕ) (r : Result (List ℕ) CodeFault) → Spells (Ok digits) r → by_values last r ≡ code_of last (hex_bytes digits)
+bytes_spelled : (last : ℕ) (digits : List ℕ) (r : Result (List ℕ) CodeFault) → SpellsAlike (Ok digits) r → by_values last r ≡ code_of last (hex_bytes digits)
 bytes_spelled last digits (Ok vs) h = rw h refl
 bytes_spelled last digits (Err e) h = absurd h
 
@@ -190,7 +190,7 @@ bytes_spelled last digits (Err e) h = absurd h
 fault_refused : (t : List ℕ) (f : CodeFault) → text_digits (numbered 1 (lines t)) ≡ Err f → code_text_read t ≡ Err f
 fault_refused t f h =
     let ls = numbered 1 (lines t) in
-    code_text t ∙ ap (by_values (length (lines t))) (fault_spelled f (code_digits ls) (subst (λ (r : Result (List ℕ) CodeFault). Spells r (code_digits ls)) h (spells_lines ls)))
+    code_text t ∙ ap (by_values (length (lines t))) (fault_spelled f (code_digits ls) (subst (λ (r : Result (List ℕ) CodeFault). SpellsAlike r (code_digits ls)) h (spells_lines ls)))
 
 pub digits_refused : (t : List ℕ) (e : CodeRefusal) → RefusesCode (text_digits (numbered 1 (lines t))) e → RefusesCode (code_text_read t) e
 digits_refused t (BadHex n) h = fault_refused t (Text.BadHex n) h
@@ -201,7 +201,7 @@ module _ (t digits : List ℕ) (last : ℕ) (h : text_digits (numbered 1 (lines 
   spelled_text : (o : Option (List ℕ)) → o ≡ hex_bytes digits → code_text_read t ≡ code_of last o
   spelled_text o is =
       let ls = numbered 1 (lines t) in
-      let spells = subst (λ (r : Result (List ℕ) CodeFault). Spells r (code_digits ls)) h (spells_lines ls) in
+      let spells = subst (λ (r : Result (List ℕ) CodeFault). SpellsAlike r (code_digits ls)) h (spells_lines ls) in
       code_text t ∙ bytes_spelled (length (lines t)) digits (code_digits ls) spells ∙ ap (λ n. code_of n (hex_bytes digits)) (sym counted) ∙ ap (code_of last) (sym is)
 
   -- an odd number of digits

@@ -5,7 +5,7 @@ use Rattle.mc_model.specs.Device.{BenchState, DeviceState}
 use Rattle.mc_model.specs.Generator.{generated}
 use Rattle.mc_base.specs.declared.refusals.WriteFault.{WriteFault as Fault}
 use Rattle.mc_text.specs.Texts.{sunk_in, Puts, Sunk}
-use Rattle.mc_filter.specs.Statuses.{Ends, ended}
+use Rattle.mc_filter.specs.Statuses.{RejectionEnds, ended}
 use Rattle.melcard.specs.declared.job.Form.{Form}
 use Rattle.melcard.specs.declared.job.Job.{Job}
 use Rattle.melcard.specs.declared.job.Job.TheVariants as job
@@ -15,9 +15,9 @@ use Rattle.mc_filter.specs.declared.rejection.Rejection.TheVariants as rejection
 use Rattle.mc_filter.specs.declared.status.Status.{Status}
 use Rattle.mc_filter.specs.declared.status.Status.TheVariants.{Done, Failed, NoForm}
 use Rattle.melcard.specs.Jobs.{usage}
-use Rattle.melcard.specs.Verdicts.{Verdict, Whole, Refusal, Plays, Sums}
+use Rattle.melcard.specs.Verdicts.{JobVerdict, Whole, Refusal, Plays, Sums}
 use Rattle.melcard.specs.Running.{PlaysInput, RejectsJob, WritesInput}
-use Rattle.melcard.specs.Statuses.{bench_of, Around, IsDue, IsSummed, IsWritten, Says, SaysDone, TakesAtMost, Untouched}
+use Rattle.melcard.specs.Statuses.{bench_of, Around, IsDue, IsSummed, IsWritten, MelcardSays, SaysDone, TakesAtMost, Untouched}
 
 -- ---- results
 
@@ -41,30 +41,30 @@ memory_only work a (Err e) source only = subst (λ (e : Rejection). RejectsJob w
 -- ---- what was done
 
 -- what was done says itself, at the status that its writing ended with
-says_done : (Kept : Type 0) (work : Job) (a : Around) (r : Result (Unit {0}) Fault) (s : Status) → s ≡ ended Done r → SaysDone Kept work s a → Says Kept s (Some work) a
-says_done Kept work a (Ok u) s e d = subst (λ s. Says Kept s (Some work) a) (sym e) (subst (λ s. SaysDone Kept work s a) e d)
-says_done Kept work a (Err f) s e d = subst (λ s. Says Kept s (Some work) a) (sym e) (subst (λ s. SaysDone Kept work s a) e d)
+says_done : (Kept : Type 0) (work : Job) (a : Around) (r : Result (Unit {0}) Fault) (s : Status) → s ≡ ended Done r → SaysDone Kept work s a → MelcardSays Kept s (Some work) a
+says_done Kept work a (Ok u) s e d = subst (λ s. MelcardSays Kept s (Some work) a) (sym e) (subst (λ s. SaysDone Kept work s a) e d)
+says_done Kept work a (Err f) s e d = subst (λ s. MelcardSays Kept s (Some work) a) (sym e) (subst (λ s. SaysDone Kept work s a) e d)
 
-says_refused : (Kept : Type 0) (work : Job) (a : Around) (r : Result (Unit {0}) Fault) (s : Status) → s ≡ ended Failed r → SaysDone Kept work s a → Says Kept s (Some work) a
-says_refused Kept work a (Ok u) s e d = subst (λ s. Says Kept s (Some work) a) (sym e) (subst (λ s. SaysDone Kept work s a) e d)
-says_refused Kept work a (Err f) s e d = subst (λ s. Says Kept s (Some work) a) (sym e) (subst (λ s. SaysDone Kept work s a) e d)
+says_refused : (Kept : Type 0) (work : Job) (a : Around) (r : Result (Unit {0}) Fault) (s : Status) → s ≡ ended Failed r → SaysDone Kept work s a → MelcardSays Kept s (Some work) a
+says_refused Kept work a (Ok u) s e d = subst (λ s. MelcardSays Kept s (Some work) a) (sym e) (subst (λ s. SaysDone Kept work s a) e d)
+says_refused Kept work a (Err f) s e d = subst (λ s. MelcardSays Kept s (Some work) a) (sym e) (subst (λ s. SaysDone Kept work s a) e d)
 
 -- the deck of an input was played
-pub says_played : (Kept : Type 0) (t : Telling) (s : Status) (a : Around) → PlaysInput t s a → Says Kept s (Some (job.Play t)) a
+pub says_played : (Kept : Type 0) (t : Telling) (s : Status) (a : Around) → PlaysInput t s a → MelcardSays Kept s (Some (job.Play t)) a
 says_played Kept t s a p = says_done Kept (job.Play t) a p.played.result s p.played.status (record { verdict = Plays t p.lines; due = p.due; done = p.played; kept = tt })
 
 -- a generated deck was played
-pub says_summed : (Kept : Type 0) (n : ℕ) (s : Status) (a : Around) → Untouched a → IsSummed (generated n) s a → Says Kept s (Some (job.Generate n)) a
+pub says_summed : (Kept : Type 0) (n : ℕ) (s : Status) (a : Around) → Untouched a → IsSummed (generated n) s a → MelcardSays Kept s (Some (job.Generate n)) a
 says_summed Kept n s a still d = says_done Kept (job.Generate n) a d.result s d.status (record { verdict = Sums (generated n); due = (still, refl); done = d; kept = tt })
 
 -- the text of an input was written
-pub says_written : (Kept : Type 0) (f : Form) (s : Status) (a : Around) → Kept → WritesInput f s a → Says Kept s (Some (job.Write f)) a
+pub says_written : (Kept : Type 0) (f : Form) (s : Status) (a : Around) → Kept → WritesInput f s a → MelcardSays Kept s (Some (job.Write f)) a
 says_written Kept f s a kept w = says_done Kept (job.Write f) a w.written.result s w.written.status (record { verdict = Whole w.text; due = w.due; done = w.written; kept = kept })
 
 -- ---- what was not done
 
 -- what is due is told by the source, whatever is written afterwards
-due_still : (work : Job) (a : Around) (x : Sunk) (v : Verdict) → IsDue work (record a { out = x }) v → IsDue work a v
+due_still : (work : Job) (a : Around) (x : Sunk) (v : JobVerdict) → IsDue work (record a { out = x }) v → IsDue work a v
 due_still (job.Generate n) a x v due = (record { left = (due.0).left; reads = (due.0).reads }, due.1)
 due_still (job.Play t) a x v due = elim due [
   | inl more ↦ inl (record { over = more.over; no_further = more.no_further; is = more.is })
@@ -81,19 +81,19 @@ takes_still (job.Play t) a x takes = takes
 takes_still (job.Write f) a x takes = takes
 
 -- a job that was rejected ended
-says_rejected : (Kept : Type 0) (work : Job) (a : Around) (x : Sunk) (e : Rejection) (s : Status) → Kept → RejectsJob work (record a { out = x }) e → Ends e a.out_old s a.out → Says Kept s (Some work) a
+says_rejected : (Kept : Type 0) (work : Job) (a : Around) (x : Sunk) (e : Rejection) (s : Status) → Kept → RejectsJob work (record a { out = x }) e → RejectionEnds e a.out_old s a.out → MelcardSays Kept s (Some work) a
 says_rejected Kept work a x (rejection.Refusal line) s kept why ends =
     let written : IsWritten Failed line.items s a = record { result = ends.0; status = ends.1; written = ends.2 } in
     says_refused Kept work a ends.0 s ends.1 (record { verdict = Refusal line.items; due = due_still work a x (Refusal line.items) why; done = written; kept = kept })
-says_rejected Kept work a x rejection.ReadFault s kept why ends = subst (λ s. Says Kept s (Some work) a) (sym ends.0) (why.0, record { cause = why.1; source = takes_still work a x why.2; written = ends.1; kept = kept })
-says_rejected Kept work a x rejection.NoMemory s kept why ends = subst (λ s. Says Kept s (Some work) a) (sym ends.0) (record { source = takes_still work a x why; written = ends.1; kept = kept })
+says_rejected Kept work a x rejection.ReadFault s kept why ends = subst (λ s. MelcardSays Kept s (Some work) a) (sym ends.0) (why.0, record { cause = why.1; source = takes_still work a x why.2; written = ends.1; kept = kept })
+says_rejected Kept work a x rejection.NoMemory s kept why ends = subst (λ s. MelcardSays Kept s (Some work) a) (sym ends.0) (record { source = takes_still work a x why; written = ends.1; kept = kept })
 
 -- the words name no job, and the usage line was written
-pub says_no_form : (Kept : Type 0) (form : Option Job) (a : Around) (r : Result (Unit {0}) Fault) (s : Status) → form ≡ None → s ≡ ended NoForm r → Kept → Untouched a → Puts a.out_old usage r a.out → Says Kept s form a
+pub says_no_form : (Kept : Type 0) (form : Option Job) (a : Around) (r : Result (Unit {0}) Fault) (s : Status) → form ≡ None → s ≡ ended NoForm r → Kept → Untouched a → Puts a.out_old usage r a.out → MelcardSays Kept s form a
 says_no_form Kept form a (Ok u) s is e kept still put =
-    subst (λ o. Says Kept s o a) (sym is) (subst (λ s. Says Kept s None a) (sym e) (record { source = still; kept = kept; written = record { result = Ok u; status = refl; written = put } }))
+    subst (λ o. MelcardSays Kept s o a) (sym is) (subst (λ s. MelcardSays Kept s None a) (sym e) (record { source = still; kept = kept; written = record { result = Ok u; status = refl; written = put } }))
 says_no_form Kept form a (Err f) s is e kept still put =
-    subst (λ o. Says Kept s o a) (sym is) (subst (λ s. Says Kept s None a) (sym e) (record { source = still; kept = kept; written = record { result = Err f; status = refl; written = put } }))
+    subst (λ o. MelcardSays Kept s o a) (sym is) (subst (λ s. MelcardSays Kept s None a) (sym e) (record { source = still; kept = kept; written = record { result = Err f; status = refl; written = put } }))
 
 -- ---- the outside of a call
 
@@ -103,19 +103,19 @@ module _ {S T N : Type 0} (left : S → Option (List ℕ)) (reads : S → ℕ) (
   around s t x y d e = record { left_old = left s; left = left t; reads_old = reads s; reads = reads t; out_old = sunk_in taken writes x; out = sunk_in taken writes y; dev_old = bench_of state bench d; dev = bench_of state bench e }
 
   -- the same of a job, a source, a sink and a device that are named in another way
-  pub says_at : (s t u : S) (x y z : T) (d e f : N) (work other : Job) (q : Status) → t ≡ u → y ≡ z → e ≡ f → work ≡ other → Says (f ≡ d) q (Some other) (around s u x z d f) → Says (e ≡ d) q (Some work) (around s t x y d e)
+  pub says_at : (s t u : S) (x y z : T) (d e f : N) (work other : Job) (q : Status) → t ≡ u → y ≡ z → e ≡ f → work ≡ other → MelcardSays (f ≡ d) q (Some other) (around s u x z d f) → MelcardSays (e ≡ d) q (Some work) (around s t x y d e)
   says_at s t u x y z d e f work other q source sink device is says =
-      subst (λ t. Says (e ≡ d) q (Some work) (around s t x y d e)) (sym source)
-      (subst (λ y. Says (e ≡ d) q (Some work) (around s u x y d e)) (sym sink)
-      (subst (λ e. Says (e ≡ d) q (Some work) (around s u x z d e)) (sym device)
-      (subst (λ w. Says (f ≡ d) q (Some w) (around s u x z d f)) (sym is) says)))
+      subst (λ t. MelcardSays (e ≡ d) q (Some work) (around s t x y d e)) (sym source)
+      (subst (λ y. MelcardSays (e ≡ d) q (Some work) (around s u x y d e)) (sym sink)
+      (subst (λ e. MelcardSays (e ≡ d) q (Some work) (around s u x z d e)) (sym device)
+      (subst (λ w. MelcardSays (f ≡ d) q (Some w) (around s u x z d f)) (sym is) says)))
 
   -- a job that was rejected, by the result of the call that did not do it: its sink and device were as before
   pub rejected_at : (s t u : S) (x y z m : T) (d e f : N) (work other : Job) (done result : Result Status Rejection) (why : Rejection) (q : Status) → done ≡ Err why → t ≡ u → y ≡ z → e ≡ f → done ≡ result → work ≡ other
-      → IfErr result (RejectsJob other (around s u x z d f)) → IfErr result (λ _. z ≡ x) → IfErr result (λ _. f ≡ d) → Ends why (sunk_in taken writes y) q (sunk_in taken writes m) → Says (e ≡ d) q (Some work) (around s t x m d e)
+      → IfErr result (RejectsJob other (around s u x z d f)) → IfErr result (λ _. z ≡ x) → IfErr result (λ _. f ≡ d) → RejectionEnds why (sunk_in taken writes y) q (sunk_in taken writes m) → MelcardSays (e ≡ d) q (Some work) (around s t x m d e)
   rejected_at s t u x y z m d e f work other done result why q err source sink device came is rejects same kept ends =
       let after = around s u x m d f in
       let cause = err_is done result why (RejectsJob other (around s u x z d f)) err came rejects in
       let before = sink ∙ err_is done result why (λ _. z ≡ x) err came same in
-      let end = subst (λ (y : T). Ends why (sunk_in taken writes y) q (sunk_in taken writes m)) before ends in
+      let end = subst (λ (y : T). RejectionEnds why (sunk_in taken writes y) q (sunk_in taken writes m)) before ends in
       says_at s t u x m m d e f work other q source refl device is (says_rejected (f ≡ d) other after (sunk_in taken writes z) why q (err_is done result why (λ _. f ≡ d) err came kept) cause end)

@@ -8,20 +8,20 @@ use Rattle.mc_model.specs.Listing.{listed}
 use Rattle.mc_model.specs.Text.{code_text_read}
 use Rattle.melcard.specs.declared.job.Telling.TheVariants.{Transcript}
 use Rattle.mc_check.specs.declared.verdict.Verdict.{Verdict as CodeVerdict}
-use Rattle.melcard.specs.Verdicts.{Verdict, of_assembly, of_code, of_deck, verdict_line}
+use Rattle.melcard.specs.Verdicts.{JobVerdict, of_assembly, of_code, of_deck, verdict_line}
 
 -- a deck that is to be played
-unfoldable pub deck_verdict : List ℕ → Verdict
+unfoldable pub deck_verdict : List ℕ → JobVerdict
 unfolding digits decode_pairs encode_with assembled deck_lines deck_read section_unit stated within
 deck_verdict input = of_deck Transcript (deck_read input)
 
 -- an assembly text
-unfoldable pub code_verdict : List ℕ → Verdict
+unfoldable pub code_verdict : List ℕ → JobVerdict
 unfolding digits encode_with assembled
 code_verdict input = of_assembly (assembled input)
 
 -- code that is to be listed
-unfoldable pub listing_verdict : List ℕ → Verdict
+unfoldable pub listing_verdict : List ℕ → JobVerdict
 unfolding digits decode_pairs encode_with listed code_text_read
 listing_verdict input = of_code (code_text_read input)
 

@@ -47,10 +47,10 @@ job_of (w ∷ n ∷ []) = job_numbered (string_bytes w) (string_bytes n)
 job_of (w ∷ n ∷ x ∷ ws) = None
 
 -- the number of a job generates a deck
-abbrev pub Fits : Job → Type 0
-Fits (job.Play t) = Unit {0}
-Fits (job.Generate n) = n ≤ greatest_number
-Fits (job.Write f) = Unit {0}
+abbrev pub JobFits : Job → Type 0
+JobFits (job.Play t) = Unit {0}
+JobFits (job.Generate n) = n ≤ greatest_number
+JobFits (job.Write f) = Unit {0}
 
 -- what is written where the words name no job
 abbrev pub usage : List ℕ

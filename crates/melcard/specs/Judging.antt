@@ -6,7 +6,7 @@ use Rattle.mc_filter.specs.Inputs.{Rejects}
 use Rattle.melcard.specs.declared.code.CodeRefusal.{CodeRefusal}
 use Rattle.mc_filter.specs.declared.rejection.Rejection.{Rejection}
 use Rattle.mc_model.specs.DeckGrammar.{DeckLine}
-use Rattle.melcard.specs.Verdicts.{Verdict, Refusal, AreVerdicts}
+use Rattle.melcard.specs.Verdicts.{JobVerdict, Refusal, AreVerdicts}
 use Rattle.melcard.specs.declared.code.CodeRefusal.TheVariants.{BadHex, TooLarge, NoMemory}
 
 -- the digits of one line of code
@@ -25,7 +25,7 @@ RefusesCode r TooLarge = r ≡ Err Text.TooLarge
 RefusesCode r NoMemory = ⊤
 
 -- a rejection of an input that stands for this
-abbrev pub RejectsAs : (Verdict → Type 0) → Rejection → Type 0
+abbrev pub RejectsAs : (JobVerdict → Type 0) → Rejection → Type 0
 RejectsAs IsOf why = Rejects (λ line. IsOf (Refusal line)) why
 
 -- a text grew by the line of a load line, and else not

@@ -23,7 +23,7 @@ use Rattle.melcard.specs.declared.job.Telling.TheVariants.{Transcript, Trace}
 use Rattle.mc_filter.specs.declared.status.Status.{Status}
 use Rattle.mc_filter.specs.declared.status.Status.TheVariants.{Done, Failed, NoForm, ReadFault, WriteFault, NoMemory}
 use Rattle.melcard.specs.Jobs.{usage}
-use Rattle.melcard.specs.Verdicts.{Verdict, Whole, Refusal, Plays, Sums, StandsFor}
+use Rattle.melcard.specs.Verdicts.{JobVerdict, Whole, Refusal, Plays, Sums, StandsFor}
 
 -- ---- the outside
 
@@ -65,19 +65,19 @@ pub record Untouched (a : Around) : Type 0 where
 -- ---- what was read
 
 -- what was read to its end stands for this
-pub record Stands (job : Job) (a : Around) (v : Verdict) : Type 0 where
+pub record Stands (job : Job) (a : Around) (v : JobVerdict) : Type 0 where
   pub input : List ℕ
   pub read : ReadWhole a.left_old a.left input
   pub is : StandsFor job input v
 
 -- more was read than the limit allows, and no more than the byte that shows it
-pub record IsTooLong (a : Around) (v : Verdict) : Type 0 where
+pub record IsTooLong (a : Around) (v : JobVerdict) : Type 0 where
   pub over : TookMore a.left_old a.left input_limit
   pub no_further : TookLimited a.left_old a.left
   pub is : v ≡ Refusal too_long
 
 -- what a job is to do: by its number, or by what was read
-abbrev pub IsDue : Job → Around → Verdict → Type 0
+abbrev pub IsDue : Job → Around → JobVerdict → Type 0
 IsDue (job.Generate n) a v = Untouched a × (v ≡ Sums (generated n))
 IsDue (job.Play t) a v = IsTooLong a v ⊎ Stands (job.Play t) a v
 IsDue (job.Write f) a v = IsTooLong a v ⊎ Stands (job.Write f) a v
@@ -116,27 +116,27 @@ pub record IsSummed (lines : List (ℕ × DeckLine)) (s : Status) (a : Around) :
   pub checked : KeepToVerdicts (play.plays (play.start a.dev_old.device.words) lines sums.worn)
 
 -- what an input stands for was done
-abbrev pub IsDone : Verdict → Status → Around → Type 0
+abbrev pub IsDone : JobVerdict → Status → Around → Type 0
 IsDone (Whole text) s a = IsWritten Done text s a
 IsDone (Refusal line) s a = IsWritten Failed line s a
 IsDone (Plays t lines) s a = IsPlayed t lines s a
 IsDone (Sums lines) s a = IsSummed lines s a
 
 -- a device that is not played on is as it was handed in
-abbrev pub IsKept : Type 0 → Verdict → Type 0
-IsKept Kept (Whole text) = Kept
-IsKept Kept (Refusal line) = Kept
-IsKept Kept (Plays t lines) = ⊤
-IsKept Kept (Sums lines) = ⊤
+abbrev pub IsKeptUnlessPlayed : Type 0 → JobVerdict → Type 0
+IsKeptUnlessPlayed Kept (Whole text) = Kept
+IsKeptUnlessPlayed Kept (Refusal line) = Kept
+IsKeptUnlessPlayed Kept (Plays t lines) = ⊤
+IsKeptUnlessPlayed Kept (Sums lines) = ⊤
 
 -- ---- statuses: `Kept` says that the device is as it was handed in
 
 -- a job was done, or its input was refused, or the sink failed
 pub record SaysDone (Kept : Type 0) (job : Job) (s : Status) (a : Around) : Type 0 where
-  pub verdict : Verdict
+  pub verdict : JobVerdict
   pub due : IsDue job a verdict
   pub done : IsDone verdict s a
-  pub kept : IsKept Kept verdict
+  pub kept : IsKeptUnlessPlayed Kept verdict
 
 -- the source failed
 pub record SaysReadFault (Kept : Type 0) (job : Job) (a : Around) : Type 0 where
@@ -164,19 +164,19 @@ IsReading (job.Generate n) = ⊥
 IsReading (job.Write f) = ⊤
 
 -- what each status says, by the job that the words name: what never comes is empty
-abbrev pub Says : Type 0 → Status → Option Job → Around → Type 0
-Says Kept ReadFault (Some job) a = IsReading job × SaysReadFault Kept job a
-Says Kept NoMemory (Some job) a = SaysNoMemory Kept job a
-Says Kept NoForm (Some job) a = ⊥
-Says Kept Done (Some job) a = SaysDone Kept job Done a
-Says Kept Failed (Some job) a = SaysDone Kept job Failed a
-Says Kept WriteFault (Some job) a = SaysDone Kept job WriteFault a
-Says Kept ReadFault None a = ⊥
-Says Kept NoMemory None a = ⊥
-Says Kept Done None a = ⊥
-Says Kept Failed None a = ⊥
-Says Kept NoForm None a = SaysNoForm Kept NoForm a
-Says Kept WriteFault None a = SaysNoForm Kept WriteFault a
+abbrev pub MelcardSays : Type 0 → Status → Option Job → Around → Type 0
+MelcardSays Kept ReadFault (Some job) a = IsReading job × SaysReadFault Kept job a
+MelcardSays Kept NoMemory (Some job) a = SaysNoMemory Kept job a
+MelcardSays Kept NoForm (Some job) a = ⊥
+MelcardSays Kept Done (Some job) a = SaysDone Kept job Done a
+MelcardSays Kept Failed (Some job) a = SaysDone Kept job Failed a
+MelcardSays Kept WriteFault (Some job) a = SaysDone Kept job WriteFault a
+MelcardSays Kept ReadFault None a = ⊥
+MelcardSays Kept NoMemory None a = ⊥
+MelcardSays Kept Done None a = ⊥
+MelcardSays Kept Failed None a = ⊥
+MelcardSays Kept NoForm None a = SaysNoForm Kept NoForm a
+MelcardSays Kept WriteFault None a = SaysNoForm Kept WriteFault a
 
 -- ---- completeness
 
@@ -186,26 +186,26 @@ pub record IsWithoutFault (a : Around) : Type 0 where
   pub writes : Rose a.out_old.faults a.out.faults → ⊥
 
 -- the status that comes where a verdict is done whole
-abbrev pub status_of : Verdict → Status
+abbrev pub status_of : JobVerdict → Status
 status_of (Whole text) = Done
 status_of (Refusal line) = Failed
 status_of (Plays t lines) = Done
 status_of (Sums lines) = Done
 
 -- what all that a source had left stands for
-pub data AllStands (job : Job) (left : Option (List ℕ)) : Verdict → Type 0 where
+pub data AllStands (job : Job) (left : Option (List ℕ)) : JobVerdict → Type 0 where
   long : (input : List ℕ) → IsAll left input → input_limit < length input → AllStands job left (Refusal too_long)
-  short : (input : List ℕ) (v : Verdict) → IsAll left input → length input ≤ input_limit → StandsFor job input v → AllStands job left v
+  short : (input : List ℕ) (v : JobVerdict) → IsAll left input → length input ≤ input_limit → StandsFor job input v → AllStands job left v
 
 -- what a job is to do: by its number, or by all that its source had left
-abbrev pub IsAllDue : Job → Around → Verdict → Type 0
+abbrev pub IsAllDue : Job → Around → JobVerdict → Type 0
 IsAllDue (job.Generate n) a v = v ≡ Sums (generated n)
 IsAllDue (job.Play t) a v = AllStands (job.Play t) a.left_old v
 IsAllDue (job.Write f) a v = AllStands (job.Write f) a.left_old v
 
 -- the whole of what is due was done
 pub record IsWhole (job : Job) (s : Status) (a : Around) : Type 0 where
-  pub verdict : Verdict
+  pub verdict : JobVerdict
   pub due : IsAllDue job a verdict
   pub status : s ≡ status_of verdict
   pub done : IsDone verdict s a

@@ -21,26 +21,26 @@ use Rattle.melcard.specs.declared.job.Form.{Form}
 use Rattle.melcard.specs.declared.job.Form.TheVariants as form
 
 -- the whole text of a job, the line of a refusal, a deck that is played and told, or one whose play is summarised
-pub data Verdict : Type 0 where
-  Whole : (text : List ℕ) → Verdict
-  Refusal : (line : List ℕ) → Verdict
-  Plays : (telling : Telling) (lines : List (ℕ × DeckLine)) → Verdict
-  Sums : (lines : List (ℕ × DeckLine)) → Verdict
+pub data JobVerdict : Type 0 where
+  Whole : (text : List ℕ) → JobVerdict
+  Refusal : (line : List ℕ) → JobVerdict
+  Plays : (telling : Telling) (lines : List (ℕ × DeckLine)) → JobVerdict
+  Sums : (lines : List (ℕ × DeckLine)) → JobVerdict
 
 -- ---- texts
 
 -- the code of an assembly text
-abbrev pub of_assembly : Result (List ℕ) (ℕ × AsmCause) → Verdict
+abbrev pub of_assembly : Result (List ℕ) (ℕ × AsmCause) → JobVerdict
 of_assembly (Ok code) = Whole (hex_text code ++ codes "\n")
 of_assembly (Err (number, cause)) = Refusal (at_line number (asm_word cause))
 
 -- the listing of code
-abbrev pub of_listing : Result (List ℕ) (ℕ × DecodeFault) → Verdict
+abbrev pub of_listing : Result (List ℕ) (ℕ × DecodeFault) → JobVerdict
 of_listing (Ok text) = Whole text
 of_listing (Err (place, fault)) = Refusal (at_place place (decode_word fault))
 
 -- code that is to be listed: its digits are judged first, then its length
-abbrev pub of_code : Result (List ℕ) CodeFault → Verdict
+abbrev pub of_code : Result (List ℕ) CodeFault → JobVerdict
 of_code (Ok code) = of_listing (listed code)
 of_code (Err (BadHex number)) = Refusal (at_line number (codes "BadHex"))
 of_code (Err TooLarge) = Refusal too_long
@@ -48,7 +48,7 @@ of_code (Err TooLarge) = Refusal too_long
 -- ---- decks
 
 -- a deck that is played
-abbrev pub of_deck : Telling → Result (List (ℕ × DeckLine)) (ℕ × DeckCause) → Verdict
+abbrev pub of_deck : Telling → Result (List (ℕ × DeckLine)) (ℕ × DeckCause) → JobVerdict
 of_deck t (Ok lines) = Plays t lines
 of_deck t (Err e) = Refusal (deck_line e)
 
@@ -89,20 +89,20 @@ AreVerdicts ((n, line.Fail k) ∷ ls) text = AreVerdicts ls text
 AreVerdicts ((n, line.Poke at fill) ∷ ls) text = AreVerdicts ls text
 
 -- a deck whose code is checked
-abbrev pub IsCheckOf : Result (List (ℕ × DeckLine)) (ℕ × DeckCause) → Verdict → Type 0
+abbrev pub IsCheckOf : Result (List (ℕ × DeckLine)) (ℕ × DeckCause) → JobVerdict → Type 0
 IsCheckOf (Err e) v = v ≡ Refusal (deck_line e)
 IsCheckOf (Ok lines) v = (text : List ℕ) × (v ≡ Whole text) × AreVerdicts lines text
 
 -- ---- jobs
 
 -- what an input stands for where its text is written
-abbrev pub IsTextOf : Form → List ℕ → Verdict → Type 0
+abbrev pub IsTextOf : Form → List ℕ → JobVerdict → Type 0
 IsTextOf form.Code input v = v ≡ of_assembly (assembled input)
 IsTextOf form.Listing input v = v ≡ of_code (code_text_read input)
 IsTextOf form.Verdicts input v = IsCheckOf (deck_read input) v
 
 -- what an input within the limit stands for; a generated deck has none
-abbrev pub StandsFor : Job → List ℕ → Verdict → Type 0
+abbrev pub StandsFor : Job → List ℕ → JobVerdict → Type 0
 StandsFor (job.Play t) input v = v ≡ of_deck t (deck_read input)
 StandsFor (job.Generate n) input v = ⊥
 StandsFor (job.Write f) input v = IsTextOf f input v

@@ -1,5 +1,6 @@
 // Code that is given as hexadecimal digits.
 ghost use Rattle.std.specs.Prelude.{◌≡◌, ◌≤◌, ◌<◌, ◌++◌, ◌∷◌, [], length, vec_len, option_map, Ok, IfOk, IfErr, OnOk};
+ghost use Rattle.mc_model.specs.Limits.{most_code};
 ghost use Rattle.mc_model.specs.Text.{hex_bytes, lines, numbered, ok_as, code_text_read};
 ghost use Rattle.mc_filter.specs.Inputs.{input_limit};
 ghost use Rattle.melcard.specs.Judging.{line_digits, text_digits, RefusesCode};
@@ -98,7 +99,7 @@ pub fn read_code(alloc: Global, text: &[u8]) -> Result<Vec<u8>, CodeRefusal>
     requires { length text.now ≤ input_limit }
     ensures code { IfOk result (λ v. code_text_read text.now ≡ Ok v.items) }
     ensures refused { IfErr result (λ e. RefusesCode (code_text_read text.now) e) }
-    ensures short { IfOk result (λ v. vec_len v ≤ 8192) }
+    ensures short { IfOk result (λ v. vec_len v ≤ most_code) }
 {
     let (digits, lines) = digits_of(alloc, text)?;
     let Some(code) = bytes_of(alloc, digits.as_slice())? else {

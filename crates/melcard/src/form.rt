@@ -1,5 +1,6 @@
 // The texts that are made of an input.
 ghost use Rattle.std.specs.Prelude.{◌≡◌, ◌≤◌, length, Ok, IfErr, IfOk, MatchResult};
+ghost use Rattle.mc_model.specs.Limits.{most_code};
 ghost use Rattle.mc_model.specs.Assembly.{assembled};
 ghost use Rattle.mc_model.specs.DeckGrammar.{deck_read};
 ghost use Rattle.mc_model.specs.Listing.{listed};
@@ -30,7 +31,7 @@ fn assembled(alloc: Global, text: &[u8]) -> Result<Vec<u8>, Rejection>
 
 // The listing of code.
 fn listed(alloc: Global, code: &[u8]) -> Result<Vec<u8>, Rejection>
-    requires { length code.now ≤ 8192 }
+    requires { length code.now ≤ most_code }
     ensures { MatchResult result (λ t. Whole t.items
         ≡ of_listing (listed code.now)) (RejectsAs (λ v. v ≡ of_listing (listed code.now))) }
 {

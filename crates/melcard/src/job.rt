@@ -1,6 +1,6 @@
 // The jobs of the program, and the words that name them.
 ghost use Rattle.std.specs.Prelude.{◌≡◌, ◌≤◌, IfSome};
-ghost use Rattle.melcard.specs.Jobs.{generated_number, job_named, job_of, Fits};
+ghost use Rattle.melcard.specs.Jobs.{generated_number, job_named, job_of, JobFits};
 
 use mc_text::decimal_number;
 
@@ -54,7 +54,7 @@ fn generated_number(word: &str) -> Option<u32>
 // The job that one word names.
 fn job_named(word: &str) -> Option<Job>
     ensures job { result ≡ job_named word.now }
-    ensures fits { IfSome result Fits }
+    ensures fits { IfSome result JobFits }
 {
     match word {
         "play" => Some(Job::Play(Telling::Transcript)),
@@ -69,7 +69,7 @@ fn job_named(word: &str) -> Option<Job>
 /// The job that the words of the command line name, without the name of the program.
 pub fn job_of(words: &[String]) -> Option<Job>
     ensures job { result ≡ job_of words.now }
-    ensures fits { IfSome result Fits }
+    ensures fits { IfSome result JobFits }
 {
     match words {
         [word] => job_named(word.as_str()),

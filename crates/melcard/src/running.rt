@@ -7,9 +7,9 @@ ghost use Rattle.mc_filter.specs.declared.status.Status.{Status};
 ghost use Rattle.mc_filter.specs.Statuses.{number_of};
 ghost use Rattle.melcard.specs.declared.job.Job.TheVariants as job;
 ghost use Rattle.mc_filter.specs.declared.rejection.Rejection.TheVariants as rejection;
-ghost use Rattle.melcard.specs.Jobs.{greatest_number, job_of, Fits};
+ghost use Rattle.melcard.specs.Jobs.{greatest_number, job_of, JobFits};
 ghost use Rattle.melcard.specs.Running.{PlaysInput, RejectsJob, WritesInput};
-ghost use Rattle.melcard.specs.Statuses.{bench_of, outside, told, Completes, IsSummed, Says};
+ghost use Rattle.melcard.specs.Statuses.{bench_of, outside, told, Completes, IsSummed, MelcardSays};
 ghost use Rattle.mc_script.specs.Plays.{Bench as Told, PlaysDeck};
 
 use crate::form::text_of;
@@ -142,9 +142,9 @@ fn run<S: Source, T: Sink, N: Bench, L: Ledger>(
     dev: &mut N,
     steps: &mut Steps<L>,
 ) -> Status
-    requires fits { Fits job }
+    requires fits { JobFits job }
     requires fuses { IsUnfused (N.bench dev.old) }
-    ensures { Says (dev.new ≡ dev.old) result (Some job)
+    ensures { MelcardSays (dev.new ≡ dev.old) result (Some job)
         (outside S.Source T.Sink N.state N.bench input.old input.new out.old out.new dev.old dev.new) }
 {
     let done = match job {
@@ -171,7 +171,7 @@ pub fn melcard<S: Source, T: Sink, N: Bench, L: Ledger>(
 ) -> u8
     requires { IsUnfused (N.bench dev.old) }
     ensures says { (s : Status) × (result ≡ number_of s)
-        × Says (dev.new
+        × MelcardSays (dev.new
         ≡ dev.old) s (job_of words.now)
         (outside S.Source T.Sink N.state N.bench input.old input.new out.old out.new dev.old dev.new) }
     ensures complete { (s : Status) → result ≡ number_of s

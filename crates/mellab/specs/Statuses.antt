@@ -13,7 +13,7 @@ use Rattle.mellab.specs.declared.job.Job.{Job}
 use Rattle.mc_filter.specs.declared.status.Status.{Status}
 use Rattle.mc_filter.specs.declared.status.Status.TheVariants.{Done, Failed, NoForm, ReadFault, WriteFault, NoMemory}
 use Rattle.mellab.specs.Jobs.{usage}
-use Rattle.mellab.specs.Verdicts.{Verdict, Tells, Refusal, verdict_of}
+use Rattle.mellab.specs.Verdicts.{LabVerdict, Tells, Refusal, verdict_of}
 
 -- ---- the outside
 
@@ -46,19 +46,19 @@ pub record Untouched (a : Around) : Type 0 where
 -- ---- what was read
 
 -- what was read to its end stands for this
-pub record Stands (job : Job) (a : Around) (v : Verdict) : Type 0 where
+pub record Stands (job : Job) (a : Around) (v : LabVerdict) : Type 0 where
   pub input : List ℕ
   pub read : ReadWhole a.left_old a.left input
   pub is : v ≡ verdict_of job input
 
 -- more was read than the limit allows, and no more than the byte that shows it
-pub record IsTooLong (a : Around) (v : Verdict) : Type 0 where
+pub record IsTooLong (a : Around) (v : LabVerdict) : Type 0 where
   pub over : TookMore a.left_old a.left input_limit
   pub no_further : TookLimited a.left_old a.left
   pub is : v ≡ Refusal too_long
 
 -- what a job is to do, by what was read
-abbrev pub IsDue : Job → Around → Verdict → Type 0
+abbrev pub IsDue : Job → Around → LabVerdict → Type 0
 IsDue job a v = IsTooLong a v ⊎ Stands job a v
 
 -- ---- what was done
@@ -80,7 +80,7 @@ pub record IsWritten (good : Status) (text : List ℕ) (s : Status) (a : Around)
   pub written : Puts a.out_old text result a.out
 
 -- what an input stands for was written
-abbrev pub IsDone : Verdict → Status → Around → Type 0
+abbrev pub IsDone : LabVerdict → Status → Around → Type 0
 IsDone (Tells text well) s a = IsWritten (status_by well) text s a
 IsDone (Refusal line) s a = IsWritten Failed line s a
 
@@ -88,7 +88,7 @@ IsDone (Refusal line) s a = IsWritten Failed line s a
 
 -- a job was done, or its input was refused, or the sink failed
 pub record SaysDone (job : Job) (s : Status) (a : Around) : Type 0 where
-  pub verdict : Verdict
+  pub verdict : LabVerdict
   pub due : IsDue job a verdict
   pub done : IsDone verdict s a
 
@@ -109,19 +109,19 @@ pub record SaysNoForm (s : Status) (a : Around) : Type 0 where
   pub written : IsWritten NoForm usage s a
 
 -- what each status says, by the job that the words name: what never comes is empty
-abbrev pub Says : Status → Option Job → Around → Type 0
-Says ReadFault (Some job) a = SaysReadFault a
-Says NoMemory (Some job) a = SaysNoMemory a
-Says NoForm (Some job) a = ⊥
-Says Done (Some job) a = SaysDone job Done a
-Says Failed (Some job) a = SaysDone job Failed a
-Says WriteFault (Some job) a = SaysDone job WriteFault a
-Says ReadFault None a = ⊥
-Says NoMemory None a = ⊥
-Says Done None a = ⊥
-Says Failed None a = ⊥
-Says NoForm None a = SaysNoForm NoForm a
-Says WriteFault None a = SaysNoForm WriteFault a
+abbrev pub MellabSays : Status → Option Job → Around → Type 0
+MellabSays ReadFault (Some job) a = SaysReadFault a
+MellabSays NoMemory (Some job) a = SaysNoMemory a
+MellabSays NoForm (Some job) a = ⊥
+MellabSays Done (Some job) a = SaysDone job Done a
+MellabSays Failed (Some job) a = SaysDone job Failed a
+MellabSays WriteFault (Some job) a = SaysDone job WriteFault a
+MellabSays ReadFault None a = ⊥
+MellabSays NoMemory None a = ⊥
+MellabSays Done None a = ⊥
+MellabSays Failed None a = ⊥
+MellabSays NoForm None a = SaysNoForm NoForm a
+MellabSays WriteFault None a = SaysNoForm WriteFault a
 
 -- ---- completeness
 
@@ -131,18 +131,18 @@ pub record IsWithoutFault (a : Around) : Type 0 where
   pub writes : Rose a.out_old.faults a.out.faults → ⊥
 
 -- the status that comes where a verdict is written whole
-abbrev pub status_of : Verdict → Status
+abbrev pub status_of : LabVerdict → Status
 status_of (Tells text well) = status_by well
 status_of (Refusal line) = Failed
 
 -- what all that a source had left stands for
-pub data AllStands (job : Job) (left : Option (List ℕ)) : Verdict → Type 0 where
+pub data AllStands (job : Job) (left : Option (List ℕ)) : LabVerdict → Type 0 where
   long : (input : List ℕ) → IsAll left input → input_limit < length input → AllStands job left (Refusal too_long)
-  short : (input : List ℕ) (v : Verdict) → IsAll left input → length input ≤ input_limit → v ≡ verdict_of job input → AllStands job left v
+  short : (input : List ℕ) (v : LabVerdict) → IsAll left input → length input ≤ input_limit → v ≡ verdict_of job input → AllStands job left v
 
 -- the whole of what is due was written
 pub record IsWhole (job : Job) (s : Status) (a : Around) : Type 0 where
-  pub verdict : Verdict
+  pub verdict : LabVerdict
   pub due : AllStands job a.left_old verdict
   pub status : s ≡ status_of verdict
   pub done : IsDone verdict s a

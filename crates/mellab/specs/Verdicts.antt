@@ -9,9 +9,9 @@ use Rattle.mellab.specs.declared.job.Job.{Job}
 use Rattle.mellab.specs.declared.job.Job.TheVariants as job
 
 -- a text, and whether all that it tells of is well, or the line of a refusal
-pub data Verdict : Type 0 where
-  Tells : (text : List ℕ) (well : Bool) → Verdict
-  Refusal : (line : List ℕ) → Verdict
+pub data LabVerdict : Type 0 where
+  Tells : (text : List ℕ) (well : Bool) → LabVerdict
+  Refusal : (line : List ℕ) → LabVerdict
 
 -- a refused line of a deck, or an expectation without a result
 abbrev pub fault_line : TrialFault → List ℕ
@@ -21,18 +21,18 @@ fault_line (NoAnswer n) = at_line n (codes "NoAnswer")
 -- ---- jobs
 
 -- a deck's expectations on a blank device: all is well where none failed
-abbrev pub expected : Result Trial TrialFault → Verdict
+abbrev pub expected : Result Trial TrialFault → LabVerdict
 expected (Ok t) =
     let ts = steady_steps blank_words t.lines in
     Tells (expect_text ts t.expected) (count_failed ts t.expected == 0)
 expected (Err e) = Refusal (fault_line e)
 
 -- a sweep of a deck: nothing of it can fail
-abbrev pub swept : Result (List (ℕ × DeckLine)) (ℕ × DeckCause) → Verdict
+abbrev pub swept : Result (List (ℕ × DeckLine)) (ℕ × DeckCause) → LabVerdict
 swept (Ok ls) = Tells (sweep_text ls) true
 swept (Err e) = Refusal (deck_line e)
 
 -- what an input within the limit stands for
-abbrev pub verdict_of : Job → List ℕ → Verdict
+abbrev pub verdict_of : Job → List ℕ → LabVerdict
 verdict_of job.Expect input = expected (trial_read input)
 verdict_of job.Sweep input = swept (deck_read input)

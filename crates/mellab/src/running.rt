@@ -10,7 +10,7 @@ ghost use Rattle.mc_filter.specs.Statuses.{number_of};
 ghost use Rattle.mellab.specs.declared.job.Job.TheVariants as job;
 ghost use Rattle.mellab.specs.Jobs.{job_of};
 ghost use Rattle.mellab.specs.Running.{refused_trial, RejectsJob};
-ghost use Rattle.mellab.specs.Statuses.{outside, status_after, Completes, Says, SaysDone};
+ghost use Rattle.mellab.specs.Statuses.{outside, status_after, Completes, MellabSays, SaysDone};
 
 use crate::job::{Job, job_of};
 use mc_base::{Sink, Source, Steps, WriteFault, put_all};
@@ -119,7 +119,7 @@ fn run<S: Source, T: Sink, L: Ledger>(
     out: &mut T,
     steps: &mut Steps<L>,
 ) -> Status
-    ensures { Says result (Some job) (outside S.Source T.Sink input.old input.new out.old out.new) }
+    ensures { MellabSays result (Some job) (outside S.Source T.Sink input.old input.new out.old out.new) }
 {
     match attempt(alloc, job, input, out, steps) {
         Ok(status) => status,
@@ -140,7 +140,7 @@ pub fn mellab<S: Source, T: Sink, L: Ledger>(
     steps: &mut Steps<L>,
 ) -> u8
     ensures says { (s : Status) × (result ≡ number_of s)
-        × Says s (job_of words.now) (outside S.Source T.Sink input.old input.new out.old out.new) }
+        × MellabSays s (job_of words.now) (outside S.Source T.Sink input.old input.new out.old out.new) }
     ensures complete { (s : Status) → result ≡ number_of s → IfSome (job_of words.now)
         (λ job. Completes s job (outside S.Source T.Sink input.old input.new out.old out.new)) }
 {

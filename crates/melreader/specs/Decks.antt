@@ -29,11 +29,11 @@ handed_in t None = None
 handed_in t (Some d) = Some (stream t d.now)
 
 -- what such a reference leaves
-abbrev pub Behind : Type 0 → Type 0
-Behind D = Unit {0} ⊎ ((MutBor D × Unit {0}) ⊎ ⊥)
+abbrev pub LeftReference : Type 0 → Type 0
+LeftReference D = Unit {0} ⊎ ((MutBor D × Unit {0}) ⊎ ⊥)
 
 -- the same of the source that is left behind it
-abbrev pub handed_back : {D : Type 0} → source.Ghosts D → Behind D → Option Stream
+abbrev pub handed_back : {D : Type 0} → source.Ghosts D → LeftReference D → Option Stream
 handed_back t (inl none) = None
 handed_back t (inr (inl d)) = Some (stream t (d.0).now)
 handed_back t (inr (inr never)) = None

@@ -6,7 +6,7 @@ use Rattle.mc_base.specs.declared.sink.Sink as sink
 use Rattle.mc_base.specs.declared.source.Source as source
 use Rattle.mc_model.specs.Device.{DeviceState, BenchState}
 use Rattle.mc_text.specs.Texts.{Sunk, Puts, sunk_in}
-use Rattle.mc_reader.specs.Sessions.{Around, Serves}
+use Rattle.mc_reader.specs.Sessions.{AroundSession, Serves}
 use Rattle.mc_reader.specs.declared.serve_error.ServeError.{ServeError}
 use Rattle.mc_reader.specs.declared.serve_error.ServeError.TheVariants as serve
 use Rattle.mc_filter.specs.Statuses.{ended}
@@ -20,7 +20,7 @@ pub record Outside : Type 0 where
   pub deck : Option Stream
   pub err_old : Sunk
   pub err : Sunk
-  pub session : Around
+  pub session : AroundSession
 
 -- the same of the values of a call
 abbrev pub outside : {S T E N : Type 0} → source.Ghosts S → sink.Ghosts T → sink.Ghosts E → (N → DeviceState) → (N → BenchState)
@@ -76,12 +76,12 @@ pub record SaysNoDeck (Kept Cause : Type 0) (o : Outside) : Type 0 where
   pub kept : Kept
 
 -- the status of a session by how it ended, and what is written of it
-abbrev pub Ends : Result (Unit {0}) ServeError → Status → Sunk → Sunk → Type 0
-Ends (Ok u) s a b = (s ≡ Done) × (b ≡ a)
-Ends (Err (serve.Short n)) s a b = IsRefused (short_frame n) s a b
-Ends (Err serve.ReadFault) s a b = (s ≡ ReadFault) × (b ≡ a)
-Ends (Err serve.WriteFault) s a b = (s ≡ WriteFault) × (b ≡ a)
-Ends (Err serve.NoMemory) s a b = (s ≡ NoMemory) × (b ≡ a)
+abbrev pub ReaderEnds : Result (Unit {0}) ServeError → Status → Sunk → Sunk → Type 0
+ReaderEnds (Ok u) s a b = (s ≡ Done) × (b ≡ a)
+ReaderEnds (Err (serve.Short n)) s a b = IsRefused (short_frame n) s a b
+ReaderEnds (Err serve.ReadFault) s a b = (s ≡ ReadFault) × (b ≡ a)
+ReaderEnds (Err serve.WriteFault) s a b = (s ≡ WriteFault) × (b ≡ a)
+ReaderEnds (Err serve.NoMemory) s a b = (s ≡ NoMemory) × (b ≡ a)
 
 -- the deck was played, and the frames of the input were served
 pub record SaysServed (s : Status) (o : Outside) : Type 0 where
@@ -89,13 +89,13 @@ pub record SaysServed (s : Status) (o : Outside) : Type 0 where
   pub deck : IsDeck o.deck_old o.deck (Ok lines)
   pub result : Result (Unit {0}) ServeError
   pub serves : Serves lines result o.session
-  pub ends : Ends result s o.err_old o.err
+  pub ends : ReaderEnds result s o.err_old o.err
 
 -- what each status says
-abbrev pub Says : Type 0 → Status → Outside → Type 0
-Says Kept Done o = SaysServed Done o
-Says Kept Failed o = SaysRefused Kept Failed o ⊎ SaysServed Failed o
-Says Kept NoForm o = ⊥
-Says Kept ReadFault o = SaysNoDeck Kept (DeckFails o.deck_old o.deck) o ⊎ SaysServed ReadFault o
-Says Kept WriteFault o = SaysRefused Kept WriteFault o ⊎ SaysServed WriteFault o
-Says Kept NoMemory o = SaysNoDeck Kept (DeckLimited o.deck_old o.deck) o ⊎ SaysServed NoMemory o
+abbrev pub MelreaderSays : Type 0 → Status → Outside → Type 0
+MelreaderSays Kept Done o = SaysServed Done o
+MelreaderSays Kept Failed o = SaysRefused Kept Failed o ⊎ SaysServed Failed o
+MelreaderSays Kept NoForm o = ⊥
+MelreaderSays Kept ReadFault o = SaysNoDeck Kept (DeckFails o.deck_old o.deck) o ⊎ SaysServed ReadFault o
+MelreaderSays Kept WriteFault o = SaysRefused Kept WriteFault o ⊎ SaysServed WriteFault o
+MelreaderSays Kept NoMemory o = SaysNoDeck Kept (DeckLimited o.deck_old o.deck) o ⊎ SaysServed NoMemory o

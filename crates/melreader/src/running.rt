@@ -1,12 +1,12 @@
 // The top call: a deck is played, and the frames of a host are served.
 ghost use Rattle.std.specs.Prelude.{◌≡◌, Err, Option};
-ghost use Rattle.mc_reader.specs.Sessions.{Around};
+ghost use Rattle.mc_reader.specs.Sessions.{AroundSession};
 ghost use Rattle.mc_script.specs.Players.{IsUnfused};
 ghost use Rattle.mc_text.specs.Texts.{sunk_in};
 ghost use Rattle.mc_filter.specs.declared.status.Status.{Status};
 ghost use Rattle.mc_filter.specs.Statuses.{number_of};
 ghost use Rattle.melreader.specs.Decks.{handed_in, handed_back, HasDeck, Stream};
-ghost use Rattle.melreader.specs.Sessions.{outside, AreKept, Ends, Says};
+ghost use Rattle.melreader.specs.Sessions.{outside, AreKept, ReaderEnds, MelreaderSays};
 
 use crate::deck::{blank_deck, deck_from};
 use crate::lines::put_short;
@@ -20,7 +20,7 @@ use std::sync::ledger::Ledger;
 
 // Says why a session ended before its input.
 fn fail<E: Sink>(err: &mut E, error: ServeError) -> Status
-    ensures { Ends (Err error) result (sunk_in E.taken E.faults err.old) (sunk_in E.taken E.faults err.new) }
+    ensures { ReaderEnds (Err error) result (sunk_in E.taken E.faults err.old) (sunk_in E.taken E.faults err.new) }
 {
     match error {
         ServeError::Short(number) => ended(Status::Failed, put_short(err, number)),
@@ -32,7 +32,7 @@ fn fail<E: Sink>(err: &mut E, error: ServeError) -> Status
 
 // Says how a session ended.
 fn end<E: Sink>(err: &mut E, served: Result<(), ServeError>) -> Status
-    ensures { Ends served result (sunk_in E.taken E.faults err.old) (sunk_in E.taken E.faults err.new) }
+    ensures { ReaderEnds served result (sunk_in E.taken E.faults err.old) (sunk_in E.taken E.faults err.new) }
 {
     match served {
         Ok(()) => Status::Done,
@@ -52,7 +52,7 @@ fn session<S: Source, T: Sink, E: Sink, N: Bench, L: Ledger>(
 ) -> Status
     requires { IsUnfused (N.bench dev.old) }
     ensures { (a b : Option Stream) → HasDeck a b found
-        → Says (AreKept input.old input.new out.old out.new dev.old dev.new) result
+        → MelreaderSays (AreKept input.old input.new out.old out.new dev.old dev.new) result
         (outside S.Source T.Sink E.Sink N.state N.bench a b input.old input.new out.old out.new err.old err.new
         dev.old dev.new) }
 {
@@ -79,7 +79,7 @@ pub fn melreader<D: Source, S: Source, T: Sink, E: Sink, N: Bench, L: Ledger>(
 ) -> u8
     requires { IsUnfused (N.bench dev.old) }
     ensures { (s : Status) × (result ≡ number_of s)
-        × Says (AreKept input.old input.new out.old out.new dev.old dev.new) s
+        × MelreaderSays (AreKept input.old input.new out.old out.new dev.old dev.new) s
         (outside S.Source T.Sink E.Sink N.state N.bench (handed_in D.Source deck.entry)
         (handed_back D.Source deck.exit) input.old input.new out.old out.new err.old err.new dev.old dev.new) }
 {

@@ -1,9 +1,8 @@
 -- the block is shifted by the bits so far, and the last bit that left is known
 use Rattle.std.proofs.Common.{◌≡◌, ◌-◌, ◌*◌, ◌%◌, ◌^◌, ◌<◌, length}
-use Rattle.mc_model.specs.Bytes.{num}
+use Rattle.mc_model.specs.Bytes.{num, AreBytes}
 use Rattle.mc_model.specs.Blocks.{bit}
-use Rattle.mc_arith.proofs.BlockLemmas.{AllBytes}
 use Rattle.mc_arith.proofs.shifts.shift_left.Given as goal
 
 abbrev pub invariant-loop-step : goal.invariant-loop-step
-invariant-loop-step l = record { bytes : AllBytes l.a; value : num l.a ≡ num l.fn.a * 2 ^ l._step % 256 ^ length l.fn.a; left : 0 < l._step → l.left ≡ bit (8 * length l.fn.a - l._step) (num l.fn.a) }
+invariant-loop-step l = record { bytes : AreBytes l.a; value : num l.a ≡ num l.fn.a * 2 ^ l._step % 256 ^ length l.fn.a; left : 0 < l._step → l.left ≡ bit (8 * length l.fn.a - l._step) (num l.fn.a) }

@@ -1,5 +1,5 @@
 use Rattle.std.proofs.Common.{subst, sym}
-use Rattle.mc_bank.specs.Shown.{Shows}
+use Rattle.mc_bank.specs.Shown.{EntryShows}
 use Rattle.mc_bank.proofs.ShownLemmas.{place_is_within, slot_entry, shows}
 use Rattle.mc_bank.proofs.entries.used_entry.Goals as goal
 
@@ -8,6 +8,6 @@ bounds-entries-index c = place_is_within c.args.entries.now c.args.slot c.index.
 
 pub returns : goal.returns
 returns c =
-    subst (Shows c.args.entries.now c.args.slot)
+    subst (EntryShows c.args.entries.now c.args.slot)
     (sym (slot_entry c.args.entries.now c.args.slot c.index.result c.index-entries-index.result c.requires.there c.index.ensures c.index-entries-index.is))
     (shows c.args.entries.now c.args.slot c.requires.memory c.requires.there)

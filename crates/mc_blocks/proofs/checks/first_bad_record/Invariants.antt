@@ -1,14 +1,14 @@
 use Rattle.std.proofs.Common.{◌-◌, [], length}
 use Rattle.mc_model.specs.Card.{blocks}
 use Rattle.mc_model.specs.Layout.{bad_record}
-use Rattle.mc_blocks.proofs.Entries.{Entered}
+use Rattle.mc_blocks.proofs.Entries.{RecordsEntered}
 use Rattle.mc_blocks.proofs.checks.first_bad_record.Given as goal
 
 -- the blocks that are left decide
 abbrev pub invariant-loop-block : goal.invariant-loop-block
 invariant-loop-block g l =
     let m = (g.N.Nvm.state l.device).words in
-    Entered m (bad_record m (blocks m) [] 0) l.place l.seen.items
+    RecordsEntered m (bad_record m (blocks m) [] 0) l.place l.seen.items
 
 abbrev pub decreases-loop-block : goal.decreases-loop-block
 decreases-loop-block g l = length (g.N.Nvm.state l.device).words - l.place

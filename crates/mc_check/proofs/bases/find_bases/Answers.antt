@@ -1,7 +1,7 @@
 use Rattle.std.proofs.Common.{ℕ, Global, List, Vec, length, subst}
 use Rattle.std.specs.Prelude.{IfOk, IfErr}
 use Rattle.std.proofs.lemmas.Result.{IfOk-weaker, IfErr-weaker}
-use Rattle.mc_check.specs.Table.{AreBases, IsDue}
+use Rattle.mc_check.specs.Table.{AreBases, IsFaultDue}
 use Rattle.mc_check.specs.declared.calls.Call.{Call}
 use Rattle.mc_check.specs.CallList.{AreBasesIn, IsRing}
 use Rattle.mc_check.proofs.SearchFound.{are_bases, fault_of}
@@ -19,4 +19,4 @@ returns-clause-due c =
     let code = c.args.code.now in
     let l = c.in_ok-calls.calls.items in
     let ring = subst (λ (k : List Call). IfErr c.bases_by.result (IsRing k)) c.as_slice.ensures.value c.bases_by.ensures.ring in
-    IfErr-weaker c.bases_by.result (IsRing l) (IsDue code) (λ fault is. fault_of code l fault c.in_ok-calls.ensures is) ring
+    IfErr-weaker c.bases_by.result (IsRing l) (IsFaultDue code) (λ fault is. fault_of code l fault c.in_ok-calls.ensures is) ring

@@ -1,7 +1,7 @@
 use Rattle.std.proofs.Common.{◌≡◌, ℕ, false, sym, ◌∙◌}
 use borrow.Author.Count.{below_more}
 use Rattle.mc_model.specs.Code.{decoded}
-use Rattle.mc_check.specs.Judging.{IsKept, calls_at}
+use Rattle.mc_check.specs.Judging.{HasFactAt, calls_at}
 use Rattle.mc_check.proofs.TableReads.{some-kept, none-kept}
 use Rattle.mc_check.proofs.judging.has_call.Goals as goal
 use Rattle.mc_check.proofs.judging.has_call.Goals.{else-is_some-via-then-is_some+else-calls, else-is_some-via-else-is_some}
@@ -15,7 +15,7 @@ pub loop-place-preserved : goal.loop-place-preserved
 loop-place-preserved c =
     let t = c.args.table.now in
     let place = c.loop-place.place in
-    let Quiet : ℕ → Type 0 = λ p. IsKept t p → calls_at (decoded c.args.code.now p) ≡ false in
+    let Quiet : ℕ → Type 0 = λ p. HasFactAt t p → calls_at (decoded c.args.code.now p) ≡ false in
     let here : Quiet place = elim c.else-is_some.branch [
       | else-is_some-via-then-is_some+else-calls w ↦ λ kept. sym w.calls.ensures ∙ w.if-calls.false
       | else-is_some-via-else-is_some w ↦ λ kept. absurd (none-kept t place (sym c.is_some.ensures ∙ w.if-is_some.false) kept)

@@ -5,7 +5,7 @@ use Rattle.mc_model.specs.DeckGrammar.{DeckLine}
 use Rattle.mc_model.specs.Generator.{turns, closing}
 use Rattle.mc_model.specs.ReadyAgain.{IsLine}
 use Rattle.mc_deck.specs.declared.line.OwnedLine.{OwnedLine}
-use Rattle.mc_deck.specs.Lines.{AreDeck, Inside}
+use Rattle.mc_deck.specs.Lines.{AreDeck, UnitWithin}
 use Rattle.mc_deck.proofs.GeneratorLemmas.{generated_parts, generated_deck}
 use Rattle.mc_deck.proofs.GeneratedBytes.{generated_bytes}
 use Rattle.mc_deck.proofs.generator.generate.Goals as goal
@@ -16,7 +16,7 @@ invariant_of-result c =
     let a = c.in_ok-units.ensures.units in
     let said = c.in_ok-push_closing.ensures.lines us ∙ ap (λ t. t ++ numbered 4009 closing) (c.in_ok-push_turns.ensures.lines us a ∙ ap (λ t. t ++ numbered 9 (turns 4000 c.args.n)) (c.in_ok-lines.ensures.lines us a)) ∙ sym (generated_parts c.args.n) in
     record {
-      inside = subst (λ (k : ℕ). AllByRecursion (λ (l : ℕ × OwnedLine). Inside k l.1) c.push_closing.new.lines.items) (sym c.in_ok-units.ensures.count) c.in_ok-push_closing.ensures.inside;
+      inside = subst (λ (k : ℕ). AllByRecursion (λ (l : ℕ × OwnedLine). UnitWithin k l.1) c.push_closing.new.lines.items) (sym c.in_ok-units.ensures.count) c.in_ok-push_closing.ensures.inside;
       deck = subst AreDeck (sym said) (generated_deck c.args.n);
       bytes = subst (λ (ls : List (ℕ × DeckLine)). AllByRecursion (λ l. IsLine l.1) ls) (sym said) (generated_bytes c.args.n);
     }

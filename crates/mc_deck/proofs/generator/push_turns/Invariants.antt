@@ -3,7 +3,7 @@ use Rattle.std.specs.List.{AllByRecursion}
 use Rattle.mc_model.specs.Text.{numbered}
 use Rattle.mc_model.specs.Generator.{turns}
 use Rattle.mc_deck.specs.declared.unit.OwnedUnit.{OwnedUnit}
-use Rattle.mc_deck.specs.Lines.{said_lines, Inside}
+use Rattle.mc_deck.specs.Lines.{said_lines, UnitWithin}
 use Rattle.mc_deck.specs.Generated.{AreUnits}
 use Rattle.mc_deck.proofs.generator.push_turns.Given as goal
 
@@ -11,6 +11,6 @@ use Rattle.mc_deck.proofs.generator.push_turns.Given as goal
 abbrev pub invariant-loop-number : goal.invariant-loop-number
 invariant-loop-number l = record {
   leads : (us : List OwnedUnit) → AreUnits us → said_lines us l.lines.items ++ numbered l.number (turns (4009 - l.number) l.x) ≡ said_lines us l.fn.lines.items ++ numbered 9 (turns 4000 l.fn.n);
-  inside : AllByRecursion (λ l. Inside 3 l.1) l.lines.items;
+  inside : AllByRecursion (λ l. UnitWithin 3 l.1) l.lines.items;
   bound : l.x < 2 ^ 31;
 }

@@ -5,7 +5,7 @@ use Rattle.mc_text.specs.Texts.{Sunk, Puts, sunk_in}
 use Rattle.mc_lab.specs.Expectations.{count_failed, expect_text, steady_steps}
 use Rattle.mc_lab.specs.Judged.{text_left}
 use Rattle.mc_lab.specs.Stages.{Staged}
-use Rattle.mc_lab.proofs.TrialLemmas.{Above}
+use Rattle.mc_lab.proofs.TrialLemmas.{LinesAbove}
 use Rattle.mc_lab.proofs.expecting.expect.Given as goal
 
 -- the lines above some number were played; what writes what is left to be told from here, writes all of it from the start
@@ -18,7 +18,7 @@ invariant-loop-expectation g l =
     let es = numbered_lines l.trial.expectations.items in
     let whole = steady_steps (state l.fn.device).words l.trial.deck in
     record {
-      above : Above l.trial.deck l.count (drop l.expectation-index es);
+      above : LinesAbove l.trial.deck l.count (drop l.expectation-index es);
       staged : Staged state bench whole l.trial.deck l.player l.count l.text.items;
       left : l.failed + count_failed whole (drop l.expectation-index es) ≡ count_failed whole es;
       few : l.failed ≤ l.expectation-index;

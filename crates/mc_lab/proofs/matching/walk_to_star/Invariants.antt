@@ -1,12 +1,12 @@
 use Rattle.std.proofs.Common.{◌≤◌, length}
 use Rattle.mc_lab.specs.Patterns.{without_blanks}
-use Rattle.mc_lab.proofs.MatchingLemmas.{Walked}
+use Rattle.mc_lab.proofs.MatchingLemmas.{PatternWalked}
 use Rattle.mc_lab.proofs.matching.walk_to_star.Given as goal
 
 -- what is left matches where the whole does
 abbrev pub invariant-loop-sign : goal.invariant-loop-sign
 invariant-loop-sign l = record {
-  walked : Walked (without_blanks l.fn.pattern) (without_blanks l.fn.text) (without_blanks l.signs) (without_blanks l.rest);
+  walked : PatternWalked (without_blanks l.fn.pattern) (without_blanks l.fn.text) (without_blanks l.signs) (without_blanks l.rest);
   fewer : length l.signs ≤ length l.fn.pattern;
   less : length l.rest ≤ length l.fn.text;
 }

@@ -1,5 +1,5 @@
 use Rattle.std.proofs.Common.{◌≡◌}
-use Rattle.mc_lab.specs.SweepBodies.{account_value, Fits}
+use Rattle.mc_lab.specs.SweepBodies.{account_value, AccountFits}
 use Rattle.mc_lab.proofs.SweepLoops.{Recovering}
 use Rattle.mc_lab.proofs.sweep_line.recoveries.Given as goal
 
@@ -9,5 +9,5 @@ invariant-loop-made g l =
     record {
       recovering : Recovering l.place l.k l.fill (account_value l.fn.pair.first) l.made l.same;
       first : l.pair.first ≡ l.fn.pair.first;
-      room : Fits l.pair.now l.place;
+      room : AccountFits l.pair.now l.place;
     }

@@ -1,5 +1,5 @@
 use Rattle.std.proofs.Common.{length}
-use Rattle.mc_lab.specs.SweepBodies.{HasRoom}
+use Rattle.mc_lab.specs.SweepBodies.{AccountsHaveRoom}
 use Rattle.mc_lab.specs.SweepEnds.{AtMost}
 use Rattle.mc_lab.proofs.sweeping.most_writes.Given as goal
 
@@ -8,5 +8,5 @@ abbrev pub invariant-loop-at : goal.invariant-loop-at
 invariant-loop-at g l =
     record {
       most : AtMost l.deck l.at l.most;
-      room : HasRoom l.bench.ends l.bench.pair (length l.names);
+      room : AccountsHaveRoom l.bench.ends l.bench.pair (length l.names);
     }

@@ -2,7 +2,7 @@ use Rattle.std.proofs.Common.{◌≤◌, ◌<◌, ◌+◌, ◌∙◌, List, ap, 
 use Rattle.mc_text.specs.Texts.{Sunk, sunk_in}
 use Rattle.mc_text.proofs.TextLemmas.{puts_as, puts_failed, writes_none}
 use Rattle.mc_lab.specs.Sweeps.{Swept, swept_texts}
-use Rattle.mc_lab.specs.SweepEnds.{left_from, Adds}
+use Rattle.mc_lab.specs.SweepEnds.{left_from, AddsSums}
 use Rattle.mc_lab.proofs.SweepDecks.{adds-none, adds-on, left-none, left-step, swept_at, told-on, told-fails}
 use Rattle.mc_lab.proofs.sweeping.sweep_lines.Goals as goal
 
@@ -32,7 +32,7 @@ loop-at-preserved g c =
     let one = c.in_ok-sweep_at.ensures in
     record {
       told = λ r d rest. c.loop-at.invariant.told r d (told-on (left_from names ls at) (swept_at names ls at) (left_from names ls (at + 1)) a b d r step one.told rest);
-      adds = λ d rest. c.loop-at.invariant.adds d (subst (λ (ss : List Swept). Adds c.loop-at.sums ss d) (sym step) (adds-on c.loop-at.sums c.sweep_at.new.sums d (swept_at names ls at) (left_from names ls (at + 1)) one.adds rest));
+      adds = λ d rest. c.loop-at.invariant.adds d (subst (λ (ss : List Swept). AddsSums c.loop-at.sums ss d) (sym step) (adds-on c.loop-at.sums c.sweep_at.new.sums d (swept_at names ls at) (left_from names ls (at + 1)) one.adds rest));
       small = one.small;
       size = c.sweep_at.ensures.size ∙ c.loop-at.invariant.size;
       room = c.sweep_at.ensures.room;

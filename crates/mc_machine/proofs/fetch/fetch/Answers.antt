@@ -2,7 +2,7 @@
 use Rattle.std.proofs.Common.{ℕ, ◌+◌, refl, sym, ap, subst, ◌∙◌, List, length, take, drop, Ok, Err}
 use Rattle.std.proofs.lemmas.Result.{err_from_is_err_and}
 use Rattle.mc_model.specs.Card.{App}
-use Rattle.mc_model.specs.Code.{Stands}
+use Rattle.mc_model.specs.Code.{DecodesTo}
 use Rattle.mc_bank.specs.Bank.{app_of}
 use Rattle.mc_isa.proofs.PlaceLemmas.{decoded_only}
 use Rattle.mc_machine.proofs.FetchLemmas.{stands_whole}
@@ -22,7 +22,7 @@ returns-in_err-ins-clause-stands g c =
     let code = (app c.args.frame.now.slot).code in
     let read = c.code.ensures ∙ ap (λ (k : ℕ). take 6 (drop c.at-at.result (app k).code)) c.slot.ensures in
     let p = err_from_is_err_and c.from_residual.result c.from_residual.ensures.1 in
-    rw (p.1, p.2) (subst (λ (a : ℕ). Stands code a (Err c.in_err-ins.field-0.0)) c.at-at.ensures (stands_whole code c.code.new.into c.at-at.result c.code_len.result c.code_len-2.result (Err c.in_err-ins.field-0.0) c.if-at-code_len.false (c.code_len.ensures ∙ sym c.code_len-2.ensures) (c.code_len-2.ensures ∙ c.requires.fits.code) c.if-code_len-at-lt-LONGEST.false read c.in_err-ins.ensures.stands))
+    rw (p.1, p.2) (subst (λ (a : ℕ). DecodesTo code a (Err c.in_err-ins.field-0.0)) c.at-at.ensures (stands_whole code c.code.new.into c.at-at.result c.code_len.result c.code_len-2.result (Err c.in_err-ins.field-0.0) c.if-at-code_len.false (c.code_len.ensures ∙ sym c.code_len-2.ensures) (c.code_len-2.ensures ∙ c.requires.fits.code) c.if-code_len-at-lt-LONGEST.false read c.in_err-ins.ensures.stands))
 
 pub returns-clause-exact : goal.returns-clause-exact
 returns-clause-exact g c =
@@ -36,4 +36,4 @@ returns-clause-stands g c =
     let app : ℕ → App = λ k. app_of (g.B.Bank.state c.args.bank.now).apps (g.B.Bank.named c.args.bank.now k) in
     let code = (app c.args.frame.now.slot).code in
     let read = c.code.ensures ∙ ap (λ (k : ℕ). take 6 (drop c.at-at.result (app k).code)) c.slot.ensures in
-    subst (λ (a : ℕ). Stands code a (Ok (c.in_ok-ins.ins, c.at-at.result + c.in_ok-ins.size))) c.at-at.ensures (stands_whole code c.code.new.into c.at-at.result c.code_len.result c.code_len-2.result (Ok (c.in_ok-ins.ins, c.in_ok-ins.size)) c.if-at-code_len.false (c.code_len.ensures ∙ sym c.code_len-2.ensures) (c.code_len-2.ensures ∙ c.requires.fits.code) c.if-code_len-at-lt-LONGEST.false read c.in_ok-ins.ensures.stands)
+    subst (λ (a : ℕ). DecodesTo code a (Ok (c.in_ok-ins.ins, c.at-at.result + c.in_ok-ins.size))) c.at-at.ensures (stands_whole code c.code.new.into c.at-at.result c.code_len.result c.code_len-2.result (Ok (c.in_ok-ins.ins, c.in_ok-ins.size)) c.if-at-code_len.false (c.code_len.ensures ∙ sym c.code_len-2.ensures) (c.code_len-2.ensures ∙ c.requires.fits.code) c.if-code_len-at-lt-LONGEST.false read c.in_ok-ins.ensures.stands)

@@ -2,7 +2,7 @@ use Rattle.std.proofs.Common.{None, sym, subst}
 use Rattle.mc_model.specs.Primitives.{Around}
 use Rattle.mc_model.specs.Row.{RowEnd}
 use Rattle.mc_segs.specs.HeldFrames.{shown}
-use Rattle.mc_segs.specs.Ends.{Acts, scene}
+use Rattle.mc_segs.specs.Ends.{EndActs, scene}
 use Rattle.mc_rows.proofs.AloneLemmas.{row_alone}
 use Rattle.mc_machine.proofs.RowFacts.{no_primitive}
 use Rattle.mc_machine.proofs.lone.perform_lone.Goals as goal
@@ -20,4 +20,4 @@ returns-in_default g c =
     let i = c.args.ins.now in
     let x : Around = record { case = c.args.case; delegator = None } in
     let sc = scene b c.step.new.bank now c.step.new.frame c.args.public.now c.step.new.public in
-    subst (λ (r : RowEnd). Acts did state named sc r c.step.result) (sym (row_alone i (shown (state b) (named b) now) c.args.public.now x (no_primitive i c.in_default.not-Prim))) c.step.ensures
+    subst (λ (r : RowEnd). EndActs did state named sc r c.step.result) (sym (row_alone i (shown (state b) (named b) now) c.args.public.now x (no_primitive i c.in_default.not-Prim))) c.step.ensures

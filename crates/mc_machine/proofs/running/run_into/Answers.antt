@@ -4,7 +4,7 @@ use Rattle.std.proofs.lemmas.Result.{err_from_is_err_and}
 use Rattle.mc_model.specs.Chain.{start, turn_of}
 use Rattle.mc_apdu.specs.Command.{parts_of}
 use Rattle.mc_bank.specs.Bank.{name_or}
-use Rattle.mc_machine.specs.Chains.{Chained, Runs, ran_of}
+use Rattle.mc_machine.specs.Chains.{Chained, RunsAs, ran_of}
 use Rattle.mc_machine.specs.Lone.{lone_chain, LoneDone, RanDone}
 use Rattle.mc_machine.specs.Turns.{placed}
 use Rattle.mc_machine.specs.declared.lone.Lone.{Lone}
@@ -18,7 +18,7 @@ loop-turn-init g c =
     let b = c.args.bank.now in
     let first = start (state b).apps (name_or (named b c.args.first)) c.args.session.now (parts_of c.args.apdu.now) in
     let here = lone_chain c.first_frame-frame.result c.open.new.self c.case-case.result c.unwrap_or-le.result (c.args.budget - 0) in
-    let runs : Runs (state b) (named b) here first =
+    let runs : RunsAs (state b) (named b) here first =
     record { map = refl; running = c.first_frame-frame.ensures; below = tt; public = c.open.ensures; case = c.case-case.ensures; le = c.unwrap_or-le.ensures; few = omega arith; apart = (tt, tt) } in
     record {
       session = refl;

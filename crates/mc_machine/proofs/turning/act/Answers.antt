@@ -10,7 +10,7 @@ use Rattle.mc_model.specs.Chain.{Acted, around, stepped, row_turn, turn_of, foll
 use Rattle.mc_segs.specs.HeldFrames.{shown, app_under}
 use Rattle.mc_segs.specs.Ends.{RowActs, scene, then_of}
 use Rattle.mc_machine.specs.Chains.{Chained}
-use Rattle.mc_machine.specs.Turns.{ActDone, AllFit, WritesFew, Followed, advanced, told_of, delegator_of}
+use Rattle.mc_machine.specs.Turns.{ActDone, AllFitBank, WritesFew, Followed, advanced, told_of, delegator_of}
 use Rattle.mc_machine.specs.declared.outcome.End.TheVariants as end
 use Rattle.mc_machine.specs.declared.outcome.Step.{Step}
 use Rattle.mc_machine.proofs.Kept.{row_keeps}
@@ -26,7 +26,7 @@ perform-requires-clause-waiting g c =
     let state = g.B.Bank.state c.args.bank.now in
     let named = g.B.Bank.named c.args.bank.now in
     let fits = c.requires.fits in
-    subst (λ (k : Chained). AllFit state named k.below) (sym c.advance.ensures) (all_fit state named c.args.chain.now.below fits.0.below fits.1.below)
+    subst (λ (k : Chained). AllFitBank state named k.below) (sym c.advance.ensures) (all_fit state named c.args.chain.now.below fits.0.below fits.1.below)
 
 pub returns-then-chain-eq0-clause-done : goal.returns-then-chain-eq0-clause-done
 returns-then-chain-eq0-clause-done g c ch r =

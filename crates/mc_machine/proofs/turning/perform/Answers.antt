@@ -2,7 +2,7 @@ use Rattle.std.proofs.Common.{sym, ap, subst}
 use Rattle.mc_model.specs.Primitives.{Around}
 use Rattle.mc_model.specs.Row.{RowEnd}
 use Rattle.mc_segs.specs.HeldFrames.{shown}
-use Rattle.mc_segs.specs.Ends.{Acts, RowActs, scene}
+use Rattle.mc_segs.specs.Ends.{EndActs, RowActs, scene}
 use Rattle.mc_rows.specs.Rows.{alone}
 use Rattle.mc_machine.specs.Chains.{Chained}
 use Rattle.mc_machine.specs.Turns.{delegator_of}
@@ -27,6 +27,6 @@ returns-in_default g c =
     let acts : RowActs did state named sc i alone c.step.result =
     subst (λ (k : Chained). RowActs did state named (scene b e k.running c.step.new.frame k.public c.step.new.public) i alone c.step.result) c.chain.view_is c.step.ensures in
     record {
-      acts = subst (λ (r : RowEnd). Acts did state named sc r c.step.result) (sym (row_alone i (shown (state b) (named b) now.running) now.public x (no_primitive i c.in_default.not-Prim))) acts;
+      acts = subst (λ (r : RowEnd). EndActs did state named sc r c.step.result) (sym (row_alone i (shown (state b) (named b) now.running) now.public x (no_primitive i c.in_default.not-Prim))) acts;
       others = ap (λ (k : Chained). record k { running = c.step.new.frame; public = c.step.new.public }) c.chain.view_is;
     }

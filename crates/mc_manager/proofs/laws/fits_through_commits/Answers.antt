@@ -1,13 +1,13 @@
 use Rattle.mc_bank.proofs.Commits.{slots-in_order, sites-in_order}
 use Rattle.mc_manager.specs.ManagerState.{view_of}
-use Rattle.mc_manager.proofs.CommitLemmas.{Keeps, fits_kept, seat_kept}
+use Rattle.mc_manager.proofs.CommitLemmas.{KeepsSlotsAndSites, fits_kept, seat_kept}
 use Rattle.mc_manager.proofs.laws.fits_through_commits.Goals as goal
 
 pub returns-clause-fits : goal.returns-clause-fits
 returns-clause-fits g c m cs b a e h fits =
     let v = view_of g.B.Bank.state g.B.Bank.named g.B.Bank.room g.B.Bank.standing b in
     let w = view_of g.B.Bank.state g.B.Bank.named g.B.Bank.room g.B.Bank.standing e in
-    let keeps : Keeps v w =
+    let keeps : KeepsSlotsAndSites v w =
     record {
       slots = slots-in_order g.B.Bank.did g.B.Bank.named g.met.B.Bank.keeps cs b a e h;
       sites = sites-in_order g.B.Bank.did g.B.Bank.state g.B.Bank.room g.B.Bank.standing g.met.B.Bank.spares g.met.B.Bank.leaves cs b a e h;
@@ -18,7 +18,7 @@ pub returns-clause-seat : goal.returns-clause-seat
 returns-clause-seat g c m cs b a e h fits s =
     let v = view_of g.B.Bank.state g.B.Bank.named g.B.Bank.room g.B.Bank.standing b in
     let w = view_of g.B.Bank.state g.B.Bank.named g.B.Bank.room g.B.Bank.standing e in
-    let keeps : Keeps v w =
+    let keeps : KeepsSlotsAndSites v w =
     record {
       slots = slots-in_order g.B.Bank.did g.B.Bank.named g.met.B.Bank.keeps cs b a e h;
       sites = sites-in_order g.B.Bank.did g.B.Bank.state g.B.Bank.room g.B.Bank.standing g.met.B.Bank.spares g.met.B.Bank.leaves cs b a e h;

@@ -1,5 +1,5 @@
 use Rattle.std.proofs.Common.{◌≡◌, false}
-use Rattle.mc_manager.specs.ManagerState.{view_of, Fits}
+use Rattle.mc_manager.specs.ManagerState.{view_of, ManagerFits}
 use Rattle.mc_manager_tests.proofs.loads.fills.Given as goal
 
 -- the manager fits the bank after each piece
@@ -7,5 +7,5 @@ abbrev pub invariant-loop-bytes : goal.invariant-loop-bytes
 invariant-loop-bytes g l =
     record {
       going : (g.B.Bank.state l.bank).stopped ≡ false;
-      fits : Fits (view_of g.B.Bank.state g.B.Bank.named g.B.Bank.room g.B.Bank.standing l.bank) l.manager;
+      fits : ManagerFits (view_of g.B.Bank.state g.B.Bank.named g.B.Bank.room g.B.Bank.standing l.bank) l.manager;
     }

@@ -1,9 +1,9 @@
 use Rattle.std.proofs.Common.{◌≡◌, ℕ, length}
 use Rattle.mc_model.specs.Play.{State}
 use Rattle.mc_text.specs.Texts.{sunk_in}
-use Rattle.mc_script.specs.Players.{device_of, IsAt}
+use Rattle.mc_script.specs.Players.{device_of, IsPlayerAt}
 use Rattle.mc_script.specs.Lines.{bench_of}
-use Rattle.mc_reader.proofs.LoopLemmas.{Reached}
+use Rattle.mc_reader.proofs.LoopLemmas.{SessionReached}
 use Rattle.mc_reader.proofs.serving.serve_frames.Given as goal
 
 -- whatever is made of the frames to come, is made of all frames from the start
@@ -14,8 +14,8 @@ invariant-loop-before g l =
     let out = sunk_in g.T.Sink.taken g.T.Sink.faults in
     record {
       reached :
-          (s : State) (n : ℕ) → IsAt state bench l.fn.player s
-          → Reached state bench s n (record { left = g.S.Source.left l.fn.input; reads = g.S.Source.faults l.fn.input; out = out l.fn.out; dev = bench_of state bench l.fn.player }) l.before l.player l.powered (g.S.Source.left l.input) (g.S.Source.faults l.input) (out l.out);
+          (s : State) (n : ℕ) → IsPlayerAt state bench l.fn.player s
+          → SessionReached state bench s n (record { left = g.S.Source.left l.fn.input; reads = g.S.Source.faults l.fn.input; out = out l.fn.out; dev = bench_of state bench l.fn.player }) l.before l.player l.powered (g.S.Source.left l.input) (g.S.Source.faults l.input) (out l.out);
       room : length l.room ≡ 65535;
       lent : g.N.Nvm.same (device_of l.fn.player) (device_of l.player);
     }

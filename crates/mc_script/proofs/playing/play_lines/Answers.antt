@@ -7,7 +7,7 @@ use Rattle.mc_base.specs.declared.refusals.WriteFault.{WriteFault}
 use Rattle.mc_script.specs.Players.{device_of}
 use Rattle.mc_script.specs.Scripts.{ended, text_by}
 use Rattle.mc_script.specs.Plays.{Bench, PlaysFrom}
-use Rattle.mc_script.proofs.DeckLemmas.{Reached, reached_end, reached_failed, reached_written, next_line, no_line, no_fault}
+use Rattle.mc_script.proofs.DeckLemmas.{PlayReached, reached_end, reached_failed, reached_written, next_line, no_line, no_fault}
 use Rattle.mc_script.proofs.playing.play_lines.Goals as goal
 
 -- the script is the same over its sink behind a line
@@ -25,7 +25,7 @@ returns-then-is_err-clause-plays g c =
     let deck = c.args.deck.now in
     let line = c.line-number.result in
     let here = next_line deck c.loop-i.i line.0 (line_of line.1) c.line-number.ensures.line in
-    let reached = subst (λ (left : List (ℕ × DeckLine)). Reached state bench (text_by g.S.Script.text) (start (state c.args.device).words) deck a (out c.args.script.now) left c.loop-i.player (out c.loop-i.script)) here c.loop-i.invariant.reached in
+    let reached = subst (λ (left : List (ℕ × DeckLine)). PlayReached state bench (text_by g.S.Script.text) (start (state c.args.device).words) deck a (out c.args.script.now) left c.loop-i.player (out c.loop-i.script)) here c.loop-i.invariant.reached in
     let failed : is_err (ended (g.S.Script.fault c.tell.new.self)) ≡ true = search rules in
     subst (λ d. PlaysFrom (text_by g.S.Script.text) (start (state c.args.device).words) deck a (out c.args.script.now) (ended (g.S.Script.fault c.tell.new.self)) (record { device = state d; bench = bench d }) (out c.tell.new.self)) (sym c.into_dev.ensures)
     (reached_failed state bench g.S.Runner.told g.S.Script.text (start (state c.args.device).words) deck a (out c.args.script.now) (out c.loop-i.script) (out c.tell.new.self) (drop (c.loop-i.i + 1) deck) line.0 (line_of line.1) c.loop-i.player c.line-answer.new.self c.loop-i.script c.line-answer.new.runner c.line-answer.result (ended (g.S.Script.fault c.tell.new.self)) failed reached c.line-answer.ensures.done (λ ts told. c.tell.ensures.tells c.loop-i.script ts c.loop-i.invariant.fault told))
@@ -39,7 +39,7 @@ loop-i-preserved g c =
     let deck = c.args.deck.now in
     let line = c.line-number.result in
     let here = next_line deck c.loop-i.i line.0 (line_of line.1) c.line-number.ensures.line in
-    let reached = subst (λ (left : List (ℕ × DeckLine)). Reached state bench (text_by g.S.Script.text) (start (state c.args.device).words) deck a (out c.args.script.now) left c.loop-i.player (out c.loop-i.script)) here c.loop-i.invariant.reached in
+    let reached = subst (λ (left : List (ℕ × DeckLine)). PlayReached state bench (text_by g.S.Script.text) (start (state c.args.device).words) deck a (out c.args.script.now) left c.loop-i.player (out c.loop-i.script)) here c.loop-i.invariant.reached in
     let written : is_err (ended (g.S.Script.fault c.tell.new.self)) ≡ false = search rules in
     let done = c.line-answer.ensures.done c.loop-i.invariant.reached.here 0 c.loop-i.invariant.reached.at in
     record {
@@ -58,7 +58,7 @@ returns-clause-plays g c =
     let out = g.S.Script.out in
     let deck = c.args.deck.now in
     let all : length deck ≤ c.loop-i.i = search rules in
-    let reached = subst (λ (left : List (ℕ × DeckLine)). Reached state bench (text_by g.S.Script.text) (start (state c.args.device).words) deck a (out c.args.script.now) left c.loop-i.player (out c.loop-i.script)) (no_line deck c.loop-i.i all) c.loop-i.invariant.reached in
+    let reached = subst (λ (left : List (ℕ × DeckLine)). PlayReached state bench (text_by g.S.Script.text) (start (state c.args.device).words) deck a (out c.args.script.now) left c.loop-i.player (out c.loop-i.script)) (no_line deck c.loop-i.i all) c.loop-i.invariant.reached in
     let whole = reached_end state bench (text_by g.S.Script.text) (start (state c.args.device).words) deck a (out c.args.script.now) (out c.loop-i.script) c.loop-i.player reached in
     let good : Ok tt ≡ ended (g.S.Script.fault c.loop-i.script) = sym (ap ended c.loop-i.invariant.fault) in
     subst (λ d. PlaysFrom (text_by g.S.Script.text) (start (state c.args.device).words) deck a (out c.args.script.now) (ended (g.S.Script.fault c.loop-i.script)) (record { device = state d; bench = bench d }) (out c.loop-i.script)) (sym c.into_dev-2.ensures)

@@ -1,6 +1,6 @@
 use Rattle.std.proofs.Common.{drop}
 use Rattle.mc_model.specs.Play.{State}
-use Rattle.mc_script.specs.Players.{device_of, IsAt}
+use Rattle.mc_script.specs.Players.{device_of, IsPlayerAt}
 use Rattle.mc_script.specs.Lines.{bench_of}
 use Rattle.mc_script.proofs.SumLemmas.{Counting}
 use Rattle.mc_script.proofs.summing.tally.Given as goal
@@ -11,6 +11,6 @@ invariant-loop-i g l =
     let state = g.N.Nvm.state in
     let bench = g.N.Bench.bench in
     record {
-      counting : (s : State) → IsAt state bench l.fn.player s → Counting state bench s l.deck (bench_of state bench l.fn.player) (drop l.i l.deck) l.player l.counts l.i;
+      counting : (s : State) → IsPlayerAt state bench l.fn.player s → Counting state bench s l.deck (bench_of state bench l.fn.player) (drop l.i l.deck) l.player l.counts l.i;
       lent : g.N.Nvm.same (device_of l.fn.player) (device_of l.player);
     }

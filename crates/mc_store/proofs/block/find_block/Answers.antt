@@ -4,7 +4,7 @@ use Rattle.mc_blocks.specs.Blocks.{blocks_at}
 use Rattle.mc_blocks.proofs.Steps.{blocks_all}
 use Rattle.mc_store.specs.Slots.{first_named}
 use Rattle.mc_store.proofs.RecordLemmas.{block_fits}
-use Rattle.mc_store.proofs.WalkLemmas.{Stands, walk_begins, header_stands, walk_ends}
+use Rattle.mc_store.proofs.WalkLemmas.{BlockStands, walk_begins, header_stands, walk_ends}
 use Rattle.mc_model.specs.Device.{sized}
 use Rattle.mc_store.proofs.block.find_block.Goals as goal
 
@@ -22,7 +22,7 @@ pub sizes_of_name-requires : goal.sizes_of_name-requires
 sizes_of_name-requires g c =
     let m = (g.N.Nvm.state c.args.device.now).words in
     let lt : c.loop-place.place < length m = subst (λ (n : ℕ). c.loop-place.place < n) c.len-size.ensures.len c.loop-place-test.true in
-    let s : Stands m c.loop-place.place c.read_header-header.result.used c.read_header-header.result.words =
+    let s : BlockStands m c.loop-place.place c.read_header-header.result.used c.read_header-header.result.words =
     header_stands m c.loop-place.place c.read_header-header.result.used c.read_header-header.result.words lt c.loop-place.invariant.walk c.read_header-header.ensures.used c.read_header-header.ensures.words in
     λ h. block_fits m c.loop-place.place (s.block h)
 
@@ -31,7 +31,7 @@ returns-in-Some-clause-place g c =
     let m = (g.N.Nvm.state c.args.device.now).words in
     let p = c.loop-place.place in
     let lt : p < length m = subst (λ (n : ℕ). p < n) c.len-size.ensures.len c.loop-place-test.true in
-    let s : Stands m p c.read_header-header.result.used c.read_header-header.result.words =
+    let s : BlockStands m p c.read_header-header.result.used c.read_header-header.result.words =
     header_stands m p c.read_header-header.result.used c.read_header-header.result.words lt c.loop-place.invariant.walk c.read_header-header.ensures.used c.read_header-header.ensures.words in
     ap (λ (k : ℕ). Some k) c.new.ensures.place
     ∙ sym (
@@ -46,7 +46,7 @@ loop-place-smaller g c =
     let size : c.len-size.result ≡ length m = c.len-size.ensures.len in
     let before : p < c.len-size.result = c.loop-place-test.true in
     let lt : p < length m = subst (λ (n : ℕ). p < n) size before in
-    let s : Stands m p c.read_header-header.result.used c.read_header-header.result.words =
+    let s : BlockStands m p c.read_header-header.result.used c.read_header-header.result.words =
     header_stands m p c.read_header-header.result.used c.read_header-header.result.words lt c.loop-place.invariant.walk c.read_header-header.ensures.used c.read_header-header.ensures.words in
     let low : 1 ≤ c.read_header-header.result.words = s.low in
     omega arith
@@ -56,7 +56,7 @@ loop-place-preserved g c =
     let m = (g.N.Nvm.state c.args.device.now).words in
     let p = c.loop-place.place in
     let lt : p < length m = subst (λ (n : ℕ). p < n) c.len-size.ensures.len c.loop-place-test.true in
-    let s : Stands m p c.read_header-header.result.used c.read_header-header.result.words =
+    let s : BlockStands m p c.read_header-header.result.used c.read_header-header.result.words =
     header_stands m p c.read_header-header.result.used c.read_header-header.result.words lt c.loop-place.invariant.walk c.read_header-header.ensures.used c.read_header-header.ensures.words in
     record {
       high = s.high;

@@ -2,7 +2,7 @@ use Rattle.std.proofs.Common.{◌≡◌, ◌-◌, ◌≤◌, true}
 use Rattle.mc_model.specs.Bytes.{zeros}
 use Rattle.mc_store.specs.Store.{is_going, IsGoodIn}
 use Rattle.mc_store.specs.StoreItems.{store_did, blank_items}
-use Rattle.mc_store.proofs.FillLemmas.{Leads}
+use Rattle.mc_store.proofs.FillLemmas.{ItemsLead}
 use Rattle.mc_store.proofs.creation.clear.Given as goal
 
 -- the zeros that are left lead where all of them lead
@@ -12,7 +12,7 @@ invariant-loop-at g l =
       few : l.at ≤ l.sizes.fixed;
       going : is_going (g.N.Nvm.state l.store.device) l.store.count ≡ true;
       good : IsGoodIn (g.N.Nvm.state l.store.device).words l.site;
-      leads : Leads (store_did g.N.Nvm.state g.N.Nvm.wrote) l.fn.store (blank_items l.site l.sizes.init (zeros (l.sizes.fixed - l.sizes.init))) l.store (blank_items l.site l.at (zeros (l.sizes.fixed - l.at)));
+      leads : ItemsLead (store_did g.N.Nvm.state g.N.Nvm.wrote) l.fn.store (blank_items l.site l.sizes.init (zeros (l.sizes.fixed - l.sizes.init))) l.store (blank_items l.site l.at (zeros (l.sizes.fixed - l.at)));
     }
 
 abbrev pub decreases-loop-at : goal.decreases-loop-at

@@ -2,7 +2,7 @@ use Rattle.std.proofs.Common.{Option, refl, sym, subst, ◌∙◌}
 use Rattle.mc_filter.proofs.Statuses.{puts_by}
 use Rattle.mellab.specs.declared.job.Job.{Job}
 use Rattle.mellab.specs.Jobs.{job_of, usage}
-use Rattle.mellab.specs.Statuses.{outside, Around, Says}
+use Rattle.mellab.specs.Statuses.{outside, Around, MellabSays}
 use Rattle.mellab.proofs.StatusLemmas.{says_no_form}
 use Rattle.mellab.proofs.Completeness.{complete_at}
 use Rattle.mellab.proofs.running.mellab.Goals as goal
@@ -12,7 +12,7 @@ returns-clause-complete g c = λ s is.
     let a : Around = outside g.S.Source g.T.Sink c.args.input.now c.run.new.input c.args.out.now c.run.new.out in
     let named = sym c.job_of.ensures ∙ c.in-Some.is in
     complete_at (job_of c.args.words.now) c.run.result s a c.number-2.result c.number-2.ensures is
-    (subst (λ (o : Option Job). Says c.run.result o a) (sym named) c.run.ensures)
+    (subst (λ (o : Option Job). MellabSays c.run.result o a) (sym named) c.run.ensures)
 
 pub returns-in_default-clause-says : goal.returns-in_default-clause-says
 returns-in_default-clause-says g c =

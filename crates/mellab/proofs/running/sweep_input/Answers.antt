@@ -2,7 +2,7 @@ use Rattle.std.proofs.Common.{◌∙◌, ap, refl, sym, subst, Ok, Err}
 use Rattle.mc_base.specs.declared.refusals.WriteFault.{WriteFault as Fault}
 use Rattle.mc_model.specs.DeckGrammar.{deck_read}
 use Rattle.mc_lab.specs.Sweeps.{sweep_text}
-use Rattle.mc_lab.specs.SweepEnds.{Tells}
+use Rattle.mc_lab.specs.SweepEnds.{TellsSweep}
 use Rattle.mc_lab.specs.declared.sweeping.SweepFault.{SweepFault}
 use Rattle.mc_filter.specs.declared.status.Status.TheVariants.{Done, WriteFault}
 use Rattle.mellab.specs.Statuses.{outside, Around}
@@ -20,5 +20,5 @@ returns-in-Err-WriteFault-clause-done g c =
     let a : Around = outside g.S.Source g.T.Sink c.args.input.now c.read_input.new.input c.args.out.now c.sweep.new.out in
     let is = ap deck_read (sym c.as_slice.ensures.value) ∙ c.in_ok-deck.ensures.deck in
     let failed : Fault = record {} in
-    let told = subst (λ (e : SweepFault). Tells a.out_old (sweep_text c.in_ok-deck.deck) (Err e) a.out) c.in-Err-WriteFault.field-0-is c.in-Err-WriteFault.ensures in
+    let told = subst (λ (e : SweepFault). TellsSweep a.out_old (sweep_text c.in_ok-deck.deck) (Err e) a.out) c.in-Err-WriteFault.field-0-is c.in-Err-WriteFault.ensures in
     says_swept a c.in_ok-text.text.items c.in_ok-deck.deck (Err failed) WriteFault c.in_ok-text.ensures.read is refl told

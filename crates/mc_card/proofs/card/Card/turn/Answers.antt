@@ -6,7 +6,7 @@ use Rattle.mc_model.specs.Chain.{turn_of}
 use Rattle.mc_model.specs.Device.{Ended}
 use Rattle.mc_store.specs.GoingLaws.{going_is}
 use Rattle.mc_card.specs.declared.card.Card.{Card}
-use Rattle.mc_card.specs.Ends.{Turned}
+use Rattle.mc_card.specs.Ends.{ChainTurned}
 use Rattle.mc_card.proofs.TurnLemmas.{card_of, done_made, turned_stop, turned_on, turned_off, turned_few, turned_steps}
 use Rattle.mc_card.proofs.DeviceLemmas.{made-ended}
 use Rattle.mc_card.proofs.card.Card.turn.Goals.{then-is_some, else-is_some}
@@ -45,11 +45,11 @@ returns-clause-done g c =
     elim c.if-is_some.branch [
       | then-is_some w ↦ λ ch left r.
           let now = w.self-is ∙ ap (λ (s : List ℕ). card_of c.turn.new.bank old.manager s None) w.session-self.ensures in
-          subst (λ (d : Card g.row.N.Denot). Turned g.N.Nvm.state g.N.Nvm.wrote old ch left (turn_of left ch) (Ok c.in_ok-told.told) d) (sym now) (
+          subst (λ (d : Card g.row.N.Denot). ChainTurned g.N.Nvm.state g.N.Nvm.wrote old ch left (turn_of left ch) (Ok c.in_ok-told.told) d) (sym now) (
           turned_off g.N.Nvm.state g.N.Nvm.wrote g.met.N.Nvm.obeys old c.unwrap-chain.result.now is c.turn.new.bank c.turn.new.chain c.in_ok-told.told (sym c.is_some.ensures ∙ w.if-is_some.true) c.in_ok-told.ensures.done ch left r
           )
       | else-is_some w ↦ λ ch left r.
-          subst (λ (d : Card g.row.N.Denot). Turned g.N.Nvm.state g.N.Nvm.wrote old ch left (turn_of left ch) (Ok c.in_ok-told.told) d) (sym w.self-is) (
+          subst (λ (d : Card g.row.N.Denot). ChainTurned g.N.Nvm.state g.N.Nvm.wrote old ch left (turn_of left ch) (Ok c.in_ok-told.told) d) (sym w.self-is) (
           turned_on g.N.Nvm.state g.N.Nvm.wrote g.met.N.Nvm.obeys old c.unwrap-chain.result.now is c.turn.new.bank c.turn.new.chain c.in_ok-told.told (sym c.is_some.ensures ∙ w.if-is_some.false) c.in_ok-told.ensures.done ch left r
           )
     ]

@@ -1,4 +1,4 @@
-use Rattle.mc_check.specs.Closing.{tables_of, IsFit, Adds}
+use Rattle.mc_check.specs.Closing.{tables_of, IsFit, AddsFacts}
 use Rattle.mc_check.proofs.ClosingBack.{BackBelow}
 use Rattle.mc_check.proofs.closing.Closing.come_back_all.Given as goal
 
@@ -6,6 +6,6 @@ use Rattle.mc_check.proofs.closing.Closing.come_back_all.Given as goal
 abbrev pub invariant-loop-place : goal.invariant-loop-place
 invariant-loop-place l = record {
   fit : IsFit l.code (tables_of l.self);
-  adds : Adds (tables_of l.fn.self) (tables_of l.self);
+  adds : AddsFacts (tables_of l.fn.self) (tables_of l.self);
   back : BackBelow l.code (tables_of l.self) l.routine l.counts l.place;
 }

@@ -1,5 +1,5 @@
 use Rattle.std.proofs.Common.{length, ◌≤◌}
-use Rattle.mc_lab.specs.SweepBodies.{writes_in, HasRoom}
+use Rattle.mc_lab.specs.SweepBodies.{writes_in, AccountsHaveRoom}
 use Rattle.mc_lab.proofs.sweep_line.Bench.writes.Given as goal
 
 -- the writes that were hit so far
@@ -7,5 +7,5 @@ abbrev pub invariant-loop-made : goal.invariant-loop-made
 invariant-loop-made g l =
     record {
       within : l.made ≤ writes_in l.place;
-      room : HasRoom l.self.ends l.self.pair (length l.place.names.now);
+      room : AccountsHaveRoom l.self.ends l.self.pair (length l.place.names.now);
     }

@@ -3,7 +3,7 @@ use Rattle.std.proofs.lemmas.Result.{err_from_is_err_and}
 use Rattle.mc_machine.specs.declared.outcome.Outcome.{Outcome}
 use Rattle.mc_card.specs.Ends.{Begun}
 use Rattle.mc_script.specs.Logs.{LogKeeps}
-use Rattle.mc_script.proofs.CommandLemmas.{Leads, answered_ran, some_is, leads_begin, leads_stop, leads_end, leads_on}
+use Rattle.mc_script.proofs.CommandLemmas.{RunLeads, answered_ran, some_is, leads_begin, leads_stop, leads_end, leads_on}
 use Rattle.mc_script.proofs.LoggedLemmas.{keeps_none, keeps_on}
 use Rattle.mc_script.proofs.log.LogRunner.run.Goals as goal
 
@@ -30,7 +30,7 @@ loop-turn-init g c =
     let all : c.args.budget ≡ c.args.budget - 0 = omega arith in
     record {
       leads =
-          subst (λ (k : ℕ). Leads g.N.Nvm.state g.N.Nvm.wrote g.met.N.Nvm.obeys (λ q ts r. LogKeeps taken faults q ts r) (keeps_none taken faults) (keeps_on taken faults) c.args.card.now c.args.bytes.now c.args.budget c.args.self.now k c.begin.new.self c.args.self.now) all
+          subst (λ (k : ℕ). RunLeads g.N.Nvm.state g.N.Nvm.wrote g.met.N.Nvm.obeys (λ q ts r. LogKeeps taken faults q ts r) (keeps_none taken faults) (keeps_on taken faults) c.args.card.now c.args.bytes.now c.args.budget c.args.self.now k c.begin.new.self c.args.self.now) all
           (leads_begin g.N.Nvm.state g.N.Nvm.wrote g.met.N.Nvm.obeys (λ q ts r. LogKeeps taken faults q ts r) (keeps_none taken faults) (keeps_on taken faults) c.args.card.now c.begin.new.self c.args.bytes.now c.args.budget c.args.self.now passed);
       lent = c.begin.ensures.lent;
     }
@@ -71,7 +71,7 @@ loop-turn-preserved g c =
     let on = leads_on g.N.Nvm.state g.N.Nvm.wrote g.met.N.Nvm.obeys (λ q ts r. LogKeeps taken faults q ts r) (keeps_none taken faults) (keeps_on taken faults) c.args.card.now c.loop-turn.card c.turn.new.self c.args.bytes.now c.args.budget (c.args.budget - c.loop-turn._turn) c.args.self.now c.loop-turn.self c.tell.new.self c.in_ok-turn.turn c.loop-turn.invariant.leads c.in_ok-turn.ensures.done c.tell.ensures.tells c.in_default-end.is in
     let left : on.0 ≡ c.args.budget - (c.loop-turn._turn + 1) = let is = on.1 in omega (arith, is) in
     record {
-      leads = subst (λ (k : ℕ). Leads g.N.Nvm.state g.N.Nvm.wrote g.met.N.Nvm.obeys (λ q ts r. LogKeeps taken faults q ts r) (keeps_none taken faults) (keeps_on taken faults) c.args.card.now c.args.bytes.now c.args.budget c.args.self.now k c.turn.new.self c.tell.new.self) left on.2;
+      leads = subst (λ (k : ℕ). RunLeads g.N.Nvm.state g.N.Nvm.wrote g.met.N.Nvm.obeys (λ q ts r. LogKeeps taken faults q ts r) (keeps_none taken faults) (keeps_on taken faults) c.args.card.now c.args.bytes.now c.args.budget c.args.self.now k c.turn.new.self c.tell.new.self) left on.2;
       lent = g.met.N.Nvm.onward _ _ _ c.loop-turn.invariant.lent c.turn.ensures.lent;
     }
 

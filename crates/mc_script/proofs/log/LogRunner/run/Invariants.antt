@@ -1,7 +1,7 @@
 use Rattle.std.proofs.Common.{◌-◌}
 use Rattle.mc_card.specs.Parts.{device_in}
 use Rattle.mc_script.specs.Logs.{LogKeeps}
-use Rattle.mc_script.proofs.CommandLemmas.{Leads}
+use Rattle.mc_script.proofs.CommandLemmas.{RunLeads}
 use Rattle.mc_script.proofs.LoggedLemmas.{keeps_none, keeps_on}
 use Rattle.mc_script.proofs.log.LogRunner.run.Given as goal
 
@@ -11,6 +11,6 @@ invariant-loop-turn g l =
     let taken = g.T.Sink.taken in
     let faults = g.T.Sink.faults in
     record {
-      leads : Leads g.N.Nvm.state g.N.Nvm.wrote g.met.N.Nvm.obeys (λ q ts r. LogKeeps taken faults q ts r) (keeps_none taken faults) (keeps_on taken faults) l.fn.card l.bytes l.budget l.fn.self (l.budget - l._turn) l.card l.self;
+      leads : RunLeads g.N.Nvm.state g.N.Nvm.wrote g.met.N.Nvm.obeys (λ q ts r. LogKeeps taken faults q ts r) (keeps_none taken faults) (keeps_on taken faults) l.fn.card l.bytes l.budget l.fn.self (l.budget - l._turn) l.card l.self;
       lent : g.N.Nvm.same (device_in l.fn.card) (device_in l.card);
     }

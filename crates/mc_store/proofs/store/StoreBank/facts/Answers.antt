@@ -1,6 +1,6 @@
 use Rattle.std.proofs.Common.{ℕ, ap, subst, sym, ◌∙◌}
 use Rattle.mc_model.specs.Card.{name_at}
-use Rattle.mc_store.specs.Slots.{IsBlock}
+use Rattle.mc_store.specs.Slots.{IsUsedBlock}
 use Rattle.mc_store.proofs.ReadLemmas.{of_slot, told}
 use Rattle.mc_model.specs.Device.{sized}
 use Rattle.mc_store.proofs.store.StoreBank.facts.Goals as goal
@@ -8,7 +8,7 @@ use Rattle.mc_store.proofs.store.StoreBank.facts.Goals as goal
 pub name_of_block-requires : goal.name_of_block-requires
 name_of_block-requires g c =
     let d = g.N.Nvm.state c.args.self.now.device in
-    subst (λ (k : ℕ). IsBlock d.words k) (sym c.index.ensures) (of_slot d c.args.self.now.count c.args.slot (sized c.len-size.ensures.image) c.requires.going c.requires.there).at.block
+    subst (λ (k : ℕ). IsUsedBlock d.words k) (sym c.index.ensures) (of_slot d c.args.self.now.count c.args.slot (sized c.len-size.ensures.image) c.requires.going c.requires.there).at.block
 
 pub returns : goal.returns
 returns g c =
