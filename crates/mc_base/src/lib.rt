@@ -1,10 +1,11 @@
 #![tactic(auto)]
 
-//! Bytes in and out, and the names and counts that every other crate speaks of.
+//! Bytes in and out, numbers in two bytes, and the names and counts that every other crate speaks of.
 
 mod aid;
 mod ledger;
 mod memory;
+mod numbers;
 mod outside;
 mod refusals;
 mod sink;
@@ -14,6 +15,7 @@ pub use aid::Aid;
 pub use ledger::Steps;
 pub use mc_model::Stop;
 pub use memory::{MemSink, MemSource};
+pub use numbers::{bytes_of, number_of};
 pub use outside::{StdSink, StdSource};
 pub use refusals::{Failed, NoMemory, ReadAll, WriteFault};
 pub use sink::{Sink, put_all};

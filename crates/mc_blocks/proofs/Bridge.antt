@@ -1,17 +1,16 @@
 -- On a well laid image the holes of the walk are the gaps of the card, and its used blocks are the card's spans.
-use Rattle.std.proofs.Common.{◌≡◌, ℕ, zero, suc, ◌+◌, ◌*◌, ◌<◌, ◌≤◌, Bool, true, false, ◌&&◌, List, [], ◌∷◌, ◌++◌, length, take, Option, Some, None, refl, sym, ◌∙◌, ap, subst, arith, cond, not, length-append, length-take, min}
+use Rattle.std.proofs.Common.{◌≡◌, ℕ, ◌+◌, ◌<◌, ◌≤◌, Bool, true, false, ◌&&◌, List, [], ◌∷◌, length, Option, Some, None, refl, sym, ◌∙◌, ap, subst, arith, cond, not}
 use Rattle.std.specs.Prelude.{nat_lt, ◌==◌, slice_index, MatchBool}
-use Rattle.std.specs.List.{concat}
 use Rattle.std.proofs.lemmas.Bool.{and_parts, eqb-true, not-true}
-use Rattle.std.proofs.lemmas.List.{drop_more}
 use Rattle.mc_model.specs.Bytes.{up, be2, has_name, or_else, insert}
 use Rattle.mc_model.specs.Image.{Look, Closed, look, replayed}
 use Rattle.mc_model.specs.Device.{IsSized}
-use Rattle.mc_model.specs.Card.{App, Block, word, blocks, cells, section, record_at, name_in, name_at, app_at, apps_of, card_of, words_after, means, needed, needed_of, heap_start}
+use Rattle.mc_model.specs.Card.{App, Block, blocks, section, record_at, name_in, name_at, app_at, apps_of, card_of, words_after, means, needed, needed_of, heap_start}
 use Rattle.mc_model.specs.Layout.{spans, spans_of, gaps, gaps_from, put_at, no_root, is_record, bad_block, bad_record, bad_chain, by_cause, words_fault, fault_of, fault, IsWellLaid}
 use Rattle.mc_model.specs.declared.card.Cause.{Cause}
 use Rattle.mc_blocks.specs.Chains.{SpansAbove}
 use Rattle.mc_blocks.specs.Blocks.{used_spans, hole_spans, admitted}
+use Rattle.mc_blocks.proofs.Sections.{length-section}
 use Rattle.mc_blocks.proofs.Steps.{blocks_all}
 use Rattle.mc_blocks.proofs.Headers.{bad_all}
 use Rattle.mc_blocks.proofs.Tiles.{Tiled, HeadersRead, BlocksWalked, all-walked, gaps_are_holes}
@@ -47,26 +46,6 @@ fault-closed m h = ap (λ (l : Look). fault_of l m) h
 
 pub means-closed : (m : List (List ℕ)) → look m ≡ Closed → means m ≡ card_of m
 means-closed m h = ap (λ (l : Look). card_of (words_after (replayed m l) m)) h
-
--- ---- the length of a section
-
-cells-more : (m : List (List ℕ)) (p k : ℕ) → p < length m → cells m p (suc k) ≡ word m p ++ cells m (p + 1) k
-cells-more m p k h = ap (λ (l : List (List ℕ)). concat (take (suc k) l)) (drop_more m p [] h)
-
-length-cells : (m : List (List ℕ)) (k p : ℕ) → IsSized m → p + k ≤ length m → length (cells m p k) ≡ 8 * k
-length-cells m zero p image h = refl
-length-cells m (suc k) p image h =
-    let eight : length (word m p) ≡ 8 = image.words p (omega arith) in
-    let rest : length (cells m (p + 1) k) ≡ 8 * k = length-cells m k (p + 1) image (omega arith) in
-    let all : length (cells m p (suc k)) ≡ length (word m p) + length (cells m (p + 1) k) = ap length (cells-more m p k (omega arith)) ∙ length-append (word m p) (cells m (p + 1) k) in
-    omega (arith, eight, rest, all)
-
-length-section : (m : List (List ℕ)) (p n : ℕ) → IsSized m → p + up n 8 ≤ length m → length (section m p n) ≡ n
-length-section m p n image h =
-    let whole : length (cells m p (up n 8)) ≡ 8 * up n 8 = length-cells m (up n 8) p image h in
-    let enough : n ≤ 8 * up n 8 = omega arith in
-    let part : length (section m p n) ≡ min n (length (cells m p (up n 8))) = length-take n (cells m p (up n 8)) in
-    omega (arith, whole, enough, part)
 
 -- a block whose record is good takes the words that its application needs
 needed-is : (m : List (List ℕ)) (p words : ℕ) → IsSized m → is_record (record_at m p) words ≡ true → p + words ≤ length m → needed (app_at m p) ≡ words

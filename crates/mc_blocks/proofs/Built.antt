@@ -1,15 +1,15 @@
 -- Words that hold the headers and records of blocks side by side are well laid, and words that agree in what is read mean the same card.
-use Rattle.std.proofs.Common.{◌≡◌, ℕ, zero, suc, ◌+◌, ◌<◌, ◌≤◌, Bool, true, false, ◌&&◌, ◌||◌, List, [], ◌∷◌, ◌++◌, length, take, Option, Some, None, refl, sym, ◌∙◌, ap, subst, arith, cond, not}
+use Rattle.std.proofs.Common.{◌≡◌, ℕ, ◌+◌, ◌<◌, ◌≤◌, Bool, true, false, ◌&&◌, ◌||◌, List, [], ◌∷◌, length, take, Option, Some, None, refl, sym, ◌∙◌, ap, subst, arith, cond, not}
 use Rattle.std.specs.Prelude.{nat_lt, ◌==◌, slice_index, MatchBool}
-use Rattle.std.specs.List.{concat}
 use Rattle.std.proofs.lemmas.Bool.{le-ltb, lt-ltb, le-leb, eq-eqb, and_from, and_parts, eqb-true}
-use Rattle.std.proofs.lemmas.List.{drop_more, get_or_past}
+use Rattle.std.proofs.lemmas.List.{get_or_past}
 use Rattle.mc_model.specs.Bytes.{be2, or_else, has_name, insert, up}
 use Rattle.mc_model.specs.Device.{IsSized}
-use Rattle.mc_model.specs.Card.{App, Block, word, header, blocks, heap_start, cells, section, record_at, name_in, name_at, app_at, app_of, apps_of, card_of, needed_of}
+use Rattle.mc_model.specs.Card.{App, Block, word, header, blocks, heap_start, section, record_at, name_in, name_at, app_at, app_of, apps_of, card_of, needed_of}
 use Rattle.mc_model.specs.Layout.{no_root, is_record, bad_header, bad_block, bad_record, bad_link, bad_chain, first_hole, by_cause, words_fault}
 use Rattle.mc_model.specs.declared.card.Cause.TheVariants.{NoRoot, BadBlock, BadRecord, BadChain}
 use Rattle.mc_blocks.specs.Blocks.{fitting, blocks_at, bad_from, admitted, used_spans, is_root_word, FollowsBlock, WordsAgree}
+use Rattle.mc_blocks.proofs.Sections.{same-cells}
 use Rattle.mc_blocks.proofs.Steps.{blocks_step, blocks_stop, blocks_all}
 use Rattle.mc_blocks.proofs.Headers.{bad_all, bad_behind, bad_end}
 use Rattle.mc_blocks.proofs.Tiles.{Tiled, HeadersRead}
@@ -105,16 +105,6 @@ built m bs b =
     }
 
 -- ---- words that agree in what is read
-
-same-cells : (m n : List (List ℕ)) (k p : ℕ) → length n ≡ length m → p + k ≤ length m → ((i : ℕ) → p ≤ i → i < p + k → word n i ≡ word m i) → cells n p k ≡ cells m p k
-same-cells m n zero p size h same = refl
-same-cells m n (suc k) p size h same =
-    let lt : p < length m = omega arith in
-    let also : p < length n = omega (arith, size) in
-    ap (λ (l : List (List ℕ)). concat (take (suc k) l)) (drop_more n p [] also)
-    ∙ ap (λ (w : List ℕ). w ++ cells n (p + 1) k) (same p (omega arith) (omega arith))
-    ∙ ap (λ (l : List ℕ). word m p ++ l) (same-cells m n k (p + 1) size (omega arith) (λ i low high. same i (omega arith) (omega arith)))
-    ∙ sym (ap (λ (l : List (List ℕ)). concat (take (suc k) l)) (drop_more m p [] lt))
 
 same-section : (m n : List (List ℕ)) (p words q x : ℕ) → length n ≡ length m → p + words ≤ length m → ((i : ℕ) → p ≤ i → i < p + words → word n i ≡ word m i) → p ≤ q → q + up x 8 ≤ p + words → section n q x ≡ section m q x
 same-section m n p words q x size h same low high =

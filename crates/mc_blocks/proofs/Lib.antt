@@ -22,3 +22,6 @@ pub mod Outcome
 pub mod Names
 pub mod Setting
 pub mod Layouts
+pub mod Sections
+pub mod Splices
+pub mod Statics

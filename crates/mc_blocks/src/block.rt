@@ -3,8 +3,8 @@ ghost use Rattle.mc_model.specs.Card.{header, word};
 ghost use Rattle.mc_model.specs.Layout.{bad_header};
 ghost use Rattle.mc_blocks.specs.Blocks.{block_of, read_block, fitting};
 
-use crate::header::{HOLE, USED, number_of};
-use mc_base::Word;
+use crate::header::{HOLE, USED};
+use mc_base::{Word, number_of};
 use mc_nvm::Nvm;
 
 /// A block: where its header stands, whether it is used or a hole, its words with the header, and its link.

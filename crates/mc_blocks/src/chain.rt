@@ -5,7 +5,8 @@ ghost use Rattle.mc_model.specs.Layout.{bad_chain, bad_link, first_hole};
 ghost use Rattle.mc_blocks.specs.Blocks.{blocks_at, used_spans, hole_spans};
 
 use crate::block::{Block, block_at};
-use crate::header::{HEAP, number_of};
+use crate::header::HEAP;
+use mc_base::number_of;
 use mc_nvm::Nvm;
 
 /// The first place whose link is wrong, that of the root first.

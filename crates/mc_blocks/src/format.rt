@@ -4,11 +4,9 @@ ghost use Rattle.mc_model.specs.Image.{shut};
 ghost use Rattle.mc_model.specs.Card.{heap_start};
 ghost use Rattle.mc_model.specs.Layout.{root, hole_header};
 
-use crate::header::{hole_word, root_word};
+use crate::header::{HEAP, hole_word, root_word};
 use mc_base::Word;
-
-// The word that shuts the gate of either journal.
-const SHUT: Word = [b'S', b'H', b'U', b'T', b'-', b'-', b'-', b'-'];
+use mc_gate::{HEAD, Journal, SHUT};
 
 /// Words 0, 1, 2, 130 and 131 of an empty card of layout 2 on a device of so many words, 256 to 16,384: the root, the
 /// two gates, the head of the journal, and one hole over the whole heap.
@@ -19,10 +17,10 @@ pub fn format_words(size: u32) -> [(u16, Word); 5]
         ∷ (heap_start, hole_header (size - heap_start) 0) ∷ [] }
 {
     [
-        (0, root_word(2, size as u16, 131)),
-        (1, SHUT),
-        (2, [0; 8]),
-        (130, SHUT),
-        (131, hole_word(size as u16 - 131, 0)),
+        (0, root_word(2, size as u16, HEAP as u16)),
+        (Journal::Plain.gate() as u16, SHUT),
+        (HEAD as u16, [0; 8]),
+        (Journal::Packed.gate() as u16, SHUT),
+        (HEAP as u16, hole_word(size as u16 - HEAP as u16, 0)),
     ]
 }

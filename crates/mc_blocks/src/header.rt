@@ -1,8 +1,7 @@
-ghost use Rattle.std.specs.Prelude.{◌≡◌, ◌+◌, ◌*◌};
-ghost use Rattle.mc_model.specs.Bytes.{bytes2};
+ghost use Rattle.std.specs.Prelude.{◌≡◌};
 ghost use Rattle.mc_model.specs.Layout.{hole_header, used_header, root};
 
-use mc_base::Word;
+use mc_base::{Word, bytes_of};
 
 /// The first byte of the header of a used block.
 pub const USED: u8 = 0x55;
@@ -12,20 +11,6 @@ pub const HOLE: u8 = 0x48;
 
 /// The first word of the heap.
 pub const HEAP: u32 = 131;
-
-/// The number in two bytes.
-pub fn number_of(high: u8, low: u8) -> u16
-    ensures { result ≡ 256 * high + low }
-{
-    256 * high as u16 + low as u16
-}
-
-// The two bytes of a number.
-fn bytes_of(number: u16) -> [u8; 2]
-    ensures { result ≡ bytes2 number }
-{
-    [(number / 256) as u8, (number % 256) as u8]
-}
 
 /// The header of a hole of so many words, with the place of the next hole or 0.
 pub fn hole_word(words: u16, link: u16) -> Word

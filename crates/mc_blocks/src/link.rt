@@ -6,8 +6,8 @@ ghost use Rattle.mc_model.specs.Card.{means, word};
 ghost use Rattle.mc_model.specs.Layout.{first_place, gaps, IsWellLaid};
 ghost use Rattle.mc_blocks.specs.Plans.{link_word, names_before, gap_before, gaps_behind, joined_words, joined_next};
 
-use crate::header::{hole_word, number_of, root_word};
-use mc_base::Word;
+use crate::header::{hole_word, root_word};
+use mc_base::{Word, number_of};
 use mc_nvm::Nvm;
 
 /// A link of the chain: the root, at place 0, or a hole of so many words; and the place of the hole that it names,

@@ -4,7 +4,7 @@ ghost use Rattle.mc_model.specs.Card.{record_at, needed_of};
 ghost use Rattle.mc_model.specs.Layout.{is_record};
 ghost use Rattle.mc_blocks.specs.Records.{named, sized, allowed};
 
-use crate::header::number_of;
+use mc_base::number_of;
 use mc_nvm::Nvm;
 
 /// The 32 bytes of a record.

@@ -5,9 +5,8 @@ ghost use Rattle.mc_model.specs.Layout.{first_fitting, gaps, IsWellLaid};
 ghost use Rattle.mc_nvm.specs.Probe.{probed};
 ghost use Rattle.mc_blocks.specs.Chains.{looked_at};
 
-use crate::header::number_of;
 use crate::link::{Link, link_of};
-use mc_base::Steps;
+use mc_base::{Steps, number_of};
 use mc_nvm::{Nvm, Probe};
 use std::sync::ledger::Ledger;
 

@@ -1,5 +1,5 @@
 -- One step through lists of pairs and their entries.
-use Rattle.std.proofs.Common.{◌≡◌, ℕ, ◌+◌, ◌*◌, ◌<◌, ◌≤◌, ◌/◌, ◌%◌, List, [], ◌∷◌, ◌++◌, length, drop, get_or, ◌∙◌, ap, arith}
+use Rattle.std.proofs.Common.{◌≡◌, ℕ, ◌+◌, ◌*◌, ◌<◌, List, [], ◌∷◌, ◌++◌, length, drop, get_or, ap}
 use Rattle.mc_model.specs.Stopped.{entries_1, numbered}
 use Rattle.mc_model.proofs.JournalLemmas.{pair-step}
 

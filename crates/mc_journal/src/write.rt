@@ -3,8 +3,9 @@ ghost use Rattle.mc_model.specs.Device.{Makes};
 ghost use Rattle.mc_model.specs.Image.{One, is_open};
 ghost use Rattle.mc_model.specs.Stopped.{IsAtomic, writes, WriteEnds};
 
-use crate::put::{open_gate, put_entries, replay_all};
+use crate::put::put_entries;
 use mc_base::{Stop, Word};
+use mc_gate::{Journal, open_gate, replay_all};
 use mc_nvm::Nvm;
 
 /// Writes 1 to 64 words so that all of them stand or none does, wherever it is stopped. The targets ascend, each
@@ -30,6 +31,6 @@ fn make_writes<N: Nvm>(device: &mut N, list: &[(u16, Word)]) -> Result<(), Stop>
 {
     let _size = device.len();
     put_entries(device, list)?;
-    open_gate(device, list.len())?;
-    replay_all(device, list)
+    open_gate(device, Journal::Plain, list.len())?;
+    replay_all(device, Journal::Plain, list)
 }

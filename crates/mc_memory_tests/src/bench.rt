@@ -1,10 +1,11 @@
 ghost use Rattle.std.specs.Prelude.{◌≡◌, ◌≤◌, true, length, map};
-ghost use Rattle.mc_model.specs.Image.{ascend, within};
+ghost use Rattle.mc_model.specs.Image.{ascend};
 ghost use Rattle.mc_model.specs.Stopped.{IsAtomic};
 
 use crate::rule::{Journal, ZERO, old_word, target, value, word_after};
 use arrayvec::ArrayVec;
 use mc_base::{Stop, Word};
+use mc_gate::{Recover, is_gate_open, is_within};
 use mc_nvm::Bench;
 
 /// What a call of a journal answered.
@@ -62,9 +63,15 @@ pub fn write<N: Bench>(device: &mut N, journal: Journal, w: u8) -> Answer {
 
 /// A recovery of a device after power came back.
 pub fn recover<N: Bench>(device: &mut N, journal: Journal) -> Answer {
-    match journal {
-        Journal::One => recover_one(device),
-        Journal::Two => recover_two(device),
+    device.power();
+    let recovered = match journal {
+        Journal::One => mc_journal::recover(device),
+        Journal::Two => mc_packed::recover(device),
+    };
+    match recovered {
+        Ok(writes) => Answer::Recovered(writes),
+        Err(Recover::Stop(stop)) => Answer::Stopped(stop),
+        Err(Recover::BadJournal(place)) => Answer::BadJournal(place),
     }
 }
 
@@ -89,9 +96,7 @@ fn list_of(w: u8) -> ArrayVec<(u16, Word), 64> {
 
 fn write_one<N: Bench>(device: &mut N, list: &[(u16, Word)]) -> Answer {
     device.power();
-    if !is_atomic(device, list)
-        || device.read(1) == [b'O', b'P', b'E', b'N', b'-', b'1', b'-', b'-']
-    {
+    if !is_atomic(device, list) || is_gate_open(device, mc_gate::Journal::Plain) {
         return Answer::NotTried;
     }
     match mc_journal::write_words(device, list) {
@@ -102,32 +107,12 @@ fn write_one<N: Bench>(device: &mut N, list: &[(u16, Word)]) -> Answer {
 
 fn write_two<N: Bench>(device: &mut N, list: &[(u16, Word)]) -> Answer {
     device.power();
-    if !is_atomic(device, list)
-        || device.read(130) == [b'O', b'P', b'E', b'N', b'-', b'2', b'-', b'-']
-    {
+    if !is_atomic(device, list) || is_gate_open(device, mc_gate::Journal::Packed) {
         return Answer::NotTried;
     }
     match mc_packed::write_words(device, list) {
         Ok(()) => Answer::Written,
         Err(stop) => Answer::Stopped(stop),
-    }
-}
-
-fn recover_one<N: Bench>(device: &mut N) -> Answer {
-    device.power();
-    match mc_journal::recover(device) {
-        Ok(writes) => Answer::Recovered(writes),
-        Err(mc_journal::Recover::Stop(stop)) => Answer::Stopped(stop),
-        Err(mc_journal::Recover::BadJournal(place)) => Answer::BadJournal(place),
-    }
-}
-
-fn recover_two<N: Bench>(device: &mut N) -> Answer {
-    device.power();
-    match mc_packed::recover(device) {
-        Ok(writes) => Answer::Recovered(writes),
-        Err(mc_packed::Recover::Stop(stop)) => Answer::Stopped(stop),
-        Err(mc_packed::Recover::BadJournal(place)) => Answer::BadJournal(place),
     }
 }
 
@@ -155,10 +140,4 @@ fn ascends(list: &[(u16, Word)], size: u32) -> bool
         least = *target as u32 + 1;
     }
     true
-}
-
-fn is_within(target: u16, size: u32) -> bool
-    ensures { result ≡ within size target }
-{
-    target == 0 || target >= 131 && (target as u32) < size
 }

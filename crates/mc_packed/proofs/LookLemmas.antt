@@ -1,10 +1,10 @@
--- One step of reading a journal: its target words, and its pairs.
-use Rattle.std.proofs.Common.{◌≡◌, ℕ, suc, ◌+◌, ◌-◌, ◌*◌, ◌<◌, ◌≤◌, min, Bool, true, false, ◌&&◌, List, [], ◌∷◌, ◌++◌, length, take, drop, get_or, Result, Ok, Err, refl, sym, ◌∙◌, ap, inl, inr, arith, take_all, drop-cons, add-one, append_assoc}
+-- One step of reading the target words of the journal.
+use Rattle.std.proofs.Common.{◌≡◌, ℕ, suc, ◌+◌, ◌-◌, ◌*◌, ◌<◌, min, Bool, true, false, ◌&&◌, List, [], ◌++◌, length, take, drop, Result, Ok, Err, sym, ◌∙◌, ap, inl, inr, arith, take_all}
 use Rattle.std.proofs.lemmas.List.{drop_all, append-nil}
 use Rattle.std.proofs.lemmas.Bool.{cases_lt}
 use Rattle.std.proofs.Math.Nat.{min-eq_left, min-eq_right}
 use Rattle.mc_model.specs.Bytes.{up}
-use Rattle.mc_model.specs.Image.{Two, word_at, four, all_zero, ascend, after_all, before, all_before, targets_2, pairs}
+use Rattle.mc_model.specs.Image.{word_at, four, all_zero, ascend, after_all, before, all_before, targets_2}
 use Rattle.mc_model.proofs.JournalLemmas.{before-before}
 
 take-four : (c : ℕ) (all : List ℕ) → length all ≡ 4 → take (min c 4) all ≡ take c all
@@ -76,23 +76,3 @@ none-left m i n c least e = ap (λ (t : ℕ). targets_2 m i t c least) e
 pub targets-end : (m : List (List ℕ)) (i n c least : ℕ) (whole : Result (List ℕ) ℕ) (items : List ℕ) → n ≡ 0 → whole ≡ before items (targets_2 m i n c least) → whole ≡ Ok items
 targets-end m i n c least whole items e h =
     h ∙ ap (λ (r : Result (List ℕ) ℕ). before items r) (none-left m i n c least e) ∙ ap (λ (l : List ℕ). Ok l) (append-nil items)
-
-pairs-cons : (m : List (List ℕ)) (i t : ℕ) (ts us : List ℕ) → us ≡ t ∷ ts → pairs Two m i us ≡ (t, word_at m (19 + i)) ∷ pairs Two m (i + 1) ts
-unfolding pairs
-pairs-cons m i t ts us e = ap (λ (l : List ℕ). pairs Two m i l) e
-
-pub pairs-on : (m : List (List ℕ)) (i : ℕ) (ts : List ℕ) (whole items found : List (ℕ × List ℕ)) (w : List ℕ) → i < length ts → whole ≡ items ++ pairs Two m i (drop i ts) → w ≡ word_at m (19 + i)
-    → found ≡ items ++ (get_or ts i 0, w) ∷ [] → whole ≡ found ++ pairs Two m (i + 1) (drop (i + 1) ts)
-pairs-on m i ts whole items found w lt hw h hf =
-    hw ∙ ap (λ (l : List (ℕ × List ℕ)). items ++ l) (pairs-cons m i (get_or ts i 0) (drop (i + 1) ts) (drop i ts) (rw (add-one) (drop-cons ts i 0 lt)))
-    ∙ ap (λ (x : List ℕ). items ++ ((get_or ts i 0, x) ∷ pairs Two m (i + 1) (drop (i + 1) ts))) (sym h)
-    ∙ sym (append_assoc items ((get_or ts i 0, w) ∷ []) (pairs Two m (i + 1) (drop (i + 1) ts)))
-    ∙ ap (λ (l : List (ℕ × List ℕ)). l ++ pairs Two m (i + 1) (drop (i + 1) ts)) (sym hf)
-
-pairs-none : (m : List (List ℕ)) (i : ℕ) (us : List ℕ) → us ≡ [] → pairs Two m i us ≡ []
-unfolding pairs
-pairs-none m i us e = ap (λ (l : List ℕ). pairs Two m i l) e
-
-pub pairs-end : (m : List (List ℕ)) (i : ℕ) (ts : List ℕ) (whole items : List (ℕ × List ℕ)) → length ts ≤ i → whole ≡ items ++ pairs Two m i (drop i ts) → items ≡ whole
-pairs-end m i ts whole items le h =
-    sym (h ∙ ap (λ (l : List (ℕ × List ℕ)). items ++ l) (pairs-none m i (drop i ts) (drop_all i ts le)) ∙ append-nil items)

@@ -1,5 +1,5 @@
 -- One step through lists of pairs, target words and values.
-use Rattle.std.proofs.Common.{◌≡◌, ℕ, suc, ◌+◌, ◌-◌, ◌*◌, ◌<◌, ◌≤◌, List, [], ◌∷◌, length, take, drop, get_or, sym, ◌∙◌, ap, arith, drop-drop, ◌/◌, ◌%◌}
+use Rattle.std.proofs.Common.{◌≡◌, ℕ, suc, ◌+◌, ◌-◌, ◌*◌, ◌<◌, List, [], ◌∷◌, length, take, drop, get_or, sym, ◌∙◌, ap, arith, drop-drop}
 use Rattle.mc_model.specs.Stopped.{target_words, values_2, four_targets}
 use Rattle.mc_model.proofs.JournalLemmas.{pair-step}
 

@@ -16,11 +16,10 @@ use Rattle.mc_store.specs.Store.{apps_in, is_going, place_named, store_named, pa
 use Rattle.mc_store.specs.Slots.{IsUsedBlock}
 use Rattle.mc_store.specs.GoingLaws.{Going, going_is}
 use Rattle.mc_store.specs.AlikeLaws.{gates}
-use Rattle.mc_store.specs.SectionLaws.{length-section}
+use Rattle.mc_blocks.proofs.Sections.{length-section}
 use Rattle.mc_store.specs.DeletionLaws.{Deletes, deletes-plan, deletes-count}
-use Rattle.mc_store.specs.SpliceLaws.{placed_words}
-use Rattle.mc_store.specs.StaticLaws.{static_from, StaticIn, static-in}
-use Rattle.mc_store.specs.CommitLaws.{CommittedCard, commits}
+use Rattle.mc_blocks.proofs.Statics.{static_from, StaticIn, static-in}
+use Rattle.mc_store.specs.CommitLaws.{placed_words, CommittedCard, commits}
 use Rattle.mc_store.specs.TurnLaws.{Standing, standing-of, some-is}
 use Rattle.mc_store.specs.StoreItems.{SlotIs, slot_is}
 use Rattle.mc_bank.specs.Slots.{slot_place, slot_sizes}
@@ -120,7 +119,7 @@ commit-is d c p ws image going there can =
     let a = slot.app in
     let found : lookup (card_of m).apps n ≡ Some a = ap (λ (es : List (List ℕ × App)). lookup es n) (sym s.apps) ∙ slot.there in
     let st : StaticIn m n a = static-in m n a image g.laid found in
-    let block : IsUsedBlock m p = subst (λ (q : ℕ). IsUsedBlock m q) slot.place st.block in
+    let block : IsUsedBlock m p = subst (λ (q : ℕ). IsUsedBlock m q) slot.place (record { words = st.words; good = st.good; end = st.end }) in
     let self : app_at m p ≡ a = subst (λ (q : ℕ). app_at m q ≡ a) slot.place st.self in
     let first : static_from a ≡ p + 5 + up (be2 (record_at m p) 20) 8 = static-first m p a image block self in
     let app : app_of (means m).apps (Some (name_or (place_named d p))) ≡ a = ap (λ (k : List ℕ). unwrap_or (lookup (means m).apps k) no_app) name ∙ ap (λ (o : Option App). unwrap_or o no_app) slot.there in

@@ -9,7 +9,7 @@ use Rattle.mc_model.specs.Bytes.{up}
 use Rattle.mc_model.specs.Device.{IsSized}
 use Rattle.mc_model.specs.Card.{word, cells, section}
 use Rattle.std.proofs.lemmas.List.Folds.{concat-append}
-use Rattle.mc_store.specs.SectionLaws.{length-cells}
+use Rattle.mc_blocks.proofs.Sections.{length-cells}
 use Rattle.mc_store.specs.Slots.{flat}
 
 take_sum : (a b : ℕ) (l : List ℕ) → take (a + b) l ≡ take a l ++ take b (drop a l)

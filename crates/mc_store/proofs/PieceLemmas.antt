@@ -10,7 +10,7 @@ use Rattle.mc_model.specs.Device.{IsSized}
 use Rattle.mc_model.specs.Card.{word, cells, section}
 use Rattle.mc_bank.proofs.LeftLemmas.{front_piece, splice-splice}
 use Rattle.mc_store.specs.Store.{IsInWord}
-use Rattle.mc_store.specs.SectionLaws.{cells-more, cells-append, length-cells, same-cells}
+use Rattle.mc_blocks.proofs.Sections.{cells-more, cells-append, length-cells, same-cells}
 
 -- ---- bytes set in one word
 

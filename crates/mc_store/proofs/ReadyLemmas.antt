@@ -13,7 +13,7 @@ use Rattle.mc_base.specs.Name.{IsName}
 use Rattle.mc_store.specs.Store.{is_going, needed_by, part_from, record_bytes, record_word, IsGoodIn, IsInWord, IsReadySite, StoreDid}
 use Rattle.mc_store.specs.GoingLaws.{Going, going_is}
 use Rattle.mc_store.specs.GapLaws.{just-one}
-use Rattle.mc_store.specs.SectionLaws.{length-section, cells-more, same-section}
+use Rattle.mc_blocks.proofs.Sections.{length-section, cells-more, same-section}
 use Rattle.mc_store.specs.CreationLaws.{AtSite, at-site}
 use Rattle.mc_store.specs.TurnLaws.{standing-of}
 use Rattle.mc_store.specs.StoreItems.{blank_items}

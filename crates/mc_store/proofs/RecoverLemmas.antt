@@ -1,10 +1,10 @@
 -- The steps of a power-up, one after another: the replay, the check, the migration.
-use Rattle.std.proofs.Common.{◌≡◌, ℕ, ◌+◌, ◌≤◌, true, false, List, [], ◌∷◌, ◌++◌, length, Option, None, Ok, Err, refl, sym, ◌∙◌, ap, subst, cond, append-nil}
+use Rattle.std.proofs.Common.{◌≡◌, ℕ, ◌+◌, ◌≤◌, true, List, [], ◌∷◌, ◌++◌, length, Option, None, Ok, Err, refl, sym, ◌∙◌, ap, subst, cond, append-nil}
 use Rattle.std.specs.Prelude.{Result, IfOk, ◌==◌, slice_set}
 use Rattle.mc_model.specs.declared.card.Cause.{Cause}
 use Rattle.mc_model.specs.Orders.{Answer}
 use Rattle.mc_model.specs.Device.{DeviceState, Wrote, Makes}
-use Rattle.mc_model.specs.Image.{Journal, One, is_open, Look, Refused, Closed, Pending, look, look_j, owed, debt, replayed}
+use Rattle.mc_model.specs.Image.{Journal, One, Look, Refused, Closed, Pending, look, look_j, owed, debt, replayed}
 use Rattle.mc_model.specs.Stopped.{writes, owed_writes, Recovered, LookAllows, RecoverEnds}
 use Rattle.mc_model.specs.Card.{Card, means, word, words_after}
 use Rattle.mc_model.specs.Layout.{words_fault, fault, fault_of}
@@ -16,7 +16,7 @@ use Rattle.mc_store.specs.declared.power.Up.TheVariants as up
 use Rattle.mc_store.specs.Store.{settled}
 use Rattle.mc_store.specs.Power.{found, new_root, migrating, power_writes, Powered, Runs, Halts, Fails, power_answer, PowerFollows, RecoverFollows, FinishFollows, failed, recovered}
 use Rattle.mc_store.specs.GoingLaws.{closed_settled, closed_means, closed_fault}
-use Rattle.mc_store.proofs.JournalLemmas.{other, look_alone, IsPending, is_pending, recovered_closed}
+use Rattle.mc_store.proofs.JournalLemmas.{IsPending, is_pending, recovered_closed}
 use Rattle.mc_store.proofs.PowerLemmas.{OwedSettles, settles}
 
 -- ---- a replay that was done
@@ -36,10 +36,9 @@ follows_by m n (Pending j ps) low e f =
     (f ∙ sym (ap debt e), ap (λ (l : Look). look (words_after (replayed m l) m)) e ∙ recovered_closed m j ps low p)
 
 -- the number of writes, and that no journal is open
-pub replay_follows : (j : Journal) (d e : DeviceState) (n : ℕ) → 256 ≤ length d.words → is_open (other j) d.words ≡ false → RecoverEnds j (look_j j d.words) d (Recovered n) e → (n ≡ owed d.words) × (look (settled d.words) ≡ Closed)
-replay_follows j d e n low h r =
+pub replay_follows : (j : Journal) (d e : DeviceState) (n : ℕ) → 256 ≤ length d.words → look d.words ≡ look_j j d.words → RecoverEnds j (look_j j d.words) d (Recovered n) e → (n ≡ owed d.words) × (look (settled d.words) ≡ Closed)
+replay_follows j d e n low alone r =
     let m = d.words in
-    let alone : look m ≡ look_j j m = look_alone j m h in
     follows_by m n (look m) low refl (subst (λ (l : Look). LookAllows l (Recovered n)) (sym alone) (ends_follow j (look_j j m) d e n r))
 
 -- ---- what is settled

@@ -17,8 +17,8 @@ use Rattle.mc_bank.specs.Bank.{FitsLimits, part_len}
 use Rattle.mc_bank.proofs.LeftLemmas.{length-spliced}
 use Rattle.mc_store.specs.Store.{needed_by, part_from, part_in, piece_write, IsInWord}
 use Rattle.mc_store.proofs.PieceLemmas.{section-write, splice-parts}
-use Rattle.mc_store.specs.SectionLaws.{section-front, same-section, length-section}
-use Rattle.mc_store.specs.SpliceLaws.{image-set}
+use Rattle.mc_blocks.proofs.Sections.{section-front, same-section, length-section}
+use Rattle.mc_blocks.proofs.Splices.{image-set}
 
 -- ---- bytes
 

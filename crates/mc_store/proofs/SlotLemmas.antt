@@ -20,7 +20,7 @@ use Rattle.mc_blocks.proofs.Applications.{few-applications}
 use Rattle.mc_store.specs.Store.{apps_in, is_going, name_of_place, place_named}
 use Rattle.mc_store.specs.Slots.{first_named, record_sizes, IsUsedBlock}
 use Rattle.mc_store.specs.GoingLaws.{Going, going_is, closed_apps, closed_means}
-use Rattle.mc_store.specs.SectionLaws.{length-cells, length-section}
+use Rattle.mc_blocks.proofs.Sections.{length-cells, length-section}
 use Rattle.mc_store.specs.TurnLaws.{some-is}
 use Rattle.mc_store.proofs.RecordLemmas.{RecordIs, record_is, name_size, long_enough}
 use Rattle.mc_store.proofs.WalkLemmas.{HasRecord, Walk, walk_begins}

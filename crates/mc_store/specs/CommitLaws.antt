@@ -17,8 +17,12 @@ use Rattle.mc_blocks.specs.Blocks.{hole_spans, used_spans}
 use Rattle.mc_blocks.specs.Plans.{has_room}
 use Rattle.mc_blocks.proofs.Bridge.{WellLaid, laid as laid-blocks}
 use Rattle.mc_store.specs.Store.{static_writes}
-use Rattle.mc_store.specs.SpliceLaws.{placed_words, SectionLaid, section-laid}
-use Rattle.mc_store.specs.StaticLaws.{static_from, Restated, Restates, restates, StaticIn, static-in}
+use Rattle.mc_blocks.proofs.Splices.{SectionLaid, section-laid}
+use Rattle.mc_blocks.proofs.Statics.{static_from, Restated, Restates, restates, StaticIn, static-in}
+
+-- pairs of a word's number from q on and a word
+abbrev pub placed_words : ℕ → List (ℕ × List ℕ) → List (ℕ × List ℕ)
+placed_words q ws = map (λ w. (q + w.0, w.1)) ws
 
 -- no word of the list is at a place before or behind its range
 apart-words : (q n i : ℕ) (ws : List (ℕ × List ℕ)) → AllByRecursion (λ w. w.0 < n) ws → (i < q) ⊎ (q + n ≤ i) → AllByRecursion (λ p. p.0 ≢ i) (placed_words q ws)

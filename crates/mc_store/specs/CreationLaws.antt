@@ -28,7 +28,7 @@ use Rattle.mc_blocks.proofs.Outcome.{creates}
 use Rattle.mc_store.specs.Store.{part_in, needed_by, record_bytes, card_with, IsGoodIn, IsReadySite}
 use Rattle.mc_store.specs.AlikeLaws.{HeapsAlike}
 use Rattle.mc_store.specs.RecordLaws.{Fields, fields, is-record}
-use Rattle.mc_store.specs.SectionLaws.{length-section, section-split, same-cells, same-section}
+use Rattle.mc_blocks.proofs.Sections.{length-section, section-split, same-cells, same-section}
 use Rattle.mc_store.specs.PlanningLaws.{planned, step-plan, first-room}
 
 -- ---- the place of a hole

@@ -24,7 +24,7 @@ use Rattle.mc_store.specs.Store.{settled, apps_in, store_state, place_named, sto
 use Rattle.mc_store.specs.GoingLaws.{Going, going_is, is_going_of, closed_settled, closed_means, closed_apps, laid_apps}
 use Rattle.mc_store.specs.AlikeLaws.{HeapsAlike, means-after}
 use Rattle.mc_store.specs.AtomicLaws.{AtomicEnds, atomic-ends}
-use Rattle.mc_store.specs.SectionLaws.{same-section}
+use Rattle.mc_blocks.proofs.Sections.{same-section}
 use Rattle.mc_store.specs.CreationLaws.{AtSite, at-site, Creates, creates-plan}
 use Rattle.mc_store.specs.CommitLaws.{CommittedCard, commits}
 use Rattle.mc_store.specs.PlaceLaws.{place-changed, place-new, place-removed}

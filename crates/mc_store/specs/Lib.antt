@@ -7,12 +7,9 @@ pub mod AlikeLaws
 pub mod AtomicLaws
 pub mod GapLaws
 pub mod RecordLaws
-pub mod SectionLaws
 pub mod PlanningLaws
 pub mod CreationLaws
 pub mod DeletionLaws
-pub mod SpliceLaws
-pub mod StaticLaws
 pub mod CommitLaws
 pub mod PlaceLaws
 pub mod TurnLaws

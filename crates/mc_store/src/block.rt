@@ -1,5 +1,5 @@
 // The used blocks of a card and their records, read by their places.
-ghost use Rattle.std.specs.Prelude.{◌≡◌, ◌+◌, ◌*◌, ◌<◌, ◌≤◌, ◌&&◌, ◌==◌, None, IfSome, is_some, option_map, length, take, slice_index, bytes_eq, true};
+ghost use Rattle.std.specs.Prelude.{◌≡◌, ◌+◌, ◌<◌, ◌≤◌, ◌&&◌, ◌==◌, None, IfSome, is_some, option_map, length, take, slice_index, bytes_eq, true};
 ghost use Rattle.mc_model.specs.Bytes.{be2};
 ghost use Rattle.mc_model.specs.Device.{IsImage};
 ghost use Rattle.mc_model.specs.Card.{word, blocks, used_tag, record_at, name_at, name_in};
@@ -8,7 +8,7 @@ ghost use Rattle.mc_bank.specs.Slots.{slot_place, slot_sizes};
 ghost use Rattle.mc_store.specs.Slots.{first_named, record_sizes, IsUsedBlock};
 
 use mc_bank::{Sizes, Slot};
-use mc_base::{Aid, Word};
+use mc_base::{Aid, Word, number_of};
 use mc_nvm::Nvm;
 
 /// The first word of the heap.
@@ -152,11 +152,4 @@ fn name_of(entry: &Record) -> &[u8]
 {
     let len = (entry[16] as usize).min(32);
     &entry[..len]
-}
-
-// The number in two bytes.
-fn number_of(high: u8, low: u8) -> u16
-    ensures { result ≡ 256 * high + low }
-{
-    256 * high as u16 + low as u16
 }

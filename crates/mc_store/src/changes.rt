@@ -7,7 +7,7 @@ ghost use Rattle.mc_model.specs.Stopped.{IsAtomic, writes};
 ghost use Rattle.mc_model.specs.Items.{Commit, Remove};
 ghost use Rattle.mc_bank.specs.Bank.{CanCommit, app_of, name_or};
 ghost use Rattle.mc_store.specs.Store.{is_going, apps_in, store_named};
-ghost use Rattle.mc_store.specs.SpliceLaws.{placed_words};
+ghost use Rattle.mc_store.specs.CommitLaws.{placed_words};
 ghost use Rattle.mc_store.specs.StoreItems.{store_did};
 
 use crate::place::part_place;

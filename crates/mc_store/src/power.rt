@@ -2,26 +2,19 @@
 ghost use Rattle.std.specs.Prelude.{◌≡◌, ◌≤◌, ◌==◌, [], ◌∷◌, None, length, slice_set, cond, true, false, IfOk, IfErr};
 ghost use Rattle.mc_model.specs.Orders.{answer_of};
 ghost use Rattle.mc_model.specs.Device.{Makes, IsImage};
-ghost use Rattle.mc_model.specs.Image.{One, Two, Closed, look, is_open, owed, opening};
-ghost use Rattle.mc_model.specs.Stopped.{writes, owed_writes};
+ghost use Rattle.mc_model.specs.Image.{One, Closed, look, look_j, is_open};
+ghost use Rattle.mc_model.specs.Stopped.{writes, owed_writes, outcome_answer, RecoverEnds};
 ghost use Rattle.mc_model.specs.Card.{means, word};
 ghost use Rattle.mc_model.specs.Layout.{fault};
+ghost use Rattle.mc_gate.specs.Journals.{journal_of};
+ghost use Rattle.mc_gate.specs.Recovery.{outcome_of};
 ghost use Rattle.mc_store.specs.Store.{settled};
 ghost use Rattle.mc_store.specs.Power.{new_root, found, migrating, power_writes, power_answer, PowersUp, PowerFollows, RecoverFollows, FinishFollows, recovered, prepared};
 
 use mc_base::{Stop, Word};
 use mc_blocks::{Cause, Shape, Unusable, walk};
+use mc_gate::{Journal, Recover, is_gate_open};
 use mc_nvm::Nvm;
-
-/// The gate word of the journal of layout 1, and the word that opens it.
-const PLAIN_GATE: u32 = 1;
-
-const PLAIN_OPEN: Word = *b"OPEN-1--";
-
-/// The gate word of the journal of layout 2, and the word that opens it.
-const PACKED_GATE: u32 = 130;
-
-const PACKED_OPEN: Word = *b"OPEN-2--";
 
 /// The byte of the root that holds the version of the layout.
 const VERSION: usize = 3;
@@ -92,70 +85,46 @@ fn replay_open<N: Nvm>(device: &mut N) -> Result<u16, Up>
     ensures few { IfOk result (λ n. n ≤ 65) }
     ensures lent { N.same device.old device.new }
 {
-    let packed = is_packed_open(device);
-    let plain = is_plain_open(device);
+    let packed = is_gate_open(device, Journal::Packed);
+    let plain = is_gate_open(device, Journal::Plain);
     match (packed, plain) {
-        (true, true) => Err(Up::Unusable(Unusable {
-            cause: Cause::BadJournal,
-            place: PLAIN_GATE as u16,
-        })),
-        (true, false) => replay_packed(device),
-        (false, true) => replay_plain(device),
+        (true, true) => Err(bad_journal(Journal::Plain.gate() as u16)),
+        (true, false) => replay_alone(device, Journal::Packed),
+        (false, true) => replay_alone(device, Journal::Plain),
         (false, false) => Ok(0),
     }
 }
 
-// Whether the journal of layout 2 is open.
-fn is_packed_open<N: Nvm>(device: &N) -> bool
-    ensures open { result ≡ is_open Two (N.state device.now).words }
-    ensures low { 256 ≤ length (N.state device.now).words }
-{
-    let _size = device.len();
-    device.read(PACKED_GATE) == PACKED_OPEN
-}
-
-// Whether the journal of layout 1 is open.
-fn is_plain_open<N: Nvm>(device: &N) -> bool
-    ensures open { result ≡ is_open One (N.state device.now).words }
-    ensures low { 256 ≤ length (N.state device.now).words }
-{
-    let _size = device.len();
-    device.read(PLAIN_GATE) == PLAIN_OPEN
-}
-
-// Replays the journal of layout 2, which alone is open.
-fn replay_packed<N: Nvm>(device: &mut N) -> Result<u16, Up>
+// Replays a journal, which alone is open.
+fn replay_alone<N: Nvm>(device: &mut N, journal: Journal) -> Result<u16, Up>
     requires power { (N.state device.old).on ≡ true }
     requires low { 256 ≤ length (N.state device.old).words }
-    requires other { is_open One (N.state device.old).words ≡ false }
+    requires alone { look (N.state device.old).words ≡ look_j (journal_of journal) (N.state device.old).words }
     ensures makes { Makes N.wrote device.old (owed_writes (look (N.state device.old).words))
         (power_answer (recovered result)) device.new }
     ensures follows { RecoverFollows (N.state device.old).words (recovered result) }
     ensures few { IfOk result (λ n. n ≤ 65) }
     ensures lent { N.same device.old device.new }
 {
-    match mc_packed::recover(device) {
+    match replay(device, journal) {
         Ok(writes) => Ok(writes),
-        Err(mc_packed::Recover::Stop(stop)) => Err(Up::Stop(stop)),
-        Err(mc_packed::Recover::BadJournal(place)) => Err(bad_journal(place)),
+        Err(Recover::Stop(stop)) => Err(Up::Stop(stop)),
+        Err(Recover::BadJournal(place)) => Err(bad_journal(place)),
     }
 }
 
-// Replays the journal of layout 1, which alone is open.
-fn replay_plain<N: Nvm>(device: &mut N) -> Result<u16, Up>
+// Replays a journal by the recovery of its layout.
+fn replay<N: Nvm>(device: &mut N, journal: Journal) -> Result<u16, Recover>
     requires power { (N.state device.old).on ≡ true }
-    requires low { 256 ≤ length (N.state device.old).words }
-    requires other { is_open Two (N.state device.old).words ≡ false }
-    ensures makes { Makes N.wrote device.old (owed_writes (look (N.state device.old).words))
-        (power_answer (recovered result)) device.new }
-    ensures follows { RecoverFollows (N.state device.old).words (recovered result) }
-    ensures few { IfOk result (λ n. n ≤ 65) }
+    ensures makes { Makes N.wrote device.old (owed_writes (look_j (journal_of journal) (N.state device.old).words))
+        (outcome_answer (outcome_of result)) device.new }
+    ensures ends { RecoverEnds (journal_of journal) (look_j (journal_of journal) (N.state device.old).words)
+        (N.state device.old) (outcome_of result) (N.state device.new) }
     ensures lent { N.same device.old device.new }
 {
-    match mc_journal::recover(device) {
-        Ok(writes) => Ok(writes),
-        Err(mc_journal::Recover::Stop(stop)) => Err(Up::Stop(stop)),
-        Err(mc_journal::Recover::BadJournal(place)) => Err(bad_journal(place)),
+    match journal {
+        Journal::Plain => mc_journal::recover(device),
+        Journal::Packed => mc_packed::recover(device),
     }
 }
 

@@ -1,4 +1,4 @@
-use Rattle.std.proofs.Common.{◌≡◌, ◌+◌, ◌-◌, length}
+use Rattle.std.proofs.Common.{◌≡◌, ◌-◌, length}
 use Rattle.mc_model.specs.Image.{One, targets, targets_1, before}
 use Rattle.mc_journal.proofs.look.read_targets.Given as goal
 

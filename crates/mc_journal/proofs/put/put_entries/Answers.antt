@@ -1,4 +1,4 @@
-use Rattle.std.proofs.Common.{◌≡◌, ◌+◌, ◌*◌, ◌∷◌, ◌++◌, [], ℕ, List, Err, drop, get_or, subst, sym}
+use Rattle.std.proofs.Common.{◌+◌, ◌*◌, ◌∷◌, [], ℕ, List, Err, drop, get_or, subst, sym}
 use Rattle.std.proofs.lemmas.Result.{err_from_is_err_and}
 use Rattle.mc_model.specs.Device.{Makes}
 use Rattle.mc_model.specs.Stopped.{entries_1, numbered}

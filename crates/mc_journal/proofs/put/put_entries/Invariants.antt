@@ -1,5 +1,6 @@
 use Rattle.std.proofs.Common.{◌≡◌, true, length, drop}
-use Rattle.mc_model.specs.Stopped.{entries_1}
+use Rattle.mc_model.specs.Image.{One}
+use Rattle.mc_model.specs.Stopped.{entries, entries_1}
 use Rattle.mc_model.proofs.LoopLemmas.{Leads}
 use Rattle.mc_journal.proofs.put.put_entries.Given as goal
 
@@ -10,5 +11,5 @@ invariant-loop-i g l =
     record {
       on : (state l.device).on ≡ true;
       size : length (state l.device).words ≡ length (state l.fn.device).words;
-      leads : Leads g.N.Nvm.wrote l.fn.device (entries_1 0 l.list) l.device (entries_1 l.i (drop l.i l.list));
+      leads : Leads g.N.Nvm.wrote l.fn.device (entries One l.list) l.device (entries_1 l.i (drop l.i l.list));
     }

@@ -1,27 +1,20 @@
-use Rattle.std.proofs.Common.{◌≡◌, ◌++◌, ◌∷◌, [], ℕ, List, Ok, Err, true, length, subst, sym, ◌∙◌}
+use Rattle.std.proofs.Common.{◌≡◌, ℕ, List, true, length, subst, sym, ◌∙◌}
 use Rattle.std.specs.List.{AllByRecursion}
 use Rattle.std.proofs.lemmas.Result.{err_from_is_err_and}
-use Rattle.mc_model.specs.Image.{One, gate, opening, within}
-use Rattle.mc_model.specs.Stopped.{entries_1, numbered, replay}
+use Rattle.mc_model.specs.Image.{One, within}
 use Rattle.mc_model.proofs.GeometryLemmas.{targets-within}
-use Rattle.mc_model.proofs.LoopLemmas.{then, stopped}
+use Rattle.mc_gate.proofs.WriteLemmas.{stops-in-entries, stops-at-gate, replays}
 use Rattle.mc_journal.proofs.write.make_writes.Goals as goal
-
-abbrev opens_of : List (ℕ × List ℕ) → List (ℕ × List ℕ)
-opens_of list = (2, numbered (length list)) ∷ (gate One, opening One) ∷ []
 
 pub returns-in_err-put_entries-clause-makes : goal.returns-in_err-put_entries-clause-makes
 returns-in_err-put_entries-clause-makes g c =
     let p = err_from_is_err_and c.from_residual.result c.from_residual.ensures.1 in
-    let l = c.args.list.now in
-    rw (p.1, p.2) (stopped g.N.Nvm.wrote (entries_1 0 l) (opens_of l ++ replay One l) c.args.device.now c.put_entries.new.device c.in_err-put_entries.field-0.0 c.in_err-put_entries.ensures.makes)
+    rw (p.1, p.2) (stops-in-entries g.N.Nvm.wrote One c.args.list.now c.args.device.now c.put_entries.new.device c.in_err-put_entries.field-0.0 c.in_err-put_entries.ensures.makes)
 
 pub returns-in_err-open_gate-clause-makes : goal.returns-in_err-open_gate-clause-makes
 returns-in_err-open_gate-clause-makes g c =
     let p = err_from_is_err_and c.from_residual-in_err-open_gate.result c.from_residual-in_err-open_gate.ensures.1 in
-    let l = c.args.list.now in
-    rw (p.1, p.2) (then g.N.Nvm.wrote (entries_1 0 l) (opens_of l ++ replay One l) c.args.device.now c.put_entries.new.device c.open_gate.new.device (Err c.in_err-open_gate.field-0.0) c.in_ok-put_entries.ensures.makes
-    (stopped g.N.Nvm.wrote (opens_of l) (replay One l) c.put_entries.new.device c.open_gate.new.device c.in_err-open_gate.field-0.0 c.in_err-open_gate.ensures.makes))
+    rw (p.1, p.2) (stops-at-gate g.N.Nvm.wrote One c.args.list.now c.args.device.now c.put_entries.new.device c.open_gate.new.device c.in_err-open_gate.field-0.0 c.in_ok-put_entries.ensures.makes c.in_err-open_gate.ensures.makes)
 
 pub replay_all-requires-clause-targets : goal.replay_all-requires-clause-targets
 replay_all-requires-clause-targets g c =
@@ -32,6 +25,4 @@ replay_all-requires-clause-targets g c =
 
 pub returns-clause-makes : goal.returns-clause-makes
 returns-clause-makes g c =
-    let l = c.args.list.now in
-    then g.N.Nvm.wrote (entries_1 0 l) (opens_of l ++ replay One l) c.args.device.now c.put_entries.new.device c.replay_all.new.device c.replay_all.result c.in_ok-put_entries.ensures.makes
-    (then g.N.Nvm.wrote (opens_of l) (replay One l) c.put_entries.new.device c.open_gate.new.device c.replay_all.new.device c.replay_all.result c.in_ok-open_gate.ensures.makes c.replay_all.ensures.makes)
+    replays g.N.Nvm.wrote One c.args.list.now c.args.device.now c.put_entries.new.device c.open_gate.new.device c.replay_all.new.device c.replay_all.result c.in_ok-put_entries.ensures.makes c.in_ok-open_gate.ensures.makes c.replay_all.ensures.makes

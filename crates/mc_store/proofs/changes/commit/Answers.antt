@@ -1,7 +1,7 @@
 use Rattle.std.proofs.Common.{refl, ℕ, arith, ap, ◌∙◌}
 use Rattle.mc_model.specs.declared.card.Part.TheVariants.{Data}
 use Rattle.mc_model.specs.declared.card.Sizes.{Sizes}
-use Rattle.mc_store.specs.SpliceLaws.{placed_words}
+use Rattle.mc_store.specs.CommitLaws.{placed_words}
 use Rattle.mc_bank.specs.Slots.{slot_sizes}
 use Rattle.mc_store.specs.Store.{part_from}
 use Rattle.mc_store.proofs.ChangeLemmas.{commit-at, commit-done}

@@ -1,6 +1,6 @@
 use Rattle.std.proofs.Common.{◌≡◌, ◌+◌, ◌≤◌, ◌++◌, length, drop}
 use Rattle.std.specs.List.{AllByRecursion}
-use Rattle.mc_store.specs.SpliceLaws.{placed_words}
+use Rattle.mc_store.specs.CommitLaws.{placed_words}
 use Rattle.mc_store.proofs.changes.shifted.Given as goal
 
 -- what is there and what is left are all of them

@@ -1,0 +1,3 @@
+pub mod Journals
+pub mod Look
+pub mod Recovery

@@ -1,0 +1,12 @@
+ghost use Rattle.std.specs.Prelude.{◌≡◌};
+ghost use Rattle.mc_model.specs.Stopped.{numbered};
+
+use mc_base::{Word, bytes_of};
+
+/// A word of six zero bytes and a number.
+pub fn number_word(number: u16) -> Word
+    ensures { result ≡ numbered number }
+{
+    let [high, low] = bytes_of(number);
+    [0, 0, 0, 0, 0, 0, high, low]
+}

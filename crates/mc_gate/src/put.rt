@@ -1,0 +1,55 @@
+ghost use Rattle.std.specs.Prelude.{◌≡◌, ◌≤◌, true, [], ◌∷◌, length, OnOk};
+ghost use Rattle.std.specs.List.{AllByRecursion};
+ghost use Rattle.mc_model.specs.Device.{Makes};
+ghost use Rattle.mc_model.specs.Image.{within, gate, opening};
+ghost use Rattle.mc_model.specs.Stopped.{numbered, replay};
+ghost use Rattle.mc_gate.specs.Journals.{journal_of};
+
+use crate::journals::{HEAD, Journal, SHUT};
+use crate::numbers::number_word;
+use mc_base::{Stop, Word};
+use mc_nvm::Nvm;
+
+/// Writes the head, the number of pairs, and opens the gate.
+pub fn open_gate<N: Nvm>(device: &mut N, journal: Journal, count: usize) -> Result<(), Stop>
+    requires power { (N.state device.old).on ≡ true }
+    requires size { 256 ≤ length (N.state device.old).words }
+    requires few { count ≤ 64 }
+    ensures makes { Makes N.wrote device.old
+        ((2, numbered count) ∷ (gate (journal_of journal), opening (journal_of journal)) ∷ []) result device.new }
+    ensures on { OnOk result ((N.state device.new).on ≡ true) }
+    ensures size { length (N.state device.new).words ≡ length (N.state device.old).words }
+{
+    device.write(HEAD, number_word(count as u16))?;
+    device.write(journal.gate(), journal.opening())
+}
+
+/// Writes each word to its target, and shuts the gate.
+pub fn replay_all<N: Nvm>(
+    device: &mut N,
+    journal: Journal,
+    list: &[(u16, Word)],
+) -> Result<(), Stop>
+    requires power { (N.state device.old).on ≡ true }
+    requires size { 256 ≤ length (N.state device.old).words }
+    requires targets { AllByRecursion (λ p. within (length (N.state device.old).words) p.0 ≡ true) list.now }
+    ensures makes { Makes N.wrote device.old (replay (journal_of journal) list.now) result device.new }
+{
+    put_words(device, list)?;
+    device.write(journal.gate(), SHUT)
+}
+
+// Writes each word to its target.
+fn put_words<N: Nvm>(device: &mut N, list: &[(u16, Word)]) -> Result<(), Stop>
+    requires power { (N.state device.old).on ≡ true }
+    requires size { 256 ≤ length (N.state device.old).words }
+    requires targets { AllByRecursion (λ p. within (length (N.state device.old).words) p.0 ≡ true) list.now }
+    ensures makes { Makes N.wrote device.old list.now result device.new }
+    ensures on { OnOk result ((N.state device.new).on ≡ true) }
+    ensures size { length (N.state device.new).words ≡ length (N.state device.old).words }
+{
+    for (target, word) in list {
+        device.write(*target as u32, *word)?;
+    }
+    Ok(())
+}
