@@ -1,11 +1,12 @@
--- An instruction has at most five bytes of operands, so what stands at the front of six bytes of code, or of all that is left, stands at their place.
-use Rattle.std.proofs.Common.{◌≡◌, ℕ, zero, suc, ◌-◌, ◌<◌, ◌≤◌, Bool, true, false, cond, List, [], ◌∷◌, ◌++◌, length, take, drop, Option, Some, None, Result, Ok, Err, arith, refl, sym, ap, subst, inl, inr, ◌∙◌, length-drop, length-take}
+-- An instruction has at most five bytes of operands, so what stands at the front of six bytes, of which those that are left are code, stands in the
+-- code too, unless it is longer than what is left.
+use Rattle.std.proofs.Common.{◌≡◌, ℕ, zero, suc, ◌+◌, ◌<◌, ◌≤◌, Bool, true, false, cond, List, [], ◌∷◌, length, take, drop, Option, Some, None, Result, Ok, Err, arith, refl, sym, ap, subst, inl, inr, ◌∙◌}
 use Rattle.std.specs.Prelude.{min, nat_eq, replicate, slice_index, option_map}
-use Rattle.std.proofs.Math.Seq.{take-append_seam}
 use Rattle.mc_model.specs.declared.instruction.DecodeFault.{DecodeFault}
 use Rattle.mc_model.specs.declared.instruction.DecodeFault.TheVariants.{Undefined, Past}
 use Rattle.mc_model.specs.declared.instruction.Ins.{Ins}
-use Rattle.mc_model.specs.Code.{Form, Plain, OneByte, TwoBytes, Word, TwoWords, Near, Target, Primitive, Offset, ByteOffset, WordOffset, Kind, U8, U16, I16, operands, total, form, kinds, spell, DecodesTo, from_place}
+use Rattle.mc_model.specs.Code.{Form, Plain, OneByte, TwoBytes, Word, TwoWords, Near, Target, Primitive, Offset, ByteOffset, WordOffset, Kind, U8, U16, I16, operands, total, form, kinds, spell, made_of, DecodesTo, decoded, from_place}
+use Rattle.mc_isa.proofs.PlaceLemmas.{decoded_only}
 use Rattle.mc_isa.proofs.RowLemmas.{Good, GoodRow, good_form}
 
 -- ---- lengths
@@ -61,48 +62,64 @@ take_front (suc k) zero l h = absurd (omega (arith, h))
 take_front (suc k) (suc n) [] h = refl
 take_front (suc k) (suc n) (x ∷ l) h = ap (λ (t : List ℕ). x ∷ t) (take_front k n l (omega (arith, h)))
 
-window_len : (code : List ℕ) (at n : ℕ) → n ≤ length code - at → length (take n (drop at code)) ≡ n
-window_len code at n h = let d = length-drop at code in let t = length-take n (drop at code) in omega (arith, h, d, t)
+-- a window of six bytes whose front is the code that is left
+pub record IsWindow (code window : List ℕ) (at left : ℕ) : Type 0 where
+  pub end : at + left ≡ length code
+  pub some : 0 < left
+  pub six : length window ≡ 6
+  pub front : take (min left 6) window ≡ take (min left 6) (drop at code)
 
--- what stands at the front of n bytes of the code that is left stands at their place
-pub stands_there : (code : List ℕ) (at n : ℕ) (r : Result (Ins × ℕ) DecodeFault) → at < length code → n ≡ min (length code - at) 6 → DecodesTo (take n (drop at code)) 0 r → DecodesTo code at (from_place at r)
-stands_there code at n (Ok p) within size d =
-    let len = window_len code at n (omega (arith, size)) in
+first_byte : (code window : List ℕ) (at left : ℕ) → IsWindow code window at left → slice_index window 0 ≡ slice_index code at
+first_byte code window at left w =
+    let end = w.end in
+    let some : 0 < min left 6 = let h = w.some in omega (arith, h) in
+    sym (first_of (min left 6) window some) ∙ ap (λ (l : List ℕ). slice_index l 0) w.front ∙ first_of (min left 6) (drop at code) some ∙ byte_of code at
+
+-- the operands of a row that is made, and its length
+made_size : (o : Option Form) (bs : List ℕ) (i : Ins) (n : ℕ) → made_of o bs ≡ Ok (i, n) → (ks : List Kind) × (option_map operands o ≡ Some ks) × (n ≡ total ks + 1)
+made_size None bs i n h = absurd (cc h)
+made_size (Some f) bs i n h = (operands f, refl, grind (arith, h))
+
+place_size : (r : Result (Ins × ℕ) DecodeFault) (i : Ins) (n : ℕ) → from_place 0 r ≡ Ok (i, n) → r ≡ Ok (i, n)
+place_size (Ok p) i n h = grind (arith, h)
+place_size (Err e) i n h = absurd (cc h)
+
+window_size : (l : List ℕ) (i : Ins) (n : ℕ) → decoded l 0 ≡ Ok (i, n) → (ks : List Kind) × (kinds (slice_index l 0) ≡ Some ks) × (n ≡ total ks + 1)
+window_size [] i n h = absurd (cc h)
+window_size (b ∷ bs) i n h = made_size (form b) bs i n (place_size (made_of (form b) bs) i n h)
+
+-- what is no instruction at the front of the window is none in the code
+pub fault_there : (code window : List ℕ) (at left : ℕ) (e : DecodeFault) → IsWindow code window at left → DecodesTo window 0 (Err e) → DecodesTo code at (Err e)
+fault_there code window at left Undefined w u =
+    let end = w.end in
+    let some = w.some in
+    record { inside = omega (arith, end, some); byte = subst (λ (b : ℕ). kinds b ≡ None) (first_byte code window at left w) u.byte }
+fault_there code window at left Past w (inl none) = let six = w.six in absurd (omega (arith, none, six))
+fault_there code window at left Past w (inr past) =
+    let few = kinds_few (slice_index window 0) past.0 past.1 in
+    let long = past.2 in
+    let six = w.six in
+    absurd (omega (arith, few, long, six))
+
+-- an instruction that is longer than what is left
+pub past_there : (code window : List ℕ) (at left : ℕ) (i : Ins) (n : ℕ) → IsWindow code window at left → DecodesTo window 0 (Ok (i, n)) → left < n → DecodesTo code at (Err Past)
+past_there code window at left i n w d long =
+    let end = w.end in
+    let size = window_size window i n (decoded_only window 0 (Ok (i, n)) d) in
+    let total = size.2 in
+    inr (size.0, subst (λ (b : ℕ). kinds b ≡ Some size.0) (first_byte code window at left w) size.1, omega (arith, end, total, long))
+
+-- an instruction that lies in what is left
+pub stands_there : (code window : List ℕ) (at left : ℕ) (i : Ins) (n : ℕ) → IsWindow code window at left → DecodesTo window 0 (Ok (i, n)) → n ≤ left → DecodesTo code at (Ok (i, at + n))
+stands_there code window at left i n w d short =
+    let end = w.end in
+    let six = w.six in
     let place = d.place in
     let inside = d.inside in
-    let low : length (spell p.0) ≤ n = omega (arith, len, place, inside) in
+    let few : length (spell i) ≤ min left 6 = omega (arith, short, six, place, inside) in
     record {
       shaped = d.shaped;
       place = omega (arith, place);
-      inside = omega (arith, len, inside, size, within);
-      bytes = sym (take_front (length (spell p.0)) n (drop at code) low) ∙ d.bytes;
+      inside = omega (arith, end, short);
+      bytes = sym (take_front (length (spell i)) (min left 6) (drop at code) few) ∙ ap (take (length (spell i))) (sym w.front) ∙ take_front (length (spell i)) (min left 6) window few ∙ d.bytes;
     }
-stands_there code at n (Err Undefined) within size u =
-    let same = first_of n (drop at code) (omega (arith, size, within)) ∙ byte_of code at in
-    record { inside = within; byte = subst (λ (b : ℕ). kinds b ≡ None) same u.byte }
-stands_there code at n (Err Past) within size (inl none) =
-    let len = window_len code at n (omega (arith, size)) in
-    absurd (omega (arith, none, len, size, within))
-stands_there code at n (Err Past) within size (inr past) =
-    let len = window_len code at n (omega (arith, size)) in
-    let same = first_of n (drop at code) (omega (arith, size, within)) ∙ byte_of code at in
-    let is : kinds (slice_index code at) ≡ Some past.0 = subst (λ (b : ℕ). kinds b ≡ Some past.0) same past.1 in
-    let few = kinds_few (slice_index code at) past.0 is in
-    let long = past.2 in
-    inr (past.0, is, omega (arith, few, long, len, size, within))
-
--- bytes that were read from a place on, in front of what was in an array of six
-pub stands_read : (code into zeros : List ℕ) (at n tested code_len : ℕ) (r : Result (Ins × ℕ) DecodeFault) → at < tested → tested ≡ code_len → code_len ≡ length code → length zeros ≡ 6 → n ≡ min (code_len - at) 6 → into ≡ take (length (take n zeros)) (drop at code) → DecodesTo (take n (into ++ drop n zeros)) 0 r → DecodesTo code at (from_place at r)
-stands_read code into zeros at n tested code_len r within is len six size read stands =
-    let few : n ≤ length code - at = omega (arith, len, size) in
-    let taken = length-take n zeros in
-    let same : length (take n zeros) ≡ n = omega (arith, taken, six, size) in
-    let front : length into ≡ n = ap length read ∙ ap (λ (k : ℕ). length (take k (drop at code))) same ∙ window_len code at n few in
-    let window : take n (into ++ drop n zeros) ≡ take n (drop at code) =
-    ap (λ (k : ℕ). take k (into ++ drop n zeros)) (sym front) ∙ take-append_seam into (drop n zeros) ∙ read ∙ ap (λ (k : ℕ). take k (drop at code)) same in
-    stands_there code at n r (omega (arith, within, is, len)) (size ∙ ap (λ (k : ℕ). min (k - at) 6) len) (subst (λ (w : List ℕ). DecodesTo w 0 r) window stands)
-
--- the same where six bytes are left, which the whole array holds
-pub stands_whole : (code into : List ℕ) (at tested code_len : ℕ) (r : Result (Ins × ℕ) DecodeFault) → at < tested → tested ≡ code_len → code_len ≡ length code → 6 ≤ code_len - at → into ≡ take 6 (drop at code) → DecodesTo into 0 r → DecodesTo code at (from_place at r)
-stands_whole code into at tested code_len r within is len six read stands =
-    stands_there code at 6 r (omega (arith, within, is, len)) (omega (arith, len, six)) (subst (λ (w : List ℕ). DecodesTo w 0 r) read stands)

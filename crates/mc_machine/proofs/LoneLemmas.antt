@@ -1,6 +1,6 @@
 -- A turn of an application that nobody waits for, by what its instruction did.
-use Rattle.std.proofs.Common.{◌≡◌, ◌≢◌, ℕ, ◌+◌, ◌-◌, Bool, true, false, cond, List, [], ◌∷◌, Option, Some, None, Result, Ok, Err, refl, sym, ap, subst, ◌∙◌, arith}
-use Rattle.std.specs.Prelude.{nat_lt, option_map}
+use Rattle.std.proofs.Common.{◌≡◌, ◌≢◌, ℕ, ◌-◌, Bool, true, false, cond, List, [], ◌∷◌, Option, Some, None, Result, Ok, Err, refl, sym, ap, subst, ◌∙◌}
+use Rattle.std.specs.Prelude.{nat_lt, option_map, IsSome}
 use Rattle.mc_model.specs.declared.instruction.Ins.{Ins}
 use Rattle.mc_model.specs.declared.machine.Abend.{Abend}
 use Rattle.mc_model.specs.declared.machine.Abend.TheVariants.{A09}
@@ -16,11 +16,12 @@ use Rattle.mc_segs.specs.declared.ends.Next.{Next}
 use Rattle.mc_segs.specs.declared.ends.Halt.{Halt}
 use Rattle.mc_segs.specs.declared.ends.Halt.TheVariants as halt
 use Rattle.mc_segs.specs.HeldFrames.{Held, app_under}
-use Rattle.mc_segs.specs.Ends.{EndActs as CallActs, scene, then_of}
+use Rattle.mc_segs.specs.Ends.{EndActs as CallActs, scene}
 use Rattle.mc_machine.specs.Alike.{SameRowEnd, KeepsRow}
 use Rattle.mc_machine.specs.Chains.{Chained, ReadAll, RunsAs}
 use Rattle.mc_machine.specs.Turns.{ActDone, Followed, advanced, told_of, last_end, end_value}
-use Rattle.mc_machine.specs.Lone.{lone_chain, lone_halt_of, lone_next_of, EndDone, Delegated, LoneDone}
+use Rattle.mc_machine.specs.Lone.{lone_chain, lone_of, EndDone, Delegated, NameIsCalled, LoneDone}
+use Rattle.mc_machine.specs.declared.lone.Lone.TheVariants.{Delegates}
 use Rattle.mc_machine.specs.declared.outcome.End.{End}
 use Rattle.mc_machine.specs.declared.outcome.End.TheVariants as end
 use Rattle.mc_machine.specs.declared.outcome.Step.{Step}
@@ -110,21 +111,23 @@ module _ {B : Type 0} (did : B → BankItem → Answer → B → Type 0) (state 
       follows = ap (λ (th : Then). follows (settled ch k.effect) th) (sym (acts.0 ∙ same.next));
     }
 
-    -- whatever follows
-    pub lone_follows : (nx : Next) (x y : RowEnd) → left ≢ 0 → SameRowEnd (app_under (state b) (named b) old).fixed x y → KeepsRow (stepped ch.frame next) ch.public y → ExitKeeps (stepped ch.frame next) y
-        → CallActs did state named (scene b e (advanced from next).running h public segment) x (Ok nx) → LoneDone did state named b e from (lone_chain h segment case le) ch (row_turn ch i y) (Ok (lone_next_of nx segment))
-    lone_follows go.Go x y some same keeps exits acts = (left - 1, lone_goes x y some same keeps exits acts)
-    lone_follows go.Exit x y some same keeps exits acts = (left - 1, lone_exits x y some same keeps exits acts)
-    lone_follows (go.Delegate name) x y some same keeps exits acts = lone_delegates name x y some same keeps acts
-
-    -- the instruction was not done
-    pub lone_halts : (k : Halt) (x y : RowEnd) → (state b).stopped ≡ false → left ≢ 0 → SameRowEnd (app_under (state b) (named b) old).fixed x y
-        → CallActs did state named (scene b e (advanced from next).running h public segment) x (Err k) → LoneDone did state named b e from (lone_chain h segment case le) ch (row_turn ch i y) (lone_halt_of k)
-    lone_halts (halt.Abend a) x y going some same acts = (
+    -- an instruction, whatever it did
+    pub lone_does : (o : Result Next Halt) (callee : Option (List ℕ)) (x y : RowEnd) → (state b).stopped ≡ false → left ≢ 0 → SameRowEnd (app_under (state b) (named b) old).fixed x y → KeepsRow (stepped ch.frame next) ch.public y → ExitKeeps (stepped ch.frame next) y
+        → CallActs did state named (scene b e (advanced from next).running h public segment) x o → NameIsCalled o callee → LoneDone did state named b e from (lone_chain h segment case le) ch (row_turn ch i y) (lone_of o segment) callee
+    lone_does (Ok go.Go) callee x y going some same keeps exits acts called = (left - 1, lone_goes x y some same keeps exits acts)
+    lone_does (Ok go.Exit) callee x y going some same keeps exits acts called = (left - 1, lone_exits x y some same keeps exits acts)
+    lone_does (Ok (go.Delegate name)) callee x y going some same keeps exits acts called =
+        subst (λ (n : Option (List ℕ)). LoneDone did state named b e from (lone_chain h segment case le) ch (row_turn ch i y) (Ok Delegates) n) (sym called) (lone_delegates name x y some same keeps acts)
+    lone_does (Err (halt.Abend a)) callee x y going some same keeps exits acts called = (
       left - 1,
       lone_abends b e from mid ch (row_turn ch i y) old (Some i) a (
           performed_halts did state named laws b e from mid ch next i r refl going some (told_of old (Some i) None) refl (halt.Abend a) x y same acts
           ),
     )
-    lone_halts (halt.Stop stop) x y going some same acts =
+    lone_does (Err (halt.Stop stop)) callee x y going some same keeps exits acts called =
         performed_halts did state named laws b e from mid ch next i r refl going some (told_of old (Some i) None) refl (halt.Stop stop) x y same acts
+
+  -- a turn that delegates has called a name
+  pub name_called : (b e : B) (c : Chained) (d : ℕ → Chained) (ch : Chain) (t : Acted) (callee : Option (List ℕ)) → LoneDone did state named b e c d ch t (Ok Delegates) callee → IsSome callee
+  name_called b e c d ch t (Some name) done = refl
+  name_called b e c d ch t None done = absurd done

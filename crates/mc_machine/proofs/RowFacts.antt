@@ -1,5 +1,5 @@
 -- An exit keeps its frame's session bytes; an instruction that is not PRIM is one of the rows.
-use Rattle.std.proofs.Common.{◌≡◌, ◌≢◌, ℕ, List, Option, Some, None, Bool, refl, ap, ◌∙◌}
+use Rattle.std.proofs.Common.{◌≡◌, ◌≢◌, ℕ, List, Option, Some, None, refl}
 use Rattle.mc_model.specs.declared.instruction.Ins.{Ins}
 use Rattle.mc_model.specs.declared.instruction.Ins.TheVariants as ins
 use Rattle.mc_model.specs.declared.machine.Abend.{Abend}

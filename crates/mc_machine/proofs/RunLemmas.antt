@@ -19,7 +19,7 @@ use Rattle.mc_segs.specs.HeldFrames.{Held, Seen}
 use Rattle.mc_machine.specs.declared.outcome.End.{End}
 use Rattle.mc_machine.specs.declared.outcome.Step.{Step}
 use Rattle.mc_machine.specs.Chains.{Chained, FrameReadsAs, ReadAll, RunsAs, ChainWrote, first_held, session_in}
-use Rattle.mc_machine.specs.Lone.{EndDone, Delegated, Finished, HaltedRun, RanDone}
+use Rattle.mc_machine.specs.Lone.{EndDone, Delegated, Finished, RanDone}
 use Rattle.mc_machine.specs.declared.outcome.Outcome.{Outcome as CodeOutcome}
 use Rattle.mc_machine.specs.Turns.{Follow, TurnActs, ActDone, end_value, outcome_value}
 

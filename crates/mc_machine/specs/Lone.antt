@@ -1,17 +1,20 @@
 -- An application that nobody waits for: its chain, what its turns leave, and the end of a run.
 use Rattle.std.specs.Prelude.{◌≡◌, ℕ, ◌+◌, ◌-◌, ◌≤◌, false, List, [], option_map, Option, Some, None, Result, Ok, Err}
 use Rattle.mc_model.specs.declared.device.Stop.{Stop}
+use Rattle.mc_model.specs.declared.instruction.Ins.{Ins}
 use Rattle.mc_model.specs.Orders.{Answer, InOrder}
 use Rattle.mc_model.specs.Items.{BankItem}
 use Rattle.mc_model.specs.Bytes.{lookup}
 use Rattle.mc_model.specs.Chain.{Chain, Acted, Continues, Ran, called}
 use Rattle.mc_model.specs.Chain as model
+use Rattle.mc_model.specs.Primitives.{Around}
 use Rattle.mc_bank.specs.Bank.{BankState}
 use Rattle.mc_segs.specs.HeldFrames.{Held}
 use Rattle.mc_segs.specs.declared.ends.Halt.{Halt}
 use Rattle.mc_segs.specs.declared.ends.Halt.TheVariants as halt
 use Rattle.mc_segs.specs.declared.ends.Next.{Next}
 use Rattle.mc_segs.specs.declared.ends.Next.TheVariants as go
+use Rattle.mc_segs.specs.Ends.{Scene, RowActs}
 use Rattle.mc_machine.specs.Chains.{Chained, RunsAs, ChainWrote}
 use Rattle.mc_machine.specs.Turns.{TurnActs, EndFits, end_value, last_end, outcome_value}
 use Rattle.mc_machine.specs.declared.outcome.End.{End}
@@ -37,30 +40,50 @@ pub record Delegated {B : Type 0} (did : B → BankItem → Answer → B → Typ
   pub left : d.left + t.count ≡ c.left
   pub follows : t.follows ≡ Continues (called chain name (lookup chain.map name))
 
--- a turn of a frame that nobody waits for, by its result: its chain afterwards has something left of the budget
-abbrev pub LoneDone : {B : Type 0} → (B → BankItem → Answer → B → Type 0) → (B → BankState) → (B → ℕ → Option (List ℕ)) → B → B → Chained → (ℕ → Chained) → Chain → Acted → Result Lone Stop → Type 0
-LoneDone did state named b e c d ch t (Ok Goes) = (n : ℕ) × EndDone did state named b e c (d n) ch t None
-LoneDone did state named b e c d ch t (Ok (Ends end)) = (n : ℕ) × EndDone did state named b e c (d n) ch t (Some end)
-LoneDone did state named b e c d ch t (Ok (Delegates name)) = Delegated did state named b e c (d (c.left - 1)) t name
-LoneDone did state named b e c d ch t (Err stop) = InOrder (ChainWrote did state) b t.writes (Err stop) e
+-- a turn of a frame that nobody waits for, by its result and the name that it calls: its chain afterwards has something left of the budget
+abbrev pub LoneDone : {B : Type 0} → (B → BankItem → Answer → B → Type 0) → (B → BankState) → (B → ℕ → Option (List ℕ)) → B → B → Chained → (ℕ → Chained) → Chain → Acted → Result Lone Stop → Option (List ℕ) → Type 0
+LoneDone did state named b e c d ch t (Ok Goes) callee = (n : ℕ) × EndDone did state named b e c (d n) ch t None
+LoneDone did state named b e c d ch t (Ok (Ends end)) callee = (n : ℕ) × EndDone did state named b e c (d n) ch t (Some end)
+LoneDone did state named b e c d ch t (Ok Delegates) None = ⊥
+LoneDone did state named b e c d ch t (Ok Delegates) (Some name) = Delegated did state named b e c (d (c.left - 1)) t name
+LoneDone did state named b e c d ch t (Err stop) callee = InOrder (ChainWrote did state) b t.writes (Err stop) e
 
 -- a reply fits where the turn ends with one
 abbrev pub LoneFits : List ℕ → Result Lone Stop → Type 0
 LoneFits public (Ok Goes) = Unit {0}
 LoneFits public (Ok (Ends end)) = EndFits public end
-LoneFits public (Ok (Delegates name)) = Unit {0}
+LoneFits public (Ok Delegates) = Unit {0}
 LoneFits public (Err stop) = Unit {0}
 
 -- what comes after an instruction that was done, with these public bytes
 abbrev pub lone_next_of : Next → List ℕ → Lone
 lone_next_of go.Go public = Goes
 lone_next_of go.Exit public = Ends (last_end public)
-lone_next_of (go.Delegate name) public = Delegates name
+lone_next_of (go.Delegate name) public = Delegates
 
 -- what comes after one that was not done
 abbrev pub lone_halt_of : Halt → Result Lone Stop
 lone_halt_of (halt.Abend a) = Ok (Ends (end.Abend a))
 lone_halt_of (halt.Stop stop) = Err stop
+
+-- what comes after an instruction, with these public bytes
+abbrev pub lone_of : Result Next Halt → List ℕ → Result Lone Stop
+lone_of (Ok next) public = Ok (lone_next_of next public)
+lone_of (Err halt) public = lone_halt_of halt
+
+-- the name that an instruction calls, if it delegates, stands in its place
+abbrev pub NameIsCalled : Result Next Halt → Option (List ℕ) → Type 0
+NameIsCalled (Ok go.Go) callee = Unit {0}
+NameIsCalled (Ok go.Exit) callee = Unit {0}
+NameIsCalled (Ok (go.Delegate name)) callee = callee ≡ Some name
+NameIsCalled (Err halt) callee = Unit {0}
+
+-- an instruction of a frame that nobody waits for, by what comes after it and the name that it calls
+pub record LoneActs {B : Type 0} (did : B → BankItem → Answer → B → Type 0) (state : B → BankState) (named : B → ℕ → Option (List ℕ)) (s : Scene B) (i : Ins) (x : Around) (result : Result Lone Stop) (callee : Option (List ℕ)) : Type 0 where
+  pub done : Result Next Halt
+  pub acts : RowActs did state named s i x done
+  pub value : result ≡ lone_of done s.public_after
+  pub called : NameIsCalled done callee
 
 -- ---- runs
 

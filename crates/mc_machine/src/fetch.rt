@@ -1,5 +1,5 @@
 // The instruction at the code address of a frame.
-ghost use Rattle.std.specs.Prelude.{◌≡◌, ◌+◌, ◌<◌, false};
+ghost use Rattle.std.specs.Prelude.{◌≡◌, ◌+◌, ◌≤◌, false, length, min, take, drop};
 ghost use Rattle.mc_model.specs.Code.{decoded, DecodesTo};
 ghost use Rattle.mc_segs.specs.HeldFrames.{FitsBank, app_under};
 
@@ -21,35 +21,45 @@ pub fn fetch<B: Bank>(bank: &B, frame: &Frame) -> Result<(Ins, u16), DecodeFault
         frame.now.frame.at result }
 {
     let at = frame.at();
-    if at >= frame.code_len() {
+    let end = frame.code_len();
+    if at >= end {
         return Err(DecodeFault::Past);
     }
-    if frame.code_len() - at < LONGEST {
-        return fetch_last(bank, frame);
-    }
+    let left = end - at;
     let mut bytes = [0; 6];
-    bank.code(frame.slot(), at, &mut bytes);
+    read_code(bank, frame, left, &mut bytes);
     let (ins, size) = decode(&bytes, 0)?;
+    if size > left {
+        return Err(DecodeFault::Past);
+    }
     Ok((ins, at + size))
 }
 
-// The same where fewer bytes of code are left than an instruction may have.
-#[cold]
-#[inline(never)]
-fn fetch_last<B: Bank>(bank: &B, frame: &Frame) -> Result<(Ins, u16), DecodeFault>
+// Reads as many bytes of code as an instruction may have; where fewer are left, other bytes stand behind those.
+#[inline(always)]
+fn read_code<B: Bank>(bank: &B, frame: &Frame, left: u16, into: &mut [u8; 6])
     requires going { (B.state bank.now).stopped ≡ false }
     requires fits { FitsBank (B.state bank.now) (B.named bank.now) frame.now }
-    requires inside { frame.now.frame.at < frame.now.frame.code_len }
-    requires last { frame.now.frame.code_len < frame.now.frame.at + 6 }
-    ensures exact { result ≡ decoded (app_under (B.state bank.now) (B.named bank.now) frame.now).code
-        frame.now.frame.at }
-    ensures stands { DecodesTo (app_under (B.state bank.now) (B.named bank.now) frame.now).code
-        frame.now.frame.at result }
+    requires left { frame.now.frame.at + left ≡ frame.now.frame.code_len }
+    ensures { take (min left 6) into.new ≡ take (min left 6)
+        (drop frame.now.frame.at (app_under (B.state bank.now) (B.named bank.now) frame.now).code) }
 {
-    let at = frame.at();
-    let mut bytes = [0; 6];
-    let count = (frame.code_len() - at) as usize;
-    bank.code(frame.slot(), at, &mut bytes[..count]);
-    let (ins, size) = decode(&bytes[..count], 0)?;
-    Ok((ins, at + size))
+    if left < LONGEST {
+        read_last(bank, frame, &mut into[..left as usize]);
+    } else {
+        bank.code(frame.slot(), frame.at(), into);
+    }
+}
+
+// The last bytes of code, where fewer are left than an instruction may have.
+#[cold]
+#[inline(never)]
+fn read_last<B: Bank>(bank: &B, frame: &Frame, into: &mut [u8])
+    requires going { (B.state bank.now).stopped ≡ false }
+    requires fits { FitsBank (B.state bank.now) (B.named bank.now) frame.now }
+    requires inside { frame.now.frame.at + length into.old ≤ frame.now.frame.code_len }
+    ensures { into.new ≡ take (length into.old)
+        (drop frame.now.frame.at (app_under (B.state bank.now) (B.named bank.now) frame.now).code) }
+{
+    bank.code(frame.slot(), frame.at(), into);
 }

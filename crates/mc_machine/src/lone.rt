@@ -1,11 +1,14 @@
 // Turns of an application that nobody waits for: the first one of a chain, until it delegates.
-ghost use Rattle.std.specs.Prelude.{◌≡◌, ◌≢◌, ◌+◌, false, ℕ, List, Ok, None};
+ghost use Rattle.std.specs.Prelude.{◌≡◌, ◌≢◌, ◌+◌, false, ℕ, List, Option, None, Ok};
+ghost use Rattle.mc_model.specs.declared.instruction.Ins.TheVariants.{Prim};
 ghost use Rattle.mc_model.specs.Code.{Shaped};
 ghost use Rattle.mc_model.specs.Chain.{Chain as ModelChain, turn_of};
 ghost use Rattle.mc_segs.specs.HeldFrames.{FitsBank};
-ghost use Rattle.mc_segs.specs.Ends.{scene, RowActs};
+ghost use Rattle.mc_segs.specs.Ends.{scene};
+ghost use Rattle.mc_rows.specs.Rows.{flowing};
 ghost use Rattle.mc_machine.specs.Chains.{RunsAs};
-ghost use Rattle.mc_machine.specs.Lone.{lone_chain, lone_halt_of, lone_next_of, LoneDone, LoneFits};
+ghost use Rattle.mc_machine.specs.Lone.{lone_chain, lone_of, lone_next_of, lone_halt_of};
+ghost use Rattle.mc_machine.specs.Lone.{NameIsCalled, LoneActs, LoneDone, LoneFits};
 
 use crate::fetch::fetch;
 use crate::outcome::{End, last_exit};
@@ -13,26 +16,28 @@ use mc_bank::Bank;
 use mc_base::{Aid, Steps, Stop};
 use mc_isa::{DecodeFault, Ins};
 use mc_prims::{Around, prim};
-use mc_rows::step;
+use mc_rows::{Flow, step};
 use mc_segs::{Abend, Frame, Halt, Next, Public};
 use std::sync::ledger::Ledger;
 
 /// What comes after a turn of an application that nobody waits for: its next turn, the end of the command, or another
-/// application by its name.
+/// application, whose name stands elsewhere, since each turn would hand on the room for it.
 #[derive(Clone, Copy, Debug, PartialEq, Eq)]
 pub enum Lone {
     Goes,
     Ends(End),
-    Delegates(Aid),
+    Delegates,
 }
 
 /// One turn of an application that nobody waits for, under a budget that is not spent: one executed instruction, and one
-/// step, or a fetch that ends the chain. A `Stop` is that of the bank in the instruction's change.
+/// step, or a fetch that ends the chain. Where it delegates, the name is put into `callee`. A `Stop` is that of the bank in
+/// the instruction's change.
 #[inline(always)]
 pub fn lone_turn<B: Bank, L: Ledger>(
     frame: &mut Frame,
     public: &mut Public,
     case: u8,
+    callee: &mut Option<Aid>,
     bank: &mut B,
     steps: &mut Steps<L>,
 ) -> Result<Lone, Stop>
@@ -41,7 +46,7 @@ pub fn lone_turn<B: Bank, L: Ledger>(
     ensures done { (ch : ModelChain) (le left : ℕ) → left ≢ 0
         → RunsAs (B.state bank.old) (B.named bank.old) (lone_chain frame.old public.old case le left) ch
         → LoneDone B.did B.state B.named bank.old bank.new (lone_chain frame.old public.old case le left)
-        (lone_chain frame.new public.new case le) ch (turn_of left ch) result }
+        (lone_chain frame.new public.new case le) ch (turn_of left ch) result callee.new }
     ensures ticks { (ch : ModelChain) (le left : ℕ) → left ≢ 0
         → RunsAs (B.state bank.old) (B.named bank.old) (lone_chain frame.old public.old case le left) ch
         → steps.new ≡ steps.old + (turn_of left ch).count }
@@ -54,33 +59,7 @@ pub fn lone_turn<B: Bank, L: Ledger>(
     };
     steps.tick();
     frame.go(next);
-    match perform_lone(&ins, frame, public, case, bank) {
-        Ok(next) => Ok(lone_next(next, public)),
-        Err(halt) => lone_halt(halt),
-    }
-}
-
-// What comes after an instruction that was done.
-fn lone_next(next: Next, public: &Public) -> Lone
-    ensures value { result ≡ lone_next_of next public.now }
-    ensures fits { LoneFits public.now (Ok result) }
-{
-    match next {
-        Next::Go => Lone::Goes,
-        Next::Exit => Lone::Ends(last_exit(public)),
-        Next::Delegate(aid) => Lone::Delegates(aid),
-    }
-}
-
-// What comes after one that was not done.
-fn lone_halt(halt: Halt) -> Result<Lone, Stop>
-    ensures value { result ≡ lone_halt_of halt }
-    ensures fits { (public : List ℕ) → LoneFits public result }
-{
-    match halt {
-        Halt::Abend(abend) => Ok(Lone::Ends(End::Abend(abend))),
-        Halt::Stop(stop) => Err(stop),
-    }
+    perform_lone(&ins, frame, public, case, callee, bank)
 }
 
 // An instruction of an application that nobody delegated to, whose code address is already behind it.
@@ -90,23 +69,105 @@ fn perform_lone<B: Bank>(
     frame: &mut Frame,
     public: &mut Public,
     case: u8,
+    callee: &mut Option<Aid>,
     bank: &mut B,
-) -> Result<Next, Halt>
+) -> Result<Lone, Stop>
     requires going { (B.state bank.old).stopped ≡ false }
     requires fits { FitsBank (B.state bank.old) (B.named bank.old) frame.old }
     requires shaped { Shaped ins.now }
-    ensures { RowActs B.did B.state B.named
+    ensures acts { LoneActs B.did B.state B.named
         (scene bank.old bank.new frame.old frame.new public.old public.new) ins.now
-        (record { case = case; delegator = None }) result }
+        (record { case = case; delegator = None }) result callee.new }
+    ensures fits { LoneFits public.new result }
 {
-    match ins {
+    match *ins {
         Ins::Prim { set, number, args } => {
-            let around = Around {
-                case,
-                delegator: None,
-            };
-            prim(*set, *number, args, &around, frame, public, bank)
+            primitive(set, number, args, frame, public, case, callee, bank)
         }
-        _ => step(ins, frame, public, bank),
+        _ => after_row(step(ins, frame, public, bank), public),
+    }
+}
+
+// A primitive of the same application. It stands apart, so that no other instruction makes room for what it takes.
+#[inline(never)]
+fn primitive<B: Bank>(
+    set: u8,
+    number: u8,
+    args: [u8; 3],
+    frame: &mut Frame,
+    public: &mut Public,
+    case: u8,
+    callee: &mut Option<Aid>,
+    bank: &mut B,
+) -> Result<Lone, Stop>
+    requires going { (B.state bank.old).stopped ≡ false }
+    requires fits { FitsBank (B.state bank.old) (B.named bank.old) frame.old }
+    ensures acts { LoneActs B.did B.state B.named
+        (scene bank.old bank.new frame.old frame.new public.old public.new) (Prim set number args)
+        (record { case = case; delegator = None }) result callee.new }
+    ensures fits { LoneFits public.new result }
+{
+    let around = Around {
+        case,
+        delegator: None,
+    };
+    let done = prim(set, number, &args, &around, frame, public, bank);
+    after_primitive(done, public, callee)
+}
+
+// What comes after a primitive, and the name that it calls, if it delegates.
+fn after_primitive(
+    done: Result<Next, Halt>,
+    public: &Public,
+    callee: &mut Option<Aid>,
+) -> Result<Lone, Stop>
+    ensures value { result ≡ lone_of done public.now }
+    ensures called { NameIsCalled done callee.new }
+    ensures fits { LoneFits public.now result }
+{
+    match done {
+        Ok(next) => Ok(after_done(next, public, callee)),
+        Err(halt) => after_halt(halt),
+    }
+}
+
+// The same where it was done.
+fn after_done(next: Next, public: &Public, callee: &mut Option<Aid>) -> Lone
+    ensures value { result ≡ lone_next_of next public.now }
+    ensures called { NameIsCalled (Ok next) callee.new }
+    ensures fits { LoneFits public.now (Ok result) }
+{
+    match next {
+        Next::Go => Lone::Goes,
+        Next::Exit => Lone::Ends(last_exit(public)),
+        Next::Delegate(aid) => {
+            *callee = Some(aid);
+            Lone::Delegates
+        }
+    }
+}
+
+// What comes after an instruction that is not PRIM.
+#[inline(always)]
+fn after_row(done: Result<Flow, Halt>, public: &Public) -> Result<Lone, Stop>
+    ensures value { result ≡ lone_of (flowing done) public.now }
+    ensures called { (callee : Option (List ℕ)) → NameIsCalled (flowing done) callee }
+    ensures fits { LoneFits public.now result }
+{
+    match done {
+        Ok(Flow::Go) => Ok(Lone::Goes),
+        Ok(Flow::Exit) => Ok(Lone::Ends(last_exit(public))),
+        Err(halt) => after_halt(halt),
+    }
+}
+
+// What comes after an instruction that was not done.
+fn after_halt(halt: Halt) -> Result<Lone, Stop>
+    ensures value { result ≡ lone_halt_of halt }
+    ensures fits { (public : List ℕ) → LoneFits public result }
+{
+    match halt {
+        Halt::Abend(abend) => Ok(Lone::Ends(End::Abend(abend))),
+        Halt::Stop(stop) => Err(stop),
     }
 }

@@ -95,6 +95,8 @@ fn sw(public: &Public) -> u16
 }
 
 /// How the exit of a chain's first frame ends it: 09 where its reply would be too long.
+// It comes once a command, so no turn makes room for it.
+#[inline(never)]
 pub fn last_exit(public: &Public) -> End
     ensures value { result ≡ last_end public.now }
     ensures fits { EndFits public.now result }

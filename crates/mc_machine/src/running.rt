@@ -92,16 +92,18 @@ pub fn run_into<B: Bank, L: Ledger>(
     public.open(apdu);
     let case = apdu.case();
     let le = apdu.le.unwrap_or(0);
+    let mut callee = None;
     for turn in 0..budget {
-        match lone_turn(&mut frame, &mut public, case, bank, steps)? {
+        match lone_turn(&mut frame, &mut public, case, &mut callee, bank, steps)? {
             Lone::Goes => {}
             Lone::Ends(end) => {
                 frame.keep_session(session);
                 put_end(&public, le, end, reply);
                 return Ok(end);
             }
-            Lone::Delegates(aid) => {
+            Lone::Delegates => {
                 let left = budget - turn - 1;
+                let aid = callee.unwrap();
                 return run_chain(
                     frame, public, case, le, left, &aid, bank, session, reply, steps,
                 );

@@ -6,6 +6,7 @@ ghost use Rattle.mc_model.specs.Code.{Shaped};
 ghost use Rattle.mc_model.specs.Chain.{Chain as ModelChain, turn_of, called, follows};
 ghost use Rattle.mc_segs.specs.HeldFrames.{FitsBank};
 ghost use Rattle.mc_segs.specs.Ends.{scene, RowActs, then_of};
+ghost use Rattle.mc_rows.specs.Rows.{flowing};
 ghost use Rattle.mc_machine.specs.Chains.{RunsAs, FitsChain};
 ghost use Rattle.mc_machine.specs.Frames.{held_before};
 ghost use Rattle.mc_machine.specs.Turns.{ActDone, TurnDone, WritesFew, EndFits, Followed, FrameExits, advanced, halted};
@@ -19,7 +20,7 @@ use mc_bank::Bank;
 use mc_base::{Aid, Steps, Stop};
 use mc_isa::{DecodeFault, Ins};
 use mc_prims::{Around, prim};
-use mc_rows::step;
+use mc_rows::{Flow, step};
 use mc_segs::{Abend, Frame, Halt, Next, Session};
 use std::mem;
 use std::sync::ledger::Ledger;
@@ -151,7 +152,18 @@ fn perform<B: Bank>(ins: &Ins, chain: &mut Chain, bank: &mut B) -> Result<Next, 
                 bank,
             )
         }
-        _ => step(ins, &mut chain.running, &mut chain.public, bank),
+        _ => next_of(step(ins, &mut chain.running, &mut chain.public, bank)),
+    }
+}
+
+// What comes after an instruction that is not PRIM, as after any.
+fn next_of(done: Result<Flow, Halt>) -> Result<Next, Halt>
+    ensures { result ≡ flowing done }
+{
+    match done {
+        Ok(Flow::Go) => Ok(Next::Go),
+        Ok(Flow::Exit) => Ok(Next::Exit),
+        Err(halt) => Err(halt),
     }
 }
 

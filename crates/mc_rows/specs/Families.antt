@@ -1,6 +1,6 @@
 -- The families into which the rows are sorted.
 use Rattle.mc_model.specs.declared.instruction.Ins.{Ins}
-use Rattle.mc_model.specs.declared.instruction.Ins.TheVariants.{Nop, Setsw, Setla, Setswla, Exit, Exitsw, Exitla, Exitswla, Branch, Jump, Call, Pushz, Pushb, Pushw, Popn, Popb, Popw, Prim, Ret, Reti, Reto, Retio, Clearn, Testn, Incn, Decn, Notn, Cmpn, Addn, Subn, Andn, Orn, Xorn}
+use Rattle.mc_model.specs.declared.instruction.Ins.TheVariants.{Nop, Setsw, Setla, Setswla, Exit, Exitsw, Exitla, Exitswla, Branch, Jump, Call, Ret, Reti, Reto, Retio, Pushz, Pushb, Pushw, Popn, Popb, Popw, Loada, Index, Setb, Cmpb, Addb, Subb, Setw, Cmpw, Addw, Subw, Prim}
 
 -- every row but those of primitives
 abbrev pub IsNoPrimitive : Ins → Type 0
@@ -19,56 +19,61 @@ IsRegisterRow (Exitla la) = Unit {0}
 IsRegisterRow (Exitswla sw la) = Unit {0}
 IsRegisterRow _ = ⊥
 
--- the other rows but those of primitives: they lead to the next instruction where they are done
-abbrev pub LeadsOn : Ins → Type 0
-LeadsOn Nop = ⊥
-LeadsOn (Setsw sw) = ⊥
-LeadsOn (Setla la) = ⊥
-LeadsOn (Setswla sw la) = ⊥
-LeadsOn Exit = ⊥
-LeadsOn (Exitsw sw) = ⊥
-LeadsOn (Exitla la) = ⊥
-LeadsOn (Exitswla sw la) = ⊥
-LeadsOn (Prim set number args) = ⊥
-LeadsOn _ = Unit {0}
+-- the rows that look at their frame alone
+abbrev pub IsFrameRow : Ins → Type 0
+IsFrameRow (Branch cond d) = Unit {0}
+IsFrameRow (Jump cond to) = Unit {0}
+IsFrameRow (Call cond to) = Unit {0}
+IsFrameRow Ret = Unit {0}
+IsFrameRow (Reti i) = Unit {0}
+IsFrameRow (Reto o) = Unit {0}
+IsFrameRow (Retio i o) = Unit {0}
+IsFrameRow (Pushz n) = Unit {0}
+IsFrameRow (Pushb b) = Unit {0}
+IsFrameRow (Pushw w) = Unit {0}
+IsFrameRow (Popn n) = Unit {0}
+IsFrameRow Popb = Unit {0}
+IsFrameRow Popw = Unit {0}
+IsFrameRow (Loada tag off) = Unit {0}
+IsFrameRow (Index tag off size) = Unit {0}
+IsFrameRow _ = ⊥
 
--- the rows that have an operand with an address tag
-abbrev pub IsTagged : Ins → Type 0
-IsTagged Nop = ⊥
-IsTagged (Setsw sw) = ⊥
-IsTagged (Setla la) = ⊥
-IsTagged (Setswla sw la) = ⊥
-IsTagged Exit = ⊥
-IsTagged (Exitsw sw) = ⊥
-IsTagged (Exitla la) = ⊥
-IsTagged (Exitswla sw la) = ⊥
-IsTagged (Branch cond d) = ⊥
-IsTagged (Jump cond to) = ⊥
-IsTagged (Call cond to) = ⊥
-IsTagged (Pushz n) = ⊥
-IsTagged (Pushb b) = ⊥
-IsTagged (Pushw w) = ⊥
-IsTagged (Popn n) = ⊥
-IsTagged Popb = ⊥
-IsTagged Popw = ⊥
-IsTagged (Prim set number args) = ⊥
-IsTagged Ret = ⊥
-IsTagged (Reti i) = ⊥
-IsTagged (Reto o) = ⊥
-IsTagged (Retio i o) = ⊥
-IsTagged _ = Unit {0}
+-- the other rows but those of primitives: they read or write an operand with an address tag
+abbrev pub HasOperand : Ins → Type 0
+HasOperand Nop = ⊥
+HasOperand (Setsw sw) = ⊥
+HasOperand (Setla la) = ⊥
+HasOperand (Setswla sw la) = ⊥
+HasOperand Exit = ⊥
+HasOperand (Exitsw sw) = ⊥
+HasOperand (Exitla la) = ⊥
+HasOperand (Exitswla sw la) = ⊥
+HasOperand (Branch cond d) = ⊥
+HasOperand (Jump cond to) = ⊥
+HasOperand (Call cond to) = ⊥
+HasOperand Ret = ⊥
+HasOperand (Reti i) = ⊥
+HasOperand (Reto o) = ⊥
+HasOperand (Retio i o) = ⊥
+HasOperand (Pushz n) = ⊥
+HasOperand (Pushb b) = ⊥
+HasOperand (Pushw w) = ⊥
+HasOperand (Popn n) = ⊥
+HasOperand Popb = ⊥
+HasOperand Popw = ⊥
+HasOperand (Loada tag off) = ⊥
+HasOperand (Index tag off size) = ⊥
+HasOperand (Prim set number args) = ⊥
+HasOperand _ = Unit {0}
 
--- the rows of blocks of n bytes
-abbrev pub IsBlockRow : Ins → Type 0
-IsBlockRow (Clearn tag off n) = Unit {0}
-IsBlockRow (Testn tag off n) = Unit {0}
-IsBlockRow (Incn tag off n) = Unit {0}
-IsBlockRow (Decn tag off n) = Unit {0}
-IsBlockRow (Notn tag off n) = Unit {0}
-IsBlockRow (Cmpn tag off n) = Unit {0}
-IsBlockRow (Addn tag off n) = Unit {0}
-IsBlockRow (Subn tag off n) = Unit {0}
-IsBlockRow (Andn tag off n) = Unit {0}
-IsBlockRow (Orn tag off n) = Unit {0}
-IsBlockRow (Xorn tag off n) = Unit {0}
-IsBlockRow _ = ⊥
+-- the rows of a byte or a word against an immediate
+abbrev pub IsImmediate : Ins → Type 0
+IsImmediate (Setb tag off b) = Unit {0}
+IsImmediate (Cmpb tag off b) = Unit {0}
+IsImmediate (Addb tag off b) = Unit {0}
+IsImmediate (Subb tag off b) = Unit {0}
+IsImmediate (Setw tag off w) = Unit {0}
+IsImmediate (Cmpw tag off w) = Unit {0}
+IsImmediate (Addw tag off w) = Unit {0}
+IsImmediate (Subw tag off w) = Unit {0}
+IsImmediate _ = ⊥

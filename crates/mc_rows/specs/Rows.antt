@@ -8,7 +8,9 @@ use Rattle.mc_model.specs.Primitives.{Around, Done, going, in_range}
 use Rattle.mc_model.specs.Row.{RowEnd, first_cause, judged, operand, on_stack, immediate_reads, immediate_writes, pair_writes, becomes, flags_of, place_of, value_of, first_of}
 use Rattle.mc_segs.specs.declared.ends.Halt.{Halt}
 use Rattle.mc_segs.specs.declared.ends.Next.{Next}
-use Rattle.mc_segs.specs.declared.ends.Next.TheVariants.{Go}
+use Rattle.mc_segs.specs.declared.ends.Next.TheVariants.{Go, Exit}
+use Rattle.mc_rows.specs.declared.registers.Flow.{Flow}
+use Rattle.mc_rows.specs.declared.registers.Flow.TheVariants as flow
 use Rattle.mc_rows.specs.declared.operations.Binary.{Binary}
 use Rattle.mc_rows.specs.declared.operations.Binary.TheVariants.{Add, Sub, And, Or, Xor}
 use Rattle.mc_rows.specs.declared.operations.Unary.{Unary}
@@ -23,19 +25,18 @@ abbrev pub onward : Result (Unit {0}) Halt → Result Next Halt
 onward (Ok u) = Ok Go
 onward (Err halt) = Err halt
 
+-- an instruction that is not PRIM, as all instructions answer
+abbrev pub flowing : Result Flow Halt → Result Next Halt
+flowing (Ok flow.Go) = Ok Go
+flowing (Ok flow.Exit) = Ok Exit
+flowing (Err halt) = Err halt
+
 -- the place of an operand: 04 where the stack is too short, 03 where there is no such address
 abbrev pub OperandPlaced : Result ℕ Abend → Bool → Option ℕ → Type 0
 OperandPlaced (Ok a) under place = (under ≡ false) × (place ≡ Some a)
 OperandPlaced (Err A04) under place = under ≡ true
 OperandPlaced (Err A03) under place = (under ≡ false) × (place ≡ None)
 OperandPlaced (Err _) under place = ⊥
-
--- a return: 04 where there is none to return from, 02 where it leads to no place
-abbrev pub Returns : Result (Unit {0}) Abend → Bool → Bool → Type 0
-Returns (Ok u) none past = (none ≡ false) × (past ≡ false)
-Returns (Err A04) none past = none ≡ true
-Returns (Err A02) none past = (none ≡ false) × (past ≡ true)
-Returns (Err _) none past = ⊥
 
 -- a place to go to: 02 where there is no such address
 abbrev pub Led : Result ℕ Abend → Option ℕ → Type 0

@@ -1,6 +1,6 @@
-// Words, zeros, and blocks as they stand in bytes.
+// Zeros, words and blocks as they stand in bytes.
 ghost use Rattle.std.specs.Prelude.{◌≡◌, length, true};
-ghost use Rattle.mc_model.specs.Bytes.{bytes2, num, zeros};
+ghost use Rattle.mc_model.specs.Bytes.{num, zeros};
 ghost use Rattle.mc_model.specs.Blocks.{is_zero};
 
 const ZEROS: [u8; 255] = [0; 255];
@@ -13,13 +13,6 @@ pub fn zeros(count: u8) -> &'static [u8]
     ensures zero { is_zero (zeros count) ≡ true }
 {
     &ZEROS[..count as usize]
-}
-
-/// The two bytes of a word, the high byte first.
-pub fn word(value: u16) -> [u8; 2]
-    ensures { result ≡ bytes2 value }
-{
-    [(value / 256) as u8, (value % 256) as u8]
 }
 
 /// The word in two bytes.

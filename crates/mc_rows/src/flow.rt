@@ -1,29 +1,19 @@
 // Rows that go to another place of the code, and calls and returns.
-ghost use Rattle.std.specs.Prelude.{◌≡◌, ◌≤◌, ◌&&◌, ◌==◌, OnOk, OnErr, Some, false};
+ghost use Rattle.std.specs.Prelude.{◌≡◌, ◌&&◌, ◌==◌, OnOk, OnErr, Some};
 ghost use Rattle.mc_model.specs.declared.instruction.Ins.TheVariants.{Branch, Jump, Call, Retio};
-ghost use Rattle.mc_model.specs.Frame.{come_back, is_under, moved, no_return, saved};
+ghost use Rattle.mc_model.specs.Frame.{is_under, moved};
 ghost use Rattle.mc_model.specs.Row.{holds, no_place, target, without_target};
-ghost use Rattle.mc_segs.specs.HeldFrames.{FitsBank};
-ghost use Rattle.mc_segs.specs.Ends.{scene, GivesOrAbends, IfDue, RowActs};
-ghost use Rattle.mc_rows.specs.Rows.{alone, Led, Returns, onward};
+ghost use Rattle.mc_segs.specs.Ends.{GivesOrAbends, IfDue};
+ghost use Rattle.mc_rows.specs.Rows.{Led};
+ghost use Rattle.mc_rows.specs.FrameRows.{FrameActs};
 
 use crate::bytes::number;
-use mc_bank::Bank;
-use mc_segs::{Abend, Frame, Halt, Public, come_back, enter, pop, return_address};
+use mc_segs::{Abend, Frame, come_back, enter, pop, return_address};
 
 /// BRANCH: where the condition holds, to a place relative to the next instruction.
 #[tactic(auto, unfolding(mc_model::specs::Row::row, mc_model::specs::Row::causes, mc_model::specs::Row::effect))]
-pub fn branch<B: Bank>(
-    cond: u8,
-    d: i8,
-    frame: &mut Frame,
-    public: &mut Public,
-    bank: &mut B,
-) -> Result<(), Halt>
-    requires going { (B.state bank.old).stopped ≡ false }
-    requires fits { FitsBank (B.state bank.old) (B.named bank.old) frame.old }
-    ensures { RowActs B.did B.state B.named (scene bank.old bank.new frame.old frame.new public.old public.new)
-        (Branch cond d) alone (onward result) }
+pub fn branch(cond: u8, d: i8, frame: &mut Frame) -> Result<(), Abend>
+    ensures { FrameActs (Branch cond d) frame.old frame.new result }
 {
     if holds(frame, cond) {
         let to = moved(frame.at(), d)?;
@@ -35,17 +25,8 @@ pub fn branch<B: Bank>(
 
 /// JUMP: where the condition holds, to an address, which condition 0 pops.
 #[tactic(auto, unfolding(mc_model::specs::Row::row, mc_model::specs::Row::causes, mc_model::specs::Row::effect))]
-pub fn jump<B: Bank>(
-    cond: u8,
-    to: u16,
-    frame: &mut Frame,
-    public: &mut Public,
-    bank: &mut B,
-) -> Result<(), Halt>
-    requires going { (B.state bank.old).stopped ≡ false }
-    requires fits { FitsBank (B.state bank.old) (B.named bank.old) frame.old }
-    ensures { RowActs B.did B.state B.named (scene bank.old bank.new frame.old frame.new public.old public.new)
-        (Jump cond to) alone (onward result) }
+pub fn jump(cond: u8, to: u16, frame: &mut Frame) -> Result<(), Abend>
+    ensures { FrameActs (Jump cond to) frame.old frame.new result }
 {
     let to = target(frame, cond, to)?;
     if holds(frame, cond) {
@@ -57,17 +38,8 @@ pub fn jump<B: Bank>(
 
 /// CALL: the same, with LB and the next place on the stack.
 #[tactic(auto, unfolding(mc_model::specs::Row::row, mc_model::specs::Row::causes, mc_model::specs::Row::effect))]
-pub fn call<B: Bank>(
-    cond: u8,
-    to: u16,
-    frame: &mut Frame,
-    public: &mut Public,
-    bank: &mut B,
-) -> Result<(), Halt>
-    requires going { (B.state bank.old).stopped ≡ false }
-    requires fits { FitsBank (B.state bank.old) (B.named bank.old) frame.old }
-    ensures { RowActs B.did B.state B.named (scene bank.old bank.new frame.old frame.new public.old public.new)
-        (Call cond to) alone (onward result) }
+pub fn call(cond: u8, to: u16, frame: &mut Frame) -> Result<(), Abend>
+    ensures { FrameActs (Call cond to) frame.old frame.new result }
 {
     let to = target(frame, cond, to)?;
     if holds(frame, cond) {
@@ -79,20 +51,12 @@ pub fn call<B: Bank>(
 
 /// RETIO, and with no bytes RET, RETI and RETO: the call is left, its top `o` bytes stay, and the `i` bytes below it go.
 #[tactic(auto, unfolding(mc_model::specs::Row::row, mc_model::specs::Row::causes, mc_model::specs::Row::effect))]
-pub fn return_with<B: Bank>(
-    i: u8,
-    o: u8,
-    frame: &mut Frame,
-    public: &mut Public,
-    bank: &mut B,
-) -> Result<(), Halt>
-    requires going { (B.state bank.old).stopped ≡ false }
-    requires fits { FitsBank (B.state bank.old) (B.named bank.old) frame.old }
-    ensures { RowActs B.did B.state B.named (scene bank.old bank.new frame.old frame.new public.old public.new)
-        (Retio i o) alone (onward result) }
+pub fn return_with(i: u8, o: u8, frame: &mut Frame) -> Result<(), Abend>
+    ensures { FrameActs (Retio i o) frame.old frame.new result }
 {
-    leave(frame, i, o)?;
-    Ok(())
+    let to = return_address(frame, i, o)?;
+    check_place(frame, to)?;
+    come_back(frame, i, o)
 }
 
 // Whether a condition holds: 1 to 7 are EQ, LT, LE, GT, GE, NE and ALL, and 0 has none.
@@ -144,17 +108,4 @@ fn target(frame: &mut Frame, cond: u8, to: u16) -> Result<u16, Abend>
     let mut address = [0; 2];
     pop(frame, &mut address)?;
     Ok(number(address))
-}
-
-// Leaves a call: its top `o` bytes stay, and the `i` bytes below it go. Abend 04 where no such call lies on the stack,
-// 02 where it returns to no place, and then nothing changes.
-fn leave(frame: &mut Frame, i: u8, o: u8) -> Result<(), Abend>
-    ensures due { Returns result (no_return frame.old.frame i o)
-        (no_place frame.old.frame (Some (saved frame.old.frame 2))) }
-    ensures back { OnOk result (frame.new ≡ record frame.old { frame = come_back frame.old.frame i o }) }
-    ensures unchanged { OnErr result (frame.new ≡ frame.old) }
-{
-    let to = return_address(frame, i, o)?;
-    check_place(frame, to)?;
-    come_back(frame, i, o)
 }

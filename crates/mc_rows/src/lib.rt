@@ -14,4 +14,5 @@ mod stack;
 mod stepping;
 mod transfers;
 
+pub use registers::Flow;
 pub use stepping::step;

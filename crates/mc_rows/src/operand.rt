@@ -78,6 +78,7 @@ pub fn read_address<B: Bank>(
 
 /// Reads the first of a pair of operands of one length; the second lies on top of the stack. The first one's address;
 /// abend 04 where the stack has too few bytes, 03 where the first lies in no segment.
+#[inline(always)]
 pub fn read_first<B: Bank>(
     tag: u8,
     off: i16,

@@ -1,105 +1,58 @@
 // Rows that put bytes on the stack or take them from it.
-ghost use Rattle.std.specs.Prelude.{◌≡◌, false};
 ghost use Rattle.mc_model.specs.declared.instruction.Ins.TheVariants.{Pushz, Pushb, Pushw, Popn, Popb, Popw};
-ghost use Rattle.mc_segs.specs.HeldFrames.{FitsBank};
-ghost use Rattle.mc_segs.specs.Ends.{scene, RowActs};
-ghost use Rattle.mc_rows.specs.Rows.{alone, onward};
+ghost use Rattle.mc_rows.specs.FrameRows.{FrameActs};
 
-use crate::bytes::{word, zeros};
+use crate::bytes::zeros;
 use crate::operations::check_block;
-use mc_bank::Bank;
-use mc_segs::{Frame, Halt, Public, discard, push};
+use mc_base::bytes_of;
+use mc_segs::{Abend, Frame, discard, push};
 
 /// PUSHZ: n zero bytes.
 #[tactic(auto, unfolding(mc_model::specs::Row::row, mc_model::specs::Row::causes, mc_model::specs::Row::effect))]
-pub fn push_zeros<B: Bank>(
-    n: u8,
-    frame: &mut Frame,
-    public: &mut Public,
-    bank: &mut B,
-) -> Result<(), Halt>
-    requires going { (B.state bank.old).stopped ≡ false }
-    requires fits { FitsBank (B.state bank.old) (B.named bank.old) frame.old }
-    ensures { RowActs B.did B.state B.named (scene bank.old bank.new frame.old frame.new public.old public.new)
-        (Pushz n) alone (onward result) }
+pub fn push_zeros(n: u8, frame: &mut Frame) -> Result<(), Abend>
+    ensures { FrameActs (Pushz n) frame.old frame.new result }
 {
     check_block(n)?;
-    push(frame, zeros(n))?;
-    Ok(())
+    push(frame, zeros(n))
 }
 
 /// PUSHB: one byte.
 #[tactic(auto, unfolding(mc_model::specs::Row::row, mc_model::specs::Row::causes, mc_model::specs::Row::effect))]
-pub fn push_byte<B: Bank>(
-    b: u8,
-    frame: &mut Frame,
-    public: &mut Public,
-    bank: &mut B,
-) -> Result<(), Halt>
-    requires going { (B.state bank.old).stopped ≡ false }
-    requires fits { FitsBank (B.state bank.old) (B.named bank.old) frame.old }
-    ensures { RowActs B.did B.state B.named (scene bank.old bank.new frame.old frame.new public.old public.new)
-        (Pushb b) alone (onward result) }
+pub fn push_byte(b: u8, frame: &mut Frame) -> Result<(), Abend>
+    ensures { FrameActs (Pushb b) frame.old frame.new result }
 {
-    push(frame, &[b])?;
-    Ok(())
+    push(frame, &[b])
 }
 
 /// PUSHW: two bytes.
 #[tactic(auto, unfolding(mc_model::specs::Row::row, mc_model::specs::Row::causes, mc_model::specs::Row::effect))]
-pub fn push_word<B: Bank>(
-    w: u16,
-    frame: &mut Frame,
-    public: &mut Public,
-    bank: &mut B,
-) -> Result<(), Halt>
-    requires going { (B.state bank.old).stopped ≡ false }
-    requires fits { FitsBank (B.state bank.old) (B.named bank.old) frame.old }
-    ensures { RowActs B.did B.state B.named (scene bank.old bank.new frame.old frame.new public.old public.new)
-        (Pushw w) alone (onward result) }
+pub fn push_word(w: u16, frame: &mut Frame) -> Result<(), Abend>
+    ensures { FrameActs (Pushw w) frame.old frame.new result }
 {
-    push(frame, &word(w))?;
-    Ok(())
+    push(frame, &bytes_of(w))
 }
 
 /// POPN: n bytes.
 #[tactic(auto, unfolding(mc_model::specs::Row::row, mc_model::specs::Row::causes, mc_model::specs::Row::effect))]
-pub fn pop_bytes<B: Bank>(
-    n: u8,
-    frame: &mut Frame,
-    public: &mut Public,
-    bank: &mut B,
-) -> Result<(), Halt>
-    requires going { (B.state bank.old).stopped ≡ false }
-    requires fits { FitsBank (B.state bank.old) (B.named bank.old) frame.old }
-    ensures { RowActs B.did B.state B.named (scene bank.old bank.new frame.old frame.new public.old public.new)
-        (Popn n) alone (onward result) }
+pub fn pop_bytes(n: u8, frame: &mut Frame) -> Result<(), Abend>
+    ensures { FrameActs (Popn n) frame.old frame.new result }
 {
     check_block(n)?;
-    discard(frame, n)?;
-    Ok(())
+    discard(frame, n)
 }
 
 /// POPB: one byte.
 #[tactic(auto, unfolding(mc_model::specs::Row::row, mc_model::specs::Row::causes, mc_model::specs::Row::effect))]
-pub fn pop_byte<B: Bank>(frame: &mut Frame, public: &mut Public, bank: &mut B) -> Result<(), Halt>
-    requires going { (B.state bank.old).stopped ≡ false }
-    requires fits { FitsBank (B.state bank.old) (B.named bank.old) frame.old }
-    ensures { RowActs B.did B.state B.named
-        (scene bank.old bank.new frame.old frame.new public.old public.new) Popb alone (onward result) }
+pub fn pop_byte(frame: &mut Frame) -> Result<(), Abend>
+    ensures { FrameActs Popb frame.old frame.new result }
 {
-    discard(frame, 1)?;
-    Ok(())
+    discard(frame, 1)
 }
 
 /// POPW: two bytes.
 #[tactic(auto, unfolding(mc_model::specs::Row::row, mc_model::specs::Row::causes, mc_model::specs::Row::effect))]
-pub fn pop_word<B: Bank>(frame: &mut Frame, public: &mut Public, bank: &mut B) -> Result<(), Halt>
-    requires going { (B.state bank.old).stopped ≡ false }
-    requires fits { FitsBank (B.state bank.old) (B.named bank.old) frame.old }
-    ensures { RowActs B.did B.state B.named
-        (scene bank.old bank.new frame.old frame.new public.old public.new) Popw alone (onward result) }
+pub fn pop_word(frame: &mut Frame) -> Result<(), Abend>
+    ensures { FrameActs Popw frame.old frame.new result }
 {
-    discard(frame, 2)?;
-    Ok(())
+    discard(frame, 2)
 }

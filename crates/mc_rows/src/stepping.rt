@@ -3,23 +3,24 @@ ghost use Rattle.std.specs.Prelude.{◌≡◌, false};
 ghost use Rattle.mc_model.specs.Code.{Shaped};
 ghost use Rattle.mc_segs.specs.HeldFrames.{FitsBank};
 ghost use Rattle.mc_segs.specs.Ends.{scene, RowActs};
-ghost use Rattle.mc_rows.specs.Rows.{alone, onward};
-ghost use Rattle.mc_rows.specs.Families.{IsBlockRow, IsNoPrimitive, IsTagged, LeadsOn};
+ghost use Rattle.mc_rows.specs.Rows.{alone, flowing, onward};
+ghost use Rattle.mc_rows.specs.FrameRows.{FrameActs};
+ghost use Rattle.mc_rows.specs.Families.{HasOperand, IsFrameRow, IsImmediate, IsNoPrimitive};
 
 use crate::blocks::{change_block, clear_block, test_block};
-use crate::bytes::word;
 use crate::flow::{branch, call, jump, return_with};
 use crate::immediates::{combine_with, compare_with, set};
 use crate::operations::{Binary, Unary};
 use crate::pairs::{combine_pair, compare_pair};
-use crate::registers::registers;
+use crate::registers::{Flow, registers};
 use crate::stack::{pop_byte, pop_bytes, pop_word, push_byte, push_word, push_zeros};
 use crate::transfers::{
     index, load_address, load_block, load_indirect, store_block, store_indirect,
 };
 use mc_bank::Bank;
+use mc_base::bytes_of;
 use mc_model::Ins;
-use mc_segs::{Frame, Halt, Next, Public};
+use mc_segs::{Abend, Frame, Halt, Public};
 
 /// Does one instruction that is not PRIM and whose fields are in their ranges; the frame's code address is already the
 /// place behind it. What comes next; an abend exactly by the first cause of its row, and then no byte at an address
@@ -31,13 +32,13 @@ pub fn step<B: Bank>(
     frame: &mut Frame,
     public: &mut Public,
     bank: &mut B,
-) -> Result<Next, Halt>
+) -> Result<Flow, Halt>
     requires going { (B.state bank.old).stopped ≡ false }
     requires fits { FitsBank (B.state bank.old) (B.named bank.old) frame.old }
     requires shaped { Shaped ins.now }
     requires row { IsNoPrimitive ins.now }
     ensures { RowActs B.did B.state B.named
-        (scene bank.old bank.new frame.old frame.new public.old public.new) ins.now alone result }
+        (scene bank.old bank.new frame.old frame.new public.old public.new) ins.now alone (flowing result) }
 {
     match *ins {
         Ins::Nop
@@ -47,52 +48,64 @@ pub fn step<B: Bank>(
         | Ins::Exit
         | Ins::Exitsw { .. }
         | Ins::Exitla { .. }
-        | Ins::Exitswla { .. } => registers(ins, frame, public, bank),
-        _ => match step_on(ins, frame, public, bank) {
-            Ok(()) => Ok(Next::Go),
+        | Ins::Exitswla { .. } => Ok(registers(ins, public)),
+        Ins::Branch { .. }
+        | Ins::Jump { .. }
+        | Ins::Call { .. }
+        | Ins::Ret
+        | Ins::Reti { .. }
+        | Ins::Reto { .. }
+        | Ins::Retio { .. }
+        | Ins::Pushz { .. }
+        | Ins::Pushb { .. }
+        | Ins::Pushw { .. }
+        | Ins::Popn { .. }
+        | Ins::Popb
+        | Ins::Popw
+        | Ins::Loada { .. }
+        | Ins::Index { .. } => match step_frame(ins, frame) {
+            Ok(()) => Ok(Flow::Go),
+            Err(abend) => Err(Halt::Abend(abend)),
+        },
+        _ => match step_operand(ins, frame, public, bank) {
+            Ok(()) => Ok(Flow::Go),
             Err(halt) => Err(halt),
         },
     }
 }
 
-// The rows that lead to the next instruction where they are done.
+// The rows that look at their frame alone.
 #[tactic(auto, unfolding(mc_model::specs::Row::row, mc_model::specs::Row::causes, mc_model::specs::Row::effect))]
 #[inline(always)]
-fn step_on<B: Bank>(
-    ins: &Ins,
-    frame: &mut Frame,
-    public: &mut Public,
-    bank: &mut B,
-) -> Result<(), Halt>
-    requires going { (B.state bank.old).stopped ≡ false }
-    requires fits { FitsBank (B.state bank.old) (B.named bank.old) frame.old }
+fn step_frame(ins: &Ins, frame: &mut Frame) -> Result<(), Abend>
     requires shaped { Shaped ins.now }
-    requires family { LeadsOn ins.now }
-    ensures { RowActs B.did B.state B.named
-        (scene bank.old bank.new frame.old frame.new public.old public.new) ins.now alone (onward result) }
+    requires family { IsFrameRow ins.now }
+    ensures { FrameActs ins.now frame.old frame.new result }
 {
     match *ins {
-        Ins::Branch { cond, d } => branch(cond, d, frame, public, bank),
-        Ins::Jump { cond, to } => jump(cond, to, frame, public, bank),
-        Ins::Call { cond, to } => call(cond, to, frame, public, bank),
-        Ins::Ret => return_with(0, 0, frame, public, bank),
-        Ins::Reti { i } => return_with(i, 0, frame, public, bank),
-        Ins::Reto { o } => return_with(0, o, frame, public, bank),
-        Ins::Retio { i, o } => return_with(i, o, frame, public, bank),
-        Ins::Pushz { n } => push_zeros(n, frame, public, bank),
-        Ins::Pushb { b } => push_byte(b, frame, public, bank),
-        Ins::Pushw { w } => push_word(w, frame, public, bank),
-        Ins::Popn { n } => pop_bytes(n, frame, public, bank),
-        Ins::Popb => pop_byte(frame, public, bank),
-        Ins::Popw => pop_word(frame, public, bank),
-        _ => step_tagged(ins, frame, public, bank),
+        Ins::Branch { cond, d } => branch(cond, d, frame),
+        Ins::Jump { cond, to } => jump(cond, to, frame),
+        Ins::Call { cond, to } => call(cond, to, frame),
+        Ins::Ret => return_with(0, 0, frame),
+        Ins::Reti { i } => return_with(i, 0, frame),
+        Ins::Reto { o } => return_with(0, o, frame),
+        Ins::Retio { i, o } => return_with(i, o, frame),
+        Ins::Pushz { n } => push_zeros(n, frame),
+        Ins::Pushb { b } => push_byte(b, frame),
+        Ins::Pushw { w } => push_word(w, frame),
+        Ins::Popn { n } => pop_bytes(n, frame),
+        Ins::Popb => pop_byte(frame),
+        Ins::Popw => pop_word(frame),
+        Ins::Loada { tag, off } => load_address(tag, off, frame),
+        Ins::Index { tag, off, size } => index(tag, off, size, frame),
+        _ => unreachable!(),
     }
 }
 
-// The rows that have an operand with an address tag: those of bytes and words, and then those of blocks.
+// The rows that read or write an operand with an address tag: those of blocks of n bytes, and then those of an immediate.
 #[tactic(auto, unfolding(mc_model::specs::Row::row, mc_model::specs::Row::causes, mc_model::specs::Row::effect))]
 #[inline(always)]
-fn step_tagged<B: Bank>(
+fn step_operand<B: Bank>(
     ins: &Ins,
     frame: &mut Frame,
     public: &mut Public,
@@ -101,7 +114,7 @@ fn step_tagged<B: Bank>(
     requires going { (B.state bank.old).stopped ≡ false }
     requires fits { FitsBank (B.state bank.old) (B.named bank.old) frame.old }
     requires shaped { Shaped ins.now }
-    requires family { IsTagged ins.now }
+    requires family { HasOperand ins.now }
     ensures { RowActs B.did B.state B.named
         (scene bank.old bank.new frame.old frame.new public.old public.new) ins.now alone (onward result) }
 {
@@ -110,53 +123,6 @@ fn step_tagged<B: Bank>(
         Ins::Store { tag, off, n } => store_block(tag, off, n, frame, public, bank),
         Ins::Loadi { tag, off, n } => load_indirect(tag, off, n, frame, public, bank),
         Ins::Storei { tag, off, n } => store_indirect(tag, off, n, frame, public, bank),
-        Ins::Loada { tag, off } => load_address(tag, off, frame, public, bank),
-        Ins::Index { tag, off, size } => index(tag, off, size, frame, public, bank),
-        Ins::Setb { tag, off, b } => set(tag, off, &[b], frame, public, bank),
-        Ins::Cmpb { tag, off, b } => compare_with(tag, off, &[b], frame, public, bank),
-        Ins::Addb { tag, off, b } => combine_with(Binary::Add, tag, off, &[b], frame, public, bank),
-        Ins::Subb { tag, off, b } => combine_with(Binary::Sub, tag, off, &[b], frame, public, bank),
-        Ins::Setw { tag, off, w } => set(tag, off, &word(w), frame, public, bank),
-        Ins::Cmpw { tag, off, w } => compare_with(tag, off, &word(w), frame, public, bank),
-        Ins::Addw { tag, off, w } => combine_with(
-            Binary::Add,
-            tag,
-            off,
-            &word(w),
-            frame,
-            public,
-            bank,
-        ),
-        Ins::Subw { tag, off, w } => combine_with(
-            Binary::Sub,
-            tag,
-            off,
-            &word(w),
-            frame,
-            public,
-            bank,
-        ),
-        _ => step_block(ins, frame, public, bank),
-    }
-}
-
-// The rows of blocks of n bytes.
-#[tactic(auto, unfolding(mc_model::specs::Row::row, mc_model::specs::Row::causes, mc_model::specs::Row::effect))]
-#[inline(always)]
-fn step_block<B: Bank>(
-    ins: &Ins,
-    frame: &mut Frame,
-    public: &mut Public,
-    bank: &mut B,
-) -> Result<(), Halt>
-    requires going { (B.state bank.old).stopped ≡ false }
-    requires fits { FitsBank (B.state bank.old) (B.named bank.old) frame.old }
-    requires shaped { Shaped ins.now }
-    requires family { IsBlockRow ins.now }
-    ensures { RowActs B.did B.state B.named
-        (scene bank.old bank.new frame.old frame.new public.old public.new) ins.now alone (onward result) }
-{
-    match *ins {
         Ins::Clearn { tag, off, n } => clear_block(tag, off, n, frame, public, bank),
         Ins::Testn { tag, off, n } => test_block(tag, off, n, frame, public, bank),
         Ins::Incn { tag, off, n } => change_block(Unary::Inc, tag, off, n, frame, public, bank),
@@ -168,6 +134,51 @@ fn step_block<B: Bank>(
         Ins::Andn { tag, off, n } => combine_pair(Binary::And, tag, off, n, frame, public, bank),
         Ins::Orn { tag, off, n } => combine_pair(Binary::Or, tag, off, n, frame, public, bank),
         Ins::Xorn { tag, off, n } => combine_pair(Binary::Xor, tag, off, n, frame, public, bank),
+        _ => step_immediate(ins, frame, public, bank),
+    }
+}
+
+// The rows of a byte or a word at a place against an immediate.
+#[tactic(auto, unfolding(mc_model::specs::Row::row, mc_model::specs::Row::causes, mc_model::specs::Row::effect))]
+#[inline(always)]
+fn step_immediate<B: Bank>(
+    ins: &Ins,
+    frame: &mut Frame,
+    public: &mut Public,
+    bank: &mut B,
+) -> Result<(), Halt>
+    requires going { (B.state bank.old).stopped ≡ false }
+    requires fits { FitsBank (B.state bank.old) (B.named bank.old) frame.old }
+    requires shaped { Shaped ins.now }
+    requires family { IsImmediate ins.now }
+    ensures { RowActs B.did B.state B.named
+        (scene bank.old bank.new frame.old frame.new public.old public.new) ins.now alone (onward result) }
+{
+    match *ins {
+        Ins::Setb { tag, off, b } => set(tag, off, &[b], frame, public, bank),
+        Ins::Cmpb { tag, off, b } => compare_with(tag, off, &[b], frame, public, bank),
+        Ins::Addb { tag, off, b } => combine_with(Binary::Add, tag, off, &[b], frame, public, bank),
+        Ins::Subb { tag, off, b } => combine_with(Binary::Sub, tag, off, &[b], frame, public, bank),
+        Ins::Setw { tag, off, w } => set(tag, off, &bytes_of(w), frame, public, bank),
+        Ins::Cmpw { tag, off, w } => compare_with(tag, off, &bytes_of(w), frame, public, bank),
+        Ins::Addw { tag, off, w } => combine_with(
+            Binary::Add,
+            tag,
+            off,
+            &bytes_of(w),
+            frame,
+            public,
+            bank,
+        ),
+        Ins::Subw { tag, off, w } => combine_with(
+            Binary::Sub,
+            tag,
+            off,
+            &bytes_of(w),
+            frame,
+            public,
+            bank,
+        ),
         _ => unreachable!(),
     }
 }

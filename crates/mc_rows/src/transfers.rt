@@ -4,11 +4,12 @@ ghost use Rattle.mc_model.specs.declared.instruction.Ins.TheVariants.{Load, Stor
 ghost use Rattle.mc_segs.specs.HeldFrames.{FitsBank, shown};
 ghost use Rattle.mc_segs.specs.Ends.{scene, RowActs};
 ghost use Rattle.mc_rows.specs.Rows.{alone, AddressUnder, onward};
+ghost use Rattle.mc_rows.specs.FrameRows.{FrameActs};
 
-use crate::bytes::word;
 use crate::operand::{indexed, need, on_stack, operand, place, read_address};
 use crate::operations::check_block;
 use mc_bank::Bank;
+use mc_base::bytes_of;
 use mc_segs::{Abend, Frame, Halt, Public, load, pop, push, store};
 
 /// LOAD: the n bytes of the operand are pushed.
@@ -116,43 +117,22 @@ pub fn store_indirect<B: Bank>(
 
 /// LOADA: the operand's address is pushed, with tag 0 that of the top of the stack.
 #[tactic(auto, unfolding(mc_model::specs::Row::row, mc_model::specs::Row::causes, mc_model::specs::Row::effect))]
-pub fn load_address<B: Bank>(
-    tag: u8,
-    off: i16,
-    frame: &mut Frame,
-    public: &mut Public,
-    bank: &mut B,
-) -> Result<(), Halt>
-    requires going { (B.state bank.old).stopped ≡ false }
-    requires fits { FitsBank (B.state bank.old) (B.named bank.old) frame.old }
-    requires tag { tag ≤ 7 }
-    ensures { RowActs B.did B.state B.named (scene bank.old bank.new frame.old frame.new public.old public.new)
-        (Loada tag off) alone (onward result) }
+pub fn load_address(tag: u8, off: i16, frame: &mut Frame) -> Result<(), Abend>
+    requires { tag ≤ 7 }
+    ensures { FrameActs (Loada tag off) frame.old frame.new result }
 {
     let at = operand(frame, tag, off, 0)?;
-    push(frame, &word(at))?;
-    Ok(())
+    push(frame, &bytes_of(at))
 }
 
 /// INDEX: the address of an element of a table is pushed; its number is popped, and with tag 0 the table's address too.
 #[tactic(auto, unfolding(mc_model::specs::Row::row, mc_model::specs::Row::causes, mc_model::specs::Row::effect))]
-pub fn index<B: Bank>(
-    tag: u8,
-    off: i16,
-    size: u8,
-    frame: &mut Frame,
-    public: &mut Public,
-    bank: &mut B,
-) -> Result<(), Halt>
-    requires going { (B.state bank.old).stopped ≡ false }
-    requires fits { FitsBank (B.state bank.old) (B.named bank.old) frame.old }
-    requires tag { tag ≤ 7 }
-    ensures { RowActs B.did B.state B.named (scene bank.old bank.new frame.old frame.new public.old public.new)
-        (Index tag off size) alone (onward result) }
+pub fn index(tag: u8, off: i16, size: u8, frame: &mut Frame) -> Result<(), Abend>
+    requires { tag ≤ 7 }
+    ensures { FrameActs (Index tag off size) frame.old frame.new result }
 {
     let at = indexed(frame, tag, off, size)?;
-    push(frame, &word(at))?;
-    Ok(())
+    push(frame, &bytes_of(at))
 }
 
 // The address to which STOREI writes n bytes from the top of the stack.

@@ -80,7 +80,7 @@ pub fn place_of(frame: &Frame, at: u16, len: usize) -> Option<Place>
 
 /// Reads the bytes at an address, which lie whole in a segment; static bytes as protection shows them. Abend 03 where they
 /// do not, and then nothing changes. An access of no bytes never abends.
-#[inline]
+#[inline(always)]
 pub fn load<B: Bank>(
     bank: &B,
     frame: &Frame,
@@ -108,7 +108,9 @@ pub fn load<B: Bank>(
     Ok(())
 }
 
-// Reads static bytes: those of the bank, and over them the pending words.
+// Reads static bytes: those of the bank, and over them the pending words. Apart from the other segments, whose bytes a row
+// copies in place.
+#[inline(never)]
 fn read_static<B: Bank>(bank: &B, frame: &Frame, at: u16, into: &mut [u8])
     requires going { (B.state bank.now).stopped ≡ false }
     requires fits { FitsBank (B.state bank.now) (B.named bank.now) frame.now }
@@ -138,7 +140,7 @@ fn overlay(bytes: &mut [u8], at: usize, place: usize, word: &[u8; 8])
 /// Writes 1 to 255 bytes at an address, where they lie whole in a segment. A static write is one commit of the words that
 /// it touches; while protection is on they go to the frame's pending words instead. Abend 03 where the bytes lie in no
 /// segment, 08 where more than 64 words would be pending, and then nothing changes.
-#[inline]
+#[inline(always)]
 pub fn store<B: Bank>(
     bank: &mut B,
     frame: &mut Frame,

@@ -29,13 +29,6 @@ pub fn move_bytes(bytes: &mut [u8], from: usize, len: usize, to: usize)
     bytes.copy_within(from..from + len, to);
 }
 
-/// The two bytes of a word.
-pub fn word(value: u16) -> [u8; 2]
-    ensures { result ≡ bytes2 value }
-{
-    [(value / 256) as u8, (value % 256) as u8]
-}
-
 /// The four bytes of two words.
 pub fn words(first: u16, second: u16) -> [u8; 4]
     ensures { result ≡ bytes2 first ++ bytes2 second }

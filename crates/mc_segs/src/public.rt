@@ -3,8 +3,9 @@ ghost use Rattle.mc_model.specs.Bytes.{zeros};
 ghost use Rattle.mc_model.specs.Frame.{new_public, with_la, with_sw};
 ghost use Rattle.mc_apdu.specs.Command.{parts_of};
 
-use crate::bytes::{word, words, write};
+use crate::bytes::{words, write};
 use mc_apdu::Apdu;
+use mc_base::bytes_of;
 use std::marker::Model;
 
 /// The public segment, which the applications of a chain share: the data of the command and of its reply, and in its
@@ -47,7 +48,7 @@ impl Public {
             &[apdu.cla, apdu.ins, apdu.p1, apdu.p2, apdu.p3],
         );
         write(&mut self.bytes, 1033, &words(lc, apdu.le.unwrap_or(0)));
-        write(&mut self.bytes, 1039, &word(0x9000));
+        write(&mut self.bytes, 1039, &bytes_of(0x9000));
     }
 
     /// The public segment of a command of ISO/IEC 7816-4 with at most 1,024 bytes of data, before its first instruction.
@@ -72,13 +73,13 @@ impl Public {
     pub fn set_sw(&mut self, sw: u16)
         ensures { self.new ≡ with_sw self.old sw }
     {
-        write(&mut self.bytes, 1039, &word(sw));
+        write(&mut self.bytes, 1039, &bytes_of(sw));
     }
 
     /// Sets La, the length of the reply's data, and nothing else.
     pub fn set_la(&mut self, la: u16)
         ensures { self.new ≡ with_la self.old la }
     {
-        write(&mut self.bytes, 1037, &word(la));
+        write(&mut self.bytes, 1037, &bytes_of(la));
     }
 }

@@ -3,6 +3,7 @@ use Rattle.mc_model.specs.Primitives.{Around}
 use Rattle.mc_model.specs.Row.{RowEnd}
 use Rattle.mc_segs.specs.HeldFrames.{shown}
 use Rattle.mc_segs.specs.Ends.{EndActs, scene}
+use Rattle.mc_rows.specs.Rows.{flowing}
 use Rattle.mc_rows.proofs.AloneLemmas.{row_alone}
 use Rattle.mc_machine.proofs.RowFacts.{no_primitive}
 use Rattle.mc_machine.proofs.lone.perform_lone.Goals as goal
@@ -10,8 +11,8 @@ use Rattle.mc_machine.proofs.lone.perform_lone.Goals as goal
 pub step-requires-clause-row : goal.step-requires-clause-row
 step-requires-clause-row g c = no_primitive c.args.ins.now c.in_default.not-Prim
 
-pub returns-in_default : goal.returns-in_default
-returns-in_default g c =
+pub returns-in_default-clause-acts : goal.returns-in_default-clause-acts
+returns-in_default-clause-acts g c =
     let did = g.B.Bank.did in
     let state = g.B.Bank.state in
     let named = g.B.Bank.named in
@@ -20,4 +21,10 @@ returns-in_default g c =
     let i = c.args.ins.now in
     let x : Around = record { case = c.args.case; delegator = None } in
     let sc = scene b c.step.new.bank now c.step.new.frame c.args.public.now c.step.new.public in
-    subst (λ (r : RowEnd). EndActs did state named sc r c.step.result) (sym (row_alone i (shown (state b) (named b) now) c.args.public.now x (no_primitive i c.in_default.not-Prim))) c.step.ensures
+    let o = flowing c.step.result in
+    record {
+      done = o;
+      acts = subst (λ (r : RowEnd). EndActs did state named sc r o) (sym (row_alone i (shown (state b) (named b) now) c.args.public.now x (no_primitive i c.in_default.not-Prim))) c.step.ensures;
+      value = c.after_row.ensures.value;
+      called = c.after_row.ensures.called c.args.callee.now;
+    }

@@ -1,5 +1,5 @@
 -- Each turn leads on, and each end is that of the whole run.
-use Rattle.std.proofs.Common.{◌≡◌, ℕ, List, ◌+◌, ◌-◌, ◌∙◌, Ok, refl, ap, subst, arith}
+use Rattle.std.proofs.Common.{ℕ, List, Option, ◌+◌, ◌-◌, ◌∙◌, Ok, refl, subst, arith}
 use Rattle.std.proofs.lemmas.Result.{err_from_is_err_and}
 use Rattle.mc_model.specs.Chain.{start, turn_of}
 use Rattle.mc_apdu.specs.Command.{parts_of}
@@ -8,6 +8,8 @@ use Rattle.mc_machine.specs.Chains.{Chained, RunsAs, ran_of}
 use Rattle.mc_machine.specs.Lone.{lone_chain, LoneDone, RanDone}
 use Rattle.mc_machine.specs.Turns.{placed}
 use Rattle.mc_machine.specs.declared.lone.Lone.{Lone}
+use Rattle.mc_machine.specs.declared.lone.Lone.TheVariants.{Delegates}
+use Rattle.mc_machine.proofs.LoneLemmas.{name_called}
 use Rattle.mc_machine.proofs.RunLemmas.{Underway, underway, end_goes, end_ends, delegated_ends, underway_stops, underway_most, underway_spent, something_left, lone_left}
 use Rattle.mc_machine.proofs.running.run_into.Goals as goal
 
@@ -59,6 +61,29 @@ lone_turn-requires-clause-fits g c =
     let here = lone_chain l.frame l.public case le left in
     u.runs.running.fits
 
+pub unwrap-aid-requires : goal.unwrap-aid-requires
+unwrap-aid-requires g c =
+    let did = g.B.Bank.did in
+    let state = g.B.Bank.state in
+    let named = g.B.Bank.named in
+    let start = c.args.bank.now in
+    let budget = c.args.budget in
+    let whole = ran_of (state start) (named start) c.args.first c.args.session.now c.args.apdu.now budget in
+    let ticks = c.args.steps.now in
+    let l = c.loop-turn in
+    let u = l.invariant.underway in
+    let case = c.case-case.result in
+    let le = c.unwrap_or-le.result in
+    let left = budget - l.turn in
+    let here = lone_chain l.frame l.public case le left in
+    let some = something_left budget l.turn c.loop-turn-test.true in
+    let e = c.lone_turn.new.bank in
+    let now = c.lone_turn.new.steps in
+    let after : ℕ → Chained = λ n. lone_chain c.lone_turn.new.frame c.lone_turn.new.public case le n in
+    let count = c.in_ok-lone_turn.ensures.ticks u.chain le left some u.runs in
+    let called = subst (λ (o : Lone). LoneDone did state named l.bank e here after u.chain (turn_of left u.chain) (Ok o) c.lone_turn.new.callee) c.in-Delegates.is (c.in_ok-lone_turn.ensures.done u.chain le left some u.runs) in
+    name_called did state named l.bank e here after u.chain (turn_of left u.chain) c.lone_turn.new.callee called
+
 pub run_chain-requires-clause-going : goal.run_chain-requires-clause-going
 run_chain-requires-clause-going g c =
     let did = g.B.Bank.did in
@@ -79,7 +104,8 @@ run_chain-requires-clause-going g c =
     let now = c.lone_turn.new.steps in
     let after : ℕ → Chained = λ n. lone_chain c.lone_turn.new.frame c.lone_turn.new.public case le n in
     let count = c.in_ok-lone_turn.ensures.ticks u.chain le left some u.runs in
-    let done = subst (λ (o : Lone). LoneDone did state named l.bank e here after u.chain (turn_of left u.chain) (Ok o)) c.in-Delegates.is (c.in_ok-lone_turn.ensures.done u.chain le left some u.runs) in
+    let called = subst (λ (o : Lone). LoneDone did state named l.bank e here after u.chain (turn_of left u.chain) (Ok o) c.lone_turn.new.callee) c.in-Delegates.is (c.in_ok-lone_turn.ensures.done u.chain le left some u.runs) in
+    let done = subst (λ (n : Option (List ℕ)). LoneDone did state named l.bank e here after u.chain (turn_of left u.chain) (Ok Delegates) n) c.unwrap-aid.ensures called in
     done.going
 
 pub run_chain-requires-clause-fits : goal.run_chain-requires-clause-fits
@@ -102,7 +128,8 @@ run_chain-requires-clause-fits g c =
     let now = c.lone_turn.new.steps in
     let after : ℕ → Chained = λ n. lone_chain c.lone_turn.new.frame c.lone_turn.new.public case le n in
     let count = c.in_ok-lone_turn.ensures.ticks u.chain le left some u.runs in
-    let done = subst (λ (o : Lone). LoneDone did state named l.bank e here after u.chain (turn_of left u.chain) (Ok o)) c.in-Delegates.is (c.in_ok-lone_turn.ensures.done u.chain le left some u.runs) in
+    let called = subst (λ (o : Lone). LoneDone did state named l.bank e here after u.chain (turn_of left u.chain) (Ok o) c.lone_turn.new.callee) c.in-Delegates.is (c.in_ok-lone_turn.ensures.done u.chain le left some u.runs) in
+    let done = subst (λ (n : Option (List ℕ)). LoneDone did state named l.bank e here after u.chain (turn_of left u.chain) (Ok Delegates) n) c.unwrap-aid.ensures called in
     (done.chain, done.runs)
 
 pub loop-turn-preserved : goal.loop-turn-preserved
@@ -125,7 +152,7 @@ loop-turn-preserved g c =
     let now = c.lone_turn.new.steps in
     let after : ℕ → Chained = λ n. lone_chain c.lone_turn.new.frame c.lone_turn.new.public case le n in
     let count = c.in_ok-lone_turn.ensures.ticks u.chain le left some u.runs in
-    let done = subst (λ (o : Lone). LoneDone did state named l.bank e here after u.chain (turn_of left u.chain) (Ok o)) c.in-Goes.is (c.in_ok-lone_turn.ensures.done u.chain le left some u.runs) in
+    let done = subst (λ (o : Lone). LoneDone did state named l.bank e here after u.chain (turn_of left u.chain) (Ok o) c.lone_turn.new.callee) c.in-Goes.is (c.in_ok-lone_turn.ensures.done u.chain le left some u.runs) in
     let v = end_goes did state named start whole ticks budget l.turn l.bank e here (after done.0) l.steps now u done.1 count in
     let total = v.left in
     record {
@@ -179,7 +206,7 @@ returns-in-Ends g c =
     let now = c.lone_turn.new.steps in
     let after : ℕ → Chained = λ n. lone_chain c.lone_turn.new.frame c.lone_turn.new.public case le n in
     let count = c.in_ok-lone_turn.ensures.ticks u.chain le left some u.runs in
-    let done = subst (λ (o : Lone). LoneDone did state named l.bank e here after u.chain (turn_of left u.chain) (Ok o)) c.in-Ends.is (c.in_ok-lone_turn.ensures.done u.chain le left some u.runs) in
+    let done = subst (λ (o : Lone). LoneDone did state named l.bank e here after u.chain (turn_of left u.chain) (Ok o) c.lone_turn.new.callee) c.in-Ends.is (c.in_ok-lone_turn.ensures.done u.chain le left some u.runs) in
     let f = end_ends did state named start whole ticks budget l.turn l.bank e here (after done.0) l.steps now u c.in-Ends.end done.1 count in
     record { writes = f.writes; going = f.going; count = f.count; session = c.keep_session.ensures ∙ f.session; outcome = c.put_end.ensures ∙ f.outcome }
 
@@ -203,9 +230,10 @@ returns-in-Delegates g c =
     let now = c.lone_turn.new.steps in
     let after : ℕ → Chained = λ n. lone_chain c.lone_turn.new.frame c.lone_turn.new.public case le n in
     let count = c.in_ok-lone_turn.ensures.ticks u.chain le left some u.runs in
-    let done = subst (λ (o : Lone). LoneDone did state named l.bank e here after u.chain (turn_of left u.chain) (Ok o)) c.in-Delegates.is (c.in_ok-lone_turn.ensures.done u.chain le left some u.runs) in
+    let called = subst (λ (o : Lone). LoneDone did state named l.bank e here after u.chain (turn_of left u.chain) (Ok o) c.lone_turn.new.callee) c.in-Delegates.is (c.in_ok-lone_turn.ensures.done u.chain le left some u.runs) in
+    let done = subst (λ (n : Option (List ℕ)). LoneDone did state named l.bank e here after u.chain (turn_of left u.chain) (Ok Delegates) n) c.unwrap-aid.ensures called in
     subst (λ (x : List ℕ). RanDone did state start c.run_chain.new.bank x c.run_chain.new.session ticks c.run_chain.new.steps whole (placed c.run_chain.result c.run_chain.new.reply)) l.invariant.session
-    (delegated_ends did state named start whole ticks budget l.turn l.bank e here (after (left - 1)) l.steps now u c.in-Delegates.aid done count c.run_chain.new.bank l.session c.run_chain.new.session c.run_chain.new.steps (placed c.run_chain.result c.run_chain.new.reply) (c.run_chain.ensures done.chain done.runs))
+    (delegated_ends did state named start whole ticks budget l.turn l.bank e here (after (left - 1)) l.steps now u c.unwrap-aid.result done count c.run_chain.new.bank l.session c.run_chain.new.session c.run_chain.new.steps (placed c.run_chain.result c.run_chain.new.reply) (c.run_chain.ensures done.chain done.runs))
 
 pub returns : goal.returns
 returns g c =

@@ -1,0 +1,59 @@
+-- Rows that look at their frame alone, on a bank.
+use Rattle.std.proofs.Common.{◌≡◌, ℕ, false, List, Option, Result, Ok, Err, refl, sym, ap, subst, ◌∙◌, length}
+use Rattle.std.specs.Prelude.{IsSome}
+use Rattle.mc_model.specs.declared.instruction.Ins.{Ins}
+use Rattle.mc_model.specs.declared.machine.Abend.{Abend}
+use Rattle.mc_model.specs.Orders.{Answer}
+use Rattle.mc_model.specs.Items.{BankItem}
+use Rattle.mc_model.specs.Bytes.{lookup}
+use Rattle.mc_model.specs.Primitives.{Done, going, framed}
+use Rattle.mc_model.specs.Row.{RowEnd, Abends, Does, row}
+use Rattle.mc_bank.specs.Bank.{BankState, app_of, name_or}
+use Rattle.mc_segs.specs.HeldFrames.{Held, FitsBank, app_under, seen, shown}
+use Rattle.mc_segs.specs.Ends.{EndActs, EffectDone, RowActs, scene}
+use Rattle.mc_segs.specs.declared.ends.Next.TheVariants.{Go}
+use Rattle.mc_rows.specs.Rows.{alone, flowing}
+use Rattle.mc_rows.specs.FrameRows.{on_app, AreOfOneApp, FrameEnds, FrameActs, framing}
+
+module _ {B : Type 0} (did : B → BankItem → Answer → B → Type 0) (state : B → BankState) (named : B → ℕ → Option (List ℕ)) where
+  -- a frame fits a bank where one for the same application does
+  fits_still : (b : B) (h k : Held) → FitsBank (state b) (named b) h → AreOfOneApp h k → FitsBank (state b) (named b) k
+  fits_still b h k fits same =
+      record {
+        there = subst (λ (n : ℕ). IsSome (named b n)) (sym same.slot) fits.there;
+        app = subst (λ (n : ℕ). IsSome (lookup (state b).apps (name_or (named b n)))) (sym same.slot) fits.app;
+        code = same.code_len ∙ fits.code ∙ ap (λ (n : ℕ). length (app_of (state b).apps (named b n)).code) (sym same.slot);
+        fixed = ap length same.fixed ∙ fits.fixed ∙ ap (λ (n : ℕ). length (app_of (state b).apps (named b n)).fixed) (sym same.slot);
+        deny = same.deny ∙ fits.deny ∙ ap (λ (n : ℕ). (app_of (state b).apps (named b n)).deny) (sym same.slot);
+        session = same.session ∙ fits.session ∙ ap (λ (n : ℕ). (app_of (state b).apps (named b n)).session) (sym same.slot);
+      }
+
+  -- a change of the frame alone leaves the bank as it was
+  left_alone : (b : B) (h k : Held) (public : List ℕ) → (state b).stopped ≡ false → FitsBank (state b) (named b) h → AreOfOneApp h k
+      → EffectDone did state named (scene b b h k public public) (framed (on_app k (name_or (named b h.slot)) (app_under (state b) (named b) h).fixed) public)
+  left_alone b h k public going fits same =
+      record {
+        commits = refl;
+        bytes = ap (λ (n : ℕ). (app_of (state b).apps (named b n)).fixed) same.slot;
+        frame = ap (λ (n : ℕ). seen (on_app k (name_or (named b n)) (app_of (state b).apps (named b n)).fixed)) same.slot;
+        public = refl;
+        slot = same.slot;
+        fits = fits_still b h k fits same;
+        going = going;
+      }
+
+  frame_ends : (b : B) (h k : Held) (public : List ℕ) (r : RowEnd) (o : Result (Unit {0}) Abend) → (state b).stopped ≡ false → FitsBank (state b) (named b) h
+      → FrameEnds h k (name_or (named b h.slot)) (app_under (state b) (named b) h).fixed public r o → EndActs did state named (scene b b h k public public) r (flowing (framing o))
+  frame_ends b h k public (Abends a) (Ok u) going fits ends = absurd ends
+  frame_ends b h k public (Abends a) (Err c) going fits ends = (ends.0, record { bank = refl; public = refl; dyn = ends.1; session = ends.2 })
+  frame_ends b h k public (Does d) (Ok u) going fits ends =
+      subst (λ (x : Done). EndActs did state named (scene b b h k public public) (Does x) (Ok Go)) (sym ends.0) (refl, left_alone b h k public going fits ends.1)
+  frame_ends b h k public (Does d) (Err c) going fits ends = absurd ends
+
+  -- a row that looks at its frame alone acts on every bank that the frame fits
+  pub frame_acts : (i : Ins) (b : B) (h k : Held) (public : List ℕ) (o : Result (Unit {0}) Abend) → (state b).stopped ≡ false → FitsBank (state b) (named b) h
+      → FrameActs i h k o → RowActs did state named (scene b b h k public public) i alone (flowing (framing o))
+  frame_acts i b h k public o going fits acts =
+      let name = name_or (named b h.slot) in
+      let fixed = (app_under (state b) (named b) h).fixed in
+      frame_ends b h k public (row i (shown (state b) (named b) h) public alone) o going fits (acts name fixed public (sym fits.fixed))

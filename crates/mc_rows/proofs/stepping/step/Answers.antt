@@ -1,0 +1,12 @@
+-- A row that looks at its frame alone acts on the bank.
+use Rattle.std.proofs.Common.{Ok, Err}
+use Rattle.mc_rows.proofs.FrameLemmas.{frame_acts}
+use Rattle.mc_rows.proofs.stepping.step.Goals as goal
+
+pub returns-in-Ok : goal.returns-in-Ok
+returns-in-Ok g c =
+    frame_acts g.B.Bank.did g.B.Bank.state g.B.Bank.named c.args.ins.now c.args.bank.now c.args.frame.now c.step_frame.new.frame c.args.public.now (Ok tt) c.requires.going c.requires.fits c.in-Ok.ensures
+
+pub returns-in-Err : goal.returns-in-Err
+returns-in-Err g c =
+    frame_acts g.B.Bank.did g.B.Bank.state g.B.Bank.named c.args.ins.now c.args.bank.now c.args.frame.now c.step_frame.new.frame c.args.public.now (Err c.in-Err.abend) c.requires.going c.requires.fits c.in-Err.ensures
