@@ -11,6 +11,7 @@ use Rattle.mc_model.specs.DeckGrammar.{DeckLine}
 use Rattle.mc_model.specs.DeckGrammar as line
 use Rattle.mc_model.specs.Laws.{bytes_of}
 use Rattle.mc_model.specs.Play.{WornAt, Live, Running, Unpowered, Muted, Base, OnCard, AtFault, Warm, State, Cold, Hot, Step, Command, Armed, command, managed, passed, by_route, is_done, send, sent_on, line_command, card_line, hot_step, cold_step, step, select_bytes, delete_bytes}
+use Rattle.mc_model.proofs.PlayLemmas.{step_is}
 use Rattle.mc_check.specs.Turns.{turns_on, turns_from, turns_passed, turns_routed, turns_behind, turns_sent, turns_taken, turns_in, turns_with, bare}
 
 -- ---- runs
@@ -78,55 +79,31 @@ line_told c seat budget (line.Apdu b) = one_told c seat budget b
 line_told c seat budget (line.Load u fixed session) = sent_told c seat budget (bytes_of (line.Load u fixed session))
 line_told c seat budget _ = refl
 
--- a line tells the turns of its runs, and has the state and the line that it was played in and by
-record LineTells (s : State) (l : DeckLine) (t : Step) : Type 0 where
-  before : t.before ≡ s
-  line : t.line ≡ l
-  turns : bare (turns_in s (bytes_of l)) ≡ t.turns
-
 none_taken : (v : Live) (b : Base) (budget : ℕ) → bare (turns_taken v b budget []) ≡ []
 none_taken (Running seat) (OnCard c) budget = refl
 none_taken (Running seat) (AtFault cause p) budget = refl
 none_taken Unpowered b budget = refl
 none_taken Muted b budget = refl
 
--- the same of a line that is played by what runs
-record TellsOn (n : ℕ) (l : DeckLine) (s : Warm) (v : Live) (b : Base) (w : Option WornAt) : Type 0 where
-  before : (card_line n l s v b w).before ≡ Hot s
-  line : (card_line n l s v b w).line ≡ l
-  turns : bare (turns_taken v b s.budget (bytes_of l)) ≡ (card_line n l s v b w).turns
+-- a line that is played by what runs
+card_told : (n : ℕ) (l : DeckLine) (s : Warm) (v : Live) (b : Base) (w : Option WornAt) → bare (turns_taken v b s.budget (bytes_of l)) ≡ (card_line n l s v b w).turns
+card_told n l s (Running seat) (OnCard c) w = line_told c seat s.budget l
+card_told n l s (Running seat) (AtFault cause p) w = refl
+card_told n l s Unpowered b w = refl
+card_told n l s Muted b w = refl
 
-card_told : (n : ℕ) (l : DeckLine) (s : Warm) (v : Live) (b : Base) (w : Option WornAt) → TellsOn n l s v b w
-card_told n l s (Running seat) (OnCard c) w = record { before = refl; line = refl; turns = line_told c seat s.budget l }
-card_told n l s (Running seat) (AtFault cause p) w = record { before = refl; line = refl; turns = refl }
-card_told n l s Unpowered b w = record { before = refl; line = refl; turns = refl }
-card_told n l s Muted b w = record { before = refl; line = refl; turns = refl }
+hot_told : (n : ℕ) (l : DeckLine) (s : Warm) (w : Option WornAt) → bare (turns_in (Hot s) (bytes_of l)) ≡ (hot_step n l s w).turns
+hot_told n (line.Load u fixed session) s w = card_told n (line.Load u fixed session) s s.live s.base w
+hot_told n (line.Select a) s w = card_told n (line.Select a) s s.live s.base w
+hot_told n (line.Delete a) s w = card_told n (line.Delete a) s s.live s.base w
+hot_told n (line.Apdu b) s w = card_told n (line.Apdu b) s s.live s.base w
+hot_told n _ s w = none_taken s.live s.base s.budget
 
-on_card : (n : ℕ) (l : DeckLine) (s : Warm) (w : Option WornAt) → LineTells (Hot s) l (card_line n l s s.live s.base w)
-on_card n l s w = let told = card_told n l s s.live s.base w in record { before = told.before; line = told.line; turns = told.turns }
+cold_told : (n : ℕ) (l : DeckLine) (m : List (List ℕ)) (b : ℕ) (a : Armed) (w : Option WornAt) → bare (turns_in (Cold m b a) (bytes_of l)) ≡ (cold_step n l m b a w).turns
+cold_told n line.Format m b a w = refl
+cold_told n _ m b a w = refl
 
-hot_told : (n : ℕ) (l : DeckLine) (s : Warm) (w : Option WornAt) → LineTells (Hot s) l (hot_step n l s w)
-hot_told n (line.Load u fixed session) s w = on_card n (line.Load u fixed session) s w
-hot_told n (line.Select a) s w = on_card n (line.Select a) s w
-hot_told n (line.Delete a) s w = on_card n (line.Delete a) s w
-hot_told n (line.Apdu b) s w = on_card n (line.Apdu b) s w
-hot_told n _ s w = record { before = refl; line = refl; turns = none_taken s.live s.base s.budget }
-
-cold_told : (n : ℕ) (l : DeckLine) (m : List (List ℕ)) (b : ℕ) (a : Armed) (w : Option WornAt) → LineTells (Cold m b a) l (cold_step n l m b a w)
-cold_told n line.Format m b a w = record { before = refl; line = refl; turns = refl }
-cold_told n (line.Poke at x) m b a w = record { before = refl; line = refl; turns = refl }
-cold_told n line.Named m b a w = record { before = refl; line = refl; turns = refl }
-cold_told n (line.Budget c) m b a w = record { before = refl; line = refl; turns = refl }
-cold_told n (line.Cut k x) m b a w = record { before = refl; line = refl; turns = refl }
-cold_told n (line.Fail k) m b a w = record { before = refl; line = refl; turns = refl }
-cold_told n (line.Dump x) m b a w = record { before = refl; line = refl; turns = refl }
-cold_told n line.Power m b a w = record { before = refl; line = refl; turns = refl }
-cold_told n (line.Load u fixed session) m b a w = record { before = refl; line = refl; turns = refl }
-cold_told n (line.Select x) m b a w = record { before = refl; line = refl; turns = refl }
-cold_told n (line.Delete x) m b a w = record { before = refl; line = refl; turns = refl }
-cold_told n (line.Apdu x) m b a w = record { before = refl; line = refl; turns = refl }
-
-step_told : (s : State) (l : ℕ × DeckLine) (w : Option WornAt) → LineTells s l.1 (step s l w)
+step_told : (s : State) (l : ℕ × DeckLine) (w : Option WornAt) → bare (turns_in s (bytes_of l.1)) ≡ (step s l w).turns
 unfolding step
 step_told (Cold m b a) l w = cold_told l.0 l.1 m b a w
 step_told (Hot s) l w = hot_told l.0 l.1 s w
@@ -135,5 +112,5 @@ step_told (Hot s) l w = hot_told l.0 l.1 s w
 pub line_tells : (s : State) (l : ℕ × DeckLine) (w : Option WornAt) → bare (turns_with (step s l w)) ≡ (step s l w).turns
 line_tells s l w =
     let t = step s l w in
-    let told = step_told s l w in
-    subst (λ (z : State). bare (turns_in z (bytes_of t.line)) ≡ t.turns) (sym told.before) (subst (λ (k : DeckLine). bare (turns_in s (bytes_of k)) ≡ t.turns) (sym told.line) told.turns)
+    let is = step_is s l w in
+    subst (λ (z : State). bare (turns_in z (bytes_of t.line)) ≡ t.turns) (sym is.before) (subst (λ (k : DeckLine). bare (turns_in s (bytes_of k)) ≡ t.turns) (sym is.line) (step_told s l w))

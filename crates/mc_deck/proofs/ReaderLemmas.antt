@@ -24,18 +24,7 @@ use Rattle.mc_deck.proofs.LineLemmas.{unit_front, one_longer}
 more_fields : (c : Context) (n : ℕ) (w : Word) (a b d e : List ℕ) (ts us : List (List ℕ)) → stated c n w (a ∷ b ∷ d ∷ e ∷ ts) ≡ stated c n w (a ∷ b ∷ d ∷ e ∷ us)
 unfolding stated
 more_fields c n FormatWord a b d e ts us = refl
-more_fields c n PowerWord a b d e ts us = refl
-more_fields c n UnitWord a b d e ts us = refl
-more_fields c n AppWord a b d e ts us = refl
-more_fields c n LoadWord a b d e ts us = refl
-more_fields c n SelectWord a b d e ts us = refl
-more_fields c n DeleteWord a b d e ts us = refl
-more_fields c n DumpWord a b d e ts us = refl
-more_fields c n ApduWord a b d e ts us = refl
-more_fields c n BudgetWord a b d e ts us = refl
-more_fields c n CutWord a b d e ts us = refl
-more_fields c n FailWord a b d e ts us = refl
-more_fields c n PokeWord a b d e ts us = refl
+more_fields c n _ a b d e ts us = refl
 
 four_fields : (c : Context) (n : ℕ) (w : Word) (ts : List (List ℕ)) → stated c n w (take 4 ts) ≡ stated c n w ts
 four_fields c n w [] = refl
@@ -92,60 +81,20 @@ good_said us p OwnedLine.Format r h a = tt
 good_said us p OwnedLine.Power r h a = tt
 good_said us p OwnedLine.Named r h a = tt
 good_said us p (OwnedLine.Load i fixed session) r h a = (unit_good us i h a, r.0, r.1)
-good_said us p (OwnedLine.Select b) r h a = r
-good_said us p (OwnedLine.Delete b) r h a = r
-good_said us p (OwnedLine.Dump b) r h a = r
-good_said us p (OwnedLine.Short b) r h a = r
-good_said us p (OwnedLine.Apdu b) r h a = r
-good_said us p (OwnedLine.Budget n) r h a = r
-good_said us p (OwnedLine.Cut k fill) r h a = r
-good_said us p (OwnedLine.Fail k) r h a = r
-good_said us p (OwnedLine.Poke at fill) r h a = r
+good_said us p _ r h a = r
 
 timely_said : (us : List OwnedUnit) (n : ℕ) (p : Bool) (l : OwnedLine) → LineInRange n p l → Timely p (said us l)
 timely_said us n p OwnedLine.Format h = h
-timely_said us n p OwnedLine.Power h = tt
-timely_said us n p OwnedLine.Named h = tt
-timely_said us n p (OwnedLine.Load i fixed session) h = tt
-timely_said us n p (OwnedLine.Select b) h = tt
-timely_said us n p (OwnedLine.Delete b) h = tt
-timely_said us n p (OwnedLine.Dump b) h = tt
-timely_said us n p (OwnedLine.Short b) h = tt
-timely_said us n p (OwnedLine.Apdu b) h = tt
-timely_said us n p (OwnedLine.Budget m) h = tt
-timely_said us n p (OwnedLine.Cut k fill) h = tt
-timely_said us n p (OwnedLine.Fail k) h = tt
 timely_said us n p (OwnedLine.Poke at fill) h = h
+timely_said us n p _ h = tt
 
 power_said : (us : List OwnedUnit) (n : ℕ) (p : Bool) (l : OwnedLine) → LineInRange n p l → powered_by p (said us l) ≡ p
-power_said us n p OwnedLine.Format h = refl
 power_said us n p OwnedLine.Power h = absurd h
-power_said us n p OwnedLine.Named h = refl
-power_said us n p (OwnedLine.Load i fixed session) h = refl
-power_said us n p (OwnedLine.Select b) h = refl
-power_said us n p (OwnedLine.Delete b) h = refl
-power_said us n p (OwnedLine.Dump b) h = refl
-power_said us n p (OwnedLine.Short b) h = refl
-power_said us n p (OwnedLine.Apdu b) h = refl
-power_said us n p (OwnedLine.Budget m) h = refl
-power_said us n p (OwnedLine.Cut k fill) h = refl
-power_said us n p (OwnedLine.Fail k) h = refl
-power_said us n p (OwnedLine.Poke at fill) h = refl
+power_said us n p _ h = refl
 
 inside_said : (n : ℕ) (p : Bool) (l : OwnedLine) → LineInRange n p l → UnitWithin n l
-inside_said n p OwnedLine.Format h = tt
-inside_said n p OwnedLine.Power h = tt
-inside_said n p OwnedLine.Named h = tt
 inside_said n p (OwnedLine.Load i fixed session) h = h
-inside_said n p (OwnedLine.Select b) h = tt
-inside_said n p (OwnedLine.Delete b) h = tt
-inside_said n p (OwnedLine.Dump b) h = tt
-inside_said n p (OwnedLine.Short b) h = tt
-inside_said n p (OwnedLine.Apdu b) h = tt
-inside_said n p (OwnedLine.Budget m) h = tt
-inside_said n p (OwnedLine.Cut k fill) h = tt
-inside_said n p (OwnedLine.Fail k) h = tt
-inside_said n p (OwnedLine.Poke at fill) h = tt
+inside_said n p _ h = tt
 
 -- a line that a statement says, behind others
 pub stands_line : (m : BTreeMap (Bor (List ℕ)) ℕ) (us : List OwnedUnit) (p : Bool) (ls ks : List (ℕ × OwnedLine)) (c : Context) (n : ℕ) (l : OwnedLine) → ks ≡ ls ++ (n, l) ∷ [] → Ranged l → LineInRange (length us) p l
@@ -174,38 +123,16 @@ stands_power m us p ls ks c n e s = rw e (record {
 -- ---- one more unit
 
 said_grow : (us : List OwnedUnit) (u : OwnedUnit) (l : OwnedLine) → UnitWithin (length us) l → said (us ++ u ∷ []) l ≡ said us l
-said_grow us u OwnedLine.Format h = refl
-said_grow us u OwnedLine.Power h = refl
-said_grow us u OwnedLine.Named h = refl
 said_grow us u (OwnedLine.Load i fixed session) h = ap (λ v. DeckGrammar.Load v fixed session) (unit_front us u i h)
-said_grow us u (OwnedLine.Select b) h = refl
-said_grow us u (OwnedLine.Delete b) h = refl
-said_grow us u (OwnedLine.Dump b) h = refl
-said_grow us u (OwnedLine.Short b) h = refl
-said_grow us u (OwnedLine.Apdu b) h = refl
-said_grow us u (OwnedLine.Budget n) h = refl
-said_grow us u (OwnedLine.Cut k fill) h = refl
-said_grow us u (OwnedLine.Fail k) h = refl
-said_grow us u (OwnedLine.Poke at fill) h = refl
+said_grow us u _ h = refl
 
 lines_grow : (us : List OwnedUnit) (u : OwnedUnit) (ls : List (ℕ × OwnedLine)) → AllByRecursion (λ l. UnitWithin (length us) l.1) ls → said_lines (us ++ u ∷ []) ls ≡ said_lines us ls
 lines_grow us u [] a = refl
 lines_grow us u (l ∷ ls) a = rw (said_grow us u l.1 a.0, lines_grow us u ls a.1) refl
 
 inside_more : (n : ℕ) (l : OwnedLine) → UnitWithin n l → UnitWithin (suc n) l
-inside_more n OwnedLine.Format h = tt
-inside_more n OwnedLine.Power h = tt
-inside_more n OwnedLine.Named h = tt
 inside_more n (OwnedLine.Load i fixed session) h = omega (arith, h)
-inside_more n (OwnedLine.Select b) h = tt
-inside_more n (OwnedLine.Delete b) h = tt
-inside_more n (OwnedLine.Dump b) h = tt
-inside_more n (OwnedLine.Short b) h = tt
-inside_more n (OwnedLine.Apdu b) h = tt
-inside_more n (OwnedLine.Budget m) h = tt
-inside_more n (OwnedLine.Cut k fill) h = tt
-inside_more n (OwnedLine.Fail k) h = tt
-inside_more n (OwnedLine.Poke at fill) h = tt
+inside_more n _ h = tt
 
 all_inside_more : (n : ℕ) (ls : List (ℕ × OwnedLine)) → AllByRecursion (λ l. UnitWithin n l.1) ls → AllByRecursion (λ (l : ℕ × OwnedLine). UnitWithin (suc n) l.1) ls
 all_inside_more n [] a = tt

@@ -21,7 +21,8 @@ use Rattle.mc_family.specs.ReadDecks.{ReadLinesLaw, ReadDecksLaw}
 use Rattle.mc_family.proofs.AscendingMaps.{each-found}
 use Rattle.mc_family.proofs.AssembledBytes.{bind-ok, as-ok, err-ok, only-ok, cond-ok, any-ok, assembled-ok}
 use Rattle.mc_family.proofs.UnitBytes.{UnitBytes, unit-ok}
-use Rattle.mc_family.proofs.FewLines.{step-says, few_words}
+use Rattle.mc_model.proofs.PlayLemmas.{step_is}
+use Rattle.mc_family.proofs.FewLines.{few_words}
 use Rattle.mc_family.proofs.ReadyLines.{ready_again}
 
 -- ---- fields
@@ -280,7 +281,7 @@ played-lines : (n : ℕ) (z : State) (ls : List (ℕ × DeckLine)) (ws : List (O
 unfolding plays
 played-lines zero z ls ws h = tt
 played-lines (suc n) z [] ws h = tt
-played-lines (suc n) z (l ∷ ls) ws h = (subst IsLine (sym (step-says z l (first_worn ws))) h.0, played-lines n (step z l (first_worn ws)).after ls (drop 1 ws) h.1)
+played-lines (suc n) z (l ∷ ls) ws h = (subst IsLine (sym (step_is z l (first_worn ws)).line) h.0, played-lines n (step z l (first_worn ws)).after ls (drop 1 ws) h.1)
 
 -- of lines that are bytes, whether they were read or not
 pub played_bytes : (z : State) (ls : List (ℕ × DeckLine)) (ws : List (Option WornAt)) → AllByRecursion (λ l. IsLine l.1) ls → AreLines (plays z ls ws)

@@ -86,17 +86,7 @@ module _ (K : List (List ℕ)) where
   not_seen false = refl
 
   cold-line : (n : ℕ) (l : DeckLine) (m : List (List ℕ)) (b : ℕ) (a : Armed) (w : Option WornAt) → GivesNoEvent (cold_step n l m b a w) ⊎ First (cold_step n l m b a w)
-  cold-line n line.Format m b a w = inl (record { power = refl; none = refl; seen = refl; own = refl; cold = tt })
-  cold-line n (line.Poke at x) m b a w = inl (record { power = refl; none = refl; seen = refl; own = refl; cold = tt })
-  cold-line n line.Named m b a w = inl (record { power = refl; none = refl; seen = refl; own = refl; cold = tt })
-  cold-line n (line.Budget c) m b a w = inl (record { power = refl; none = refl; seen = refl; own = refl; cold = tt })
-  cold-line n (line.Cut k x) m b a w = inl (record { power = refl; none = refl; seen = refl; own = refl; cold = tt })
-  cold-line n (line.Fail k) m b a w = inl (record { power = refl; none = refl; seen = refl; own = refl; cold = tt })
   cold-line n (line.Dump x) m b a w = inl (record { power = refl; none = no_dump (has_name x K) x; seen = not_seen (has_name x K); own = refl; cold = tt })
-  cold-line n (line.Load u fixed session) m b a w = inl (record { power = refl; none = refl; seen = refl; own = refl; cold = tt })
-  cold-line n (line.Select x) m b a w = inl (record { power = refl; none = refl; seen = refl; own = refl; cold = tt })
-  cold-line n (line.Delete x) m b a w = inl (record { power = refl; none = refl; seen = refl; own = refl; cold = tt })
-  cold-line n (line.Apdu x) m b a w = inl (record { power = refl; none = refl; seen = refl; own = refl; cold = tt })
   cold-line n line.Power m b a w =
       let s = warmed m b a in
       let st = hit_of a (power_moves s) w in
@@ -105,6 +95,7 @@ module _ (K : List (List ℕ)) where
         power = refl;
         kept = λ t h. power-keeps K t n (Cold m b a) s st refl (subst (λ (z : List (List ℕ × App)). MapsAgree K true z t.map) p.map h);
       })
+  cold-line n _ m b a w = inl (record { power = refl; none = refl; seen = refl; own = refl; cold = tt })
 
   cold-step : (s : State) (l : ℕ × DeckLine) (w : Option WornAt) → IsCold s → GivesNoEvent (step s l w) ⊎ First (step s l w)
   unfolding step

@@ -20,6 +20,7 @@ use Rattle.mc_model.specs.Play.{Armed, Live, Running, Unpowered, Muted, Base, On
 use Rattle.mc_model.specs.ReadyAgain.{FitsJournal, AllFitJournal, IsLine, AreLines}
 use Rattle.mc_model.proofs.ImageLemmas.{all-append}
 use Rattle.mc_model.proofs.LookLemmas.{IsFull}
+use Rattle.mc_model.proofs.PlayLemmas.{step_is}
 use Rattle.mc_model.proofs.ImageBytes.{image-set, shut-full}
 use Rattle.mc_family.proofs.CardFacts.{all-take, all-drop, AreOnCard, done-stands, whole-stand, means-on-card}
 use Rattle.mc_family.proofs.FewItems.{IsSent, SeatStands, CommandStands, command-stands, send-stands}
@@ -72,14 +73,7 @@ line-stands c seat budget (line.Delete n) is limited fits on h = command-stands 
 line-stands c seat budget (line.Apdu b) is limited fits on h = command-stands c seat b budget (all-drop (λ x. x < 256) 5 b is) limited on h
 line-stands c seat budget (line.Load u fixed session) is limited fits on h =
     send-stands c seat budget (load_commands u fixed session) (load-sent u fixed session is.0 is.1 is.2 is.3) limited fits on h
-line-stands c seat budget line.Format is limited fits on h = record { few = tt; items = tt; seat = h }
-line-stands c seat budget line.Power is limited fits on h = record { few = tt; items = tt; seat = h }
-line-stands c seat budget line.Named is limited fits on h = record { few = tt; items = tt; seat = h }
-line-stands c seat budget (line.Dump n) is limited fits on h = record { few = tt; items = tt; seat = h }
-line-stands c seat budget (line.Budget n) is limited fits on h = record { few = tt; items = tt; seat = h }
-line-stands c seat budget (line.Cut k x) is limited fits on h = record { few = tt; items = tt; seat = h }
-line-stands c seat budget (line.Fail k) is limited fits on h = record { few = tt; items = tt; seat = h }
-line-stands c seat budget (line.Poke at x) is limited fits on h = record { few = tt; items = tt; seat = h }
+line-stands c seat budget _ is limited fits on h = record { few = tt; items = tt; seat = h }
 
 -- ---- words that are set
 
@@ -172,18 +166,12 @@ card-stands n l b o j Unpowered g a w is f h = record { few = tt; next = h }
 card-stands n l b o j Muted g a w is f h = record { few = tt; next = h }
 
 hot-stands : (n : ℕ) (l : DeckLine) (s : Warm) (w : Option WornAt) → IsLine l → BaseFits s.base s.live → BaseStands s.base s.live → LineStands (hot_step n l s w)
-hot-stands n line.Format s w is f h = record { few = tt; next = h }
-hot-stands n (line.Poke at x) s w is f h = record { few = tt; next = h }
-hot-stands n line.Named s w is f h = record { few = tt; next = h }
-hot-stands n (line.Budget b) s w is f h = record { few = tt; next = h }
-hot-stands n (line.Cut k x) s w is f h = record { few = tt; next = h }
-hot-stands n (line.Fail k) s w is f h = record { few = tt; next = h }
-hot-stands n (line.Dump x) s w is f h = record { few = tt; next = h }
 hot-stands n line.Power s w is f h = record { few = tt; next = power-stands s (hit_of s.armed (power_moves s) w) (base-on-card s.base s.live h) }
 hot-stands n (line.Load u fixed session) s w is f h = card-stands n (line.Load u fixed session) s.base s.owed s.by s.live s.budget s.armed w is f h
 hot-stands n (line.Select x) s w is f h = card-stands n (line.Select x) s.base s.owed s.by s.live s.budget s.armed w is f h
 hot-stands n (line.Delete x) s w is f h = card-stands n (line.Delete x) s.base s.owed s.by s.live s.budget s.armed w is f h
 hot-stands n (line.Apdu x) s w is f h = card-stands n (line.Apdu x) s.base s.owed s.by s.live s.budget s.armed w is f h
+hot-stands n _ s w is f h = record { few = tt; next = h }
 
 -- ---- lines up to the first power line
 
@@ -198,16 +186,8 @@ warmed-stands m b a image = found-stands m (fault m) image refl
 cold-stands : (n : ℕ) (l : DeckLine) (m : List (List ℕ)) (b : ℕ) (a : Armed) (w : Option WornAt) → IsLine l → IsImage m → LineStands (cold_step n l m b a w)
 cold-stands n line.Format m b a w is h = record { few = tt; next = formatted-image m h }
 cold-stands n (line.Poke at x) m b a w is h = record { few = tt; next = image-set m at x h (is.1, is.0) }
-cold-stands n line.Named m b a w is h = record { few = tt; next = h }
-cold-stands n (line.Budget c) m b a w is h = record { few = tt; next = h }
-cold-stands n (line.Cut k x) m b a w is h = record { few = tt; next = h }
-cold-stands n (line.Fail k) m b a w is h = record { few = tt; next = h }
-cold-stands n (line.Dump x) m b a w is h = record { few = tt; next = h }
 cold-stands n line.Power m b a w is h = record { few = tt; next = power-stands (warmed m b a) (hit_of a (power_moves (warmed m b a)) w) (warmed-stands m b a h) }
-cold-stands n (line.Load u fixed session) m b a w is h = record { few = tt; next = h }
-cold-stands n (line.Select x) m b a w is h = record { few = tt; next = h }
-cold-stands n (line.Delete x) m b a w is h = record { few = tt; next = h }
-cold-stands n (line.Apdu x) m b a w is h = record { few = tt; next = h }
+cold-stands n _ m b a w is h = record { few = tt; next = h }
 
 -- ---- plays
 
@@ -216,53 +196,13 @@ unfolding step
 step-stands (Cold m b a) l w is f h = cold-stands l.0 l.1 m b a w is h
 step-stands (Hot s) l w is f h = hot-stands l.0 l.1 s w is f h
 
-card-says : (n : ℕ) (l : DeckLine) (s : Warm) (v : Live) (b : Base) (w : Option WornAt) → (card_line n l s v b w).line ≡ l
-card-says n l s (Running seat) (OnCard c) w = refl
-card-says n l s (Running seat) (AtFault cause p) w = refl
-card-says n l s Unpowered b w = refl
-card-says n l s Muted b w = refl
-
-hot-says : (n : ℕ) (l : DeckLine) (s : Warm) (w : Option WornAt) → (hot_step n l s w).line ≡ l
-hot-says n line.Format s w = refl
-hot-says n (line.Poke at x) s w = refl
-hot-says n line.Named s w = refl
-hot-says n (line.Budget b) s w = refl
-hot-says n (line.Cut k x) s w = refl
-hot-says n (line.Fail k) s w = refl
-hot-says n (line.Dump x) s w = refl
-hot-says n line.Power s w = refl
-hot-says n (line.Load u fixed session) s w = card-says n (line.Load u fixed session) s s.live s.base w
-hot-says n (line.Select x) s w = card-says n (line.Select x) s s.live s.base w
-hot-says n (line.Delete x) s w = card-says n (line.Delete x) s s.live s.base w
-hot-says n (line.Apdu x) s w = card-says n (line.Apdu x) s s.live s.base w
-
-cold-says : (n : ℕ) (l : DeckLine) (m : List (List ℕ)) (b : ℕ) (a : Armed) (w : Option WornAt) → (cold_step n l m b a w).line ≡ l
-cold-says n line.Format m b a w = refl
-cold-says n (line.Poke at x) m b a w = refl
-cold-says n line.Named m b a w = refl
-cold-says n (line.Budget c) m b a w = refl
-cold-says n (line.Cut k x) m b a w = refl
-cold-says n (line.Fail k) m b a w = refl
-cold-says n (line.Dump x) m b a w = refl
-cold-says n line.Power m b a w = refl
-cold-says n (line.Load u fixed session) m b a w = refl
-cold-says n (line.Select x) m b a w = refl
-cold-says n (line.Delete x) m b a w = refl
-cold-says n (line.Apdu x) m b a w = refl
-
--- a step is of its line
-pub step-says : (z : State) (l : ℕ × DeckLine) (w : Option WornAt) → (step z l w).line ≡ l.1
-unfolding step
-step-says (Cold m b a) l w = cold-says l.0 l.1 m b a w
-step-says (Hot s) l w = hot-says l.0 l.1 s w
-
 few-from : (n : ℕ) (z : State) (ls : List (ℕ × DeckLine)) (ws : List (Option WornAt)) → StateFits z → StateStands z → AreLines (take n (plays z ls ws)) → AllFitJournal (take n (plays z ls ws))
 unfolding plays
 few-from zero z ls ws f h are = tt
 few-from (suc n) z [] ws f h are = tt
 few-from (suc n) z (l ∷ ls) ws f h are =
     let u : Step = step z l (first_worn ws) in
-    let is : IsLine l.1 = subst IsLine (step-says z l (first_worn ws)) are.0 in
+    let is : IsLine l.1 = subst IsLine (step_is z l (first_worn ws)).line are.0 in
     let k : LineStands u = step-stands z l (first_worn ws) is f h in
     (k.few, few-from n u.after ls (drop 1 ws) (step-fits z l (first_worn ws) f).next k.next are.1)
 

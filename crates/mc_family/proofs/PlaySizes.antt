@@ -485,18 +485,12 @@ none-taken Unpowered b g = tt
 none-taken Muted b g = tt
 
 hot-fits : (n : ℕ) (l : DeckLine) (s : Warm) (w : Option WornAt) → BaseFits s.base s.live → LineFits (hot_step n l s w)
-hot-fits n line.Format s w h = record { well = none-taken s.live s.base s.budget; next = h }
-hot-fits n (line.Poke at x) s w h = record { well = none-taken s.live s.base s.budget; next = h }
-hot-fits n line.Named s w h = record { well = none-taken s.live s.base s.budget; next = h }
-hot-fits n (line.Budget b) s w h = record { well = none-taken s.live s.base s.budget; next = h }
-hot-fits n (line.Cut k x) s w h = record { well = none-taken s.live s.base s.budget; next = h }
-hot-fits n (line.Fail k) s w h = record { well = none-taken s.live s.base s.budget; next = h }
-hot-fits n (line.Dump x) s w h = record { well = none-taken s.live s.base s.budget; next = h }
 hot-fits n line.Power s w h = record { well = none-taken s.live s.base s.budget; next = power-fits s (hit_of s.armed (power_moves s) w) (base-limited s.base s.live h) }
 hot-fits n (line.Load u fixed session) s w h = card-fits n (line.Load u fixed session) s.base s.owed s.by s.live s.budget s.armed w h
 hot-fits n (line.Select x) s w h = card-fits n (line.Select x) s.base s.owed s.by s.live s.budget s.armed w h
 hot-fits n (line.Delete x) s w h = card-fits n (line.Delete x) s.base s.owed s.by s.live s.budget s.armed w h
 hot-fits n (line.Apdu x) s w h = card-fits n (line.Apdu x) s.base s.owed s.by s.live s.budget s.armed w h
+hot-fits n _ s w h = record { well = none-taken s.live s.base s.budget; next = h }
 
 found-fits : (m : List (List ℕ)) (f : Option (Cause × ℕ)) → fault m ≡ f → BaseFits (base_of f m) Unpowered
 found-fits m None h = (means-limited m h, tt)
@@ -507,18 +501,8 @@ unfolding warmed
 warmed-fits m b a = found-fits m (fault m) refl
 
 cold-fits : (n : ℕ) (l : DeckLine) (m : List (List ℕ)) (b : ℕ) (a : Armed) (w : Option WornAt) → LineFits (cold_step n l m b a w)
-cold-fits n line.Format m b a w = record { well = tt; next = tt }
-cold-fits n (line.Poke at x) m b a w = record { well = tt; next = tt }
-cold-fits n line.Named m b a w = record { well = tt; next = tt }
-cold-fits n (line.Budget c) m b a w = record { well = tt; next = tt }
-cold-fits n (line.Cut k x) m b a w = record { well = tt; next = tt }
-cold-fits n (line.Fail k) m b a w = record { well = tt; next = tt }
-cold-fits n (line.Dump x) m b a w = record { well = tt; next = tt }
 cold-fits n line.Power m b a w = record { well = tt; next = power-fits (warmed m b a) (hit_of a (power_moves (warmed m b a)) w) (warmed-fits m b a) }
-cold-fits n (line.Load u fixed session) m b a w = record { well = tt; next = tt }
-cold-fits n (line.Select x) m b a w = record { well = tt; next = tt }
-cold-fits n (line.Delete x) m b a w = record { well = tt; next = tt }
-cold-fits n (line.Apdu x) m b a w = record { well = tt; next = tt }
+cold-fits n _ m b a w = record { well = tt; next = tt }
 
 pub step-fits : (z : State) (l : ℕ × DeckLine) (w : Option WornAt) → StateFits z → LineFits (step z l w)
 unfolding step

@@ -28,32 +28,16 @@ card_line-whole n l b o j Unpowered g a w = record { whole = refl; apps = refl }
 card_line-whole n l b o j Muted g a w = record { whole = refl; apps = refl }
 
 hot-whole : (n : ℕ) (l : DeckLine) (s : Warm) (w : Option WornAt) → KeepsLine (hot_step n l s w)
-hot-whole n line.Format s w = record { whole = refl; apps = refl }
-hot-whole n (line.Poke at x) s w = record { whole = refl; apps = refl }
-hot-whole n line.Named s w = record { whole = refl; apps = refl }
-hot-whole n (line.Budget b) s w = record { whole = refl; apps = refl }
-hot-whole n (line.Cut k x) s w = record { whole = refl; apps = refl }
-hot-whole n (line.Fail k) s w = record { whole = refl; apps = refl }
-hot-whole n (line.Dump x) s w = record { whole = refl; apps = refl }
 hot-whole n line.Power s w = let t = hit_of s.armed (power_moves s) w in record { whole = whole_of-none t; apps = (powered [] s t).map }
 hot-whole n (line.Load u fixed session) s w = card_line-whole n (line.Load u fixed session) s.base s.owed s.by s.live s.budget s.armed w
 hot-whole n (line.Select x) s w = card_line-whole n (line.Select x) s.base s.owed s.by s.live s.budget s.armed w
 hot-whole n (line.Delete x) s w = card_line-whole n (line.Delete x) s.base s.owed s.by s.live s.budget s.armed w
 hot-whole n (line.Apdu x) s w = card_line-whole n (line.Apdu x) s.base s.owed s.by s.live s.budget s.armed w
+hot-whole n _ s w = record { whole = refl; apps = refl }
 
 cold-whole : (n : ℕ) (l : DeckLine) (m : List (List ℕ)) (b : ℕ) (a : Armed) (w : Option WornAt) → KeepsLine (cold_step n l m b a w)
-cold-whole n line.Format m b a w = record { whole = refl; apps = refl }
-cold-whole n (line.Poke at x) m b a w = record { whole = refl; apps = refl }
-cold-whole n line.Named m b a w = record { whole = refl; apps = refl }
-cold-whole n (line.Budget c) m b a w = record { whole = refl; apps = refl }
-cold-whole n (line.Cut k x) m b a w = record { whole = refl; apps = refl }
-cold-whole n (line.Fail k) m b a w = record { whole = refl; apps = refl }
-cold-whole n (line.Dump x) m b a w = record { whole = refl; apps = refl }
 cold-whole n line.Power m b a w = record { whole = whole_of-none (hit_of a (power_moves (warmed m b a)) w); apps = refl }
-cold-whole n (line.Load u fixed session) m b a w = record { whole = refl; apps = refl }
-cold-whole n (line.Select x) m b a w = record { whole = refl; apps = refl }
-cold-whole n (line.Delete x) m b a w = record { whole = refl; apps = refl }
-cold-whole n (line.Apdu x) m b a w = record { whole = refl; apps = refl }
+cold-whole n _ m b a w = record { whole = refl; apps = refl }
 
 step-whole : (s : State) (l : ℕ × DeckLine) (w : Option WornAt) → KeepsLine (step s l w)
 unfolding step

@@ -9,7 +9,7 @@ use Rattle.mc_script.specs.declared.answer.Answer.{Answer}
 use Rattle.mc_script.specs.declared.player.Player.{Player}
 use Rattle.mc_script.specs.Players.{answer_value, device_of, IsPlayerAt, IsPlaying}
 use Rattle.mc_script.specs.Lines.{LineDone}
-use Rattle.mc_script.proofs.PlayLemmas.{step_number}
+use Rattle.mc_model.proofs.PlayLemmas.{step_is}
 use Rattle.mc_lab.specs.Rising.{Rising, count_below, last_of}
 use Rattle.mc_lab.specs.Expectations.{line_number, result_above, result_text, steady_from, steady_steps, step_text}
 use Rattle.mc_lab.specs.Stages.{Staged}
@@ -39,7 +39,7 @@ steps-rise : (s : State) (m : ℕ) (ls : List (ℕ × DeckLine)) → Rising line
 steps-rise s m [] h = subst (λ (ts : List Step). Rising number_in m ts) (sym (steady-none s)) tt
 steps-rise s m (l ∷ ls) h =
     let t = step s l (worn_of s l) in
-    let number : t.number ≡ l.0 = step_number s l (worn_of s l) in
+    let number : t.number ≡ l.0 = (step_is s l (worn_of s l)).number in
     let rest : Rising number_in (suc l.0) (steady_from t.after ls) = steps-rise t.after (suc l.0) ls h.1 in
     let all : Rising number_in m (t ∷ steady_from t.after ls) = (subst (λ (n : ℕ). m ≤ n) (sym number) h.0, subst (λ (n : ℕ). Rising number_in (suc n) (steady_from t.after ls)) (sym number) rest) in
     subst (λ (ts : List Step). Rising number_in m ts) (sym (steady-on s l ls)) all
@@ -48,7 +48,7 @@ count-steps : (s : State) (n : ℕ) (ls : List (ℕ × DeckLine)) → count_belo
 count-steps s n [] = ap (count_below number_in n) (steady-none s)
 count-steps s n (l ∷ ls) =
     let t = step s l (worn_of s l) in
-    let number : t.number ≡ l.0 = step_number s l (worn_of s l) in
+    let number : t.number ≡ l.0 = (step_is s l (worn_of s l)).number in
     ap (count_below number_in n) (steady-on s l ls)
     ∙ ap (λ k. cond (nat_lt k n) (suc (count_below number_in n (steady_from t.after ls))) 0) number
     ∙ ap (λ k. cond (nat_lt l.0 n) (suc k) 0) (count-steps t.after n ls)

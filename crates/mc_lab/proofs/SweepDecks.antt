@@ -47,30 +47,14 @@ card-free n l s Muted base w = refl
 
 free-step : (s : State) (n : ℕ) (l : DeckLine) (w : Option WornAt) → is_unarmed (armed_in (step s (n, l) w).after) ≡ free_behind l (is_unarmed (armed_in s))
 unfolding step
-free-step (Cold m b a) n line.Format w = refl
-free-step (Cold m b a) n (line.Poke at x) w = refl
-free-step (Cold m b a) n line.Named w = refl
-free-step (Cold m b a) n (line.Budget c) w = refl
-free-step (Cold m b a) n (line.Cut k x) w = refl
-free-step (Cold m b a) n (line.Fail k) w = refl
-free-step (Cold m b a) n (line.Dump x) w = refl
 free-step (Cold m b a) n line.Power w = power-free (warmed m b a) (hit_of a (power_moves (warmed m b a)) w)
-free-step (Cold m b a) n (line.Load u fixed session) w = refl
-free-step (Cold m b a) n (line.Select x) w = refl
-free-step (Cold m b a) n (line.Delete x) w = refl
-free-step (Cold m b a) n (line.Apdu x) w = refl
-free-step (Hot s) n line.Format w = refl
-free-step (Hot s) n (line.Poke at x) w = refl
-free-step (Hot s) n line.Named w = refl
-free-step (Hot s) n (line.Budget c) w = refl
-free-step (Hot s) n (line.Cut k x) w = refl
-free-step (Hot s) n (line.Fail k) w = refl
-free-step (Hot s) n (line.Dump x) w = refl
 free-step (Hot s) n line.Power w = power-free s (hit_of s.armed (power_moves s) w)
 free-step (Hot s) n (line.Load u fixed session) w = card-free n (line.Load u fixed session) s s.live s.base w
 free-step (Hot s) n (line.Select x) w = card-free n (line.Select x) s s.live s.base w
 free-step (Hot s) n (line.Delete x) w = card-free n (line.Delete x) s s.live s.base w
 free-step (Hot s) n (line.Apdu x) w = card-free n (line.Apdu x) s s.live s.base w
+free-step (Cold m b a) n _ w = refl
+free-step (Hot s) n _ w = refl
 
 pub free-start : (ls : List (ℕ × DeckLine)) → true ≡ is_unarmed (armed_in (played (take 0 ls)))
 unfolding played_from plays steady_worn

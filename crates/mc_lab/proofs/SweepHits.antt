@@ -57,17 +57,11 @@ cold-hit n i line.Power m b k x is low =
     let w = warmed m b (ArmedCut k x) in
     power-hit n (Cold m b (ArmedCut k x)) w k x (nat_le k (power_moves w))
     ∙ with-none k (power_moves w) (power_moves (warmed m b Unarmed) + 0) (let e : power_moves w ≡ power_moves (warmed m b Unarmed) = warmed-moves m b (ArmedCut k x) Unarmed in omega (arith, e))
-cold-hit n i line.Format m b k x is low = absurd (cc is)
-cold-hit n i (line.Poke at y) m b k x is low = absurd (cc is)
-cold-hit n i line.Named m b k x is low = absurd (cc is)
-cold-hit n i (line.Budget c) m b k x is low = absurd (cc is)
-cold-hit n i (line.Cut j y) m b k x is low = absurd (cc is)
-cold-hit n i (line.Fail j) m b k x is low = absurd (cc is)
-cold-hit n i (line.Dump a) m b k x is low = absurd (cc is)
 cold-hit n i (line.Load u fixed session) m b k x is low = no-writes k low
 cold-hit n i (line.Select a) m b k x is low = no-writes k low
 cold-hit n i (line.Delete a) m b k x is low = no-writes k low
 cold-hit n i (line.Apdu a) m b k x is low = no-writes k low
+cold-hit n i _ m b k x is low = absurd (cc is)
 
 hot-hit : (n i : ℕ) (l : DeckLine) (b : Base) (o : ℕ) (j : Journal) (v : Live) (g : ℕ) (k : ℕ) (x : List ℕ) → is_card_line l ≡ true → 1 ≤ k
     → is_off (stepped (next (Hot (hot b o j v g Unarmed)) (cut i k x)) (n, l)).result ≡ nat_le k (moves_of (Hot (hot b o j v g Unarmed)) (n, l))
@@ -75,17 +69,11 @@ unfolding step moves_of
 hot-hit n i line.Power b o j v g k x is low =
     let w = hot b o j v g (ArmedCut k x) in
     power-hit n (Hot w) w k x (nat_le k (power_moves w)) ∙ with-none k (power_moves w) (power_moves w + 0) (omega arith)
-hot-hit n i line.Format b o j v g k x is low = absurd (cc is)
-hot-hit n i (line.Poke at y) b o j v g k x is low = absurd (cc is)
-hot-hit n i line.Named b o j v g k x is low = absurd (cc is)
-hot-hit n i (line.Budget c) b o j v g k x is low = absurd (cc is)
-hot-hit n i (line.Cut h y) b o j v g k x is low = absurd (cc is)
-hot-hit n i (line.Fail h) b o j v g k x is low = absurd (cc is)
-hot-hit n i (line.Dump a) b o j v g k x is low = absurd (cc is)
 hot-hit n i (line.Load u fixed session) b o j v g k x is low = card-hit n (line.Load u fixed session) b o j v g k x low ∙ with-none k _ _ (omega arith)
 hot-hit n i (line.Select a) b o j v g k x is low = card-hit n (line.Select a) b o j v g k x low ∙ with-none k _ _ (omega arith)
 hot-hit n i (line.Delete a) b o j v g k x is low = card-hit n (line.Delete a) b o j v g k x low ∙ with-none k _ _ (omega arith)
 hot-hit n i (line.Apdu a) b o j v g k x is low = card-hit n (line.Apdu a) b o j v g k x low ∙ with-none k _ _ (omega arith)
+hot-hit n i _ b o j v g k x is low = absurd (cc is)
 
 armed-hit : (n i : ℕ) (l : DeckLine) (b : Base) (o : ℕ) (j : Journal) (v : Live) (g : ℕ) (a : Armed) (k : ℕ) (x : List ℕ) → a ≡ Unarmed → is_card_line l ≡ true → 1 ≤ k
     → is_off (stepped (next (Hot (hot b o j v g a)) (cut i k x)) (n, l)).result ≡ nat_le k (moves_of (Hot (hot b o j v g a)) (n, l))

@@ -6,7 +6,7 @@ use Rattle.mc_blocks.specs.declared.image.Unusable.{Unusable}
 use Rattle.mc_model.specs.Bytes.{lookup}
 use Rattle.mc_model.specs.Card.{App, heap_start}
 use Rattle.mc_model.specs.Chain.{Turn}
-use Rattle.mc_model.specs.Device.{DeviceState, BenchState, Entry}
+use Rattle.mc_model.specs.Device.{blank_words, device_words, DeviceState, BenchState, Entry}
 use Rattle.mc_model.specs.Play.{Armed, Live, Running, Unpowered, Muted, Base, OnCard, AtFault, Warm, State, Cold, Hot, WornAt, LineResult, step, card_line, static_of, steady_at, moves_of, armed_in, warmed, power_moves, migration, laid_entries, words_left, start, formatted, plays, steady_worn}
 use Rattle.mc_model.specs.DeckGrammar.{DeckLine}
 use Rattle.mc_model.specs.DeckGrammar as line
@@ -21,7 +21,7 @@ use Rattle.mc_card.specs.Parts.{card_in, device_in}
 use Rattle.mc_script.specs.Players.{answer_value, device_of, dump_value, statics_by, statics_in, LiveIs, StateIs, IsPlayerAt, IsPlaying}
 use Rattle.mc_script.specs.Lines.{LineDone}
 use Rattle.mc_model.proofs.ImageLemmas.{length-laid as laid-size}
-use Rattle.mc_lab.specs.Sweeps.{blank, played, played_from, told, told_by, Holds, held_under, running_apps, running_in, cut, under_cut}
+use Rattle.mc_lab.specs.Sweeps.{played, played_from, told, told_by, Holds, held_under, running_apps, running_in, cut, under_cut}
 use Rattle.mc_lab.specs.SweepLaws.{is_off}
 use Rattle.mc_lab.specs.SweepBodies.{told_with, next, lines_behind, hits, front_of, line_in, names_in, told_in, hit_in, again_in, IsFewBehind}
 use Rattle.mc_lab.specs.SweepPlayers.{fault_in, off_in, BehindOn, CutOn, IsSteadyAt, LineOn}
@@ -67,28 +67,13 @@ left-size : (s : State) (n : ℕ) (l : DeckLine) (w : Option WornAt) (m : List (
 unfolding step
 left-size (Cold i b a) n line.Format w m es e = ap (λ (x : List (List ℕ)). length (formatted x)) (sym e) ∙ formatted-size m
 left-size (Cold i b a) n (line.Poke at x) w m es e = ap (λ (y : List (List ℕ)). length (slice_set y at x)) (sym e) ∙ length-set m at x
-left-size (Cold i b a) n line.Named w m es e = ap length (sym e)
-left-size (Cold i b a) n (line.Budget c) w m es e = ap length (sym e)
-left-size (Cold i b a) n (line.Cut k x) w m es e = ap length (sym e)
-left-size (Cold i b a) n (line.Fail k) w m es e = ap length (sym e)
-left-size (Cold i b a) n (line.Dump x) w m es e = ap length (sym e)
-left-size (Cold i b a) n (line.Load u fixed session) w m es e = ap length (sym e)
-left-size (Cold i b a) n (line.Select x) w m es e = ap length (sym e)
-left-size (Cold i b a) n (line.Delete x) w m es e = ap length (sym e)
-left-size (Cold i b a) n (line.Apdu x) w m es e = ap length (sym e)
 left-size (Cold i b a) n line.Power w m es e = hot-size m es
-left-size (Hot s) n line.Format w m es e = hot-size m es
-left-size (Hot s) n (line.Poke at x) w m es e = hot-size m es
-left-size (Hot s) n line.Named w m es e = hot-size m es
-left-size (Hot s) n (line.Budget c) w m es e = hot-size m es
-left-size (Hot s) n (line.Cut k x) w m es e = hot-size m es
-left-size (Hot s) n (line.Fail k) w m es e = hot-size m es
-left-size (Hot s) n (line.Dump x) w m es e = hot-size m es
-left-size (Hot s) n line.Power w m es e = hot-size m es
 left-size (Hot s) n (line.Load u fixed session) w m es e = card-size n (line.Load u fixed session) s s.live s.base w m es
 left-size (Hot s) n (line.Select x) w m es e = card-size n (line.Select x) s s.live s.base w m es
 left-size (Hot s) n (line.Delete x) w m es e = card-size n (line.Delete x) s s.live s.base w m es
 left-size (Hot s) n (line.Apdu x) w m es e = card-size n (line.Apdu x) s s.live s.base w m es
+left-size (Cold i b a) n _ w m es e = ap length (sym e)
+left-size (Hot s) n _ w m es e = hot-size m es
 
 -- ---- what a recovery writes
 
@@ -208,7 +193,7 @@ module _ {N : Type 0} (state : N → DeviceState) (bench : N → BenchState) whe
 
   -- ---- the lines before a line
 
-  pub front-start : (d : N) (p : Player N) → IsPlayerAt state bench p (start (state d).words) → device_of p ≡ d → (bench d).steady ≡ true → (state d).words ≡ blank → (ls : List (ℕ × DeckLine)) → IsSteadyAt state bench p (played (take 0 ls))
+  pub front-start : (d : N) (p : Player N) → IsPlayerAt state bench p (start (state d).words) → device_of p ≡ d → (bench d).steady ≡ true → (state d).words ≡ blank_words device_words → (ls : List (ℕ × DeckLine)) → IsSteadyAt state bench p (played (take 0 ls))
   unfolding played_from plays steady_worn
   front-start d p at device steady words ls =
       record {

@@ -185,17 +185,11 @@ cold-cut n i line.Power m b k x is shuts low high =
     let w = warmed m b (ArmedCut k x) in
     power-cut (Cold m b Unarmed) w (Cold m b (ArmedCut k x)) n k x (warmed-base m b (ArmedCut k x) Unarmed) (nat_le k (power_moves w))
     (le-leb k (power_moves w) (let e : power_moves w ≡ power_moves (warmed m b Unarmed) = warmed-moves m b (ArmedCut k x) Unarmed in omega (arith, e)))
-cold-cut n i line.Format m b k x is shuts low high = absurd (cc is)
-cold-cut n i (line.Poke at y) m b k x is shuts low high = absurd (cc is)
-cold-cut n i line.Named m b k x is shuts low high = absurd (cc is)
-cold-cut n i (line.Budget c) m b k x is shuts low high = absurd (cc is)
-cold-cut n i (line.Cut j y) m b k x is shuts low high = absurd (cc is)
-cold-cut n i (line.Fail j) m b k x is shuts low high = absurd (cc is)
-cold-cut n i (line.Dump a) m b k x is shuts low high = absurd (cc is)
 cold-cut n i (line.Load u fixed session) m b k x is shuts low high = absurd (omega arith)
 cold-cut n i (line.Select a) m b k x is shuts low high = absurd (omega arith)
 cold-cut n i (line.Delete a) m b k x is shuts low high = absurd (omega arith)
 cold-cut n i (line.Apdu a) m b k x is shuts low high = absurd (omega arith)
+cold-cut n i _ m b k x is shuts low high = absurd (cc is)
 
 -- a line from the first power line on
 hot-cut : (n i : ℕ) (l : DeckLine) (b : Base) (o : ℕ) (j : Journal) (v : Live) (g k : ℕ) (x : List ℕ) → is_card_line l ≡ true → OpensNoGate x → 1 ≤ k → k ≤ moves_of (Hot (hot b o j v g Unarmed)) (n, l)
@@ -204,17 +198,11 @@ unfolding step moves_of
 hot-cut n i line.Power b o j v g k x is shuts low high =
     let w = hot b o j v g (ArmedCut k x) in
     power-cut (Hot (hot b o j v g Unarmed)) w (Hot w) n k x refl (nat_le k (power_moves w)) (le-leb k (power_moves w) (omega arith))
-hot-cut n i line.Format b o j v g k x is shuts low high = absurd (cc is)
-hot-cut n i (line.Poke at y) b o j v g k x is shuts low high = absurd (cc is)
-hot-cut n i line.Named b o j v g k x is shuts low high = absurd (cc is)
-hot-cut n i (line.Budget c) b o j v g k x is shuts low high = absurd (cc is)
-hot-cut n i (line.Cut h y) b o j v g k x is shuts low high = absurd (cc is)
-hot-cut n i (line.Fail h) b o j v g k x is shuts low high = absurd (cc is)
-hot-cut n i (line.Dump a) b o j v g k x is shuts low high = absurd (cc is)
 hot-cut n i (line.Load u fixed session) b o j v g k x is shuts low high = card-cut n (line.Load u fixed session) b o j v g k x shuts low (omega arith)
 hot-cut n i (line.Select a) b o j v g k x is shuts low high = card-cut n (line.Select a) b o j v g k x shuts low (omega arith)
 hot-cut n i (line.Delete a) b o j v g k x is shuts low high = card-cut n (line.Delete a) b o j v g k x shuts low (omega arith)
 hot-cut n i (line.Apdu a) b o j v g k x is shuts low high = card-cut n (line.Apdu a) b o j v g k x shuts low (omega arith)
+hot-cut n i _ b o j v g k x is shuts low high = absurd (cc is)
 
 armed-cut : (n i : ℕ) (l : DeckLine) (b : Base) (o : ℕ) (j : Journal) (v : Live) (g : ℕ) (a : Armed) (k : ℕ) (x : List ℕ) → a ≡ Unarmed → is_card_line l ≡ true → OpensNoGate x → 1 ≤ k → k ≤ moves_of (Hot (hot b o j v g a)) (n, l)
     → CutTo (Hot (hot b o j v g a)) (at_stop (step (Hot (hot b o j v g a)) (n, l) None).items k (zeros 8)).whole (next (next (Hot (hot b o j v g a)) (cut i k x)) (n, l))
@@ -254,33 +242,21 @@ cold-whole : (n : ℕ) (l : DeckLine) (m : List (List ℕ)) (b : ℕ) → is_car
     → CutTo (Cold m b Unarmed) (step (Cold m b Unarmed) (n, l) None).items (next (Cold m b Unarmed) (n, l))
 unfolding step moves_of
 cold-whole n line.Power m b is some = power-whole (Cold m b Unarmed) (warmed m b Unarmed) (Cold m b Unarmed) n refl
-cold-whole n line.Format m b is some = absurd (cc is)
-cold-whole n (line.Poke at y) m b is some = absurd (cc is)
-cold-whole n line.Named m b is some = absurd (cc is)
-cold-whole n (line.Budget c) m b is some = absurd (cc is)
-cold-whole n (line.Cut j y) m b is some = absurd (cc is)
-cold-whole n (line.Fail j) m b is some = absurd (cc is)
-cold-whole n (line.Dump a) m b is some = absurd (cc is)
 cold-whole n (line.Load u fixed session) m b is some = absurd (omega arith)
 cold-whole n (line.Select a) m b is some = absurd (omega arith)
 cold-whole n (line.Delete a) m b is some = absurd (omega arith)
 cold-whole n (line.Apdu a) m b is some = absurd (omega arith)
+cold-whole n _ m b is some = absurd (cc is)
 
 hot-whole : (n : ℕ) (l : DeckLine) (b : Base) (o : ℕ) (j : Journal) (v : Live) (g : ℕ) → is_card_line l ≡ true → 1 ≤ moves_of (Hot (hot b o j v g Unarmed)) (n, l)
     → CutTo (Hot (hot b o j v g Unarmed)) (step (Hot (hot b o j v g Unarmed)) (n, l) None).items (next (Hot (hot b o j v g Unarmed)) (n, l))
 unfolding step moves_of
 hot-whole n line.Power b o j v g is some = power-whole (Hot (hot b o j v g Unarmed)) (hot b o j v g Unarmed) (Hot (hot b o j v g Unarmed)) n refl
-hot-whole n line.Format b o j v g is some = absurd (cc is)
-hot-whole n (line.Poke at y) b o j v g is some = absurd (cc is)
-hot-whole n line.Named b o j v g is some = absurd (cc is)
-hot-whole n (line.Budget c) b o j v g is some = absurd (cc is)
-hot-whole n (line.Cut h y) b o j v g is some = absurd (cc is)
-hot-whole n (line.Fail h) b o j v g is some = absurd (cc is)
-hot-whole n (line.Dump a) b o j v g is some = absurd (cc is)
 hot-whole n (line.Load u fixed session) b o j v g is some = card-whole n (line.Load u fixed session) b o j v g (omega arith)
 hot-whole n (line.Select a) b o j v g is some = card-whole n (line.Select a) b o j v g (omega arith)
 hot-whole n (line.Delete a) b o j v g is some = card-whole n (line.Delete a) b o j v g (omega arith)
 hot-whole n (line.Apdu a) b o j v g is some = card-whole n (line.Apdu a) b o j v g (omega arith)
+hot-whole n _ b o j v g is some = absurd (cc is)
 
 armed-whole : (n : ℕ) (l : DeckLine) (b : Base) (o : ℕ) (j : Journal) (v : Live) (g : ℕ) (a : Armed) → a ≡ Unarmed → is_card_line l ≡ true → 1 ≤ moves_of (Hot (hot b o j v g a)) (n, l)
     → CutTo (Hot (hot b o j v g a)) (step (Hot (hot b o j v g a)) (n, l) None).items (next (Hot (hot b o j v g a)) (n, l))
@@ -317,32 +293,15 @@ card-on n l s items m e (inr some) = inr (some.0, some.1, some.2, e)
 cold-on : (n : ℕ) (l : DeckLine) (m : List (List ℕ)) (b : ℕ) (a : Armed) → ItemsOn (Cold m b a) (n, l)
 unfolding step moves_of
 cold-on n line.Power m b a = inl refl
-cold-on n line.Format m b a = inl refl
-cold-on n (line.Poke at y) m b a = inl refl
-cold-on n line.Named m b a = inl refl
-cold-on n (line.Budget c) m b a = inl refl
-cold-on n (line.Cut j y) m b a = inl refl
-cold-on n (line.Fail j) m b a = inl refl
-cold-on n (line.Dump x) m b a = inl refl
-cold-on n (line.Load u fixed session) m b a = inl refl
-cold-on n (line.Select x) m b a = inl refl
-cold-on n (line.Delete x) m b a = inl refl
-cold-on n (line.Apdu x) m b a = inl refl
+cold-on n _ m b a = inl refl
 
 hot-on : (n : ℕ) (l : DeckLine) (s : Warm) → ItemsOn (Hot s) (n, l)
 unfolding step moves_of
-hot-on n line.Power s = inl refl
-hot-on n line.Format s = inl refl
-hot-on n (line.Poke at y) s = inl refl
-hot-on n line.Named s = inl refl
-hot-on n (line.Budget c) s = inl refl
-hot-on n (line.Cut j y) s = inl refl
-hot-on n (line.Fail j) s = inl refl
-hot-on n (line.Dump x) s = inl refl
 hot-on n (line.Load u fixed session) s = card-on n (line.Load u fixed session) s _ _ (omega arith) (card-items n (line.Load u fixed session) s.base s.owed s.by s.live s.budget s.armed)
 hot-on n (line.Select x) s = card-on n (line.Select x) s _ _ (omega arith) (card-items n (line.Select x) s.base s.owed s.by s.live s.budget s.armed)
 hot-on n (line.Delete x) s = card-on n (line.Delete x) s _ _ (omega arith) (card-items n (line.Delete x) s.base s.owed s.by s.live s.budget s.armed)
 hot-on n (line.Apdu x) s = card-on n (line.Apdu x) s _ _ (omega arith) (card-items n (line.Apdu x) s.base s.owed s.by s.live s.budget s.armed)
+hot-on n _ s = inl refl
 
 pub items-on : (s : State) (l : ℕ × DeckLine) → ItemsOn s l
 items-on (Cold m b a) l = cold-on l.0 l.1 m b a

@@ -2,6 +2,7 @@
 use Rattle.std.specs.Prelude.{ℕ, List, Result, Ok, Err}
 use Rattle.std.specs.Fmt.{digits}
 use Rattle.sha1.specs.Sha1.{sha1, digest_bytes, hash_after, compress, rounds, schedule, first_words}
+use Rattle.mc_model.specs.Device.{blank_words, device_words}
 use Rattle.mc_model.specs.Units.{name_of}
 use Rattle.mc_model.specs.Apdu.{apdu_read}
 use Rattle.mc_model.specs.Pieces.{touched}
@@ -18,12 +19,12 @@ use Rattle.mc_model.specs.Manager.{manage}
 use Rattle.mc_model.specs.Play.{Step, command, send, warmed, step, plays, moves_of, steady_worn}
 use Rattle.mc_model.specs.DeckGrammar.{DeckLine, deck_read}
 use Rattle.mc_lab.specs.Patterns.{matches}
-use Rattle.mc_lab.specs.Expectations.{Trial, TrialFault, trial_read, expect_text, steady_from, steady_steps, blank_words}
+use Rattle.mc_lab.specs.Expectations.{Trial, TrialFault, trial_read, expect_text, steady_from, steady_steps}
 
 -- the play of a deck on a blank device of the laboratory
 unfoldable pub blank_steps : List (ℕ × DeckLine) → List Step
 unfolding steady_from name_of apdu_read touched des_encipher des_decipher tdes_encipher tdes_decipher des_signature tdes_signature aes_encipher aes_decipher aes_signature sha1 digest_bytes hash_after compress rounds schedule first_words targets_1 targets_2 pairs blocks_from apps_of layout step_of bad_block bad_record bytes_at written too_many later_causes prim_effect causes effect row acted ran manage command send warmed step plays moves_of steady_worn
-blank_steps ls = steady_steps blank_words ls
+blank_steps ls = steady_steps (blank_words device_words) ls
 
 -- what is told of the expectations of a deck
 abbrev pub told_in : Result Trial TrialFault → Result (List ℕ) TrialFault

@@ -1,5 +1,5 @@
 -- Expectations: comments of a deck that begin with `#>`, each with a pattern for the result of the statement above it.
-use Rattle.std.specs.Prelude.{ℕ, suc, ◌+◌, Bool, true, false, cond, not, ◌&&◌, nat_lt, List, [], ◌∷◌, ◌++◌, length, filter, flat_map, replicate, bytes_eq, codes, decimal, Option, Some, None, Result, Ok, Err}
+use Rattle.std.specs.Prelude.{ℕ, suc, ◌+◌, Bool, true, false, cond, not, ◌&&◌, nat_lt, List, [], ◌∷◌, ◌++◌, length, filter, flat_map, bytes_eq, codes, decimal, Option, Some, None, Result, Ok, Err}
 use Rattle.mc_model.specs.Text.{trim, trim_front, fields, first_cut, is_blank, lines, numbered}
 use Rattle.mc_model.specs.declared.deck.DeckCause.{DeckCause}
 use Rattle.mc_model.specs.DeckGrammar.{DeckLine, is_end, deck_read}
@@ -175,7 +175,3 @@ steady_from s ls = plays s ls (steady_worn s ls)
 -- the same from the words of a device
 abbrev pub steady_steps : List (List ℕ) → List (ℕ × DeckLine) → List Step
 steady_steps words ls = steady_from (start words) ls
-
--- the words of a blank device of the laboratory
-abbrev pub blank_words : List (List ℕ)
-blank_words = replicate 8192 (replicate 8 255)

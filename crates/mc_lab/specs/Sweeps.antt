@@ -1,7 +1,8 @@
 -- Sweeps: power cut in every device write of every line of a deck, and in every write of the recovery behind it, and what the card was then.
-use Rattle.std.specs.Prelude.{ℕ, zero, suc, ◌+◌, Bool, true, false, cond, ◌&&◌, nat_le, ◌==◌, List, [], ◌∷◌, ◌++◌, length, map, replicate, bytes_eq, codes, decimal, Option, Some, None, option_map}
+use Rattle.std.specs.Prelude.{ℕ, zero, suc, ◌+◌, Bool, true, false, cond, ◌&&◌, nat_le, ◌==◌, List, [], ◌∷◌, ◌++◌, length, map, bytes_eq, codes, decimal, Option, Some, None, option_map}
 use Rattle.mc_model.specs.declared.card.Cause.{Cause}
 use Rattle.mc_model.specs.Bytes.{zeros, has_name, lookup}
+use Rattle.mc_model.specs.Device.{blank_words, device_words}
 use Rattle.mc_model.specs.Card.{App}
 use Rattle.mc_model.specs.Play.{Armed, Unarmed, ArmedCut, ArmedFail, Live, Running, Base, OnCard, State, Cold, Hot, Step, LineResult, Unusable, start, step, plays, steady_worn, steady_at, last_state, moves_of, armed_in, is_card_line}
 use Rattle.mc_model.specs.Transcript.{cause_text}
@@ -11,10 +12,6 @@ use Rattle.mc_lab.specs.declared.sweep_word.Word.{Word}
 use Rattle.mc_lab.specs.declared.sweep_word.Word.TheVariants.{Before, After, Same, Between, Torn}
 
 -- ---- plays
-
--- the words of a blank device of 8,192 words
-abbrev pub blank : List (List ℕ)
-blank = replicate 8192 (replicate 8 0xFF)
 
 -- a line that is played behind a state, and lines in turn, where a device refuses just the writes of `fail` lines
 abbrev pub stepped : State → ℕ × DeckLine → Step
@@ -26,7 +23,7 @@ played_from s ls = last_state s (plays s ls (steady_worn s ls))
 
 -- the state after lines that are played on a blank device
 abbrev pub played : List (ℕ × DeckLine) → State
-played ls = played_from (start blank) ls
+played ls = played_from (start (blank_words device_words)) ls
 
 -- ---- what a card is told to be
 

@@ -4,7 +4,8 @@ ghost use Rattle.mc_model.specs.Play.{State};
 ghost use Rattle.mc_model.specs.DeckGrammar.{DeckLine};
 ghost use Rattle.mc_deck.specs.Lines.{line_of, GoodLine};
 ghost use Rattle.mc_script.specs.Players.{device_of, statics_in, IsPlaying, IsUnfused};
-ghost use Rattle.mc_lab.specs.Sweeps.{blank, played};
+ghost use Rattle.mc_lab.specs.Sweeps.{played};
+ghost use Rattle.mc_model.specs.Device.{blank_words, device_words};
 ghost use Rattle.mc_lab.specs.SweepBodies.{account_value, held_value, hit_in, told_in, CanCut, AccountFits};
 ghost use Rattle.mc_lab.specs.SweepBodies.{IsFewBehind, IsPlace};
 ghost use Rattle.mc_lab.specs.declared.sweep_trial.Behind.TheVariants as behind;
@@ -85,7 +86,7 @@ fn play_front<N: Bench, L: Ledger>(
 ) -> Player<N>
     requires fuses { IsUnfused (N.bench device) }
     requires steady { (N.bench device).steady ≡ true }
-    requires words { (N.state device).words ≡ blank }
+    requires words { (N.state device).words ≡ blank_words device_words }
     requires place { at ≤ length deck.now }
     ensures at { IsSteadyAt N.state N.bench result (played (take at deck.now)) }
     ensures size { length (N.state (device_of result)).words ≡ length (N.state device).words }
@@ -228,7 +229,7 @@ fn play_trial<N: Bench, L: Ledger>(
 ) -> (N, bool)
     requires fuses { IsUnfused (N.bench device) }
     requires steady { (N.bench device).steady ≡ true }
-    requires words { (N.state device).words ≡ blank }
+    requires words { (N.state device).words ≡ blank_words device_words }
     requires at { IsPlace place.now }
     requires room { AccountFits into.old place.now }
     requires cuts { CanCut behind }

@@ -12,3 +12,4 @@ pub mod CallLemmas
 pub mod LoopLemmas
 pub mod ListLemmas
 pub mod JournalLemmas
+pub mod PlayLemmas

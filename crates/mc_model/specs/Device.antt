@@ -1,5 +1,5 @@
 -- A device that writes one word at a time, what a write that stops may leave, and what a bench adds that stops writes on demand.
-use Rattle.std.specs.Prelude.{◌≡◌, ◌≢◌, ◌⊎◌, ℕ, zero, suc, ◌+◌, ◌<◌, ◌≤◌, Bool, true, false, min, List, [], ◌∷◌, ◌++◌, length, slice_index_or, slice_set, Option, Some, None, Ok, Err}
+use Rattle.std.specs.Prelude.{◌≡◌, ◌≢◌, ◌⊎◌, ℕ, zero, suc, ◌+◌, ◌<◌, ◌≤◌, Bool, true, false, min, List, [], ◌∷◌, ◌++◌, length, replicate, slice_index_or, slice_set, Option, Some, None, Ok, Err}
 use Rattle.mc_model.specs.declared.device.Stop.{Stop}
 use Rattle.mc_model.specs.declared.device.Stop.TheVariants.{Off, Worn}
 use Rattle.mc_model.specs.Orders.{Answer, InOrder}
@@ -36,6 +36,14 @@ pub record IsImage (m : List (List ℕ)) : Type 0 where
 -- an image is as many words, and as long
 pub sized : {m : List (List ℕ)} → IsImage m → IsSized m
 sized image = record { low = image.low; high = image.high; words = image.words }
+
+-- the words of a blank device: every byte is FF
+abbrev pub blank_words : ℕ → List (List ℕ)
+blank_words n = replicate n (replicate 8 0xFF)
+
+-- how many words the device of a program has
+abbrev pub device_words : ℕ
+device_words = 8192
 
 -- a tape with one entry more, or one that is told no longer
 abbrev pub Grows : Option (List Entry) → Entry → Option (List Entry) → Type 0
@@ -118,15 +126,26 @@ pub record Fuse : Type 0 where
   pub writes : ℕ
   pub fill : List ℕ
 
--- what a bench means besides: its fuses, the numbers of calls, and whether it refuses no write by itself
+-- what a bench means besides: its fuses, the numbers of calls, how often power had come when the last word was poked, and whether it
+-- refuses no write by itself
 pub record BenchState : Type 0 where
   pub cut : Option Fuse
   pub worn : Option Fuse
   pub powers : ℕ
   pub pokes : ℕ
+  pub poked : ℕ
   pub arms : ℕ
   pub wears : ℕ
   pub steady : Bool
+
+-- a bench after one poke: it is counted, and keeps how often power had come before it
+abbrev pub poked_once : BenchState → BenchState
+poked_once b = record b { pokes = next_count b.pokes; poked = b.powers }
+
+-- a bench after so many pokes
+abbrev pub poked_times : ℕ → BenchState → BenchState
+poked_times zero b = b
+poked_times (suc k) b = poked_times k (poked_once b)
 
 -- a fuse after one write: nearer by one, and spent where the write was its own
 abbrev pub nearer : ℕ → List ℕ → Option Fuse

@@ -3,7 +3,7 @@ use Rattle.std.specs.Prelude.{◌≡◌, ℕ, zero, suc, ◌+◌, ◌-◌, Bool,
 use Rattle.std.specs.List.{list_any}
 use Rattle.mc_model.specs.declared.card.Cause.{Cause}
 use Rattle.mc_model.specs.declared.card.Cause.TheVariants.{BadJournal, NoRoot, BadBlock, BadRecord, BadChain}
-use Rattle.mc_model.specs.Limits.{most_code}
+use Rattle.mc_model.specs.Limits.{most_code, most_static, most_session}
 use Rattle.mc_model.specs.Bytes.{be2, bytes2, zeros, has_name, or_else}
 use Rattle.mc_model.specs.Image.{Look, Refused, Closed, Pending, look, after}
 use Rattle.mc_model.specs.Card.{App, Card, Block, needed, needed_of, used_tag, hole_tag, word, header, blocks, heap_start, record_at, name_in, words_after}
@@ -122,7 +122,7 @@ is_record r words =
     let n = slice_index r 16 in
     nat_le 5 n && nat_le n 16 && bytes_eq (take (16 - n) (drop n r)) (zeros (16 - n))
     && nat_le (slice_index r 17) 128 && nat_le (slice_index r 18) 128 && slice_index r 19 == 0
-    && nat_le 1 (be2 r 20) && nat_le (be2 r 20) most_code && nat_le (be2 r 22) 4096 && nat_le (be2 r 24) 256
+    && nat_le 1 (be2 r 20) && nat_le (be2 r 20) most_code && nat_le (be2 r 22) most_static && nat_le (be2 r 24) most_session
     && nat_le (be2 r 26) 15 && bytes_eq (drop 28 r) (zeros 4)
     && words == needed_of (be2 r 20) (be2 r 22) (slice_index r 17) (slice_index r 18)
 

@@ -1,7 +1,7 @@
 -- Load units: the grammar as a reader and as a relation, and the name in a DIR record.
 -- The objects of a DIR record are tag, length and value (ISO/IEC 7816-4:2005, 5.2.2, BER-TLV data objects).
 use Rattle.std.specs.Prelude.{◌≡◌, ℕ, zero, suc, ◌+◌, ◌%◌, ◌<◌, ◌≤◌, cond, ◌&&◌, nat_lt, nat_le, ◌==◌, if◌then◌else◌, List, [], ◌∷◌, ◌++◌, length, take, drop, position, bytes_eq, Option, Some, None, option_map, option_and_then, Result, Ok, Err}
-use Rattle.mc_model.specs.Limits.{most_code}
+use Rattle.mc_model.specs.Limits.{most_code, most_static}
 use Rattle.mc_model.specs.Bytes.{be2, bytes2, zeros}
 use Rattle.mc_model.specs.declared.unit.UnitRefusal.{UnitRefusal}
 use Rattle.mc_model.specs.declared.unit.UnitRefusal.TheVariants.{Short, NoCode, TooLarge, Signed, Enciphered, Tail}
@@ -125,7 +125,7 @@ unfolding code_at field_at empty_at name_of
 unit_read b = do
   number ← bytes_at 8 b
   code ← code_at number.1
-  init ← field_at 4096 code.1
+  init ← field_at most_static code.1
   dir ← field_at 128 init.1
   fci ← field_at 128 dir.1
   signature ← empty_at Signed fci.1
@@ -148,7 +148,7 @@ unit_text number code init dir fci = number ++ field code ++ field init ++ field
 pub record FitsUnit (code init dir fci : List ℕ) : Type 0 where
   pub some_code : 0 < length code
   pub code_len : length code ≤ most_code
-  pub init_len : length init ≤ 4096
+  pub init_len : length init ≤ most_static
   pub dir_len : length dir ≤ 128
   pub fci_len : length fci ≤ 128
 

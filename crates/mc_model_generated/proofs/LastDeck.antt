@@ -1,7 +1,8 @@
 -- The deck that 2147483647 generates, in 9 parts, each up to a `power` line that was ready.
-use Rattle.std.specs.Prelude.{◌≡◌, ℕ, List, [], ◌∷◌, ◌++◌, take, drop, replicate, refl, Some, None, codes}
+use Rattle.std.specs.Prelude.{◌≡◌, ℕ, List, [], ◌∷◌, ◌++◌, take, drop, refl, Some, None, codes}
 use Rattle.std.specs.Fmt.{digits}
 use Rattle.std.proofs.Common.{◌∙◌}
+use Rattle.mc_model.specs.Device.{blank_words, device_words}
 use Rattle.mc_model.specs.Image.{Two}
 use Rattle.mc_model.specs.Play.{State, start}
 use Rattle.mc_model.specs.DeckGrammar.{DeckLine}
@@ -39,7 +40,7 @@ lines_8 = drop 452 lines_7
 
 -- the state before each part
 abbrev state_0 : State
-state_0 = start (replicate 8192 (replicate 8 255))
+state_0 = start (blank_words device_words)
 
 abbrev state_1 : State
 state_1 = between (0 ∷ 135 ∷ []) None Two

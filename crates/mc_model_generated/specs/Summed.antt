@@ -1,5 +1,6 @@
 -- The play of a generated deck in parts: what the lines of a part add to the summary, and the state between two parts.
-use Rattle.std.specs.Prelude.{ℕ, ◌+◌, List, [], ◌∷◌, ◌++◌, length, replicate, codes, decimal, Option, Some, None}
+use Rattle.std.specs.Prelude.{ℕ, ◌+◌, List, [], ◌∷◌, ◌++◌, length, codes, decimal, Option, Some, None}
+use Rattle.mc_model.specs.Device.{blank_words, device_words}
 use Rattle.mc_model.specs.Image.{Journal}
 use Rattle.mc_model.specs.Units.{UnitParts}
 use Rattle.mc_model.specs.Card.{App}
@@ -11,7 +12,7 @@ use Rattle.mc_model_rows.specs.Played.{steps_on}
 
 -- the play of the deck that n generates, on a blank device of 8,192 words
 unfoldable pub generated_play : ℕ → List Step
-generated_play n = plays (start (replicate 8192 (replicate 8 255))) (generated n) []
+generated_play n = plays (start (blank_words device_words)) (generated n) []
 
 -- ---- what lines add to a summary
 

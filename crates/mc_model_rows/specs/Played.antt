@@ -1,9 +1,9 @@
 -- The text that a deck's text writes when it is played on a blank device.
-use Rattle.std.specs.Prelude.{ℕ, List, [], ◌++◌, replicate, codes, Result, Ok, Err, ◌∷◌, zero, suc, map, flat_map, decimal, Option}
+use Rattle.std.specs.Prelude.{ℕ, List, [], ◌++◌, codes, Result, Ok, Err, ◌∷◌, zero, suc, map, flat_map, decimal, Option}
 use Rattle.std.specs.Fmt.{digits}
 use Rattle.sha1.specs.Sha1.{sha1, digest_bytes, hash_after, compress, rounds, schedule, first_words}
 use Rattle.mc_model.specs.declared.deck.DeckCause.{DeckCause}
-use Rattle.mc_model.specs.Bytes.{zeros}
+use Rattle.mc_model.specs.Device.{blank_words, device_words}
 use Rattle.mc_model.specs.Units.{name_of, unit_bytes, made_dir, made_fci}
 use Rattle.mc_model.specs.Apdu.{apdu_read}
 use Rattle.mc_model.specs.Pieces.{touched}
@@ -29,10 +29,6 @@ abbrev pub unit_line : List ℕ → List ℕ → List ℕ → List ℕ → List 
 unit_line name aid code init =
     codes "unit " ++ name ++ codes " " ++ hex_text (unit_bytes (hex code) (hex init) (made_dir (hex aid)) (made_fci (hex aid))) ++ codes "\n"
 
--- a device of so many blank words
-abbrev pub blank_words : ℕ → List (List ℕ)
-blank_words size = replicate size (zeros 8)
-
 -- the play of numbered lines on some words, on a device that refuses just the writes of `fail` lines
 unfoldable pub steps_on : List (List ℕ) → List (ℕ × DeckLine) → List Step
 unfolding name_of apdu_read touched des_encipher des_decipher tdes_encipher tdes_decipher des_signature tdes_signature aes_encipher aes_decipher aes_signature sha1 digest_bytes hash_after compress rounds schedule first_words targets_1 targets_2 pairs blocks_from apps_of layout step_of bad_block bad_record bytes_at written too_many later_causes prim_effect causes effect row acted ran manage command send warmed step plays moves_of steady_worn
@@ -51,7 +47,7 @@ trace_of words (Err e) = Err e
 -- what a deck's text writes on a blank device of 8,192 words, and on one of so many
 unfoldable pub played : List ℕ → Result (List ℕ) (ℕ × DeckCause)
 unfolding deck_read steps_on digits
-played text = transcript_of (blank_words 8192) (deck_read text)
+played text = transcript_of (blank_words device_words) (deck_read text)
 
 -- a deck's transcript on a blank device of so many words
 unfoldable pub played_on : ℕ → List ℕ → Result (List ℕ) (ℕ × DeckCause)
@@ -61,7 +57,7 @@ played_on size text = transcript_of (blank_words size) (deck_read text)
 -- the same with the lines of its instructions
 unfoldable pub trace : List ℕ → Result (List ℕ) (ℕ × DeckCause)
 unfolding deck_read steps_on turn_line digits
-trace text = trace_of (blank_words 8192) (deck_read text)
+trace text = trace_of (blank_words device_words) (deck_read text)
 
 -- the summary of a deck's text
 abbrev pub summary_in : List (List ℕ) → Result (List (ℕ × DeckLine)) (ℕ × DeckCause) → Result (List ℕ) (ℕ × DeckCause)
@@ -71,7 +67,7 @@ summary_in words (Err e) = Err e
 -- a deck's summary
 unfoldable pub summarised : List ℕ → Result (List ℕ) (ℕ × DeckCause)
 unfolding deck_read steps_on summary digits
-summarised text = summary_in (blank_words 8192) (deck_read text)
+summarised text = summary_in (blank_words device_words) (deck_read text)
 
 -- the card that a deck's text leaves on a device of so many blank words; none where no card is there
 abbrev pub card_at : Base → List Card

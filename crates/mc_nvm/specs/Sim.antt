@@ -10,7 +10,7 @@ use Rattle.mc_nvm.specs.declared.sim.SimNvm.TheInside.{Inside as Held}
 use Rattle.mc_nvm.specs.declared.fuse.Due.{Due as Found}
 use Rattle.mc_nvm.specs.declared.fuse.Due.TheVariants.{Cut as FoundCut, Worn as FoundWorn, Not as FoundNot}
 use Rattle.mc_model.specs.Counts.{Rose, last_count}
-use Rattle.mc_model.specs.Device.{DeviceState, BenchState, Fuse, Wrote, NextWriteEnds, fill_at, BenchWrote, Due, DueCut, DueWorn, DueNot, due, falling, counted, next_count}
+use Rattle.mc_model.specs.Device.{blank_words, DeviceState, BenchState, Fuse, Wrote, NextWriteEnds, fill_at, BenchWrote, Due, DueCut, DueWorn, DueNot, due, falling, counted, next_count}
 
 -- what a device in memory means
 pub record Sim : Type 0 where
@@ -22,6 +22,7 @@ pub record Sim : Type 0 where
   pub worn : Option Fuse
   pub powers : ℕ
   pub pokes : ℕ
+  pub poked : ℕ
   pub arms : ℕ
   pub wears : ℕ
 
@@ -37,11 +38,11 @@ due_of FoundNot = DueNot
 
 -- a device in memory as it is seen
 abbrev pub sim_of : Held → Sim
-sim_of a = record { words = a.words.items; on = a.on; cuts = a.cuts; faults = a.faults; cut = option_map fuse_of a.cut; worn = option_map fuse_of a.worn; powers = a.powers; pokes = a.pokes; arms = a.arms; wears = a.wears }
+sim_of a = record { words = a.words.items; on = a.on; cuts = a.cuts; faults = a.faults; cut = option_map fuse_of a.cut; worn = option_map fuse_of a.worn; powers = a.powers; pokes = a.pokes; poked = a.poked; arms = a.arms; wears = a.wears }
 
 -- a blank device: power is off, there is no fuse, nothing was counted
 abbrev pub blank_sim : ℕ → Sim
-blank_sim n = record { words = replicate n (replicate 8 255); on = false; cuts = 0; faults = 0; cut = None; worn = None; powers = 0; pokes = 0; arms = 0; wears = 0 }
+blank_sim n = record { words = blank_words n; on = false; cuts = 0; faults = 0; cut = None; worn = None; powers = 0; pokes = 0; poked = 0; arms = 0; wears = 0 }
 
 -- the device that it is; it tells no tape
 abbrev pub sim_state : Sim → DeviceState
@@ -49,7 +50,7 @@ sim_state s = record { words = s.words; on = s.on; cuts = s.cuts; faults = s.fau
 
 -- the bench that it is; it refuses no write by itself
 abbrev pub sim_bench : Sim → BenchState
-sim_bench s = record { cut = s.cut; worn = s.worn; powers = s.powers; pokes = s.pokes; arms = s.arms; wears = s.wears; steady = true }
+sim_bench s = record { cut = s.cut; worn = s.worn; powers = s.powers; pokes = s.pokes; poked = s.poked; arms = s.arms; wears = s.wears; steady = true }
 
 -- the device after a write of which this came, its fuses nearer by one
 abbrev pub after_write : Sim → ℕ → List ℕ → Due → Sim

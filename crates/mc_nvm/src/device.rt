@@ -1,7 +1,7 @@
 ghost use Rattle.std.specs.Prelude.{◌≡◌, ℕ, ◌<◌, ◌≤◌, true, List, length, slice_index_or, slice_set, [], Some, None, refl};
 ghost use Rattle.std.proofs.Common.{◌∙◌};
 ghost use Rattle.mc_model.specs.Orders.{Answer};
-ghost use Rattle.mc_model.specs.Device.{DeviceState, BenchState, IsImage, Wrote, BenchWrote, next_count};
+ghost use Rattle.mc_model.specs.Device.{DeviceState, BenchState, IsImage, Wrote, BenchWrote, next_count, poked_once};
 
 use mc_base::{Stop, Word};
 
@@ -81,12 +81,13 @@ pub trait Bench: Nvm {
         ensures bench { bench self.new ≡ record (bench self.old) { powers = next_count (bench self.old).powers } }
         ensures lent { Self.same self.old self.new };
 
-    /// Sets one word at a place below the length. It is no write and needs no power.
+    /// Sets one word at a place below the length. It is no write and needs no power. The bench keeps how often power
+    /// had been turned on by then.
     fn poke(&mut self, at: u32, word: Word)
         requires { at < length (Self.state self.old).words }
         ensures state { Self.state self.new
             ≡ record (Self.state self.old) { words = slice_set (Self.state self.old).words at word } }
-        ensures bench { bench self.new ≡ record (bench self.old) { pokes = next_count (bench self.old).pokes } }
+        ensures bench { bench self.new ≡ poked_once (bench self.old) }
         ensures lent { Self.same self.old self.new };
 
     /// Refuses the k-th write from now, which leaves `fill` in its word, unless another stop comes before it or falls

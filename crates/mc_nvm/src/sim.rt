@@ -22,6 +22,7 @@ pub struct SimNvm {
     worn: Option<Fuse>,
     powers: u64,
     pokes: u64,
+    poked: u64,
     arms: u64,
     wears: u64,
 }
@@ -52,6 +53,7 @@ impl SimNvm {
             worn: None,
             powers: 0,
             pokes: 0,
+            poked: 0,
             arms: 0,
             wears: 0,
         })
@@ -70,6 +72,7 @@ impl SimNvm {
         self.worn = None;
         self.powers = 0;
         self.pokes = 0;
+        self.poked = 0;
         self.arms = 0;
         self.wears = 0;
     }
@@ -181,6 +184,7 @@ impl Bench for SimNvm {
     fn poke(&mut self, at: u32, word: Word) {
         self.words[at as usize] = word;
         self.pokes = self.pokes.saturating_add(1);
+        self.poked = self.powers;
     }
 
     fn wear(&mut self, k: u32, fill: Word) {

@@ -3,16 +3,22 @@ use Rattle.std.proofs.Common.{◌≡◌, ℕ, zero, suc, ◌+◌, ◌*◌, ◌/�
 use Rattle.std.specs.List.{AllByRecursion}
 use Rattle.std.proofs.lemmas.Bool.{le-leb}
 use Rattle.std.proofs.lemmas.List.{take_at, drop_at}
+use Rattle.mc_model.specs.Bytes.{AreBytes}
 use Rattle.mc_reader.specs.Frames.{framed, framed_all, first_frame, frames_within, frames_read}
 
--- the length of a frame fits its two bytes
+-- a frame is bytes, and its length fits two of them
 abbrev pub LengthFits : List ℕ → Type 0
-LengthFits f = length f < 65536
+LengthFits f = (length f < 65536) × AreBytes f
+
+-- frames are bytes
+pub each_bytes : (fs : List (List ℕ)) → AllByRecursion LengthFits fs → AllByRecursion AreBytes fs
+each_bytes [] all = tt
+each_bytes (f ∷ fs) all = (all.0.1, each_bytes fs all.1)
 
 -- a frame before other bytes
 first_framed : (f rest : List ℕ) → LengthFits f → first_frame (framed f ++ rest) ≡ Some (f, rest)
 first_framed f rest fits =
-    let size : 256 * (length f / 256 % 256) + length f % 256 ≡ length f = omega (arith, fits) in
+    let size : 256 * (length f / 256 % 256) + length f % 256 ≡ length f = omega (arith, fits.0) in
     let long : length f ≤ length (f ++ rest) = rw (length-append f rest) (omega arith) in
     rw (size, le-leb (length f) (length (f ++ rest)) long, take_at f rest (length f) refl, drop_at f rest (length f) refl) refl
 

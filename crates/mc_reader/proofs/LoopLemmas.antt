@@ -22,7 +22,7 @@ use Rattle.mc_reader.specs.Sessions.{AroundSession, AnswersWritten, EndsBy}
 use Rattle.mc_reader.specs.Serving.{Moves, ServesFrame, ServedFrames, ServedFrom}
 use Rattle.mc_reader.specs.declared.serve_error.ServeError.{ServeError}
 use Rattle.mc_reader.specs.declared.serve_error.ServeError.TheVariants as fault
-use Rattle.mc_reader.proofs.FrameLemmas.{LengthFits, frames_are, framed_more, fits_more}
+use Rattle.mc_reader.proofs.FrameLemmas.{LengthFits, each_bytes, frames_are, framed_more, fits_more}
 use Rattle.mc_reader.proofs.AnswerLemmas.{written_more, written_cut}
 use Rattle.mc_reader.proofs.ServingLemmas.{frames_none, frames_on}
 
@@ -126,6 +126,7 @@ module _ {N : Type 0} (state : N → DeviceState) (bench : N → BenchState) whe
         taken = framed_all fs ++ part;
         took = took;
         read = frames_are fs part fit less;
+        bytes = each_bytes fs fit;
         counted = counted;
         answers = os;
         served =

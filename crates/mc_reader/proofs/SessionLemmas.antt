@@ -1,13 +1,22 @@
 -- A deck that was played, and the frames that were served behind it, as one session.
-use Rattle.std.proofs.Common.{◌≡◌, ℕ, suc, false, List, [], ◌∷◌, ◌++◌, length, drop, Option, Result, Ok, Err, refl, sym, ◌∙◌, ap, subst}
+use Rattle.std.proofs.Common.{◌≡◌, ℕ, suc, Bool, true, false, cond, List, [], ◌∷◌, ◌++◌, length, take, drop, Option, Some, None, Result, Ok, Err, refl, sym, ◌∙◌, ap, subst}
+use Rattle.std.specs.Prelude.{◌&&◌, ◌==◌, nat_le, IfOk, IfSome}
+use Rattle.std.specs.List.{AllByRecursion}
 use Rattle.std.proofs.lemmas.List.{drop_at}
-use Rattle.mc_model.specs.Device.{DeviceState, BenchState}
+use Rattle.mc_model.specs.Bytes.{AreBytes, num}
+use Rattle.mc_model.specs.Device.{DeviceState, BenchState, IsImage}
 use Rattle.mc_model.specs.DeckGrammar.{DeckLine}
+use Rattle.mc_model.specs.DeckGrammar as line
+use Rattle.mc_model.specs.Laws.{HoldsOf}
 use Rattle.mc_model.specs.Play.{State, WornAt, Step, plays, start, step, first_worn, last_state}
+use Rattle.mc_model.specs.ReadyAgain.{IsLine, AreLines}
+use Rattle.mc_model.proofs.ImageLemmas.{all-append}
+use Rattle.mc_family.proofs.DeckBytes.{played_bytes}
 use Rattle.mc_family.proofs.PlayLaw.{play_law}
 use Rattle.mc_script.specs.Plays.{Bench, LeadsTo}
 use Rattle.mc_script.proofs.Composing.{plays_append}
-use Rattle.mc_reader.specs.Lines.{last_number, lines_of, session_lines}
+use Rattle.mc_reader.specs.Meanings.{Meaning, PowerOn, PowerOff, WantsAtr, Nothing, wrong_length, wrong_instruction, wrong_parameters, in_range, cut_order, fail_order, budget_order, plain_order, order_by, order, by_order, by_power, meaning, power_after}
+use Rattle.mc_reader.specs.Lines.{line_in, numbered, number_after, last_number, lines_of, session_lines}
 use Rattle.mc_reader.specs.Answers.{answer_each, session_answers}
 use Rattle.mc_reader.specs.Sessions.{AroundSession, EndsBy, Served, Serves}
 use Rattle.mc_reader.specs.Serving.{ServedFrom}
@@ -35,16 +44,91 @@ ends_same fs part os (Err fault.ReadFault) a b c h = record { cause = h.cause; w
 ends_same fs part os (Err fault.WriteFault) a b c h = record { between = h.between; written = h.written }
 ends_same fs part os (Err fault.NoMemory) a b c h = h
 
+-- ---- lines of bytes
+
+-- an order is no line that carries bytes
+plain_cond : (b : Bool) (r q : Result DeckLine ℕ) → IfOk r IsLine → IfOk q IsLine → IfOk (cond b r q) IsLine
+plain_cond true r q h k = h
+plain_cond false r q h k = k
+
+plain_range : (b : Bool) (l : DeckLine) → IsLine l → IfOk (in_range b l) IsLine
+plain_range true l h = h
+plain_range false l h = tt
+
+plain_sized : (size p1 p2 : ℕ) (body : List ℕ) (r : Result DeckLine ℕ) → IfOk r IsLine → IfOk (plain_order size p1 p2 body r) IsLine
+plain_sized size p1 p2 body r h =
+    plain_cond (length body == size) (cond ((p1 == 0) && (p2 == 0)) r (Err wrong_parameters)) (Err wrong_length) (plain_cond ((p1 == 0) && (p2 == 0)) r (Err wrong_parameters) h tt) tt
+
+plain_by : (ins p1 p2 : ℕ) (body : List ℕ) → IfOk (order_by ins p1 p2 body) IsLine
+plain_by ins p1 p2 body =
+    let k = num (take 4 body) in
+    let n = num body in
+    plain_cond (ins == 0xC0) (plain_order 12 p1 p2 body (cut_order body)) _ (plain_sized 12 p1 p2 body (cut_order body) (plain_range (nat_le 1 k) (line.Cut k (drop 4 body)) tt))
+    (plain_cond (ins == 0xC1) (plain_order 4 p1 p2 body (fail_order body)) _ (plain_sized 4 p1 p2 body (fail_order body) (plain_range (nat_le 1 n) (line.Fail n) tt))
+    (plain_cond (ins == 0xC2) (plain_order 4 p1 p2 body (budget_order body)) (Err wrong_instruction)
+    (plain_sized 4 p1 p2 body (budget_order body) (plain_range (nat_le 1 n && nat_le n 65536) (line.Budget n) tt)) tt))
+
+plain : (f : List ℕ) → IfOk (order f) IsLine
+plain [] = tt
+plain (cla ∷ []) = tt
+plain (cla ∷ ins ∷ []) = tt
+plain (cla ∷ ins ∷ p1 ∷ []) = tt
+plain (cla ∷ ins ∷ p1 ∷ p2 ∷ []) = tt
+plain (cla ∷ ins ∷ p1 ∷ p2 ∷ lc ∷ body) = plain_cond (length body == lc) (order_by ins p1 p2 body) (Err wrong_length) (plain_by ins p1 p2 body) tt
+
+-- the line of a meaning, if it has one, carries bytes
+abbrev Carries : Meaning → Type 0
+Carries m = IfSome (line_in m) IsLine
+
+carries_cond : (b : Bool) (m k : Meaning) → Carries m → Carries k → Carries (cond b m k)
+carries_cond true m k h i = h
+carries_cond false m k h i = i
+
+carries_order : (r : Result DeckLine ℕ) → IfOk r IsLine → Carries (by_order r)
+carries_order (Ok l) h = h
+carries_order (Err status) h = tt
+
+carries_power : (powered : Bool) (f : List ℕ) → AreBytes f → Carries (by_power powered f)
+carries_power true f bytes = bytes
+carries_power false f bytes = tt
+
+-- a frame of bytes means no line of anything else
+carries : (powered : Bool) (f : List ℕ) → AreBytes f → Carries (meaning powered f)
+carries powered [] bytes = tt
+carries powered (b ∷ []) bytes =
+    carries_cond (b == 0) PowerOff _ tt (carries_cond (b == 1) PowerOn _ tt (carries_cond (b == 2) PowerOn _ tt (carries_cond (b == 4) WantsAtr Nothing tt tt)))
+carries powered (b ∷ c ∷ bs) bytes =
+    let f = b ∷ c ∷ bs in
+    carries_cond (b == 0xFF) (by_order (order f)) (by_power powered f) (carries_order (order f) (plain f)) (carries_power powered f bytes)
+
+numbered_bytes : (n : ℕ) (o : Option DeckLine) → IfSome o IsLine → AllByRecursion (λ l. IsLine l.1) (numbered n o)
+numbered_bytes n None h = tt
+numbered_bytes n (Some l) h = (h, tt)
+
+-- the lines of frames of bytes carry bytes
+frames_bytes : (n : ℕ) (powered : Bool) (fs : List (List ℕ)) → AllByRecursion AreBytes fs → AllByRecursion (λ l. IsLine l.1) (lines_of n powered fs)
+frames_bytes n powered [] all = tt
+frames_bytes n powered (f ∷ fs) all =
+    let m = meaning powered f in
+    all-append (λ l. IsLine l.1) (numbered n (line_in m)) (lines_of (number_after n (line_in m)) (power_after powered m) fs) (numbered_bytes n (line_in m) (carries powered f all.0))
+    (frames_bytes (number_after n (line_in m)) (power_after powered m) fs all.1)
+
+-- ---- one play
+
 -- the deck and the frames are one play
 served_deck : (deck : List (ℕ × DeckLine)) (result : Result (Unit {0}) ServeError) (a : AroundSession) (b : Bench) (u : State) (worn : List (Option WornAt))
-    → LeadsTo (start a.dev_old.device.words) deck worn a.dev_old u b → ServedFrom u (last_number deck) result (record a { dev_old = b }) → Served deck result a
-served_deck deck result a b u worn leads h =
+    → IsImage a.dev_old.device.words → AllByRecursion (λ l. IsLine l.1) deck → LeadsTo (start a.dev_old.device.words) deck worn a.dev_old u b → ServedFrom u (last_number deck) result (record a { dev_old = b }) → Served deck result a
+served_deck deck result a b u worn image bytes leads h =
     let s = start a.dev_old.device.words in
     let ls = lines_of (last_number deck) false h.frames in
     let played = leads.rest ls h.served.worn a.dev h.served.played in
     let steps = steps_behind_deck s u deck ls worn h.served.worn leads.many leads.last in
     let are : h.answers ≡ session_answers deck h.frames (plays s (deck ++ ls) (worn ++ h.served.worn)) =
     h.served.answers ∙ ap (λ (ts : List Step). answer_each false h.frames ts) (sym steps) in
+    let m = a.dev_old.device.words in
+    let laws : HoldsOf m (plays s (deck ++ ls) (worn ++ h.served.worn)) = play_law (session_lines deck h.frames) m (worn ++ h.served.worn) played.possible in
+    let mine = all-append (λ l. IsLine l.1) deck ls bytes (frames_bytes (last_number deck) false h.frames h.bytes) in
+    let each : AreLines (plays s (deck ++ ls) (worn ++ h.served.worn)) = played_bytes s (session_lines deck h.frames) (worn ++ h.served.worn) mine in
     record {
       frames = h.frames;
       part = h.part;
@@ -54,7 +138,9 @@ served_deck deck result a b u worn leads h =
       counted = h.counted;
       worn = worn ++ h.served.worn;
       played = played;
-      laws = play_law (session_lines deck h.frames) a.dev_old.device.words (worn ++ h.served.worn) played.possible;
+      laws = laws;
+      few = laws.few image each;
+      ready = laws.ready image each;
       ends = subst (λ (os : List (Option (List ℕ))). EndsBy h.frames h.part os result a) are (ends_same h.frames h.part h.answers result a b a.dev h.ends);
     }
 
@@ -75,9 +161,9 @@ bench_same x y device bench =
 
 -- a session on a device that is lent to its player, and handed back
 pub served_session : (deck : List (ℕ × DeckLine)) (result : Result (Unit {0}) ServeError) (a : AroundSession) (d b c : Bench) (u : State) (worn : List (Option WornAt))
-    → LeadsTo (start a.dev_old.device.words) deck worn d u b → ServedFrom u (last_number deck) result (record a { dev_old = b; dev = c })
+    → IsImage a.dev_old.device.words → AllByRecursion (λ l. IsLine l.1) deck → LeadsTo (start a.dev_old.device.words) deck worn d u b → ServedFrom u (last_number deck) result (record a { dev_old = b; dev = c })
     → d.device ≡ a.dev_old.device → d.bench ≡ a.dev_old.bench → c.device ≡ a.dev.device → c.bench ≡ a.dev.bench → Serves deck result a
-served_session deck result a d b c u worn leads h old old_bench new new_bench =
+served_session deck result a d b c u worn image bytes leads h old old_bench new new_bench =
     serves deck result a (
-    served_deck deck result a b u worn (subst (λ (e : Bench). LeadsTo (start a.dev_old.device.words) deck worn e u b) (bench_same d a.dev_old old old_bench) leads)
+    served_deck deck result a b u worn image bytes (subst (λ (e : Bench). LeadsTo (start a.dev_old.device.words) deck worn e u b) (bench_same d a.dev_old old old_bench) leads)
     (subst (λ (e : Bench). ServedFrom u (last_number deck) result (record a { dev_old = b; dev = e })) (bench_same c a.dev new new_bench) h))

@@ -2,9 +2,10 @@
 -- contract rests on it.
 use Rattle.std.specs.Prelude.{ℕ, List, [], Result, Ok, Err}
 use Rattle.mc_model.specs.declared.deck.DeckCause.{DeckCause}
+use Rattle.mc_model.specs.Device.{blank_words}
 use Rattle.mc_model.specs.DeckGrammar.{DeckLine, deck_read}
 use Rattle.mc_model_rows.specs.Written.{hex}
-use Rattle.mc_model_rows.specs.Played.{blank_words, steps_on}
+use Rattle.mc_model_rows.specs.Played.{steps_on}
 use Rattle.mc_reader.specs.Frames.{framed_all, frames_within, frames_read}
 use Rattle.mc_reader.specs.Lines.{session_lines}
 use Rattle.mc_reader.specs.Answers.{present, session_answers}

@@ -1,5 +1,7 @@
 -- What the parts of a session do: one frame, and frames that are served from a state of a play on.
 use Rattle.std.specs.Prelude.{◌≡◌, ℕ, ◌+◌, ◌≤◌, Bool, false, List, Option, Some, None, Result}
+use Rattle.std.specs.List.{AllByRecursion}
+use Rattle.mc_model.specs.Bytes.{AreBytes}
 use Rattle.mc_model.specs.Device.{DeviceState, BenchState}
 use Rattle.mc_model.specs.DeckGrammar.{DeckLine}
 use Rattle.mc_model.specs.Play.{State, WornAt, LineResult, step, plays}
@@ -56,6 +58,7 @@ pub record ServedFrom (s : State) (n : ℕ) (result : Result (Unit {0}) ServeErr
   pub taken : List ℕ
   pub took : Took a.left_old a.left taken
   pub read : frames_read taken ≡ (frames, part)
+  pub bytes : AllByRecursion AreBytes frames
   pub counted : a.reads_old ≤ a.reads
   pub answers : List (Option (List ℕ))
   pub served : ServedFrames s n false frames a.dev_old answers a.dev

@@ -1,9 +1,10 @@
 -- A session: a deck is played, and then the frames of a host are served. It is one play of the deck's lines and of those of the frames.
-use Rattle.std.specs.Prelude.{◌≡◌, ◌⊎◌, ℕ, ◌+◌, ◌<◌, ◌≤◌, List, [], ◌∷◌, ◌++◌, length, Option, Some, Result, Ok, Err}
+use Rattle.std.specs.Prelude.{◌≡◌, ◌⊎◌, ℕ, ◌+◌, ◌<◌, ◌≤◌, false, List, [], ◌∷◌, ◌++◌, length, Option, Some, Result, Ok, Err}
 use Rattle.mc_model.specs.Counts.{last_count, Rose}
 use Rattle.mc_model.specs.DeckGrammar.{DeckLine}
 use Rattle.mc_model.specs.Play.{WornAt, Step, plays, start}
 use Rattle.mc_model.specs.Laws.{HoldsOf}
+use Rattle.mc_model.specs.ReadyAgain.{AllFitJournal, ReadyAgain}
 use Rattle.mc_base.specs.Streams.{Took, AtEnd, Grew}
 use Rattle.mc_text.specs.Texts.{Sunk}
 use Rattle.mc_script.specs.Plays.{Bench, Played}
@@ -85,7 +86,8 @@ session_steps deck fs worn a = plays (start a.dev_old.device.words) (session_lin
 -- A session: these frames were served, and exactly their bytes were taken of the source, and the part of one that did not come whole. One
 -- list of worn stops accounts for the words, the counts and the tape of the device, and for all that was written. Every closed family of
 -- applications is told and holds what it is told and holds on a card of its own, each line leaves the card with its whole items, and no new
--- application has a stale byte.
+-- application has a stale byte. Each item fits a journal, and a card that was found or formatted is found by every later power line that no
+-- stop hits.
 pub record Served (deck : List (ℕ × DeckLine)) (result : Result (Unit {0}) ServeError) (a : AroundSession) : Type 0 where
   pub frames : List (List ℕ)
   pub part : List ℕ
@@ -96,6 +98,8 @@ pub record Served (deck : List (ℕ × DeckLine)) (result : Result (Unit {0}) Se
   pub worn : List (Option WornAt)
   pub played : Played (start a.dev_old.device.words) (session_lines deck frames) worn a.dev_old a.dev
   pub laws : HoldsOf a.dev_old.device.words (session_steps deck frames worn a)
+  pub few : AllFitJournal (session_steps deck frames worn a)
+  pub ready : ReadyAgain false (session_steps deck frames worn a)
   pub ends : EndsBy frames part (session_answers deck frames (session_steps deck frames worn a)) result a
 
 -- want of memory: nothing was read, played or written

@@ -1,5 +1,6 @@
 // A session: a deck is played, and then the frames of a host are served.
 ghost use Rattle.std.specs.Prelude.{◌≡◌, ℕ, length};
+ghost use Rattle.mc_model.specs.Bytes.{AreBytes};
 ghost use Rattle.mc_model.specs.Play.{State};
 ghost use Rattle.mc_text.specs.Texts.{sunk_in};
 ghost use Rattle.mc_script.specs.Players.{device_of, IsPlayerAt, IsPlaying, IsUnfused};
@@ -54,6 +55,7 @@ fn serve_frame<N: Bench, T: Sink, L: Ledger>(
         → ServesFrame N.state N.bench player.old s n (meaning powered.old frame.now)
         (sunk_in T.taken T.faults out.old) result player.new (sunk_in T.taken T.faults out.new) }
     ensures power { powered.new ≡ power_after powered.old (meaning powered.old frame.now) }
+    ensures bytes { AreBytes frame.now }
     ensures lent { N.same (device_of player.old) (device_of player.new) }
 {
     let request = Request::of(frame, *powered);
@@ -124,6 +126,8 @@ pub fn serve<S: Source, T: Sink, N: Bench, L: Ledger>(
     }) }
 {
     let mut room = vec![in alloc; 0; LONGEST_FRAME]?;
+    let _words = dev.len();
+    let _lines = deck.len();
     let mut player = Player::new(&mut *dev);
     player.deck(deck, steps);
     let result = serve_frames(&mut player, input, out, room.as_mut_slice(), steps);

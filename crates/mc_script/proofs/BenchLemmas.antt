@@ -20,6 +20,7 @@ use Rattle.mc_script.proofs.FuseLemmas.{after_writes, Past, falls_at, past_on, p
 pub record SameCalls (b c : BenchState) : Type 0 where
   pub powers : c.powers ≡ b.powers
   pub pokes : c.pokes ≡ b.pokes
+  pub poked : c.poked ≡ b.poked
   pub arms : c.arms ≡ b.arms
   pub wears : c.wears ≡ b.wears
   pub steady : c.steady ≡ b.steady
@@ -104,8 +105,8 @@ module _ {D : Type 0} (wrote : D → ℕ → List ℕ → Answer → D → Type 
 after_stop : (b c : BenchState) (s : Stop) → Burns b (Err s) c → SameCalls b c
 after_stop b c s h =
     elim h [
-      | inl e ↦ let q : c ≡ record b { cut = counted b.cut; worn = counted b.worn } = e in record { powers = ap (λ (x : BenchState). x.powers) q; pokes = ap (λ (x : BenchState). x.pokes) q; arms = ap (λ (x : BenchState). x.arms) q; wears = ap (λ (x : BenchState). x.wears) q; steady = ap (λ (x : BenchState). x.steady) q }
-      | inr e ↦ let q : c ≡ record b { cut = counted b.cut; worn = None } = e in record { powers = ap (λ (x : BenchState). x.powers) q; pokes = ap (λ (x : BenchState). x.pokes) q; arms = ap (λ (x : BenchState). x.arms) q; wears = ap (λ (x : BenchState). x.wears) q; steady = ap (λ (x : BenchState). x.steady) q }
+      | inl e ↦ let q : c ≡ record b { cut = counted b.cut; worn = counted b.worn } = e in record { powers = ap (λ (x : BenchState). x.powers) q; pokes = ap (λ (x : BenchState). x.pokes) q; poked = ap (λ (x : BenchState). x.poked) q; arms = ap (λ (x : BenchState). x.arms) q; wears = ap (λ (x : BenchState). x.wears) q; steady = ap (λ (x : BenchState). x.steady) q }
+      | inr e ↦ let q : c ≡ record b { cut = counted b.cut; worn = None } = e in record { powers = ap (λ (x : BenchState). x.powers) q; pokes = ap (λ (x : BenchState). x.pokes) q; poked = ap (λ (x : BenchState). x.poked) q; arms = ap (λ (x : BenchState). x.arms) q; wears = ap (λ (x : BenchState). x.wears) q; steady = ap (λ (x : BenchState). x.steady) q }
     ]
 
 raises : (s : Stop) (d m e : DeviceState) → m.cuts ≡ d.cuts → m.faults ≡ d.faults → Counts m (Err s) e → Raises s d e
@@ -153,6 +154,7 @@ burnt_calls b c n r =
     record {
       powers = ap (λ (x : BenchState). x.powers) r.is;
       pokes = ap (λ (x : BenchState). x.pokes) r.is;
+      poked = ap (λ (x : BenchState). x.poked) r.is;
       arms = ap (λ (x : BenchState). x.arms) r.is;
       wears = ap (λ (x : BenchState). x.wears) r.is;
       steady = ap (λ (x : BenchState). x.steady) r.is;
@@ -163,6 +165,7 @@ calls_then a b c r q =
     record {
       powers = q.powers ∙ r.powers;
       pokes = q.pokes ∙ r.pokes;
+      poked = q.poked ∙ r.poked;
       arms = q.arms ∙ r.arms;
       wears = q.wears ∙ r.wears;
       steady = q.steady ∙ r.steady;

@@ -14,9 +14,10 @@ use Rattle.mc_script.specs.declared.answer.Answer.{Answer}
 use Rattle.mc_script.specs.declared.player.Player.{Player}
 use Rattle.mc_script.specs.Players.{answer_value, IsPlayerAt}
 use Rattle.mc_script.specs.Lines.{bench_of, Lined, LineDone}
-use Rattle.mc_script.specs.Scripts.{ended, text_by}
+use Rattle.mc_script.specs.Writers.{ended, text_by}
 use Rattle.mc_script.specs.Plays.{Bench, PlaysFrom}
-use Rattle.mc_script.proofs.PlayLemmas.{step_number, from_on, from_cut, from_none}
+use Rattle.mc_model.proofs.PlayLemmas.{step_is}
+use Rattle.mc_script.proofs.PlayLemmas.{from_on, from_cut, from_none}
 use Rattle.mc_script.proofs.LineLemmas.{player_stands}
 
 module _ {N : Type 0} (state : N → DeviceState) (bench : N → BenchState) where
@@ -44,7 +45,7 @@ module _ {N : Type 0} (state : N → DeviceState) (bench : N → BenchState) whe
         → Lined state bench told p s l w before after answer q → TellsLine q before after l.0 answer y r z → Puts y (text_by text (step s l w)) r z
     line_puts p q s l w before after answer y z r lined tells =
         let t = step s l w in
-        let is : line_text l.0 (option_map (answer_value state q) answer) ≡ line_text t.number t.result = ap (λ o. line_text l.0 o) lined.stepped.answers ∙ ap (λ n. line_text n t.result) (sym (step_number s l w)) in
+        let is : line_text l.0 (option_map (answer_value state q) answer) ≡ line_text t.number t.result = ap (λ o. line_text l.0 o) lined.stepped.answers ∙ ap (λ n. line_text n t.result) (sym ((step_is s l w).number)) in
         subst (λ (bs : List ℕ). Puts y (text (shown_turns t.turns t.stop) ++ bs) r z) is (tells (shown_turns t.turns t.stop) lined.tells)
 
     -- a line whose text was written

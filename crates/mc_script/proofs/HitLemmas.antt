@@ -111,6 +111,7 @@ place_is (armed.Fail j) b k x free h = absurd (uncut b (record { writes = k; fil
 pub record CallsOf (b : BenchState) (n : ℕ) (a : play.Armed) (c : BenchState) : Type 0 where
   pub powers : c.powers ≡ raised b.powers n
   pub pokes : c.pokes ≡ b.pokes
+  pub poked : c.poked ≡ b.poked
   pub arms : c.arms ≤ b.arms + cuts_due a
   pub wears : c.wears ≤ b.wears + fails_due a
   pub steady : c.steady ≡ b.steady
@@ -123,6 +124,7 @@ armed_calls armed.Not b c e same is =
     record {
       powers = ap (λ (x : BenchState). x.powers) is ∙ same.powers;
       pokes = ap (λ (x : BenchState). x.pokes) is ∙ same.pokes;
+      poked = ap (λ (x : BenchState). x.poked) is ∙ same.poked;
       arms = let h : e.arms ≡ b.arms = ap (λ (x : BenchState). x.arms) is ∙ same.arms in omega (arith, h);
       wears = let h : e.wears ≡ b.wears = ap (λ (x : BenchState). x.wears) is ∙ same.wears in omega (arith, h);
       steady = ap (λ (x : BenchState). x.steady) is ∙ same.steady;
@@ -131,6 +133,7 @@ armed_calls (armed.Cut k fill) b c e same is =
     record {
       powers = ap (λ (x : BenchState). x.powers) is ∙ same.powers;
       pokes = ap (λ (x : BenchState). x.pokes) is ∙ same.pokes;
+      poked = ap (λ (x : BenchState). x.poked) is ∙ same.poked;
       arms = let h : e.arms ≡ next_count b.arms = ap (λ (x : BenchState). x.arms) is ∙ same.arms in let n = next_bound b.arms in omega (arith, h, n);
       wears = let h : e.wears ≡ b.wears = ap (λ (x : BenchState). x.wears) is ∙ same.wears in omega (arith, h);
       steady = ap (λ (x : BenchState). x.steady) is ∙ same.steady;
@@ -139,6 +142,7 @@ armed_calls (armed.Fail k) b c e same is =
     record {
       powers = ap (λ (x : BenchState). x.powers) is ∙ same.powers;
       pokes = ap (λ (x : BenchState). x.pokes) is ∙ same.pokes;
+      poked = ap (λ (x : BenchState). x.poked) is ∙ same.poked;
       arms = let h : e.arms ≡ b.arms = ap (λ (x : BenchState). x.arms) is ∙ same.arms in omega (arith, h);
       wears = let h : e.wears ≡ next_count b.wears = ap (λ (x : BenchState). x.wears) is ∙ same.wears in let n = next_bound b.wears in omega (arith, h, n);
       steady = ap (λ (x : BenchState). x.steady) is ∙ same.steady;

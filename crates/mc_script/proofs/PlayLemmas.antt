@@ -1,17 +1,19 @@
 -- A play of one line and a play of the lines behind it are one play.
-use Rattle.std.proofs.Common.{◌≡◌, ℕ, zero, suc, ◌+◌, List, [], ◌∷◌, ◌++◌, Option, Some, None, Result, Ok, Err, refl, arith, sym, ap, subst, ◌∙◌, append_assoc}
+use Rattle.std.proofs.Common.{◌≡◌, ◌⊎◌, ℕ, zero, suc, ◌+◌, List, [], ◌∷◌, ◌++◌, Option, Some, None, Result, Ok, Err, refl, arith, sym, ap, subst, ◌∙◌, append_assoc, inl, inr}
 use Rattle.std.proofs.lemmas.List.{append-nil}
 use Rattle.mc_model.specs.Device.{DeviceState, BenchState, Entry, next_count}
 use Rattle.mc_model.specs.DeckGrammar.{DeckLine}
 use Rattle.mc_model.specs.DeckGrammar as line
 use Rattle.mc_model.specs.Play.{Armed, Live, Running, Unpowered, Muted, Base, OnCard, AtFault, Warm, State, Cold, Hot, WornAt, Step, plays, step, card_line, armed_in, last_state, StandsForState, moves_of, steady_at, steady_worn, tape_worn}
+use Rattle.mc_model.proofs.PlayLemmas.{step_is}
 use Rattle.mc_base.specs.Streams.{Grew}
 use Rattle.mc_base.specs.declared.refusals.WriteFault.{WriteFault}
 use Rattle.mc_base.proofs.StreamsLemmas.{Grew-append, Grew-none, Rose-later}
-use Rattle.mc_script.specs.Counting.{raised, CountsCalls, LineCounts, PlayCounts}
+use Rattle.mc_script.specs.Counting.{raised, when_poked, CountsCalls, LineCounts, PlayCounts}
 use Rattle.mc_script.specs.Players.{IsUnfused}
 use Rattle.mc_script.specs.Plays.{Bench, PlayedLine, TapeTells, TapeIs, Played, texts, PlayEnds, PlaysFrom}
 use Rattle.mc_text.specs.Texts.{Sunk, Writes, Fails}
+use Rattle.mc_script.proofs.HotLemmas.{PokesFirst, pokes_first}
 use Rattle.mc_script.proofs.TapeLemmas.{tape_on}
 
 -- ---- counts
@@ -21,22 +23,33 @@ pub raised_add : (n a b : ℕ) → raised n (a + b) ≡ raised (raised n a) b
 raised_add n zero b = let e : 0 + b ≡ b = omega arith in ap (λ k. raised n k) e
 raised_add n (suc a) b = let e : suc a + b ≡ suc (a + b) = omega arith in ap (λ k. raised n k) e ∙ raised_add (next_count n) a b
 
+-- how often power had come when the last word was poked by some lines and those behind them: where power came, no word was poked behind it
+poked_on : (b c : BenchState) (p q q' : ℕ) → c.powers ≡ raised b.powers p → c.poked ≡ when_poked b q → (p ≡ 0) ⊎ (q' ≡ 0) → when_poked c q' ≡ when_poked b (q + q')
+poked_on b c p q zero powers poked apart = let e : q ≡ q + 0 = omega arith in poked ∙ ap (λ n. when_poked b n) e
+poked_on b c p q (suc k) powers poked apart =
+    elim apart [
+      | inl none ↦ let e : suc (q + k) ≡ q + suc k = omega arith in powers ∙ ap (λ n. raised b.powers n) none ∙ ap (λ n. when_poked b n) e
+      | inr none ↦ absurd (cc none)
+    ]
+
 -- the counts of lines, and of those behind them
-pub counts_on : (b c e : BenchState) (d f g : DeviceState) (p q k m p' q' k' m' : ℕ) → CountsCalls b d p q k m c f → CountsCalls c f p' q' k' m' e g → CountsCalls b d (p + p') (q + q') (k + k') (m + m') e g
-counts_on b c e d f g p q k m p' q' k' m' one rest =
+counts_on : (b c e : BenchState) (d f g : DeviceState) (p q k m p' q' k' m' : ℕ) → CountsCalls b d p q k m c f → CountsCalls c f p' q' k' m' e g → (p ≡ 0) ⊎ (q' ≡ 0) → CountsCalls b d (p + p') (q + q') (k + k') (m + m') e g
+counts_on b c e d f g p q k m p' q' k' m' one rest apart =
     record {
       powers = rest.powers ∙ ap (λ n. raised n p') one.powers ∙ sym (raised_add b.powers p p');
       pokes = rest.pokes ∙ ap (λ n. raised n q') one.pokes ∙ sym (raised_add b.pokes q q');
+      poked = rest.poked ∙ poked_on b c p q q' one.powers one.poked apart;
       cuts = rest.cuts ∙ ap (λ n. raised n k') one.cuts ∙ sym (raised_add d.cuts k k');
       faults = rest.faults ∙ ap (λ n. raised n m') one.faults ∙ sym (raised_add d.faults m m');
       steady = rest.steady ∙ one.steady;
     }
 
 -- the counts of a line, and of the lines behind it
-pub play_counts_on : (a b c : Bench) (t : Step) (ts : List Step) → LineCounts a.bench a.device t b.bench b.device → PlayCounts b.bench b.device (armed_in t.after) ts c.bench c.device → PlayCounts a.bench a.device (armed_in t.before) (t ∷ ts) c.bench c.device
-play_counts_on a b c t ts one rest =
+play_counts_on : (a b c : Bench) (t : Step) (ts : List Step) → LineCounts a.bench a.device t b.bench b.device → PlayCounts b.bench b.device (armed_in t.after) ts c.bench c.device → PokesFirst t ts
+    → PlayCounts a.bench a.device (armed_in t.before) (t ∷ ts) c.bench c.device
+play_counts_on a b c t ts one rest first =
     record {
-      counts = counts_on a.bench b.bench c.bench a.device b.device c.device _ _ _ _ _ _ _ _ one.counts rest.counts;
+      counts = counts_on a.bench b.bench c.bench a.device b.device c.device _ _ _ _ _ _ _ _ one.counts rest.counts first;
       arms = omega (arith, one.arms.arms, rest.arms);
       wears = omega (arith, one.arms.wears, rest.wears);
     }
@@ -45,82 +58,12 @@ play_counts_on a b c t ts one rest =
 counts_none : (a : Bench) (due : Armed) → PlayCounts a.bench a.device due [] a.bench a.device
 counts_none a due =
     record {
-      counts = record { powers = refl; pokes = refl; cuts = refl; faults = refl; steady = refl };
+      counts = record { powers = refl; pokes = refl; poked = refl; cuts = refl; faults = refl; steady = refl };
       arms = omega arith;
       wears = omega arith;
     }
 
 -- ---- a line, and the lines behind it
-
--- the state before a line of a card
-card_before : (n : ℕ) (l : DeckLine) (s : Warm) (live : Live) (base : Base) (w : Option WornAt) → (card_line n l s live base w).before ≡ Hot s
-card_before n l s (Running seat) (OnCard c) w = refl
-card_before n l s (Running seat) (AtFault cause p) w = refl
-card_before n l s Unpowered base w = refl
-card_before n l s Muted base w = refl
-
--- the state before a line
-pub step_before : (s : State) (l : ℕ × DeckLine) (w : Option WornAt) → (step s l w).before ≡ s
-unfolding step
-step_before (Cold m b a) (n, line.Format) w = refl
-step_before (Cold m b a) (n, line.Named) w = refl
-step_before (Cold m b a) (n, line.Power) w = refl
-step_before (Cold m b a) (n, line.Poke at x) w = refl
-step_before (Cold m b a) (n, line.Budget c) w = refl
-step_before (Cold m b a) (n, line.Cut k x) w = refl
-step_before (Cold m b a) (n, line.Fail k) w = refl
-step_before (Cold m b a) (n, line.Dump x) w = refl
-step_before (Cold m b a) (n, line.Load u fixed session) w = refl
-step_before (Cold m b a) (n, line.Select x) w = refl
-step_before (Cold m b a) (n, line.Delete x) w = refl
-step_before (Cold m b a) (n, line.Apdu x) w = refl
-step_before (Hot s) (n, line.Format) w = refl
-step_before (Hot s) (n, line.Named) w = refl
-step_before (Hot s) (n, line.Power) w = refl
-step_before (Hot s) (n, line.Poke at x) w = refl
-step_before (Hot s) (n, line.Budget c) w = refl
-step_before (Hot s) (n, line.Cut k x) w = refl
-step_before (Hot s) (n, line.Fail k) w = refl
-step_before (Hot s) (n, line.Dump x) w = refl
-step_before (Hot s) (n, line.Load u fixed session) w = card_before n (line.Load u fixed session) s s.live s.base w
-step_before (Hot s) (n, line.Select x) w = card_before n (line.Select x) s s.live s.base w
-step_before (Hot s) (n, line.Delete x) w = card_before n (line.Delete x) s s.live s.base w
-step_before (Hot s) (n, line.Apdu x) w = card_before n (line.Apdu x) s s.live s.base w
-
--- the number of a line of a card
-card_number : (n : ℕ) (l : DeckLine) (s : Warm) (live : Live) (base : Base) (w : Option WornAt) → (card_line n l s live base w).number ≡ n
-card_number n l s (Running seat) (OnCard c) w = refl
-card_number n l s (Running seat) (AtFault cause p) w = refl
-card_number n l s Unpowered base w = refl
-card_number n l s Muted base w = refl
-
--- the number of a line
-pub step_number : (s : State) (l : ℕ × DeckLine) (w : Option WornAt) → (step s l w).number ≡ l.0
-unfolding step
-step_number (Cold m b a) (n, line.Format) w = refl
-step_number (Cold m b a) (n, line.Named) w = refl
-step_number (Cold m b a) (n, line.Power) w = refl
-step_number (Cold m b a) (n, line.Poke at x) w = refl
-step_number (Cold m b a) (n, line.Budget c) w = refl
-step_number (Cold m b a) (n, line.Cut k x) w = refl
-step_number (Cold m b a) (n, line.Fail k) w = refl
-step_number (Cold m b a) (n, line.Dump x) w = refl
-step_number (Cold m b a) (n, line.Load u fixed session) w = refl
-step_number (Cold m b a) (n, line.Select x) w = refl
-step_number (Cold m b a) (n, line.Delete x) w = refl
-step_number (Cold m b a) (n, line.Apdu x) w = refl
-step_number (Hot s) (n, line.Format) w = refl
-step_number (Hot s) (n, line.Named) w = refl
-step_number (Hot s) (n, line.Power) w = refl
-step_number (Hot s) (n, line.Poke at x) w = refl
-step_number (Hot s) (n, line.Budget c) w = refl
-step_number (Hot s) (n, line.Cut k x) w = refl
-step_number (Hot s) (n, line.Fail k) w = refl
-step_number (Hot s) (n, line.Dump x) w = refl
-step_number (Hot s) (n, line.Load u fixed session) w = card_number n (line.Load u fixed session) s s.live s.base w
-step_number (Hot s) (n, line.Select x) w = card_number n (line.Select x) s s.live s.base w
-step_number (Hot s) (n, line.Delete x) w = card_number n (line.Delete x) s s.live s.base w
-step_number (Hot s) (n, line.Apdu x) w = card_number n (line.Apdu x) s s.live s.base w
 
 -- a play begins with its first line
 pub plays_on : (s : State) (l : ℕ × DeckLine) (w : Option WornAt) (ls : List (ℕ × DeckLine)) (ws : List (Option WornAt)) → plays s (l ∷ ls) (w ∷ ws) ≡ step s l w ∷ plays (step s l w).after ls ws
@@ -138,9 +81,10 @@ unfolding steady_worn
 steady_on s l w ls ws first rest = rw (← first, rest) refl
 
 -- the counts of a play that begins with a line
-counts_from : (s : State) (l : ℕ × DeckLine) (w : Option WornAt) (ts : List Step) (a b c : Bench) → LineCounts a.bench a.device (step s l w) b.bench b.device → PlayCounts b.bench b.device (armed_in (step s l w).after) ts c.bench c.device → PlayCounts a.bench a.device (armed_in s) (step s l w ∷ ts) c.bench c.device
-counts_from s l w ts a b c one rest =
-    subst (λ (u : State). PlayCounts a.bench a.device (armed_in u) (step s l w ∷ ts) c.bench c.device) (step_before s l w) (play_counts_on a b c (step s l w) ts one rest)
+counts_from : (s : State) (l : ℕ × DeckLine) (w : Option WornAt) (ts : List Step) (a b c : Bench) → LineCounts a.bench a.device (step s l w) b.bench b.device → PlayCounts b.bench b.device (armed_in (step s l w).after) ts c.bench c.device
+    → PokesFirst (step s l w) ts → PlayCounts a.bench a.device (armed_in s) (step s l w ∷ ts) c.bench c.device
+counts_from s l w ts a b c one rest first =
+    subst (λ (u : State). PlayCounts a.bench a.device (armed_in u) (step s l w ∷ ts) c.bench c.device) (step_is s l w).before (play_counts_on a b c (step s l w) ts one rest first)
 
 -- a play of a line and of the lines behind it
 pub played_on : (s : State) (l : ℕ × DeckLine) (w : Option WornAt) (ls : List (ℕ × DeckLine)) (ws : List (Option WornAt)) (a b c : Bench) → PlayedLine s l w (step s l w) a b → Played (step s l w).after ls ws b c → Played s (l ∷ ls) (w ∷ ws) a c
@@ -149,7 +93,7 @@ played_on s l w ls ws a b c did rest =
     record {
       possible = (did.may, rest.possible);
       words = subst (λ (ts : List Step). StandsForState c.device.words (last_state s ts)) (sym e) rest.words;
-      counts = subst (λ (ts : List Step). PlayCounts a.bench a.device (armed_in s) ts c.bench c.device) (sym e) (counts_from s l w _ a b c did.counts rest.counts);
+      counts = subst (λ (ts : List Step). PlayCounts a.bench a.device (armed_in s) ts c.bench c.device) (sym e) (counts_from s l w _ a b c did.counts rest.counts (pokes_first s l w ls ws));
       steady = λ steady. steady_on s l w ls ws (did.steady steady) (rest.steady (did.counts.counts.steady ∙ steady));
       tape = let t = did.tape in tape_on a.device.words b.device.words s l ls w ws t.entries a.device.tape b.device.tape c.device.tape did.may t.accounts t.worn t.left t.grows rest.tape;
       unfused = rest.unfused;

@@ -1,16 +1,30 @@
 -- Words that are poked in order.
-use Rattle.std.proofs.Common.{◌≡◌, ℕ, suc, ◌+◌, ◌<◌, List, [], ◌∷◌, length, drop, drop-cons, refl, sym, ◌∙◌, ap, subst, arith}
+use Rattle.std.proofs.Common.{◌≡◌, ℕ, zero, suc, ◌+◌, ◌<◌, List, [], ◌∷◌, length, drop, drop-cons, refl, sym, ◌∙◌, ap, subst, arith}
 use Rattle.std.specs.Prelude.{slice_set, slice_index_or}
 use Rattle.std.specs.List.{AllByRecursion}
 use Rattle.std.proofs.lemmas.List.{length-set}
-use Rattle.mc_model.specs.Device.{DeviceState, BenchState, next_count}
+use Rattle.mc_model.specs.Device.{DeviceState, BenchState, poked_once, poked_times}
 use Rattle.mc_model.specs.Image.{laid}
-use Rattle.mc_script.specs.Counting.{raised}
+use Rattle.mc_script.specs.Counting.{raised, when_poked}
+
+-- ---- what a bench keeps of pokes
+
+-- a poke more, where power does not come between
+when_again : (k : ℕ) (b : BenchState) → when_poked (poked_once b) k ≡ b.powers
+when_again zero b = refl
+when_again (suc k) b = refl
+
+-- so many pokes are counted, and the last of them is kept
+pub poked_are : (k : ℕ) (b : BenchState) → poked_times k b ≡ record b { pokes = raised b.pokes k; poked = when_poked b k }
+poked_are zero b = refl
+poked_are (suc k) b = poked_are k (poked_once b) ∙ ap (λ (n : ℕ). record b { pokes = raised b.pokes (suc k); poked = n }) (when_again k b)
+
+-- ---- a list of pokes
 
 -- a device on the way: what is left leads where the whole list leads from the start
 pub record Pokes (d : DeviceState) (b : BenchState) (list : List (ℕ × List ℕ)) (e : DeviceState) (c : BenchState) (left : List (ℕ × List ℕ)) : Type 0 where
   pub device : record e { words = laid e.words left } ≡ record d { words = laid d.words list }
-  pub calls : record c { pokes = raised c.pokes (length left) } ≡ record b { pokes = raised b.pokes (length list) }
+  pub calls : poked_times (length left) c ≡ poked_times (length list) b
   pub places : AllByRecursion (λ p. p.0 < length e.words) left
 
 pub pokes-start : (d : DeviceState) (b : BenchState) (list : List (ℕ × List ℕ)) → AllByRecursion (λ p. p.0 < length d.words) list → Pokes d b list d b list
@@ -21,22 +35,21 @@ same_places m n list e h = subst (λ (k : ℕ). AllByRecursion (λ p. p.0 < k) l
 
 -- the next one is poked
 pub pokes-next : (d : DeviceState) (b : BenchState) (list : List (ℕ × List ℕ)) (e f : DeviceState) (c g : BenchState) (p : ℕ × List ℕ) (left : List (ℕ × List ℕ))
-    → Pokes d b list e c (p ∷ left) → f ≡ record e { words = slice_set e.words p.0 p.1 } → g ≡ record c { pokes = next_count c.pokes } → Pokes d b list f g left
+    → Pokes d b list e c (p ∷ left) → f ≡ record e { words = slice_set e.words p.0 p.1 } → g ≡ poked_once c → Pokes d b list f g left
 pokes-next d b list e f c g p left r hf hg =
     let F : DeviceState → DeviceState = λ x. record x { words = laid x.words left } in
-    let G : BenchState → BenchState = λ x. record x { pokes = raised x.pokes (length left) } in
     record {
       device = ap F hf ∙ r.device;
-      calls = ap G hg ∙ r.calls;
+      calls = ap (λ (x : BenchState). poked_times (length left) x) hg ∙ r.calls;
       places = same_places (length e.words) (length f.words) left (ap (λ (x : DeviceState). length x.words) hf ∙ length-set e.words p.0 p.1) r.places.1;
     }
 
-pub pokes-end : (d : DeviceState) (b : BenchState) (list : List (ℕ × List ℕ)) (e : DeviceState) (c : BenchState) → Pokes d b list e c [] → (e ≡ record d { words = laid d.words list }) × (c ≡ record b { pokes = raised b.pokes (length list) })
+pub pokes-end : (d : DeviceState) (b : BenchState) (list : List (ℕ × List ℕ)) (e : DeviceState) (c : BenchState) → Pokes d b list e c [] → (e ≡ record d { words = laid d.words list }) × (c ≡ poked_times (length list) b)
 pokes-end d b list e c r = (r.device, r.calls)
 
 -- the one with this number is poked
 pub pokes-on : (d : DeviceState) (b : BenchState) (list : List (ℕ × List ℕ)) (e f : DeviceState) (c g : BenchState) (i : ℕ) (x : ℕ × List ℕ) → i < length list
-    → Pokes d b list e c (drop i list) → f ≡ record e { words = slice_set e.words (slice_index_or list i x).0 (slice_index_or list i x).1 } → g ≡ record c { pokes = next_count c.pokes }
+    → Pokes d b list e c (drop i list) → f ≡ record e { words = slice_set e.words (slice_index_or list i x).0 (slice_index_or list i x).1 } → g ≡ poked_once c
     → Pokes d b list f g (drop (i + 1) list)
 pokes-on d b list e f c g i x low r hf hg =
     let one : suc i ≡ i + 1 = omega arith in

@@ -19,7 +19,7 @@ use Rattle.mc_script.specs.declared.player.Power.{Power}
 use Rattle.mc_script.specs.declared.player.Power.TheVariants as power
 use Rattle.mc_script.specs.declared.player.Player.{Player}
 use Rattle.mc_script.specs.Players.{answer_value, armed_value, dump_value, device_of, CanArm, LiveIs, IsPlayerAt}
-use Rattle.mc_script.specs.Counting.{raised, line_powers, line_pokes, line_cuts, line_fails, Arms, LineCounts}
+use Rattle.mc_script.specs.Counting.{raised, when_poked, line_powers, line_pokes, line_cuts, line_fails, Arms, LineCounts}
 use Rattle.mc_script.specs.Arming.{armed_bench}
 use Rattle.mc_script.specs.Commands.{deck_line_of}
 use Rattle.mc_script.specs.Plays.{StepTape}
@@ -59,7 +59,7 @@ module _ {N : Type 0} (state : N → DeviceState) (bench : N → BenchState) whe
       → Arms b (armed_in s) (line_cuts l) (line_fails l) b (armed_in after) → LineCounts b d (quiet n l s result after) b d
   counts_same b d s n l result after powers pokes arms =
       record {
-        counts = record { powers = ap (λ (k : ℕ). raised b.powers k) (sym powers); pokes = ap (λ (k : ℕ). raised b.pokes k) (sym pokes); cuts = refl; faults = refl; steady = refl };
+        counts = record { powers = ap (λ (k : ℕ). raised b.powers k) (sym powers); pokes = ap (λ (k : ℕ). raised b.pokes k) (sym pokes); poked = ap (λ (k : ℕ). when_poked b k) (sym pokes); cuts = refl; faults = refl; steady = refl };
         arms = arms;
       }
 

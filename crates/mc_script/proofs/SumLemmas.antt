@@ -10,6 +10,7 @@ use Rattle.mc_model.specs.DeckGrammar as line
 use Rattle.mc_model.specs.Play.{Live, Running, Unpowered, Muted, Base, OnCard, AtFault, Warm, State, Cold, Hot, WornAt, LineResult, Step, plays, step, card_line, first_worn, last_state}
 use Rattle.mc_model.specs.Transcript.{shown}
 use Rattle.mc_model.specs.Generator.{is_dump, results, count, dump_lines, count_line, summary, is_reply, is_abend, is_cut, is_off, is_ready}
+use Rattle.mc_model.proofs.PlayLemmas.{step_is}
 use Rattle.mc_script.specs.declared.answer.Answer.{Answer}
 use Rattle.mc_script.specs.declared.player.Player.{Player}
 use Rattle.mc_script.specs.declared.summary.Counts.{Counts}
@@ -78,40 +79,6 @@ dump_by t ts true e =
     rw e (ap (λ (rs : List LineResult). flat_map (λ r. shown r ++ codes "\n") rs) (results_cons t (filter (λ t. is_dump t.line) ts)) ∙ lines_by t.result (results (filter (λ t. is_dump t.line) ts)))
 dump_by t ts false e = rw e refl
 
--- the line of a step
-card_line_line : (n : ℕ) (l : DeckLine) (s : Warm) (live : Live) (base : Base) (w : Option WornAt) → (card_line n l s live base w).line ≡ l
-card_line_line n l s (Running seat) (OnCard c) w = refl
-card_line_line n l s (Running seat) (AtFault cause p) w = refl
-card_line_line n l s Unpowered base w = refl
-card_line_line n l s Muted base w = refl
-
-step_line : (s : State) (l : ℕ × DeckLine) (w : Option WornAt) → (step s l w).line ≡ l.1
-unfolding step
-step_line (Cold m b a) (n, line.Format) w = refl
-step_line (Cold m b a) (n, line.Named) w = refl
-step_line (Cold m b a) (n, line.Power) w = refl
-step_line (Cold m b a) (n, line.Poke at x) w = refl
-step_line (Cold m b a) (n, line.Budget c) w = refl
-step_line (Cold m b a) (n, line.Cut k x) w = refl
-step_line (Cold m b a) (n, line.Fail k) w = refl
-step_line (Cold m b a) (n, line.Dump x) w = refl
-step_line (Cold m b a) (n, line.Load u fixed session) w = refl
-step_line (Cold m b a) (n, line.Select x) w = refl
-step_line (Cold m b a) (n, line.Delete x) w = refl
-step_line (Cold m b a) (n, line.Apdu x) w = refl
-step_line (Hot s) (n, line.Format) w = refl
-step_line (Hot s) (n, line.Named) w = refl
-step_line (Hot s) (n, line.Power) w = refl
-step_line (Hot s) (n, line.Poke at x) w = refl
-step_line (Hot s) (n, line.Budget c) w = refl
-step_line (Hot s) (n, line.Cut k x) w = refl
-step_line (Hot s) (n, line.Fail k) w = refl
-step_line (Hot s) (n, line.Dump x) w = refl
-step_line (Hot s) (n, line.Load u fixed session) w = card_line_line n (line.Load u fixed session) s s.live s.base w
-step_line (Hot s) (n, line.Select x) w = card_line_line n (line.Select x) s s.live s.base w
-step_line (Hot s) (n, line.Delete x) w = card_line_line n (line.Delete x) s s.live s.base w
-step_line (Hot s) (n, line.Apdu x) w = card_line_line n (line.Apdu x) s s.live s.base w
-
 -- a dump line changes nothing, and its result is that of any dump line of this name
 dump_after : (s : State) (n : ℕ) (a : List ℕ) (w : Option WornAt) → (step s (n, line.Dump a) w).after ≡ s
 unfolding step
@@ -125,32 +92,12 @@ dump_result (Hot s) n a w = refl
 
 -- a line that is a dump line, and one that is none
 as_dump : (l : DeckLine) → is_dump l ≡ true → (a : List ℕ) × (l ≡ line.Dump a)
-as_dump line.Format e = absurd (cc e)
-as_dump line.Named e = absurd (cc e)
-as_dump line.Power e = absurd (cc e)
-as_dump (line.Poke at x) e = absurd (cc e)
-as_dump (line.Budget c) e = absurd (cc e)
-as_dump (line.Cut k x) e = absurd (cc e)
-as_dump (line.Fail k) e = absurd (cc e)
 as_dump (line.Dump x) e = (x, refl)
-as_dump (line.Load u fixed session) e = absurd (cc e)
-as_dump (line.Select x) e = absurd (cc e)
-as_dump (line.Delete x) e = absurd (cc e)
-as_dump (line.Apdu x) e = absurd (cc e)
+as_dump _ e = absurd (cc e)
 
 no_dump : (s : State) (l : DeckLine) → is_dump l ≡ false → dump_text s l ≡ []
-no_dump s line.Format e = refl
-no_dump s line.Named e = refl
-no_dump s line.Power e = refl
-no_dump s (line.Poke at x) e = refl
-no_dump s (line.Budget c) e = refl
-no_dump s (line.Cut k x) e = refl
-no_dump s (line.Fail k) e = refl
 no_dump s (line.Dump x) e = absurd (cc e)
-no_dump s (line.Load u fixed session) e = refl
-no_dump s (line.Select x) e = refl
-no_dump s (line.Delete x) e = refl
-no_dump s (line.Apdu x) e = refl
+no_dump s _ e = refl
 
 after_dump : (s : State) (l : ℕ × DeckLine) (w : Option WornAt) → is_dump l.1 ≡ true → (step s l w).after ≡ s
 after_dump s (n, l) w e = let d = as_dump l e in ap (λ (k : DeckLine). (step s (n, k) w).after) d.1 ∙ dump_after s n d.0 w
@@ -193,7 +140,7 @@ dumps_are s (l ∷ ls) ws last =
     let t = step s l (first_worn ws) in
     let ts = plays t.after ls (drop 1 ws) in
     let first : plays s (l ∷ ls) ws ≡ t ∷ ts = plays_first s l ls ws in
-    let is : is_dump t.line ≡ is_dump l.1 = ap is_dump (step_line s l (first_worn ws)) in
+    let is : is_dump t.line ≡ is_dump l.1 = ap is_dump (step_is s l (first_worn ws)).line in
     let end : last_state s (plays s (l ∷ ls) ws) ≡ last_state t.after ts = ap (λ (us : List Step). last_state s us) first in
     ap dump_lines first
     ∙ dump_by t ts (is_dump l.1) is

@@ -66,28 +66,11 @@ moves_hot s l e = ap (λ p. p + moves (step (Hot s) l None).items) e ∙ nothing
 -- the device writes of a line, and its stop
 pub line_moved : (s : State) (l : ℕ × DeckLine) (w : Option WornAt) → MayReach (moves_of s l) w → Moved (moves_of s l) (step s l w)
 unfolding moves_of step
-line_moved (Cold m b a) (n, line.Format) w h = record { moves = refl; reaches = tt }
-line_moved (Cold m b a) (n, line.Named) w h = record { moves = refl; reaches = tt }
-line_moved (Cold m b a) (n, line.Poke at x) w h = record { moves = refl; reaches = tt }
-line_moved (Cold m b a) (n, line.Budget c) w h = record { moves = refl; reaches = tt }
-line_moved (Cold m b a) (n, line.Cut k x) w h = record { moves = refl; reaches = tt }
-line_moved (Cold m b a) (n, line.Fail k) w h = record { moves = refl; reaches = tt }
-line_moved (Cold m b a) (n, line.Dump x) w h = record { moves = refl; reaches = tt }
-line_moved (Cold m b a) (n, line.Load u fixed session) w h = record { moves = refl; reaches = tt }
-line_moved (Cold m b a) (n, line.Select x) w h = record { moves = refl; reaches = tt }
-line_moved (Cold m b a) (n, line.Delete x) w h = record { moves = refl; reaches = tt }
-line_moved (Cold m b a) (n, line.Apdu x) w h = record { moves = refl; reaches = tt }
 line_moved (Cold m b a) (n, line.Power) w h =
     let p = power_moves (warmed m b a) in
     let e : p + 0 ≡ p = omega arith in
     moved_as (p + 0) p _ e (record { moves = refl; reaches = hit_reaches a p w (subst (λ k. MayReach k w) e h) })
-line_moved (Hot s) (n, line.Format) w h = record { moves = refl; reaches = tt }
-line_moved (Hot s) (n, line.Named) w h = record { moves = refl; reaches = tt }
-line_moved (Hot s) (n, line.Poke at x) w h = record { moves = refl; reaches = tt }
-line_moved (Hot s) (n, line.Budget c) w h = record { moves = refl; reaches = tt }
-line_moved (Hot s) (n, line.Cut k x) w h = record { moves = refl; reaches = tt }
-line_moved (Hot s) (n, line.Fail k) w h = record { moves = refl; reaches = tt }
-line_moved (Hot s) (n, line.Dump x) w h = record { moves = refl; reaches = tt }
+line_moved (Cold m b a) (n, _) w h = record { moves = refl; reaches = tt }
 line_moved (Hot s) (n, line.Power) w h =
     let p = power_moves s in
     let e : p + 0 ≡ p = omega arith in
@@ -104,6 +87,7 @@ line_moved (Hot s) (n, line.Delete x) w h =
 line_moved (Hot s) (n, line.Apdu x) w h =
     let k = moves (card_line n (line.Apdu x) s s.live s.base None).items in
     moved_as (0 + k) k _ (nothing k) (card_moved n (line.Apdu x) s s.live s.base w (subst (λ k. MayReach k w) (nothing k) h))
+line_moved (Hot s) (n, _) w h = record { moves = refl; reaches = tt }
 
 -- ---- the entries of a line at the front of a tape
 

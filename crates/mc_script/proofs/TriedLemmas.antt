@@ -17,7 +17,7 @@ use Rattle.mc_script.specs.declared.answer.Answer.{Answer}
 use Rattle.mc_script.specs.declared.armed.Armed.{Armed}
 use Rattle.mc_script.specs.declared.player.Player.{Player}
 use Rattle.mc_script.specs.Players.{answer_value, armed_value, cut_place, device_of, CanArm, IsUnfused, IsPlayerAt}
-use Rattle.mc_script.specs.Counting.{raised, cuts_due, fails_due, line_powers, line_pokes, line_cuts, line_fails, cut_by, worn_by, LineCounts}
+use Rattle.mc_script.specs.Counting.{raised, when_poked, cuts_due, fails_due, line_powers, line_pokes, line_cuts, line_fails, cut_by, worn_by, LineCounts}
 use Rattle.mc_script.specs.Arming.{armed_bench}
 use Rattle.mc_script.specs.Lines.{Stepped}
 use Rattle.mc_script.specs.Runs.{StoppedAtWrite}
@@ -74,6 +74,7 @@ line_counts n l s result items whole stop m pairs turns w np a b c d e worth arm
       counts = record {
         powers = calls.powers ∙ ap (λ (k : ℕ). raised b.powers k) (sym worth.powers);
         pokes = calls.pokes ∙ ap (λ (k : ℕ). raised b.pokes k) (sym worth.pokes);
+        poked = calls.poked ∙ ap (λ (k : ℕ). when_poked b k) (sym worth.pokes);
         cuts = cuts;
         faults = faults;
         steady = calls.steady;

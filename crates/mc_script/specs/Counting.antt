@@ -75,10 +75,16 @@ worn_by (Some t) = worn_kind t.kind
 
 -- ---- the counts
 
--- the counts of a bench before and after lines that are worth so many calls and stops
-pub record CountsCalls (b : BenchState) (d : DeviceState) (powered poked cut worn : ℕ) (c : BenchState) (e : DeviceState) : Type 0 where
-  pub powers : c.powers ≡ raised b.powers powered
-  pub pokes : c.pokes ≡ raised b.pokes poked
+-- how often power had come when the last word was poked, after so many pokes that power did not come before
+abbrev pub when_poked : BenchState → ℕ → ℕ
+when_poked b zero = b.poked
+when_poked b (suc k) = b.powers
+
+-- the counts of a bench before and after lines that are worth so many calls and stops, whose pokes all come before power does
+pub record CountsCalls (b : BenchState) (d : DeviceState) (power_calls poke_calls cut worn : ℕ) (c : BenchState) (e : DeviceState) : Type 0 where
+  pub powers : c.powers ≡ raised b.powers power_calls
+  pub pokes : c.pokes ≡ raised b.pokes poke_calls
+  pub poked : c.poked ≡ when_poked b poke_calls
   pub cuts : e.cuts ≡ raised d.cuts cut
   pub faults : e.faults ≡ raised d.faults worn
   pub steady : c.steady ≡ b.steady

@@ -5,8 +5,7 @@ pub use Rattle.mc_model.specs.Generator
 pub mod Loads
 pub mod Classes
 pub mod Runs
-pub mod Logs
-pub mod Scripts
+pub mod Writers
 pub mod Players
 pub mod Counting
 pub mod Arming

@@ -8,17 +8,16 @@ mod commands;
 mod decks;
 mod line;
 mod loading;
-mod log;
 mod player;
 mod playing;
 mod power;
 mod quiet;
 mod runner;
-mod script;
 mod statics;
 mod summary;
 mod summing;
 mod text;
+mod writer;
 
 pub use answer::Answer;
 pub use player::Player;

@@ -15,7 +15,7 @@ ghost use Rattle.mc_card.specs.Ends.{put_in};
 use crate::runner::Runner;
 use arrayvec::ArrayVec;
 use mc_apdu::Reply;
-use mc_base::{Steps, Stop};
+use mc_base::{Steps, Stop, bytes_of};
 use mc_card::Card;
 use mc_machine::Outcome;
 use mc_nvm::Nvm;
@@ -91,13 +91,6 @@ impl<'a> LoadCommands<'a> {
         let create = self.create.take()?;
         Some(copied(&create))
     }
-}
-
-// The two bytes of a number.
-fn bytes_of(number: u16) -> [u8; 2]
-    ensures { result ≡ bytes2 number }
-{
-    [(number / 256 % 256) as u8, (number % 256) as u8]
 }
 
 // The command OPEN: the lengths of the code, of the static segment, of the data, of the session, of DIR and of FCI.

@@ -5,45 +5,45 @@ ghost use Rattle.mc_model.specs.Device.{IsImage};
 ghost use Rattle.mc_model.specs.Play.{start};
 ghost use Rattle.mc_model.specs.ReadyAgain.{IsLine};
 ghost use Rattle.mc_script.specs.Players.{IsUnfused};
-ghost use Rattle.mc_script.specs.Scripts.{ended, text_by};
+ghost use Rattle.mc_text.specs.Texts.{sunk_in};
+ghost use Rattle.mc_script.specs.Writers.{ended, text_by, turns_text};
 ghost use Rattle.mc_model.specs.Generator.{summary};
 ghost use Rattle.mc_script.specs.Sums.{DumpsLast};
 ghost use Rattle.mc_script.specs.Plays.{plain_text, traced_text, PlaysFrom, PlaysDeck, SumsDeck};
 
-use crate::log::Log;
 use crate::player::Player;
-use crate::script::{Plain, Script};
 use crate::summing::sum_lines;
-use arrayvec::ArrayVec;
+use crate::writer::{Telling, Writer};
 use mc_base::{Sink, Steps, WriteFault};
 use mc_deck::Deck;
 use mc_nvm::Bench;
 use std::sync::ledger::Ledger;
 
 // Plays a deck on a device line by line, up to the first line whose text is not wholly written.
-fn play_lines<N: Bench, S: Script, L: Ledger>(
+fn play_lines<N: Bench, T: Sink, L: Ledger>(
     deck: &Deck,
     device: N,
-    script: &mut S,
+    writer: &mut Writer<'_, T>,
     steps: &mut Steps<L>,
 ) -> N
     requires fuses { IsUnfused (N.bench device) }
-    requires fault { S.fault script.old ≡ None }
-    ensures plays { PlaysFrom (text_by S.text) (start (N.state device).words) deck.now
-        (record { device = N.state device; bench = N.bench device }) (S.out script.old) (ended (S.fault script.new))
-        (record { device = N.state result; bench = N.bench result }) (S.out script.new) }
+    requires fault { writer.old.fault ≡ None }
+    ensures plays { PlaysFrom (text_by (turns_text writer.old.telling)) (start (N.state device).words) deck.now
+        (record { device = N.state device; bench = N.bench device }) (sunk_in T.taken T.faults writer.old.out.now)
+        (ended writer.new.fault) (record { device = N.state result; bench = N.bench result })
+        (sunk_in T.taken T.faults writer.new.out.now) }
     ensures image { IsImage (N.state device).words }
     ensures lines { AllByRecursion (λ l. IsLine l.1) deck.now }
     ensures lent { N.same device result }
-    ensures same { S.same script.old script.new }
+    ensures same { writer.new.out.ghost_name ≡ writer.old.out.ghost_name }
 {
     let _words = device.len();
     let mut player = Player::new(device);
     for i in 0..deck.len() {
         let (number, line) = deck.line(i);
-        let answer = player.line(&line, script, steps);
-        script.tell(number, &player, &answer);
-        if script.ended().is_err() {
+        let answer = player.line(&line, writer, steps);
+        writer.tell(number, &player, &answer);
+        if writer.ended().is_err() {
             return player.into_dev();
         }
     }
@@ -65,13 +65,9 @@ pub fn play<N: Bench, T: Sink, L: Ledger>(
         (record { device = N.state dev.new; bench = N.bench dev.new })
         (record { taken = T.taken out.new; faults = T.faults out.new }) }
 {
-    let mut script = Plain {
-        out: &mut *out,
-        fault: None,
-        line: ArrayVec::new(),
-    };
-    let _dev = play_lines(deck, &mut *dev, &mut script, steps);
-    script.ended()
+    let mut writer = Writer::new(&mut *out, Telling::Results);
+    let _dev = play_lines(deck, &mut *dev, &mut writer, steps);
+    writer.ended()
 }
 
 /// Plays a deck on a device and writes the transcript with a line before each result for each executed instruction.
@@ -89,13 +85,9 @@ pub fn trace<N: Bench, T: Sink, L: Ledger>(
         (record { device = N.state dev.new; bench = N.bench dev.new })
         (record { taken = T.taken out.new; faults = T.faults out.new }) }
 {
-    let mut script = Log {
-        out: &mut *out,
-        fault: None,
-        line: ArrayVec::new(),
-    };
-    let _dev = play_lines(deck, &mut *dev, &mut script, steps);
-    script.ended()
+    let mut writer = Writer::new(&mut *out, Telling::Turns);
+    let _dev = play_lines(deck, &mut *dev, &mut writer, steps);
+    writer.ended()
 }
 
 /// Plays a deck on a device and writes its summary: how many lines answered, and how; then the results of its `dump` lines.
@@ -115,11 +107,7 @@ pub fn summarise<N: Bench, T: Sink, L: Ledger>(
         (record { device = N.state dev.new; bench = N.bench dev.new })
         (record { taken = T.taken out.new; faults = T.faults out.new }) }
 {
-    let mut script = Plain {
-        out: &mut *out,
-        fault: None,
-        line: ArrayVec::new(),
-    };
-    let _dev = sum_lines(deck, &mut *dev, &mut script, steps);
-    script.ended()
+    let mut writer = Writer::new(&mut *out, Telling::Results);
+    let _dev = sum_lines(deck, &mut *dev, &mut writer, steps);
+    writer.ended()
 }

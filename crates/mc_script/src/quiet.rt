@@ -1,12 +1,12 @@
 // Lines that make no device write.
 ghost use Rattle.std.specs.Prelude.{◌≡◌, ◌≤◌, ◌<◌, length, None, cond, nat_lt, slice_set};
 ghost use Rattle.std.specs.List.{AllByRecursion};
+ghost use Rattle.mc_model.specs.Device.{poked_times};
 ghost use Rattle.mc_model.specs.Image.{laid};
 ghost use Rattle.mc_model.specs.DeckGrammar as line;
 ghost use Rattle.mc_model.specs.Play.{formatted};
 ghost use Rattle.mc_card.specs.Parts.{device_in};
 ghost use Rattle.mc_script.specs.Players.{device_of};
-ghost use Rattle.mc_script.specs.Counting.{raised};
 ghost use Rattle.mc_script.specs.Lines.{SilentDone};
 
 use crate::answer::Answer;
@@ -22,11 +22,7 @@ fn poke_all<N: Bench>(card: &mut Card<N>, list: &[(u16, Word)])
     requires { AllByRecursion (λ p. p.0 < length (N.state (device_in card.old)).words) list.now }
     ensures state { N.state (device_in card.new)
         ≡ record (N.state (device_in card.old)) { words = laid (N.state (device_in card.old)).words list.now } }
-    ensures bench { N.bench (device_in card.new)
-        ≡ record (N.bench (device_in card.old)) {
-          pokes = raised (N.bench (device_in card.old)).pokes
-              (length list.now);
-        } }
+    ensures bench { N.bench (device_in card.new) ≡ poked_times (length list.now) (N.bench (device_in card.old)) }
     ensures lent { N.same (device_in card.old) (device_in card.new) }
 {
     for (at, word) in list {
@@ -38,8 +34,7 @@ fn poke_all<N: Bench>(card: &mut Card<N>, list: &[(u16, Word)])
 fn format<N: Bench>(card: &mut Card<N>)
     ensures state { N.state (device_in card.new)
         ≡ record (N.state (device_in card.old)) { words = formatted (N.state (device_in card.old)).words } }
-    ensures bench { N.bench (device_in card.new)
-        ≡ record (N.bench (device_in card.old)) { pokes = raised (N.bench (device_in card.old)).pokes 5 } }
+    ensures bench { N.bench (device_in card.new) ≡ poked_times 5 (N.bench (device_in card.old)) }
     ensures lent { N.same (device_in card.old) (device_in card.new) }
 {
     let words = format_words(card.len());
@@ -51,10 +46,8 @@ fn poke<N: Bench>(card: &mut Card<N>, at: u16, fill: Word)
     ensures state { N.state (device_in card.new)
         ≡ record (N.state (device_in card.old)) { words = slice_set (N.state (device_in card.old)).words at fill } }
     ensures bench { N.bench (device_in card.new)
-        ≡ record (N.bench (device_in card.old)) {
-          pokes = raised (N.bench (device_in card.old)).pokes
-              (cond (nat_lt at (length (N.state (device_in card.old)).words)) 1 0);
-        } }
+        ≡ poked_times (cond (nat_lt at (length (N.state (device_in card.old)).words)) 1 0)
+        (N.bench (device_in card.old)) }
     ensures lent { N.same (device_in card.old) (device_in card.new) }
 {
     if (at as u32) < card.len() {

@@ -8,16 +8,16 @@ ghost use Rattle.mc_model.specs.Generator.{count_line, summary};
 ghost use Rattle.mc_deck.specs.Lines.{line_of};
 ghost use Rattle.mc_text.specs.Texts.{sunk_in, Puts};
 ghost use Rattle.mc_script.specs.Players.{device_of, IsPlayerAt, IsPlaying, IsUnfused};
-ghost use Rattle.mc_script.specs.Scripts.{ended};
+ghost use Rattle.mc_script.specs.Writers.{ended};
 ghost use Rattle.mc_script.specs.Lines.{bench_of};
 ghost use Rattle.mc_script.specs.Sums.{Counted, DumpsLast, dump_text, dumps_text, Tallied, SumsFrom};
 
 use crate::answer::Answer;
 use crate::player::Player;
 use crate::runner::Silent;
-use crate::script::Plain;
 use crate::summary::{Counts, counted, put_counts};
 use crate::text::{Text, add_result};
+use crate::writer::Writer;
 use mc_base::{Sink, Steps, WriteFault};
 use mc_deck::{Deck, Line};
 use mc_nvm::Bench;
@@ -101,24 +101,24 @@ fn put_summary<N: Bench, T: Sink>(
 pub fn sum_lines<N: Bench, T: Sink, L: Ledger>(
     deck: &Deck,
     device: N,
-    script: &mut Plain<'_, T>,
+    writer: &mut Writer<'_, T>,
     steps: &mut Steps<L>,
 ) -> N
     requires fuses { IsUnfused (N.bench device) }
     requires dumps { DumpsLast deck.now }
     ensures sums { SumsFrom summary (start (N.state device).words) deck.now
-        (record { device = N.state device; bench = N.bench device }) (sunk_in T.taken T.faults script.old.out.now)
-        (ended script.new.fault) (record { device = N.state result; bench = N.bench result })
-        (sunk_in T.taken T.faults script.new.out.now) }
+        (record { device = N.state device; bench = N.bench device }) (sunk_in T.taken T.faults writer.old.out.now)
+        (ended writer.new.fault) (record { device = N.state result; bench = N.bench result })
+        (sunk_in T.taken T.faults writer.new.out.now) }
     ensures image { IsImage (N.state device).words }
     ensures lines { AllByRecursion (λ l. IsLine l.1) deck.now }
     ensures lent { N.same device result }
-    ensures same { script.new.out.ghost_name ≡ script.old.out.ghost_name }
+    ensures same { writer.new.out.ghost_name ≡ writer.old.out.ghost_name }
 {
     let _words = device.len();
     let _lines = deck.len();
     let mut player = Player::new(device);
     let counts = tally(&mut player, deck, steps);
-    script.fault = put_summary(script.out, &mut script.line, &counts, &player, deck).err();
+    writer.fault = put_summary(writer.out, &mut writer.line, &counts, &player, deck).err();
     player.into_dev()
 }

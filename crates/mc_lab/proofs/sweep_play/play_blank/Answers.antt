@@ -1,6 +1,7 @@
-use Rattle.std.proofs.Common.{◌∙◌, ap, ℕ, replicate}
+use Rattle.std.proofs.Common.{◌∙◌, ap}
+use Rattle.mc_model.specs.Device.{blank_words}
 use Rattle.mc_nvm.specs.Sim.{Sim}
 use Rattle.mc_lab.proofs.sweep_play.play_blank.Goals as goal
 
 pub play_trial-device-requires-clause-words : goal.play_trial-device-requires-clause-words
-play_trial-device-requires-clause-words g c = ap (λ (s : Sim). s.words) c.erase.ensures ∙ ap (λ (n : ℕ). replicate n (replicate 8 255)) c.requires.size
+play_trial-device-requires-clause-words g c = ap (λ (s : Sim). s.words) c.erase.ensures ∙ ap blank_words c.requires.size

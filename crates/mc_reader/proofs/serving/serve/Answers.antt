@@ -18,4 +18,4 @@ returns g c =
     let back = sym c.into_dev-dev.ensures in
     let device = ap (λ (d : MutBor g.row.N.Denot). g.N.Nvm.state d.now) back in
     let bench = ap (λ (d : MutBor g.row.N.Denot). g.N.Bench.bench d.now) back in
-    served_session _ _ _ _ _ _ deck.here deck.worn deck.leads served (search rules) (search rules) (device ∙ search (rules, name)) (bench ∙ search (rules, name))
+    served_session _ _ _ _ _ _ deck.here deck.worn c.len-words.ensures.image c.len-lines.ensures.bytes deck.leads served (search rules) (search rules) (device ∙ search (rules, name)) (bench ∙ search (rules, name))

@@ -56,10 +56,10 @@ returns-in_err-serve_frame-clause-served g c =
     let p = err_from_is_err_and c.from_residual.result c.from_residual.ensures.1 in
     let took = rw c.in-Ok-Some.field-0-is at c.in-Ok-Some.ensures.reads in
     let frame = take c.in-Ok-Some.size c.read_frame.new.room in
-    let fits : length frame < 65536 = rw (length-take c.in-Ok-Some.size c.read_frame.new.room) (omega (arith, c.loop-before.invariant.room, c.read_frame.auto.room)) in
+    let short : length frame < 65536 = rw (length-take c.in-Ok-Some.size c.read_frame.new.room) (omega (arith, c.loop-before.invariant.room, c.read_frame.auto.room)) in
     rw (p.1, p.2) (λ s n at.
     let h = c.loop-before.invariant.reached s n at in
-    served_cut state bench s n _ c.loop-before.before c.loop-before.player c.serve_frame.new.player c.loop-before.powered (left c.loop-before.input) (left c.read_frame.new.source) (faults c.loop-before.input) (faults c.read_frame.new.source) (out c.loop-before.out) (out c.serve_frame.new.out) c.in_err-serve_frame.field-0.0 h frame fits took.took c.read_frame.ensures.counted
+    served_cut state bench s n _ c.loop-before.before c.loop-before.player c.serve_frame.new.player c.loop-before.powered (left c.loop-before.input) (left c.read_frame.new.source) (faults c.loop-before.input) (faults c.read_frame.new.source) (out c.loop-before.out) (out c.serve_frame.new.out) c.in_err-serve_frame.field-0.0 h frame (short, c.serve_frame.ensures.bytes) took.took c.read_frame.ensures.counted
     (c.in_err-serve_frame.ensures.serves h.here h.number h.at))
 
 pub loop-before-preserved : goal.loop-before-preserved
@@ -71,12 +71,12 @@ loop-before-preserved g c =
     let out = sunk_in g.T.Sink.taken g.T.Sink.faults in
     let took = rw c.in-Ok-Some.field-0-is at c.in-Ok-Some.ensures.reads in
     let frame = take c.in-Ok-Some.size c.read_frame.new.room in
-    let fits : length frame < 65536 = rw (length-take c.in-Ok-Some.size c.read_frame.new.room) (omega (arith, c.loop-before.invariant.room, c.read_frame.auto.room)) in
+    let short : length frame < 65536 = rw (length-take c.in-Ok-Some.size c.read_frame.new.room) (omega (arith, c.loop-before.invariant.room, c.read_frame.auto.room)) in
     record {
       reached =
           λ s n at.
           let h = c.loop-before.invariant.reached s n at in
-          reached_on state bench s n _ c.loop-before.before c.loop-before.player c.serve_frame.new.player c.loop-before.powered c.serve_frame.new.powered (left c.loop-before.input) (left c.read_frame.new.source) (faults c.loop-before.input) (faults c.read_frame.new.source) (out c.loop-before.out) (out c.serve_frame.new.out) h frame fits took.took c.read_frame.ensures.counted c.serve_frame.ensures.power
+          reached_on state bench s n _ c.loop-before.before c.loop-before.player c.serve_frame.new.player c.loop-before.powered c.serve_frame.new.powered (left c.loop-before.input) (left c.read_frame.new.source) (faults c.loop-before.input) (faults c.read_frame.new.source) (out c.loop-before.out) (out c.serve_frame.new.out) h frame (short, c.serve_frame.ensures.bytes) took.took c.read_frame.ensures.counted c.serve_frame.ensures.power
           (c.in_ok-serve_frame.ensures.serves h.here h.number h.at);
       room = omega (arith, c.loop-before.invariant.room, c.read_frame.auto.room);
       lent = g.met.N.Nvm.onward _ _ _ c.loop-before.invariant.lent c.serve_frame.ensures.lent;

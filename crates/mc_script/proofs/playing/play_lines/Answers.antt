@@ -1,53 +1,58 @@
-use Rattle.std.proofs.Common.{◌≡◌, ℕ, ◌+◌, List, true, false, drop, length, sym, ap, subst, ◌≤◌, rules, Result, Ok}
+use Rattle.std.proofs.Common.{◌≡◌, ℕ, ◌+◌, List, true, false, drop, length, sym, ap, subst, ◌∙◌, ◌≤◌, rules, Result, Ok}
 use Rattle.std.specs.Prelude.{is_err}
 use Rattle.mc_model.specs.DeckGrammar.{DeckLine}
 use Rattle.mc_model.specs.Play.{start}
 use Rattle.mc_deck.specs.Lines.{line_of}
 use Rattle.mc_base.specs.declared.refusals.WriteFault.{WriteFault}
 use Rattle.mc_script.specs.Players.{device_of}
-use Rattle.mc_script.specs.Scripts.{ended, text_by}
+use Rattle.mc_text.specs.Texts.{sunk_in}
+use Rattle.mc_script.specs.Writers.{ended, text_by, turns_text, WriterKeeps}
 use Rattle.mc_script.specs.Plays.{Bench, PlaysFrom}
 use Rattle.mc_script.proofs.DeckLemmas.{PlayReached, reached_end, reached_failed, reached_written, next_line, no_line, no_fault}
+use Rattle.mc_script.proofs.LoggedLemmas.{told_as}
 use Rattle.mc_script.proofs.playing.play_lines.Goals as goal
 
--- the script is the same over its sink behind a line
+-- the writer is the same over its sink behind a line
 pub returns-then-is_err-clause-same : goal.returns-then-is_err-clause-same
 returns-then-is_err-clause-same g c =
     let line = c.line-answer.ensures.done c.loop-i.invariant.reached.here 0 c.loop-i.invariant.reached.at in
-    g.met.S.Script.further _ _ _ c.loop-i.invariant.same (g.met.S.Script.further _ _ _ (g.met.S.Script.kept _ _ _ line.1.tells) c.tell.ensures.same)
+    c.tell.ensures.same ∙ line.1.tells.same ∙ c.loop-i.invariant.same
 
 pub returns-then-is_err-clause-plays : goal.returns-then-is_err-clause-plays
 returns-then-is_err-clause-plays g c =
     let state = g.N.Nvm.state in
     let bench = g.N.Bench.bench in
     let a : Bench = record { device = state c.args.device; bench = bench c.args.device } in
-    let out = g.S.Script.out in
+    let out = sunk_in g.T.Sink.taken g.T.Sink.faults in
+    let text = turns_text c.args.writer.now.telling in
     let deck = c.args.deck.now in
     let line = c.line-number.result in
     let here = next_line deck c.loop-i.i line.0 (line_of line.1) c.line-number.ensures.line in
-    let reached = subst (λ (left : List (ℕ × DeckLine)). PlayReached state bench (text_by g.S.Script.text) (start (state c.args.device).words) deck a (out c.args.script.now) left c.loop-i.player (out c.loop-i.script)) here c.loop-i.invariant.reached in
-    let failed : is_err (ended (g.S.Script.fault c.tell.new.self)) ≡ true = search rules in
-    subst (λ d. PlaysFrom (text_by g.S.Script.text) (start (state c.args.device).words) deck a (out c.args.script.now) (ended (g.S.Script.fault c.tell.new.self)) (record { device = state d; bench = bench d }) (out c.tell.new.self)) (sym c.into_dev.ensures)
-    (reached_failed state bench g.S.Runner.told g.S.Script.text (start (state c.args.device).words) deck a (out c.args.script.now) (out c.loop-i.script) (out c.tell.new.self) (drop (c.loop-i.i + 1) deck) line.0 (line_of line.1) c.loop-i.player c.line-answer.new.self c.loop-i.script c.line-answer.new.runner c.line-answer.result (ended (g.S.Script.fault c.tell.new.self)) failed reached c.line-answer.ensures.done (λ ts told. c.tell.ensures.tells c.loop-i.script ts c.loop-i.invariant.fault told))
+    let reached = subst (λ (left : List (ℕ × DeckLine)). PlayReached state bench (text_by text) (start (state c.args.device).words) deck a (out c.args.writer.now.out.now) left c.loop-i.player (out c.loop-i.writer.out.now)) here c.loop-i.invariant.reached in
+    let failed : is_err (ended c.tell.new.self.fault) ≡ true = search rules in
+    subst (λ d. PlaysFrom (text_by text) (start (state c.args.device).words) deck a (out c.args.writer.now.out.now) (ended c.tell.new.self.fault) (record { device = state d; bench = bench d }) (out c.tell.new.self.out.now)) (sym c.into_dev.ensures)
+    (reached_failed state bench (WriterKeeps g.T.Sink.taken g.T.Sink.faults) text (start (state c.args.device).words) deck a (out c.args.writer.now.out.now) (out c.loop-i.writer.out.now) (out c.tell.new.self.out.now) (drop (c.loop-i.i + 1) deck) line.0 (line_of line.1) c.loop-i.player c.line-answer.new.self c.loop-i.writer c.line-answer.new.runner c.line-answer.result (ended c.tell.new.self.fault) failed reached c.line-answer.ensures.done (λ ts told. told_as _ _ ts _ _ _ _ c.loop-i.invariant.telling (c.tell.ensures.tells c.loop-i.writer ts c.loop-i.invariant.fault told)))
 
 pub loop-i-preserved : goal.loop-i-preserved
 loop-i-preserved g c =
     let state = g.N.Nvm.state in
     let bench = g.N.Bench.bench in
     let a : Bench = record { device = state c.args.device; bench = bench c.args.device } in
-    let out = g.S.Script.out in
+    let out = sunk_in g.T.Sink.taken g.T.Sink.faults in
+    let text = turns_text c.args.writer.now.telling in
     let deck = c.args.deck.now in
     let line = c.line-number.result in
     let here = next_line deck c.loop-i.i line.0 (line_of line.1) c.line-number.ensures.line in
-    let reached = subst (λ (left : List (ℕ × DeckLine)). PlayReached state bench (text_by g.S.Script.text) (start (state c.args.device).words) deck a (out c.args.script.now) left c.loop-i.player (out c.loop-i.script)) here c.loop-i.invariant.reached in
-    let written : is_err (ended (g.S.Script.fault c.tell.new.self)) ≡ false = search rules in
+    let reached = subst (λ (left : List (ℕ × DeckLine)). PlayReached state bench (text_by text) (start (state c.args.device).words) deck a (out c.args.writer.now.out.now) left c.loop-i.player (out c.loop-i.writer.out.now)) here c.loop-i.invariant.reached in
+    let written : is_err (ended c.tell.new.self.fault) ≡ false = search rules in
     let done = c.line-answer.ensures.done c.loop-i.invariant.reached.here 0 c.loop-i.invariant.reached.at in
     record {
       reached =
-          reached_written state bench g.S.Runner.told g.S.Script.text (start (state c.args.device).words) deck a (out c.args.script.now) (out c.loop-i.script) (out c.tell.new.self) (drop (c.loop-i.i + 1) deck) line.0 (line_of line.1) c.loop-i.player c.line-answer.new.self c.loop-i.script c.line-answer.new.runner c.line-answer.result (ended (g.S.Script.fault c.tell.new.self)) written reached c.line-answer.ensures.done (λ ts told. c.tell.ensures.tells c.loop-i.script ts c.loop-i.invariant.fault told);
-      fault = no_fault (g.S.Script.fault c.tell.new.self) written;
+          reached_written state bench (WriterKeeps g.T.Sink.taken g.T.Sink.faults) text (start (state c.args.device).words) deck a (out c.args.writer.now.out.now) (out c.loop-i.writer.out.now) (out c.tell.new.self.out.now) (drop (c.loop-i.i + 1) deck) line.0 (line_of line.1) c.loop-i.player c.line-answer.new.self c.loop-i.writer c.line-answer.new.runner c.line-answer.result (ended c.tell.new.self.fault) written reached c.line-answer.ensures.done (λ ts told. told_as _ _ ts _ _ _ _ c.loop-i.invariant.telling (c.tell.ensures.tells c.loop-i.writer ts c.loop-i.invariant.fault told));
+      fault = no_fault c.tell.new.self.fault written;
       lent = g.met.N.Nvm.onward _ _ _ c.loop-i.invariant.lent c.line-answer.ensures.lent;
-      same = g.met.S.Script.further _ _ _ c.loop-i.invariant.same (g.met.S.Script.further _ _ _ (g.met.S.Script.kept _ _ _ done.1.tells) c.tell.ensures.same);
+      telling = c.tell.ensures.telling ∙ done.1.tells.telling ∙ c.loop-i.invariant.telling;
+      same = c.tell.ensures.same ∙ done.1.tells.same ∙ c.loop-i.invariant.same;
     }
 
 pub returns-clause-plays : goal.returns-clause-plays
@@ -55,14 +60,15 @@ returns-clause-plays g c =
     let state = g.N.Nvm.state in
     let bench = g.N.Bench.bench in
     let a : Bench = record { device = state c.args.device; bench = bench c.args.device } in
-    let out = g.S.Script.out in
+    let out = sunk_in g.T.Sink.taken g.T.Sink.faults in
+    let text = turns_text c.args.writer.now.telling in
     let deck = c.args.deck.now in
     let all : length deck ≤ c.loop-i.i = search rules in
-    let reached = subst (λ (left : List (ℕ × DeckLine)). PlayReached state bench (text_by g.S.Script.text) (start (state c.args.device).words) deck a (out c.args.script.now) left c.loop-i.player (out c.loop-i.script)) (no_line deck c.loop-i.i all) c.loop-i.invariant.reached in
-    let whole = reached_end state bench (text_by g.S.Script.text) (start (state c.args.device).words) deck a (out c.args.script.now) (out c.loop-i.script) c.loop-i.player reached in
-    let good : Ok tt ≡ ended (g.S.Script.fault c.loop-i.script) = sym (ap ended c.loop-i.invariant.fault) in
-    subst (λ d. PlaysFrom (text_by g.S.Script.text) (start (state c.args.device).words) deck a (out c.args.script.now) (ended (g.S.Script.fault c.loop-i.script)) (record { device = state d; bench = bench d }) (out c.loop-i.script)) (sym c.into_dev-2.ensures)
-    (subst (λ (r : Result (Unit {0}) WriteFault). PlaysFrom (text_by g.S.Script.text) (start (state c.args.device).words) deck a (out c.args.script.now) r (record { device = state (device_of c.loop-i.player); bench = bench (device_of c.loop-i.player) }) (out c.loop-i.script)) good whole)
+    let reached = subst (λ (left : List (ℕ × DeckLine)). PlayReached state bench (text_by text) (start (state c.args.device).words) deck a (out c.args.writer.now.out.now) left c.loop-i.player (out c.loop-i.writer.out.now)) (no_line deck c.loop-i.i all) c.loop-i.invariant.reached in
+    let whole = reached_end state bench (text_by text) (start (state c.args.device).words) deck a (out c.args.writer.now.out.now) (out c.loop-i.writer.out.now) c.loop-i.player reached in
+    let good : Ok tt ≡ ended c.loop-i.writer.fault = sym (ap ended c.loop-i.invariant.fault) in
+    subst (λ d. PlaysFrom (text_by text) (start (state c.args.device).words) deck a (out c.args.writer.now.out.now) (ended c.loop-i.writer.fault) (record { device = state d; bench = bench d }) (out c.loop-i.writer.out.now)) (sym c.into_dev-2.ensures)
+    (subst (λ (r : Result (Unit {0}) WriteFault). PlaysFrom (text_by text) (start (state c.args.device).words) deck a (out c.args.writer.now.out.now) r (record { device = state (device_of c.loop-i.player); bench = bench (device_of c.loop-i.player) }) (out c.loop-i.writer.out.now)) good whole)
 
 pub line-answer-requires-clause-playing : goal.line-answer-requires-clause-playing
 line-answer-requires-clause-playing g c = (c.loop-i.invariant.reached.here, c.loop-i.invariant.reached.at)

@@ -1,0 +1,74 @@
+-- From the first power line on no word is poked.
+use Rattle.std.proofs.Common.{◌≡◌, ◌⊎◌, ℕ, false, List, [], ◌∷◌, drop, Option, refl, arith, inl, inr}
+use Rattle.mc_model.specs.DeckGrammar.{DeckLine}
+use Rattle.mc_model.specs.DeckGrammar as line
+use Rattle.mc_model.specs.Play.{Live, Running, Unpowered, Muted, Base, OnCard, AtFault, Warm, State, Cold, Hot, WornAt, Step, step, plays, card_line, first_worn}
+use Rattle.mc_model.specs.ReadyAgain.{is_cold}
+use Rattle.mc_script.specs.Counting.{line_powers, line_pokes, total}
+
+-- a line pokes no word, and the play behind it has begun
+record PlayBegun (t : Step) : Type 0 where
+  pokes : line_pokes t.before t.line ≡ 0
+  after : is_cold t.after ≡ false
+
+card_begun : (n : ℕ) (l : DeckLine) (s : Warm) (live : Live) (base : Base) (w : Option WornAt) → PlayBegun (card_line n l s live base w)
+card_begun n l s (Running seat) (OnCard c) w = record { pokes = refl; after = refl }
+card_begun n l s (Running seat) (AtFault cause p) w = record { pokes = refl; after = refl }
+card_begun n l s Unpowered base w = record { pokes = refl; after = refl }
+card_begun n l s Muted base w = record { pokes = refl; after = refl }
+
+-- so does every line from the first power line on
+begun : (s : State) (l : ℕ × DeckLine) (w : Option WornAt) → is_cold s ≡ false → PlayBegun (step s l w)
+unfolding step
+begun (Cold m b a) l w hot = absurd (cc hot)
+begun (Hot s) (n, line.Format) w hot = record { pokes = refl; after = refl }
+begun (Hot s) (n, line.Named) w hot = record { pokes = refl; after = refl }
+begun (Hot s) (n, line.Power) w hot = record { pokes = refl; after = refl }
+begun (Hot s) (n, line.Poke at x) w hot = record { pokes = refl; after = refl }
+begun (Hot s) (n, line.Budget c) w hot = record { pokes = refl; after = refl }
+begun (Hot s) (n, line.Cut k x) w hot = record { pokes = refl; after = refl }
+begun (Hot s) (n, line.Fail k) w hot = record { pokes = refl; after = refl }
+begun (Hot s) (n, line.Dump x) w hot = record { pokes = refl; after = refl }
+begun (Hot s) (n, line.Load u fixed session) w hot = card_begun n (line.Load u fixed session) s s.live s.base w
+begun (Hot s) (n, line.Select x) w hot = card_begun n (line.Select x) s s.live s.base w
+begun (Hot s) (n, line.Delete x) w hot = card_begun n (line.Delete x) s s.live s.base w
+begun (Hot s) (n, line.Apdu x) w hot = card_begun n (line.Apdu x) s s.live s.base w
+
+-- and every play
+none_poked : (s : State) (ls : List (ℕ × DeckLine)) (ws : List (Option WornAt)) → is_cold s ≡ false → total (λ t. line_pokes t.before t.line) (plays s ls ws) ≡ 0
+unfolding plays
+none_poked s [] ws hot = refl
+none_poked s (l ∷ ls) ws hot =
+    let first : PlayBegun (step s l (first_worn ws)) = begun s l (first_worn ws) hot in
+    let rest = none_poked (step s l (first_worn ws)).after ls (drop 1 ws) first.after in
+    let one = first.pokes in
+    omega (arith, one, rest)
+
+-- power does not come in a line, or the play behind it has begun
+powers_first : (s : State) (l : ℕ × DeckLine) (w : Option WornAt) → (line_powers (step s l w).line ≡ 0) ⊎ (is_cold (step s l w).after ≡ false)
+unfolding step
+powers_first (Cold m b a) (n, line.Format) w = inl refl
+powers_first (Cold m b a) (n, line.Named) w = inl refl
+powers_first (Cold m b a) (n, line.Power) w = inr refl
+powers_first (Cold m b a) (n, line.Poke at x) w = inl refl
+powers_first (Cold m b a) (n, line.Budget c) w = inl refl
+powers_first (Cold m b a) (n, line.Cut k x) w = inl refl
+powers_first (Cold m b a) (n, line.Fail k) w = inl refl
+powers_first (Cold m b a) (n, line.Dump x) w = inl refl
+powers_first (Cold m b a) (n, line.Load u fixed session) w = inl refl
+powers_first (Cold m b a) (n, line.Select x) w = inl refl
+powers_first (Cold m b a) (n, line.Delete x) w = inl refl
+powers_first (Cold m b a) (n, line.Apdu x) w = inl refl
+powers_first (Hot s) l w = inr (begun (Hot s) l w refl).after
+
+-- power does not come in a line, or no word is poked behind it
+abbrev pub PokesFirst : Step → List Step → Type 0
+PokesFirst t ts = (line_powers t.line ≡ 0) ⊎ (total (λ u. line_pokes u.before u.line) ts ≡ 0)
+
+-- so it is in every play
+pub pokes_first : (s : State) (l : ℕ × DeckLine) (w : Option WornAt) (ls : List (ℕ × DeckLine)) (ws : List (Option WornAt)) → PokesFirst (step s l w) (plays (step s l w).after ls ws)
+pokes_first s l w ls ws =
+    elim (powers_first s l w) [
+      | inl none ↦ inl none
+      | inr hot ↦ inr (none_poked (step s l w).after ls ws hot)
+    ]

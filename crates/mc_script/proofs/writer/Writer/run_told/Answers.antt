@@ -1,0 +1,92 @@
+use Rattle.std.proofs.Common.{◌≡◌, ℕ, ◌-◌, ◌+◌, Option, None, Ok, Err, arith, subst, ◌∙◌}
+use Rattle.std.proofs.lemmas.Result.{err_from_is_err_and}
+use Rattle.mc_machine.specs.declared.outcome.Outcome.{Outcome}
+use Rattle.mc_card.specs.Ends.{Begun}
+use Rattle.mc_script.specs.Writers.{keeps_none, keeps_on, WriterKeeps}
+use Rattle.mc_script.proofs.CommandLemmas.{RunLeads, answered_ran, some_is, leads_begin, leads_stop, leads_end, leads_on}
+use Rattle.mc_script.proofs.writer.Writer.run_told.Goals as goal
+
+pub returns-in_err-outcome-clause-done : goal.returns-in_err-outcome-clause-done
+returns-in_err-outcome-clause-done g c =
+    let taken = g.T.Sink.taken in
+    let faults = g.T.Sink.faults in
+    let p = err_from_is_err_and c.from_residual.result c.from_residual.ensures.1 in
+    rw (p.1, p.2)
+    (answered_ran g.N.Nvm.state g.N.Nvm.wrote g.met.N.Nvm.obeys (WriterKeeps taken faults) (keeps_none taken faults) (keeps_on taken faults) (Err c.in_err-outcome.field-0.0) c.args.card.now c.begin.new.self c.args.bytes.now c.args.budget c.args.self.now c.in_err-outcome.ensures.done)
+
+pub returns-in-Some-clause-done : goal.returns-in-Some-clause-done
+returns-in-Some-clause-done g c =
+    let taken = g.T.Sink.taken in
+    let faults = g.T.Sink.faults in
+    let done = subst (λ (o : Option Outcome). Begun g.N.Nvm.state g.N.Nvm.wrote c.args.card.now c.args.bytes.now c.args.budget (Ok o) c.begin.new.self) c.in-Some.is c.in_ok-outcome.ensures.done in
+    answered_ran g.N.Nvm.state g.N.Nvm.wrote g.met.N.Nvm.obeys (WriterKeeps taken faults) (keeps_none taken faults) (keeps_on taken faults) (Ok c.in-Some.outcome) c.args.card.now c.begin.new.self c.args.bytes.now c.args.budget c.args.self.now done
+
+pub loop-turn-init : goal.loop-turn-init
+loop-turn-init g c =
+    let taken = g.T.Sink.taken in
+    let faults = g.T.Sink.faults in
+    let passed = subst (λ (o : Option Outcome). Begun g.N.Nvm.state g.N.Nvm.wrote c.args.card.now c.args.bytes.now c.args.budget (Ok o) c.begin.new.self) c.in_default.is c.in_ok-outcome.ensures.done in
+    let all : c.args.budget ≡ c.args.budget - 0 = omega arith in
+    record {
+      leads =
+          subst (λ (k : ℕ). RunLeads g.N.Nvm.state g.N.Nvm.wrote g.met.N.Nvm.obeys (WriterKeeps taken faults) (keeps_none taken faults) (keeps_on taken faults) c.args.card.now c.args.bytes.now c.args.budget c.args.self.now k c.begin.new.self c.args.self.now) all
+          (leads_begin g.N.Nvm.state g.N.Nvm.wrote g.met.N.Nvm.obeys (WriterKeeps taken faults) (keeps_none taken faults) (keeps_on taken faults) c.args.card.now c.begin.new.self c.args.bytes.now c.args.budget c.args.self.now passed);
+      turns = c.requires.turns;
+      lent = c.begin.ensures.lent;
+    }
+
+pub turn-requires : goal.turn-requires
+turn-requires g c = let h = c.loop-turn.invariant.leads in record { running = (h.chain, c.args.budget - c.loop-turn._turn, h.runs) }
+
+pub turn-requires-2 : goal.turn-requires-2
+turn-requires-2 g c = let h = c.loop-turn.invariant.leads in record { running = (h.chain, c.args.budget - c.loop-turn._turn, h.runs) }
+
+pub returns-in_err-turn-clause-done : goal.returns-in_err-turn-clause-done
+returns-in_err-turn-clause-done g c =
+    let taken = g.T.Sink.taken in
+    let faults = g.T.Sink.faults in
+    let p = err_from_is_err_and c.from_residual-in_err-turn.result c.from_residual-in_err-turn.ensures.1 in
+    rw (p.1, p.2)
+    (leads_stop g.N.Nvm.state g.N.Nvm.wrote g.met.N.Nvm.obeys (WriterKeeps taken faults) (keeps_none taken faults) (keeps_on taken faults) c.args.card.now c.loop-turn.card c.turn.new.self c.args.bytes.now c.args.budget (c.args.budget - c.loop-turn._turn) c.args.self.now c.loop-turn.self c.in_err-turn.field-0.0 c.loop-turn.invariant.leads c.in_err-turn.ensures.done)
+
+pub returns-in_err-turn-2-clause-done : goal.returns-in_err-turn-2-clause-done
+returns-in_err-turn-2-clause-done g c =
+    let taken = g.T.Sink.taken in
+    let faults = g.T.Sink.faults in
+    let p = err_from_is_err_and c.from_residual-in_err-turn-2.result c.from_residual-in_err-turn-2.ensures.1 in
+    rw (p.1, p.2)
+    (leads_stop g.N.Nvm.state g.N.Nvm.wrote g.met.N.Nvm.obeys (WriterKeeps taken faults) (keeps_none taken faults) (keeps_on taken faults) c.args.card.now c.loop-turn.card c.turn-2.new.self c.args.bytes.now c.args.budget (c.args.budget - c.loop-turn._turn) c.args.self.now c.loop-turn.self c.in_err-turn-2.field-0.0 c.loop-turn.invariant.leads c.in_err-turn-2.ensures.done)
+
+pub returns-in-Some-end-clause-done : goal.returns-in-Some-end-clause-done
+returns-in-Some-end-clause-done g c =
+    let taken = g.T.Sink.taken in
+    let faults = g.T.Sink.faults in
+    rw c.in-Some-end.outcome-is
+    (leads_end g.N.Nvm.state g.N.Nvm.wrote g.met.N.Nvm.obeys (WriterKeeps taken faults) (keeps_none taken faults) (keeps_on taken faults) c.args.card.now c.loop-turn.card c.turn.new.self c.args.bytes.now c.args.budget (c.args.budget - c.loop-turn._turn) c.args.self.now c.loop-turn.self c.tell_turn.new.self c.in_ok-turn.turn c.in-Some-end.outcome c.loop-turn.invariant.leads c.in_ok-turn.ensures.done c.tell_turn.ensures.tells c.in-Some-end.is)
+
+pub loop-turn-preserved : goal.loop-turn-preserved
+loop-turn-preserved g c =
+    let taken = g.T.Sink.taken in
+    let faults = g.T.Sink.faults in
+    let on = leads_on g.N.Nvm.state g.N.Nvm.wrote g.met.N.Nvm.obeys (WriterKeeps taken faults) (keeps_none taken faults) (keeps_on taken faults) c.args.card.now c.loop-turn.card c.turn.new.self c.args.bytes.now c.args.budget (c.args.budget - c.loop-turn._turn) c.args.self.now c.loop-turn.self c.tell_turn.new.self c.in_ok-turn.turn c.loop-turn.invariant.leads c.in_ok-turn.ensures.done c.tell_turn.ensures.tells c.in_default-end.is in
+    let left : on.0 ≡ c.args.budget - (c.loop-turn._turn + 1) = let is = on.1 in omega (arith, is) in
+    record {
+      leads = subst (λ (k : ℕ). RunLeads g.N.Nvm.state g.N.Nvm.wrote g.met.N.Nvm.obeys (WriterKeeps taken faults) (keeps_none taken faults) (keeps_on taken faults) c.args.card.now c.args.bytes.now c.args.budget c.args.self.now k c.turn.new.self c.tell_turn.new.self) left on.2;
+      turns = (c.tell_turn.ensures.tells None).telling ∙ c.loop-turn.invariant.turns;
+      lent = g.met.N.Nvm.onward _ _ _ c.loop-turn.invariant.lent c.turn.ensures.lent;
+    }
+
+pub unwrap-requires : goal.unwrap-requires
+unwrap-requires g c =
+    let taken = g.T.Sink.taken in
+    let faults = g.T.Sink.faults in
+    let none : c.args.budget - c.loop-turn._turn ≡ 0 = omega arith in
+    some_is c.in_ok-turn-2.turn.end (λ e.
+    let on = leads_on g.N.Nvm.state g.N.Nvm.wrote g.met.N.Nvm.obeys (WriterKeeps taken faults) (keeps_none taken faults) (keeps_on taken faults) c.args.card.now c.loop-turn.card c.turn-2.new.self c.args.bytes.now c.args.budget (c.args.budget - c.loop-turn._turn) c.args.self.now c.loop-turn.self c.tell_turn-2.new.self c.in_ok-turn-2.turn c.loop-turn.invariant.leads c.in_ok-turn-2.ensures.done c.tell_turn-2.ensures.tells e in
+    absurd (let is = on.1 in omega arith))
+
+pub returns-clause-done : goal.returns-clause-done
+returns-clause-done g c =
+    let taken = g.T.Sink.taken in
+    let faults = g.T.Sink.faults in
+    leads_end g.N.Nvm.state g.N.Nvm.wrote g.met.N.Nvm.obeys (WriterKeeps taken faults) (keeps_none taken faults) (keeps_on taken faults) c.args.card.now c.loop-turn.card c.turn-2.new.self c.args.bytes.now c.args.budget (c.args.budget - c.loop-turn._turn) c.args.self.now c.loop-turn.self c.tell_turn-2.new.self c.in_ok-turn-2.turn c.unwrap.result c.loop-turn.invariant.leads c.in_ok-turn-2.ensures.done c.tell_turn-2.ensures.tells c.unwrap.ensures

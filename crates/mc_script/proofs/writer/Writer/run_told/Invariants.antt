@@ -1,0 +1,17 @@
+use Rattle.std.proofs.Common.{◌≡◌, ◌-◌}
+use Rattle.mc_card.specs.Parts.{device_in}
+use Rattle.mc_script.specs.Writers.{keeps_none, keeps_on, WriterKeeps}
+use Rattle.mc_script.specs.declared.writer.Telling.TheVariants as telling
+use Rattle.mc_script.proofs.CommandLemmas.{RunLeads}
+use Rattle.mc_script.proofs.writer.Writer.run_told.Given as goal
+
+-- what is done with the budget that is left is what is done with all of it
+abbrev pub invariant-loop-turn : goal.invariant-loop-turn
+invariant-loop-turn g l =
+    let taken = g.T.Sink.taken in
+    let faults = g.T.Sink.faults in
+    record {
+      turns : l.self.telling ≡ telling.Turns;
+      leads : RunLeads g.N.Nvm.state g.N.Nvm.wrote g.met.N.Nvm.obeys (WriterKeeps taken faults) (keeps_none taken faults) (keeps_on taken faults) l.fn.card l.bytes l.budget l.fn.self (l.budget - l._turn) l.card l.self;
+      lent : g.N.Nvm.same (device_in l.fn.card) (device_in l.card);
+    }

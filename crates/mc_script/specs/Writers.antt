@@ -1,0 +1,79 @@
+-- What is written of a play, line by line, and how it ended.
+use Rattle.std.specs.Prelude.{◌≡◌, ℕ, List, [], ◌++◌, Option, Some, None, Result, Ok, Err, refl}
+use Rattle.std.proofs.Common.{◌∙◌, subst}
+use Rattle.mc_model.specs.Chain.{Turn}
+use Rattle.mc_model.specs.Play.{Step}
+use Rattle.mc_model.specs.Transcript.{line_text}
+use Rattle.mc_model.specs.TraceText.{shown_turns, turn_lines}
+use Rattle.mc_base.specs.declared.refusals.WriteFault.{WriteFault}
+use Rattle.mc_text.specs.Texts.{sunk_in}
+use Rattle.mc_text.specs.Logs.{Logged}
+use Rattle.mc_text.specs.Logs as text
+use Rattle.mc_text.proofs.LogLemmas.{logged_none, logged_on}
+use Rattle.mc_script.specs.declared.writer.Telling.{Telling}
+use Rattle.mc_script.specs.declared.writer.Telling.TheVariants.{Results, Turns}
+use Rattle.mc_script.specs.declared.writer.Writer.{Writer}
+
+-- ---- texts
+
+-- by the fault that its sink had
+abbrev pub ended : Option WriteFault → Result (Unit {0}) WriteFault
+ended None = Ok tt
+ended (Some f) = Err f
+
+-- the turns of which a line is written
+abbrev pub told_turns : Telling → List Turn → List Turn
+told_turns Results ts = []
+told_turns Turns ts = ts
+
+-- the text of turns
+abbrev pub turns_text : Telling → List Turn → List ℕ
+turns_text t ts = turn_lines (told_turns t ts)
+
+-- the text of a line, by that of its turns
+abbrev pub text_by : (List Turn → List ℕ) → Step → List ℕ
+text_by f t = f (shown_turns t.turns t.stop) ++ line_text t.number t.result
+
+-- ---- writers
+
+-- a writer by what its sink tells
+abbrev pub log_in : {T : Type 0} → (T → Option (List ℕ)) → (T → ℕ) → Writer T → text.Log
+log_in taken faults w = record { out = sunk_in taken faults w.out.now; fault = w.fault }
+
+-- turns that a writer was told of: it is the same writer over the same sink, with the lines of those that it tells
+pub record WriterKeeps {T : Type 0} (taken : T → Option (List ℕ)) (faults : T → ℕ) (w : Writer T) (ts : List Turn) (x : Writer T) : Type 0 where
+  pub lines : Logged (log_in taken faults w) (told_turns w.telling ts) (log_in taken faults x)
+  pub telling : x.telling ≡ w.telling
+  pub same : x.out.ghost_name ≡ w.out.ghost_name
+
+-- ---- their laws
+
+-- no turns are none that are told
+pub told_none : (t : Telling) → [] ≡ told_turns t []
+told_none Results = refl
+told_none Turns = refl
+
+-- turns behind turns are told so
+pub told_behind : (t : Telling) (ts us : List Turn) → told_turns t ts ++ told_turns t us ≡ told_turns t (ts ++ us)
+told_behind Results ts us = refl
+told_behind Turns ts us = refl
+
+module _ {T : Type 0} (taken : T → Option (List ℕ)) (faults : T → ℕ) where
+  -- a writer that was told nothing stays as it is
+  pub keeps_none : (w : Writer T) → WriterKeeps taken faults w [] w
+  keeps_none w =
+      let log = log_in taken faults w in
+      record { lines = subst (λ (ts : List Turn). Logged log ts log) (told_none w.telling) (logged_none log); telling = refl; same = refl }
+
+  -- turns are told behind turns
+  pub keeps_on : (w x y : Writer T) (ts us : List Turn) → WriterKeeps taken faults w ts x → WriterKeeps taken faults x us y → WriterKeeps taken faults w (ts ++ us) y
+  keeps_on w x y ts us first rest =
+      let a = log_in taken faults w in
+      let b = log_in taken faults x in
+      let c = log_in taken faults y in
+      let more = subst (λ (t : Telling). Logged b (told_turns t us) c) first.telling rest.lines in
+      record {
+        lines = subst (λ (vs : List Turn). Logged a vs c) (told_behind w.telling ts us) (logged_on a b c (told_turns w.telling ts) (told_turns w.telling us) first.lines more);
+        telling = rest.telling ∙ first.telling;
+        same = rest.same ∙ first.same;
+      }

@@ -1,0 +1,156 @@
+// What is written of a play, line by line.
+ghost use Rattle.std.specs.Prelude.{◌≡◌, ◌≤◌, ◌++◌, ◌∷◌, [], ℕ, List, Option, None, IfSome, option_map};
+ghost use Rattle.mc_model.specs.Chain.{Turn as ModelTurn};
+ghost use Rattle.mc_model.specs.Code.{Shaped};
+ghost use Rattle.mc_model.specs.Transcript.{line_text};
+ghost use Rattle.mc_machine.specs.Turns.{turn_value};
+ghost use Rattle.mc_card.specs.Parts.{device_in, due, IsReadyCard};
+ghost use Rattle.mc_card.specs.Ends.{put_in};
+ghost use Rattle.mc_text.specs.Texts.{sunk_in, Puts};
+ghost use Rattle.mc_script.specs.Players.{answer_value, IsPlaying};
+ghost use Rattle.mc_script.specs.Runs.{RanAndTold};
+ghost use Rattle.mc_script.specs.Writers.{ended, turns_text, keeps_none, keeps_on, WriterKeeps};
+ghost use Rattle.mc_script.specs.declared.writer.Telling.TheVariants as telling;
+
+use crate::answer::Answer;
+use crate::player::Player;
+use crate::runner::Runner;
+use crate::text::{Text, put_answer};
+use arrayvec::ArrayVec;
+use mc_base::{Sink, Steps, Stop, WriteFault};
+use mc_card::{Card, Turn};
+use mc_machine::Outcome;
+use mc_nvm::{Bench, Nvm};
+use mc_text::put;
+use mc_trace::line_of;
+use std::sync::ledger::Ledger;
+
+/// What is written of each line of a play: its result, or the lines of its turns and its result.
+#[derive(Clone, Copy, Debug)]
+pub enum Telling {
+    Results,
+    Turns,
+}
+
+/// Writes the text of a play, line by line. Once its sink failed it writes no more, and commands are run to their end.
+#[derive(Drop)]
+pub struct Writer<'a, T: Sink> {
+    pub(crate) out: &'a mut T,
+    pub(crate) fault: Option<WriteFault>,
+    pub(crate) line: Text,
+    pub(crate) telling: Telling,
+}
+
+impl<'a, T: Sink> Writer<'a, T> {
+    /// A writer that has written nothing.
+    pub fn new(out: &'a mut T, telling: Telling) -> Writer<'a, T>
+        ensures out { result.out.now ≡ out.old }
+        ensures same { result.out.ghost_name ≡ out.entry.ghost_name }
+        ensures fault { result.fault ≡ None }
+        ensures telling { result.telling ≡ telling }
+    {
+        Writer {
+            out,
+            fault: None,
+            line: ArrayVec::new(),
+            telling,
+        }
+    }
+
+    /// Writes the result of a line behind the text of the turns that were told in it, unless its sink failed before.
+    pub fn tell<N: Bench>(&mut self, number: u32, player: &Player<N>, answer: &Option<Answer>)
+        requires playing { IsPlaying N.state N.bench player.now }
+        ensures tells { (before : Writer T) (ts : List ModelTurn) → before.fault ≡ None
+            → WriterKeeps T.taken T.faults before ts self.old
+            → Puts (sunk_in T.taken T.faults before.out.now) (turns_text before.telling ts
+            ++ line_text number (option_map (answer_value N.state player.now) answer.now)) (ended self.new.fault)
+            (sunk_in T.taken T.faults self.new.out.now) }
+        ensures same { self.new.out.ghost_name ≡ self.old.out.ghost_name }
+        ensures telling { self.new.telling ≡ self.old.telling }
+    {
+        if self.fault.is_none() {
+            self.fault = put_answer(self.out, &mut self.line, number, player, answer).err();
+        }
+    }
+
+    /// Whether all was written.
+    pub fn ended(&self) -> Result<(), WriteFault>
+        ensures { result ≡ ended self.now.fault }
+    {
+        match self.fault {
+            None => Ok(()),
+            Some(fault) => Err(fault),
+        }
+    }
+
+    // Writes the line of a turn.
+    fn tell_turn(&mut self, turn: &Turn)
+        requires turns { self.old.telling ≡ telling.Turns }
+        requires shaped { IfSome turn.now.ins Shaped }
+        requires low { 1 ≤ turn.now.depth }
+        requires high { turn.now.depth ≤ 4 }
+        ensures tells { (wrote : Option ℕ)
+            → WriterKeeps T.taken T.faults self.old (turn_value turn.now wrote ∷ []) self.new }
+    {
+        if self.fault.is_none() {
+            self.fault = put(self.out, line_of(turn).as_slice()).err();
+        }
+    }
+
+    // Runs a command turn by turn, and writes the line of each turn.
+    fn run_told<N: Nvm, L: Ledger>(
+        &mut self,
+        card: &mut Card<N>,
+        bytes: &[u8],
+        budget: u32,
+        into: &mut Outcome,
+        steps: &mut Steps<L>,
+    ) -> Result<(), Stop>
+        requires turns { self.old.telling ≡ telling.Turns }
+        requires ready { IsReadyCard N.state card.old }
+        requires some { 1 ≤ budget }
+        requires budget { budget ≤ 65536 }
+        ensures done { RanAndTold N.state N.wrote (WriterKeeps T.taken T.faults) card.old
+            (due N.state card.old bytes.now budget) (put_in result into.new) card.new self.old self.new }
+        ensures lent { N.same (device_in card.old) (device_in card.new) }
+    {
+        if let Some(outcome) = card.begin(bytes, budget, steps)? {
+            *into = outcome;
+            return Ok(());
+        }
+        for _turn in 0..budget {
+            let turn = card.turn(steps)?;
+            self.tell_turn(&turn);
+            if let Some(outcome) = turn.end {
+                *into = outcome;
+                return Ok(());
+            }
+        }
+        let turn = card.turn(steps)?;
+        self.tell_turn(&turn);
+        *into = turn.end.unwrap();
+        Ok(())
+    }
+}
+
+impl<'a, T: Sink> Runner for Writer<'a, T> {
+    ghost told = { WriterKeeps T.taken T.faults };
+
+    ghost silent = { keeps_none T.taken T.faults };
+
+    ghost onward = { keeps_on T.taken T.faults };
+
+    fn run<N: Nvm, L: Ledger>(
+        &mut self,
+        card: &mut Card<N>,
+        bytes: &[u8],
+        budget: u32,
+        into: &mut Outcome,
+        steps: &mut Steps<L>,
+    ) -> Result<(), Stop> {
+        match self.telling {
+            Telling::Results => card.command_into(bytes, budget, into, steps),
+            Telling::Turns => self.run_told(card, bytes, budget, into, steps),
+        }
+    }
+}
