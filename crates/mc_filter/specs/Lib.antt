@@ -1,3 +1,4 @@
 pub mod Lines
 pub mod Inputs
 pub mod Statuses
+pub mod Outside

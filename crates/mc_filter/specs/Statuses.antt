@@ -1,5 +1,5 @@
 -- The statuses of a filter, and how one comes of what is written.
-use Rattle.std.specs.Prelude.{◌≡◌, ℕ, Result, Ok, Err}
+use Rattle.std.specs.Prelude.{◌≡◌, ℕ, List, Result, Ok, Err}
 use Rattle.mc_base.specs.declared.refusals.WriteFault.{WriteFault as Fault}
 use Rattle.mc_text.specs.Texts.{Sunk, Puts}
 use Rattle.mc_filter.specs.declared.rejection.Rejection.{Rejection}
@@ -21,9 +21,14 @@ abbrev pub ended : Status → Result (Unit {0}) Fault → Status
 ended good (Ok u) = good
 ended good (Err f) = WriteFault
 
+-- a text was written, whole or up to a fault
+pub record IsWritten (good : Status) (text : List ℕ) (s : Status) (before after : Sunk) : Type 0 where
+  pub result : Result (Unit {0}) Fault
+  pub status : s ≡ ended good result
+  pub written : Puts before text result after
+
 -- how a job ends that is not done: its line was written, or nothing
 abbrev pub RejectionEnds : Rejection → Sunk → Status → Sunk → Type 0
-RejectionEnds (rejection.Refusal line) before s after =
-    (result : Result (Unit {0}) Fault) × (s ≡ ended Failed result) × Puts before line.items result after
+RejectionEnds (rejection.Refusal line) before s after = IsWritten Failed line.items s before after
 RejectionEnds rejection.ReadFault before s after = (s ≡ ReadFault) × (after ≡ before)
 RejectionEnds rejection.NoMemory before s after = (s ≡ NoMemory) × (after ≡ before)

@@ -1,17 +1,22 @@
 #![tactic(auto)]
 
-//! What filters share, the programs that read one input whole and write one text: the input, the line that refuses it, and the status.
+//! What filters share, the programs that read one input whole and write one text: the command line, the device, the input, the line that
+//! refuses it, and the status.
 
 mod decks;
+mod device;
 mod lines;
 mod reading;
 mod rejection;
 mod status;
+mod words;
 mod writing;
 
 pub use decks::deck_of;
+pub use device::blank_device;
 pub use lines::{refused, too_long};
 pub use reading::{INPUT_LIMIT, read_input};
 pub use rejection::Rejection;
 pub use status::{Status, number};
+pub use words::command_words;
 pub use writing::{ended, reject};

@@ -1,11 +1,14 @@
 -- What a job says at the status that it ended with.
-use Rattle.std.proofs.Common.{◌≡◌, ℕ, List, Option, Some, None, Result, Ok, Err, IfErr, IfOk, refl, sym, subst, ◌∙◌, inl, inr}
-use Rattle.mc_model.specs.Counts.{Rose}
+use Rattle.std.proofs.Common.{◌≡◌, ℕ, Option, Some, None, Result, Ok, Err, IfErr, IfOk, refl, sym, subst, ◌∙◌}
 use Rattle.mc_model.specs.Device.{BenchState, DeviceState}
 use Rattle.mc_model.specs.Generator.{generated}
 use Rattle.mc_base.specs.declared.refusals.WriteFault.{WriteFault as Fault}
+use Rattle.mc_base.specs.declared.sink.Sink as sink
+use Rattle.mc_base.specs.declared.source.Source as source
 use Rattle.mc_text.specs.Texts.{sunk_in, Puts, Sunk}
 use Rattle.mc_filter.specs.Statuses.{RejectionEnds, ended}
+use Rattle.mc_filter.specs.Outside.{outside, Outside, Untouched}
+use Rattle.mc_filter.proofs.Outside as filter
 use Rattle.melcard.specs.declared.job.Form.{Form}
 use Rattle.melcard.specs.declared.job.Job.{Job}
 use Rattle.melcard.specs.declared.job.Job.TheVariants as job
@@ -17,7 +20,7 @@ use Rattle.mc_filter.specs.declared.status.Status.TheVariants.{Done, Failed, NoF
 use Rattle.melcard.specs.Jobs.{usage}
 use Rattle.melcard.specs.Verdicts.{JobVerdict, Whole, Refusal, Plays, Sums}
 use Rattle.melcard.specs.Running.{PlaysInput, RejectsJob, WritesInput}
-use Rattle.melcard.specs.Statuses.{bench_of, Around, IsDue, IsSummed, IsWritten, MelcardSays, SaysDone, TakesAtMost, Untouched}
+use Rattle.melcard.specs.Statuses.{bench_of, card_outside, CardOutside, IsDue, IsSummed, MelcardDone, MelcardNoForm, MelcardNoMemory, MelcardReadFault, MelcardSays, TakesAtMost}
 
 -- ---- results
 
@@ -34,88 +37,81 @@ err_always (Ok x) p = tt
 err_always (Err e) p = p
 
 -- a job that is rejected for want of memory alone
-pub memory_only : {X : Type 0} (work : Job) (a : Around) (r : Result X Rejection) → TakesAtMost work a → IfErr r (λ e. e ≡ rejection.NoMemory) → IfErr r (RejectsJob work a)
+pub memory_only : {X : Type 0} (work : Job) (a : Outside) (r : Result X Rejection) → TakesAtMost work a → IfErr r (λ e. e ≡ rejection.NoMemory) → IfErr r (RejectsJob work a)
 memory_only work a (Ok x) source only = tt
 memory_only work a (Err e) source only = subst (λ (e : Rejection). RejectsJob work a e) (sym only) source
 
 -- ---- what was done
 
 -- what was done says itself, at the status that its writing ended with
-says_done : (Kept : Type 0) (work : Job) (a : Around) (r : Result (Unit {0}) Fault) (s : Status) → s ≡ ended Done r → SaysDone Kept work s a → MelcardSays Kept s (Some work) a
-says_done Kept work a (Ok u) s e d = subst (λ s. MelcardSays Kept s (Some work) a) (sym e) (subst (λ s. SaysDone Kept work s a) e d)
-says_done Kept work a (Err f) s e d = subst (λ s. MelcardSays Kept s (Some work) a) (sym e) (subst (λ s. SaysDone Kept work s a) e d)
+says_done : (Kept : Type 0) (work : Job) (a : CardOutside) (r : Result (Unit {0}) Fault) (s : Status) → s ≡ ended Done r → MelcardDone Kept work a s → MelcardSays Kept s (Some work) a
+says_done Kept work a r s e d = filter.says_done (MelcardDone Kept work a) (MelcardReadFault Kept work a) (MelcardNoMemory Kept work a) r s e d
 
-says_refused : (Kept : Type 0) (work : Job) (a : Around) (r : Result (Unit {0}) Fault) (s : Status) → s ≡ ended Failed r → SaysDone Kept work s a → MelcardSays Kept s (Some work) a
-says_refused Kept work a (Ok u) s e d = subst (λ s. MelcardSays Kept s (Some work) a) (sym e) (subst (λ s. SaysDone Kept work s a) e d)
-says_refused Kept work a (Err f) s e d = subst (λ s. MelcardSays Kept s (Some work) a) (sym e) (subst (λ s. SaysDone Kept work s a) e d)
+says_refused : (Kept : Type 0) (work : Job) (a : CardOutside) (r : Result (Unit {0}) Fault) (s : Status) → s ≡ ended Failed r → MelcardDone Kept work a s → MelcardSays Kept s (Some work) a
+says_refused Kept work a r s e d = filter.says_refused (MelcardDone Kept work a) (MelcardReadFault Kept work a) (MelcardNoMemory Kept work a) r s e d
 
 -- the deck of an input was played
-pub says_played : (Kept : Type 0) (t : Telling) (s : Status) (a : Around) → PlaysInput t s a → MelcardSays Kept s (Some (job.Play t)) a
-says_played Kept t s a p = says_done Kept (job.Play t) a p.played.result s p.played.status (record { verdict = Plays t p.lines; due = p.due; done = p.played; kept = tt })
+pub says_played : (Kept : Type 0) (t : Telling) (s : Status) (a : CardOutside) → PlaysInput t s a → MelcardSays Kept s (Some (job.Play t)) a
+says_played Kept t s a p = says_done Kept (job.Play t) a p.played.result s p.played.status (record { verdict = Plays t p.lines; due = p.due; done = (p.played, tt) })
 
 -- a generated deck was played
-pub says_summed : (Kept : Type 0) (n : ℕ) (s : Status) (a : Around) → Untouched a → IsSummed (generated n) s a → MelcardSays Kept s (Some (job.Generate n)) a
-says_summed Kept n s a still d = says_done Kept (job.Generate n) a d.result s d.status (record { verdict = Sums (generated n); due = (still, refl); done = d; kept = tt })
+pub says_summed : (Kept : Type 0) (n : ℕ) (s : Status) (a : CardOutside) → Untouched a.streams → IsSummed (generated n) s a.dev_old a.streams.out_old a.dev a.streams.out → MelcardSays Kept s (Some (job.Generate n)) a
+says_summed Kept n s a still d = says_done Kept (job.Generate n) a d.result s d.status (record { verdict = Sums (generated n); due = (still, refl); done = (d, tt) })
 
 -- the text of an input was written
-pub says_written : (Kept : Type 0) (f : Form) (s : Status) (a : Around) → Kept → WritesInput f s a → MelcardSays Kept s (Some (job.Write f)) a
-says_written Kept f s a kept w = says_done Kept (job.Write f) a w.written.result s w.written.status (record { verdict = Whole w.text; due = w.due; done = w.written; kept = kept })
+pub says_written : (Kept : Type 0) (f : Form) (s : Status) (a : CardOutside) → Kept → WritesInput f s a.streams → MelcardSays Kept s (Some (job.Write f)) a
+says_written Kept f s a kept w = says_done Kept (job.Write f) a w.written.result s w.written.status (record { verdict = Whole w.text; due = w.due; done = (w.written, kept) })
 
 -- ---- what was not done
 
 -- what is due is told by the source, whatever is written afterwards
-due_still : (work : Job) (a : Around) (x : Sunk) (v : JobVerdict) → IsDue work (record a { out = x }) v → IsDue work a v
+due_still : (work : Job) (a : Outside) (x : Sunk) (v : JobVerdict) → IsDue work (record a { out = x }) v → IsDue work a v
 due_still (job.Generate n) a x v due = (record { left = (due.0).left; reads = (due.0).reads }, due.1)
-due_still (job.Play t) a x v due = elim due [
-  | inl more ↦ inl (record { over = more.over; no_further = more.no_further; is = more.is })
-  | inr whole ↦ inr (record { input = whole.input; read = whole.read; is = whole.is })
-]
-due_still (job.Write f) a x v due = elim due [
-  | inl more ↦ inl (record { over = more.over; no_further = more.no_further; is = more.is })
-  | inr whole ↦ inr (record { input = whole.input; read = whole.read; is = whole.is })
-]
+due_still (job.Play t) a x v due = due
+due_still (job.Write f) a x v due = due
 
-takes_still : (work : Job) (a : Around) (x : Sunk) → TakesAtMost work (record a { out = x }) → TakesAtMost work a
+takes_still : (work : Job) (a : Outside) (x : Sunk) → TakesAtMost work (record a { out = x }) → TakesAtMost work a
 takes_still (job.Generate n) a x takes = record { left = takes.left; reads = takes.reads }
 takes_still (job.Play t) a x takes = takes
 takes_still (job.Write f) a x takes = takes
 
 -- a job that was rejected ended
-says_rejected : (Kept : Type 0) (work : Job) (a : Around) (x : Sunk) (e : Rejection) (s : Status) → Kept → RejectsJob work (record a { out = x }) e → RejectionEnds e a.out_old s a.out → MelcardSays Kept s (Some work) a
+says_rejected : (Kept : Type 0) (work : Job) (a : CardOutside) (x : Sunk) (e : Rejection) (s : Status) → Kept → RejectsJob work (record (a.streams) { out = x }) e → RejectionEnds e a.streams.out_old s a.streams.out → MelcardSays Kept s (Some work) a
 says_rejected Kept work a x (rejection.Refusal line) s kept why ends =
-    let written : IsWritten Failed line.items s a = record { result = ends.0; status = ends.1; written = ends.2 } in
-    says_refused Kept work a ends.0 s ends.1 (record { verdict = Refusal line.items; due = due_still work a x (Refusal line.items) why; done = written; kept = kept })
-says_rejected Kept work a x rejection.ReadFault s kept why ends = subst (λ s. MelcardSays Kept s (Some work) a) (sym ends.0) (why.0, record { cause = why.1; source = takes_still work a x why.2; written = ends.1; kept = kept })
-says_rejected Kept work a x rejection.NoMemory s kept why ends = subst (λ s. MelcardSays Kept s (Some work) a) (sym ends.0) (record { source = takes_still work a x why; written = ends.1; kept = kept })
+    says_refused Kept work a ends.result s ends.status (record { verdict = Refusal line.items; due = due_still work a.streams x (Refusal line.items) why; done = (ends, kept) })
+says_rejected Kept work a x rejection.ReadFault s kept why ends =
+    subst (λ s. MelcardSays Kept s (Some work) a) (sym ends.0) (why.0, record { cause = why.1; source = takes_still work a.streams x why.2; written = ends.1 }, kept)
+says_rejected Kept work a x rejection.NoMemory s kept why ends =
+    subst (λ s. MelcardSays Kept s (Some work) a) (sym ends.0) (record { source = takes_still work a.streams x why; written = ends.1 }, kept)
 
 -- the words name no job, and the usage line was written
-pub says_no_form : (Kept : Type 0) (form : Option Job) (a : Around) (r : Result (Unit {0}) Fault) (s : Status) → form ≡ None → s ≡ ended NoForm r → Kept → Untouched a → Puts a.out_old usage r a.out → MelcardSays Kept s form a
-says_no_form Kept form a (Ok u) s is e kept still put =
-    subst (λ o. MelcardSays Kept s o a) (sym is) (subst (λ s. MelcardSays Kept s None a) (sym e) (record { source = still; kept = kept; written = record { result = Ok u; status = refl; written = put } }))
-says_no_form Kept form a (Err f) s is e kept still put =
-    subst (λ o. MelcardSays Kept s o a) (sym is) (subst (λ s. MelcardSays Kept s None a) (sym e) (record { source = still; kept = kept; written = record { result = Err f; status = refl; written = put } }))
+pub says_no_form : (Kept : Type 0) (form : Option Job) (a : CardOutside) (r : Result (Unit {0}) Fault) (s : Status) → form ≡ None → s ≡ ended NoForm r → Kept → Untouched a.streams → Puts a.streams.out_old usage r a.streams.out → MelcardSays Kept s form a
+says_no_form Kept form a r s is e kept still put =
+    subst (λ o. MelcardSays Kept s o a) (sym is)
+    (filter.says_no_job (MelcardNoForm Kept a) r s e (record { source = still; written = record { result = r; status = e; written = put } }, kept))
 
 -- ---- the outside of a call
 
-module _ {S T N : Type 0} (left : S → Option (List ℕ)) (reads : S → ℕ) (taken : T → Option (List ℕ)) (writes : T → ℕ) (state : N → DeviceState) (bench : N → BenchState) where
+module _ {S T N : Type 0} (input : source.Ghosts S) (output : sink.Ghosts T) (state : N → DeviceState) (bench : N → BenchState) where
   -- what source, sink and device tell before and after
-  abbrev pub around : S → S → T → T → N → N → Around
-  around s t x y d e = record { left_old = left s; left = left t; reads_old = reads s; reads = reads t; out_old = sunk_in taken writes x; out = sunk_in taken writes y; dev_old = bench_of state bench d; dev = bench_of state bench e }
+  abbrev pub around : S → S → T → T → N → N → CardOutside
+  around s t x y d e = card_outside input output state bench s t x y d e
 
   -- the same of a job, a source, a sink and a device that are named in another way
   pub says_at : (s t u : S) (x y z : T) (d e f : N) (work other : Job) (q : Status) → t ≡ u → y ≡ z → e ≡ f → work ≡ other → MelcardSays (f ≡ d) q (Some other) (around s u x z d f) → MelcardSays (e ≡ d) q (Some work) (around s t x y d e)
-  says_at s t u x y z d e f work other q source sink device is says =
-      subst (λ t. MelcardSays (e ≡ d) q (Some work) (around s t x y d e)) (sym source)
-      (subst (λ y. MelcardSays (e ≡ d) q (Some work) (around s u x y d e)) (sym sink)
+  says_at s t u x y z d e f work other q from to device is says =
+      subst (λ t. MelcardSays (e ≡ d) q (Some work) (around s t x y d e)) (sym from)
+      (subst (λ y. MelcardSays (e ≡ d) q (Some work) (around s u x y d e)) (sym to)
       (subst (λ e. MelcardSays (e ≡ d) q (Some work) (around s u x z d e)) (sym device)
       (subst (λ w. MelcardSays (f ≡ d) q (Some w) (around s u x z d f)) (sym is) says)))
 
   -- a job that was rejected, by the result of the call that did not do it: its sink and device were as before
   pub rejected_at : (s t u : S) (x y z m : T) (d e f : N) (work other : Job) (done result : Result Status Rejection) (why : Rejection) (q : Status) → done ≡ Err why → t ≡ u → y ≡ z → e ≡ f → done ≡ result → work ≡ other
-      → IfErr result (RejectsJob other (around s u x z d f)) → IfErr result (λ _. z ≡ x) → IfErr result (λ _. f ≡ d) → RejectionEnds why (sunk_in taken writes y) q (sunk_in taken writes m) → MelcardSays (e ≡ d) q (Some work) (around s t x m d e)
-  rejected_at s t u x y z m d e f work other done result why q err source sink device came is rejects same kept ends =
+      → IfErr result (RejectsJob other (outside input output s u x z)) → IfErr result (λ _. z ≡ x) → IfErr result (λ _. f ≡ d)
+      → RejectionEnds why (sunk_in output.taken output.faults y) q (sunk_in output.taken output.faults m) → MelcardSays (e ≡ d) q (Some work) (around s t x m d e)
+  rejected_at s t u x y z m d e f work other done result why q err from to device came is rejects same kept ends =
       let after = around s u x m d f in
-      let cause = err_is done result why (RejectsJob other (around s u x z d f)) err came rejects in
-      let before = sink ∙ err_is done result why (λ _. z ≡ x) err came same in
-      let end = subst (λ (y : T). RejectionEnds why (sunk_in taken writes y) q (sunk_in taken writes m)) before ends in
-      says_at s t u x m m d e f work other q source refl device is (says_rejected (f ≡ d) other after (sunk_in taken writes z) why q (err_is done result why (λ _. f ≡ d) err came kept) cause end)
+      let cause = err_is done result why (RejectsJob other (outside input output s u x z)) err came rejects in
+      let before = to ∙ err_is done result why (λ _. z ≡ x) err came same in
+      let end = subst (λ (y : T). RejectionEnds why (sunk_in output.taken output.faults y) q (sunk_in output.taken output.faults m)) before ends in
+      says_at s t u x m m d e f work other q from refl device is (says_rejected (f ≡ d) other after (sunk_in output.taken output.faults z) why q (err_is done result why (λ _. f ≡ d) err came kept) cause end)

@@ -11,22 +11,24 @@ use Rattle.mc_filter.specs.declared.rejection.Rejection.TheVariants as rejection
 use Rattle.mc_filter.specs.declared.status.Status.{Status}
 use Rattle.mc_filter.specs.declared.status.Status.TheVariants.{Done}
 use Rattle.melcard.specs.Verdicts.{Whole, Refusal, Plays}
-use Rattle.melcard.specs.Statuses.{Around, IsDue, IsReading, IsWritten, IsPlayed, TakesAtMost}
+use Rattle.mc_filter.specs.Statuses.{IsWritten}
+use Rattle.mc_filter.specs.Outside.{Outside}
+use Rattle.melcard.specs.Statuses.{CardOutside, IsDue, IsPlayed, IsReading, TakesAtMost}
 
 -- why a job was not done
-abbrev pub RejectsJob : Job → Around → Rejection → Type 0
+abbrev pub RejectsJob : Job → Outside → Rejection → Type 0
 RejectsJob job a (rejection.Refusal line) = IsDue job a (Refusal line.items)
 RejectsJob job a rejection.ReadFault = IsReading job × Rose a.reads_old a.reads × TakesAtMost job a
 RejectsJob job a rejection.NoMemory = TakesAtMost job a
 
 -- the deck that an input spells was played
-pub record PlaysInput (t : Telling) (s : Status) (a : Around) : Type 0 where
+pub record PlaysInput (t : Telling) (s : Status) (a : CardOutside) : Type 0 where
   pub lines : List (ℕ × DeckLine)
-  pub due : IsDue (job.Play t) a (Plays t lines)
-  pub played : IsPlayed t lines s a
+  pub due : IsDue (job.Play t) a.streams (Plays t lines)
+  pub played : IsPlayed t lines s a.dev_old a.streams.out_old a.dev a.streams.out
 
 -- the text of an input was written
-pub record WritesInput (f : Form) (s : Status) (a : Around) : Type 0 where
+pub record WritesInput (f : Form) (s : Status) (a : Outside) : Type 0 where
   pub text : List ℕ
   pub due : IsDue (job.Write f) a (Whole text)
-  pub written : IsWritten Done text s a
+  pub written : IsWritten Done text s a.out_old a.out

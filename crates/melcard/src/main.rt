@@ -22,37 +22,14 @@ mod text;
 #[cfg(test)]
 mod worked_rows;
 
-ghost use Rattle.std.specs.Prelude.{◌≡◌, ◌<◌, IfOk};
-ghost use Rattle.mc_nvm.specs.Sim.{blank_sim};
+ghost use Rattle.std.specs.Prelude.{◌≡◌, ◌<◌};
 
 use crate::running::melcard;
-use mc_base::{NoMemory, StdSink, StdSource, Steps};
-use mc_nvm::SimNvm;
-use std::alloc::Global;
-use std::io::ErrorKind;
+use mc_base::{StdSink, StdSource, Steps};
+use mc_filter::{Status, blank_device, command_words, number};
 use std::marker::Brand;
 use std::process::ExitCode;
 use std::sync::ledger::{Blank, Ledger};
-use std::{env, io};
-
-// How many words the program's device has.
-const DEVICE_WORDS: u32 = 8192;
-
-// The words of the command line without the program's name.
-fn words(rt: &HostRuntime) -> io::Result<Vec<String>> {
-    let mut words = Vec::new(rt.alloc());
-    for word in env::args(rt)?.skip(1) {
-        words.push(word)?;
-    }
-    Ok(words)
-}
-
-// A blank device of 8,192 words.
-fn blank_device(alloc: Global) -> Result<SimNvm, NoMemory>
-    ensures { IfOk result (λ device. device ≡ blank_sim 8192) }
-{
-    SimNvm::new(alloc, DEVICE_WORDS)
-}
 
 // Runs the job over the standard streams and a blank device.
 fn program<L: Ledger>(rt: &HostRuntime, blank: Blank) -> u8
@@ -62,18 +39,13 @@ fn program<L: Ledger>(rt: &HostRuntime, blank: Blank) -> u8
 {
     let alloc = rt.alloc();
     let mut steps = Steps::<L>::new(blank);
-    let words = match words(rt) {
-        Ok(words) => words,
-        Err(error) => {
-            if error.kind() == ErrorKind::OutOfMemory {
-                return 5;
-            }
-            // Words that cannot be had are no form.
-            Vec::new(alloc)
-        }
+    let Ok(words) = command_words(rt) else {
+        return number(Status::NoMemory);
     };
+    // Words that cannot be had are no form.
+    let words = words.unwrap_or_else(|| Vec::new(alloc));
     let Ok(mut device) = blank_device(alloc) else {
-        return 5;
+        return number(Status::NoMemory);
     };
     let mut input = StdSource::new(rt.stdin());
     let mut out = StdSink::new(rt.stdout());

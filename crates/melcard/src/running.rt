@@ -1,16 +1,17 @@
 // The top call: a job over a source, a sink and a device.
-ghost use Rattle.std.specs.Prelude.{◌≡◌, ◌≤◌, ℕ, List, Option, Some, IfErr, IfOk, IfSome};
+ghost use Rattle.std.specs.Prelude.{◌≡◌, ◌≤◌, Some, IfErr, IfOk, IfSome};
 ghost use Rattle.mc_model.specs.Generator.{generated};
 ghost use Rattle.mc_script.specs.Players.{IsUnfused};
 ghost use Rattle.mc_text.specs.Texts.{sunk_in};
 ghost use Rattle.mc_filter.specs.declared.status.Status.{Status};
+ghost use Rattle.mc_filter.specs.Outside.{outside};
 ghost use Rattle.mc_filter.specs.Statuses.{number_of};
 ghost use Rattle.melcard.specs.declared.job.Job.TheVariants as job;
 ghost use Rattle.mc_filter.specs.declared.rejection.Rejection.TheVariants as rejection;
 ghost use Rattle.melcard.specs.Jobs.{greatest_number, job_of, JobFits};
 ghost use Rattle.melcard.specs.Running.{PlaysInput, RejectsJob, WritesInput};
-ghost use Rattle.melcard.specs.Statuses.{bench_of, outside, told, Completes, IsSummed, MelcardSays};
-ghost use Rattle.mc_script.specs.Plays.{Bench as Told, PlaysDeck};
+ghost use Rattle.melcard.specs.Statuses.{bench_of, card_outside, told, IsSummed, MelcardCompletes, MelcardSays};
+ghost use Rattle.mc_script.specs.Plays.{PlaysDeck};
 
 use crate::form::text_of;
 use crate::job::{Form, Job, Telling, job_of};
@@ -52,9 +53,9 @@ fn tell<S: Source, T: Sink, N: Bench, L: Ledger>(
 ) -> Result<Status, Rejection>
     requires { IsUnfused (N.bench dev.old) }
     ensures done { IfOk result (λ s. PlaysInput telling s
-        (outside S.Source T.Sink N.state N.bench input.old input.new out.old out.new dev.old dev.new)) }
-    ensures rejected { IfErr result (RejectsJob (job.Play telling)
-        (outside S.Source T.Sink N.state N.bench input.old input.new out.old out.new dev.old dev.new)) }
+        (card_outside S.Source T.Sink N.state N.bench input.old input.new out.old out.new dev.old dev.new)) }
+    ensures rejected { IfErr result
+        (RejectsJob (job.Play telling) (outside S.Source T.Sink input.old input.new out.old out.new)) }
     ensures out { IfErr result (λ e. out.new ≡ out.old) }
     ensures device { IfErr result (λ e. dev.new ≡ dev.old) }
 {
@@ -73,19 +74,9 @@ fn sum<T: Sink, N: Bench, L: Ledger>(
 ) -> Result<Status, Rejection>
     requires number { number ≤ greatest_number }
     requires fuses { IsUnfused (N.bench dev.old) }
-    ensures done { (old new : Option (List ℕ)) (reads_old reads : ℕ)
-        → IfOk result
-        (λ s. IsSummed (generated number) s
-        (record {
-          left_old = old;
-          left = new;
-          reads_old = reads_old;
-          reads = reads;
-          out_old = sunk_in T.taken T.faults out.old;
-          out = sunk_in T.taken T.faults out.new;
-          dev_old = bench_of N.state N.bench dev.old;
-          dev = bench_of N.state N.bench dev.new;
-        })) }
+    ensures done { IfOk result (λ s. IsSummed (generated number) s
+        (bench_of N.state N.bench dev.old) (sunk_in T.taken T.faults out.old)
+        (bench_of N.state N.bench dev.new) (sunk_in T.taken T.faults out.new)) }
     ensures rejected { IfErr result (λ e. e ≡ rejection.NoMemory) }
     ensures out { IfErr result (λ e. out.new ≡ out.old) }
     ensures device { IfErr result (λ e. dev.new ≡ dev.old) }
@@ -101,31 +92,10 @@ fn write<S: Source, T: Sink>(
     input: &mut S,
     out: &mut T,
 ) -> Result<Status, Rejection>
-    ensures done { (before after : Told) → IfOk result
-        (λ s. WritesInput form s
-        (record {
-          left_old = S.left input.old;
-          left = S.left input.new;
-          reads_old = S.faults input.old;
-          reads = S.faults input.new;
-          out_old = sunk_in T.taken T.faults out.old;
-          out = sunk_in T.taken T.faults out.new;
-          dev_old = before;
-          dev = after;
-        })) }
-    ensures rejected { (before after : Told)
-        → IfErr result
-        (RejectsJob (job.Write form)
-        (record {
-          left_old = S.left input.old;
-          left = S.left input.new;
-          reads_old = S.faults input.old;
-          reads = S.faults input.new;
-          out_old = sunk_in T.taken T.faults out.old;
-          out = sunk_in T.taken T.faults out.new;
-          dev_old = before;
-          dev = after;
-        })) }
+    ensures done { IfOk result
+        (λ s. WritesInput form s (outside S.Source T.Sink input.old input.new out.old out.new)) }
+    ensures rejected { IfErr result
+        (RejectsJob (job.Write form) (outside S.Source T.Sink input.old input.new out.old out.new)) }
     ensures out { IfErr result (λ e. out.new ≡ out.old) }
 {
     let bytes = read_input(alloc, input)?;
@@ -145,7 +115,7 @@ fn run<S: Source, T: Sink, N: Bench, L: Ledger>(
     requires fits { JobFits job }
     requires fuses { IsUnfused (N.bench dev.old) }
     ensures { MelcardSays (dev.new ≡ dev.old) result (Some job)
-        (outside S.Source T.Sink N.state N.bench input.old input.new out.old out.new dev.old dev.new) }
+        (card_outside S.Source T.Sink N.state N.bench input.old input.new out.old out.new dev.old dev.new) }
 {
     let done = match job {
         Job::Play(telling) => tell(alloc, telling, input, out, dev, steps),
@@ -173,11 +143,11 @@ pub fn melcard<S: Source, T: Sink, N: Bench, L: Ledger>(
     ensures says { (s : Status) × (result ≡ number_of s)
         × MelcardSays (dev.new
         ≡ dev.old) s (job_of words.now)
-        (outside S.Source T.Sink N.state N.bench input.old input.new out.old out.new dev.old dev.new) }
+        (card_outside S.Source T.Sink N.state N.bench input.old input.new out.old out.new dev.old dev.new) }
     ensures complete { (s : Status) → result ≡ number_of s
         → IfSome (job_of words.now)
-        (λ job. Completes s job
-        (outside S.Source T.Sink N.state N.bench input.old input.new out.old out.new dev.old dev.new)) }
+        (λ job. MelcardCompletes s job
+        (card_outside S.Source T.Sink N.state N.bench input.old input.new out.old out.new dev.old dev.new)) }
 {
     let Some(job) = job_of(words) else {
         let usage = b"usage: melcard play | asm | list | gen N | check | trace\n";

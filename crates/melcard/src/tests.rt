@@ -1,9 +1,9 @@
-ghost use Rattle.std.specs.Prelude.{◌≡◌, ◌<◌};
+ghost use Rattle.std.specs.Prelude.{◌≡◌, ◌<◌, ◌≤◌};
 
 use crate::decks::DECKS;
 use crate::running::melcard;
 use crate::samples::{SAMPLES, Sample};
-use crate::worked_rows::{CUTS, DELEGATIONS, IMAGES, PLAYS, TRACES};
+use crate::worked_rows::{CUTS, DELEGATIONS, IMAGES, PLAYS, SMALL_DEVICE, TRACES};
 use mc_base::{
     MemSink, MemSource, NoMemory, ReadAll, StdSink, StdSource, Steps, put_all, read_all,
 };
@@ -15,6 +15,9 @@ use std::test::Fail;
 
 const COUNTER: &[u8] =
     b"format\npower\nunit counter 0000000000000000000FB902000039020000460200000600020000000961074F05A00000000100096F078405A00000000100000000\nload counter 2 0\nselect A000000001\napdu 8001000002\napdu 8001000002\n";
+
+// How many words the program's device has.
+const DEVICE_WORDS: u32 = 8192;
 
 const TEXT: &[u8] = b"1 formatted\n2 ready 0\n4 9000\n5 9000\n6 00019000\n7 00029000\n";
 
@@ -33,10 +36,11 @@ impl End {
     }
 }
 
-// The end of a job over memory, with a count of steps.
+// The end of a job over memory and a blank device of so many words, with a count of steps.
 fn counted<L: Ledger>(
     alloc: Global,
     blank: Blank,
+    device_words: u32,
     words: &[String],
     input: &[u8],
     room: usize,
@@ -45,11 +49,13 @@ fn counted<L: Ledger>(
     requires name { blank.name ≡ L.name }
     requires parts { blank.parts ≡ L.parts }
     requires some { 0 < blank.parts }
+    requires low { 256 ≤ device_words }
+    requires high { device_words ≤ 16384 }
 {
     let mut steps = Steps::<L>::new(blank);
     let mut source = MemSource::new(alloc, input, fail_at)?;
     let mut sink = MemSink::new(alloc, room, &[])?;
-    let mut device = SimNvm::new(alloc, 8192)?;
+    let mut device = SimNvm::new(alloc, device_words)?;
     let status = melcard(
         alloc,
         words,
@@ -77,7 +83,30 @@ pub fn ended(
     room: usize,
     fail_at: &[u32],
 ) -> Result<End, NoMemory> {
-    counted::<Brand>(alloc, Blank::new(1), words, input, room, fail_at)
+    ended_on(alloc, DEVICE_WORDS, words, input, room, fail_at)
+}
+
+// The same over a device of so many words.
+fn ended_on(
+    alloc: Global,
+    device_words: u32,
+    words: &[String],
+    input: &[u8],
+    room: usize,
+    fail_at: &[u32],
+) -> Result<End, NoMemory>
+    requires low { 256 ≤ device_words }
+    requires high { device_words ≤ 16384 }
+{
+    counted::<Brand>(
+        alloc,
+        Blank::new(1),
+        device_words,
+        words,
+        input,
+        room,
+        fail_at,
+    )
 }
 
 /// The words of a command line.
@@ -122,18 +151,26 @@ fn statuses(rt: HostRuntime) -> Result<(), Fail> {
 // Whether a sample gives what is due over a sink with room, a front of it over one with a byte too little, and nothing over
 // a source that fails.
 fn is_due(alloc: Global, sample: &Sample) -> Result<bool, NoMemory> {
+    is_due_on(alloc, DEVICE_WORDS, sample)
+}
+
+// The same over a device of so many words.
+fn is_due_on(alloc: Global, device_words: u32, sample: &Sample) -> Result<bool, NoMemory>
+    requires low { 256 ≤ device_words }
+    requires high { device_words ≤ 16384 }
+{
     let words = words(alloc, &[sample.word])?;
     let words = words.as_slice();
     let room = sample.text.len();
-    let whole = ended(alloc, words, sample.input, room, &[])?;
-    let failed = ended(alloc, words, sample.input, room, &[1])?;
+    let whole = ended_on(alloc, device_words, words, sample.input, room, &[])?;
+    let failed = ended_on(alloc, device_words, words, sample.input, room, &[1])?;
     if !whole.is(sample.status, sample.text) || !failed.is(3, b"") {
         return Ok(false);
     }
     if room == 0 {
         return Ok(true);
     }
-    let cut = ended(alloc, words, sample.input, room - 1, &[])?;
+    let cut = ended_on(alloc, device_words, words, sample.input, room - 1, &[])?;
     Ok(cut.is(4, &sample.text[..room - 1]))
 }
 
@@ -170,6 +207,15 @@ fn wrong_at(alloc: Global, samples: &[Sample]) -> Result<Option<usize>, NoMemory
 fn worked_plays(rt: HostRuntime) -> Result<(), Fail> {
     let wrong = wrong_at(rt.alloc(), &PLAYS)?;
     assert_eq!(rt; wrong, None);
+    Ok(())
+}
+
+// The row of a card that has no more room until an application is deleted, on a device of 256 words.
+#[test]
+fn worked_room(rt: HostRuntime) -> Result<(), Fail> {
+    for (i, sample) in SMALL_DEVICE.iter().enumerate() {
+        assert!(rt; is_due_on(rt.alloc(), 256, sample)?, "at {i}");
+    }
     Ok(())
 }
 

@@ -4,7 +4,8 @@ use Rattle.std.specs.Prelude.{◌==◌}
 use Rattle.mc_base.specs.declared.refusals.WriteFault.{WriteFault as Fault}
 use Rattle.mc_text.specs.Texts.{Puts}
 use Rattle.mc_model.specs.DeckGrammar.{DeckLine, deck_read}
-use Rattle.mc_lab.specs.Expectations.{Trial, blank_words, count_failed, expect_text, steady_steps, trial_read}
+use Rattle.mc_model.specs.Device.{blank_words, device_words}
+use Rattle.mc_lab.specs.Expectations.{Trial, count_failed, expect_text, steady_steps, trial_read}
 use Rattle.mc_lab.specs.Judged.{done_of}
 use Rattle.mc_lab.specs.Sweeps.{sweep_text}
 use Rattle.mc_filter.specs.Statuses.{ended}
@@ -13,15 +14,16 @@ use Rattle.mellab.specs.declared.job.Job.TheVariants as job
 use Rattle.mc_filter.specs.declared.status.Status.{Status}
 use Rattle.mc_filter.specs.declared.status.Status.TheVariants.{Done}
 use Rattle.mellab.specs.Verdicts.{Tells, expected, swept}
-use Rattle.mellab.specs.Statuses.{status_after, status_by, Around, SaysDone}
+use Rattle.mc_filter.specs.Outside.{Outside}
+use Rattle.mellab.specs.Statuses.{status_after, status_by, MellabDone}
 
 told-status : (r : Result ℕ Fault) (n : ℕ) → ((k : ℕ) → r ≡ Ok k → k ≡ n) → status_after r ≡ ended (status_by (n == 0)) (done_of r)
 told-status (Ok k) n h = ap (λ m. status_by (m == 0)) (h k refl)
 told-status (Err f) n h = refl
 
 -- a deck's expectations were told
-pub says_expected : (a : Around) (input : List ℕ) (t : Trial) (words : List (List ℕ)) (r : Result ℕ Fault) (s : Status) → ReadWhole a.left_old a.left input → trial_read input ≡ Ok t → words ≡ blank_words → s ≡ status_after r
-    → ((k : ℕ) → r ≡ Ok k → k ≡ count_failed (steady_steps words t.lines) t.expected) → Puts a.out_old (expect_text (steady_steps words t.lines) t.expected) (done_of r) a.out → SaysDone job.Expect s a
+pub says_expected : (a : Outside) (input : List ℕ) (t : Trial) (words : List (List ℕ)) (r : Result ℕ Fault) (s : Status) → ReadWhole a.left_old a.left input → trial_read input ≡ Ok t → words ≡ blank_words device_words → s ≡ status_after r
+    → ((k : ℕ) → r ≡ Ok k → k ≡ count_failed (steady_steps words t.lines) t.expected) → Puts a.out_old (expect_text (steady_steps words t.lines) t.expected) (done_of r) a.out → MellabDone job.Expect a s
 says_expected a input t words r s read is blank status count put =
     let n = count_failed (steady_steps words t.lines) t.expected in
     let text = expect_text (steady_steps words t.lines) t.expected in
@@ -36,7 +38,7 @@ pub if-ok : {X E : Type 0} (r : Result X E) (P : X → Type 0) → IfOk r P → 
 if-ok r P h k e = subst (λ r. IfOk r P) e h
 
 -- a deck's sweep was told, or the sink failed
-pub says_swept : (a : Around) (input : List ℕ) (ls : List (ℕ × DeckLine)) (r : Result (Unit {0}) Fault) (s : Status) → ReadWhole a.left_old a.left input → deck_read input ≡ Ok ls → s ≡ ended Done r → Puts a.out_old (sweep_text ls) r a.out → SaysDone job.Sweep s a
+pub says_swept : (a : Outside) (input : List ℕ) (ls : List (ℕ × DeckLine)) (r : Result (Unit {0}) Fault) (s : Status) → ReadWhole a.left_old a.left input → deck_read input ≡ Ok ls → s ≡ ended Done r → Puts a.out_old (sweep_text ls) r a.out → MellabDone job.Sweep a s
 says_swept a input ls r s read is status put =
     record {
       verdict = Tells (sweep_text ls) true;

@@ -1,8 +1,9 @@
 -- What the input of a job stands for: the text that is due, and whether all is well, or the one line that refuses it.
 use Rattle.std.specs.Prelude.{ℕ, Bool, true, ◌==◌, List, codes, Result, Ok, Err}
+use Rattle.mc_model.specs.Device.{blank_words, device_words}
 use Rattle.mc_model.specs.DeckGrammar.{DeckLine, deck_read}
 use Rattle.mc_model.specs.declared.deck.DeckCause.{DeckCause}
-use Rattle.mc_lab.specs.Expectations.{Trial, TrialFault, DeckFault, NoAnswer, trial_read, blank_words, steady_steps, expect_text, count_failed}
+use Rattle.mc_lab.specs.Expectations.{Trial, TrialFault, DeckFault, NoAnswer, trial_read, steady_steps, expect_text, count_failed}
 use Rattle.mc_lab.specs.Sweeps.{sweep_text}
 use Rattle.mc_filter.specs.Lines.{at_line, deck_line}
 use Rattle.mellab.specs.declared.job.Job.{Job}
@@ -23,7 +24,7 @@ fault_line (NoAnswer n) = at_line n (codes "NoAnswer")
 -- a deck's expectations on a blank device: all is well where none failed
 abbrev pub expected : Result Trial TrialFault → LabVerdict
 expected (Ok t) =
-    let ts = steady_steps blank_words t.lines in
+    let ts = steady_steps (blank_words device_words) t.lines in
     Tells (expect_text ts t.expected) (count_failed ts t.expected == 0)
 expected (Err e) = Refusal (fault_line e)
 

@@ -13,23 +13,10 @@ ghost use Rattle.std.specs.Prelude.{◌≡◌, ◌<◌};
 
 use crate::running::mellab;
 use mc_base::{StdSink, StdSource, Steps};
-use std::io::ErrorKind;
+use mc_filter::{Status, command_words, number};
 use std::marker::Brand;
 use std::process::ExitCode;
 use std::sync::ledger::{Blank, Ledger};
-use std::{env, io};
-
-// The status of want of memory.
-const NO_MEMORY: u8 = 5;
-
-// The words of the command line without the program's name.
-fn words(rt: &HostRuntime) -> io::Result<Vec<String>> {
-    let mut words = Vec::new(rt.alloc());
-    for word in env::args(rt)?.skip(1) {
-        words.push(word)?;
-    }
-    Ok(words)
-}
 
 // Runs the job over the standard streams.
 fn program<L: Ledger>(rt: &HostRuntime, blank: Blank) -> u8
@@ -39,16 +26,11 @@ fn program<L: Ledger>(rt: &HostRuntime, blank: Blank) -> u8
 {
     let alloc = rt.alloc();
     let mut steps = Steps::<L>::new(blank);
-    let words = match words(rt) {
-        Ok(words) => words,
-        Err(error) => {
-            if error.kind() == ErrorKind::OutOfMemory {
-                return NO_MEMORY;
-            }
-            // Words that cannot be had are no form.
-            Vec::new(alloc)
-        }
+    let Ok(words) = command_words(rt) else {
+        return number(Status::NoMemory);
     };
+    // Words that cannot be had are no form.
+    let words = words.unwrap_or_else(|| Vec::new(alloc));
     let mut input = StdSource::new(rt.stdin());
     let mut out = StdSink::new(rt.stdout());
     mellab(alloc, words.as_slice(), &mut input, &mut out, &mut steps)

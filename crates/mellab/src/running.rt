@@ -6,22 +6,21 @@ ghost use Rattle.mc_lab.specs.Expectations.{trial_read};
 ghost use Rattle.mc_lab.specs.Trials.{trial_value, IsRising};
 ghost use Rattle.mc_filter.specs.declared.status.Status.{Status};
 ghost use Rattle.mc_filter.specs.Inputs.{input_limit, Rejects};
+ghost use Rattle.mc_filter.specs.Outside.{outside};
 ghost use Rattle.mc_filter.specs.Statuses.{number_of};
 ghost use Rattle.mellab.specs.declared.job.Job.TheVariants as job;
 ghost use Rattle.mellab.specs.Jobs.{job_of};
-ghost use Rattle.mellab.specs.Running.{refused_trial, RejectsJob};
-ghost use Rattle.mellab.specs.Statuses.{outside, status_after, Completes, MellabSays, SaysDone};
+ghost use Rattle.mellab.specs.Running.{refused_trial, RejectsLabJob};
+ghost use Rattle.mellab.specs.Statuses.{status_after, MellabCompletes, MellabDone, MellabSays};
 
 use crate::job::{Job, job_of};
 use mc_base::{Sink, Source, Steps, WriteFault, put_all};
-use mc_filter::{Rejection, Status, deck_of, ended, number, read_input, refused, reject};
+use mc_filter::{
+    Rejection, Status, blank_device, deck_of, ended, number, read_input, refused, reject,
+};
 use mc_lab::{SweepFault, Trial, TrialRefusal, expect, read_trial, sweep};
-use mc_nvm::SimNvm;
 use std::alloc::Global;
 use std::sync::ledger::Ledger;
-
-// How many words a device of the laboratory has.
-const DEVICE_WORDS: u32 = 8192;
 
 // What is written where the words name no job.
 const USAGE: &[u8] = b"usage: mellab expect | sweep\n";
@@ -60,14 +59,14 @@ fn expect_input<S: Source, T: Sink, L: Ledger>(
     steps: &mut Steps<L>,
 ) -> Result<Status, Rejection>
     ensures done { IfOk result
-        (λ s. SaysDone job.Expect s (outside S.Source T.Sink input.old input.new out.old out.new)) }
+        (MellabDone job.Expect (outside S.Source T.Sink input.old input.new out.old out.new)) }
     ensures rejected { IfErr result
-        (RejectsJob job.Expect (outside S.Source T.Sink input.old input.new out.old out.new)) }
+        (RejectsLabJob job.Expect (outside S.Source T.Sink input.old input.new out.old out.new)) }
     ensures out { IfErr result (λ e. sunk_in T.taken T.faults out.new ≡ sunk_in T.taken T.faults out.old) }
 {
     let text = read_input(alloc, input)?;
     let trial = trial_of(alloc, text.as_slice())?;
-    let device = SimNvm::new(alloc, DEVICE_WORDS)?;
+    let device = blank_device(alloc)?;
     Ok(status_after(expect(&trial, device, out, steps)))
 }
 
@@ -79,9 +78,9 @@ fn sweep_input<S: Source, T: Sink, L: Ledger>(
     steps: &mut Steps<L>,
 ) -> Result<Status, Rejection>
     ensures done { IfOk result
-        (λ s. SaysDone job.Sweep s (outside S.Source T.Sink input.old input.new out.old out.new)) }
+        (MellabDone job.Sweep (outside S.Source T.Sink input.old input.new out.old out.new)) }
     ensures rejected { IfErr result
-        (RejectsJob job.Sweep (outside S.Source T.Sink input.old input.new out.old out.new)) }
+        (RejectsLabJob job.Sweep (outside S.Source T.Sink input.old input.new out.old out.new)) }
     ensures out { IfErr result (λ e. sunk_in T.taken T.faults out.new ≡ sunk_in T.taken T.faults out.old) }
 {
     let text = read_input(alloc, input)?;
@@ -101,8 +100,8 @@ fn attempt<S: Source, T: Sink, L: Ledger>(
     out: &mut T,
     steps: &mut Steps<L>,
 ) -> Result<Status, Rejection>
-    ensures done { IfOk result (λ s. SaysDone job s (outside S.Source T.Sink input.old input.new out.old out.new)) }
-    ensures rejected { IfErr result (RejectsJob job (outside S.Source T.Sink input.old input.new out.old out.new)) }
+    ensures done { IfOk result (MellabDone job (outside S.Source T.Sink input.old input.new out.old out.new)) }
+    ensures rejected { IfErr result (RejectsLabJob job (outside S.Source T.Sink input.old input.new out.old out.new)) }
     ensures out { IfErr result (λ e. sunk_in T.taken T.faults out.new ≡ sunk_in T.taken T.faults out.old) }
 {
     match job {
@@ -142,7 +141,7 @@ pub fn mellab<S: Source, T: Sink, L: Ledger>(
     ensures says { (s : Status) × (result ≡ number_of s)
         × MellabSays s (job_of words.now) (outside S.Source T.Sink input.old input.new out.old out.new) }
     ensures complete { (s : Status) → result ≡ number_of s → IfSome (job_of words.now)
-        (λ job. Completes s job (outside S.Source T.Sink input.old input.new out.old out.new)) }
+        (λ job. MellabCompletes s job (outside S.Source T.Sink input.old input.new out.old out.new)) }
 {
     let Some(job) = job_of(words) else {
         return number(ended(Status::NoForm, put_all(out, USAGE)));

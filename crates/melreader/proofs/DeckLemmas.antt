@@ -27,8 +27,8 @@ took_limited old new text read =
 -- a text that was read is the deck that it spells, or the line that refuses it
 pub was_read : (a b : Stream) (text : List ℕ) (r : Result (List (ℕ × DeckLine)) Rejection) → ReadWhole a.left b.left text
     → IfOk r (λ d. deck_read text ≡ Ok d) → IfErr r (Rejects (refused_deck (deck_read text))) → HasDeck (Some a) (Some b) r
-was_read a b text (Ok lines) read is why = inr (record { text = text; read = read; is = sym (ap judged is) })
-was_read a b text (Err (rejection.Refusal line)) read is why = inr (record { text = text; read = read; is = refused_is (deck_read text) line.items why })
+was_read a b text (Ok lines) read is why = inr (record { input = text; read = read; is = sym (ap judged is) })
+was_read a b text (Err (rejection.Refusal line)) read is why = inr (record { input = text; read = read; is = refused_is (deck_read text) line.items why })
 was_read a b text (Err rejection.ReadFault) read is why = absurd why
 was_read a b text (Err rejection.NoMemory) read is why = took_limited a.left b.left text read
 

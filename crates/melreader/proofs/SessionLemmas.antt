@@ -11,7 +11,7 @@ use Rattle.mc_filter.specs.declared.rejection.Rejection.TheVariants as rejection
 use Rattle.mc_filter.specs.declared.status.Status.{Status}
 use Rattle.mc_filter.specs.declared.status.Status.TheVariants.{Failed}
 use Rattle.melreader.specs.Decks.{HasDeck}
-use Rattle.melreader.specs.Sessions.{short_frame, ReaderEnds, Outside, MelreaderSays, SaysRefused}
+use Rattle.melreader.specs.Sessions.{short_frame, ReaderEnds, ReaderOutside, MelreaderSays, SaysRefused}
 
 -- the input ended inside a frame
 pub ends_short : (a b : Sunk) (r : Result (Unit {0}) Fault) (s : Status) (e : ServeError) (n : ℕ) → s ≡ ended Failed r → e ≡ serve.Short n
@@ -19,15 +19,14 @@ pub ends_short : (a b : Sunk) (r : Result (Unit {0}) Fault) (s : Status) (e : Se
 ends_short a b r s e n by is put = subst (λ (e : ServeError). ReaderEnds (Err e) s a b) (sym is) (record { result = r; status = by; written = put })
 
 -- a deck that is refused says so, at the status that its line ended with
-says_refused : (Kept : Type 0) (o : Outside) (r : Result (Unit {0}) Fault) (s : Status) → s ≡ ended Failed r → SaysRefused Kept s o → MelreaderSays Kept s o
+says_refused : (Kept : Type 0) (o : ReaderOutside) (r : Result (Unit {0}) Fault) (s : Status) → s ≡ ended Failed r → SaysRefused Kept s o → MelreaderSays Kept s o
 says_refused Kept o (Ok u) s e d = subst (λ s. MelreaderSays Kept s o) (sym e) (inl (subst (λ s. SaysRefused Kept s o) e d))
 says_refused Kept o (Err f) s e d = subst (λ s. MelreaderSays Kept s o) (sym e) (inl (subst (λ s. SaysRefused Kept s o) e d))
 
 -- a session without a deck
-pub says_rejected : (Kept : Type 0) (o : Outside) (e : Rejection) (s : Status) → Kept → HasDeck o.deck_old o.deck (Err e)
+pub says_rejected : (Kept : Type 0) (o : ReaderOutside) (e : Rejection) (s : Status) → Kept → HasDeck o.deck_old o.deck (Err e)
     → filter.RejectionEnds e o.err_old s o.err → MelreaderSays Kept s o
 says_rejected Kept o (rejection.Refusal line) s kept has ends =
-    says_refused Kept o ends.0 s ends.1
-    (record { line = line.items; deck = has; refused = record { result = ends.0; status = ends.1; written = ends.2 }; kept = kept })
+    says_refused Kept o ends.result s ends.status (record { line = line.items; deck = has; refused = ends; kept = kept })
 says_rejected Kept o rejection.ReadFault s kept has ends = subst (λ s. MelreaderSays Kept s o) (sym ends.0) (inl (record { cause = has; err = ends.1; kept = kept }))
 says_rejected Kept o rejection.NoMemory s kept has ends = subst (λ s. MelreaderSays Kept s o) (sym ends.0) (inl (record { cause = has; err = ends.1; kept = kept }))

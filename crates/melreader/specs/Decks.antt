@@ -5,10 +5,10 @@ use Rattle.std.specs.Borrow.{MutBor}
 use Rattle.mc_model.specs.Counts.{Rose}
 use Rattle.mc_model.specs.DeckGrammar.{DeckLine, Format, deck_read}
 use Rattle.mc_model.specs.declared.deck.DeckCause.{DeckCause}
-use Rattle.mc_base.specs.Streams.{TookMore}
 use Rattle.mc_base.specs.declared.source.Source as source
-use Rattle.mc_filter.specs.Inputs.{input_limit, ReadWhole, TookLimited}
-use Rattle.mc_filter.specs.Lines.{deck_line, too_long}
+use Rattle.mc_filter.specs.Inputs.{TookLimited}
+use Rattle.mc_filter.specs.Lines.{deck_line}
+use Rattle.mc_filter.specs.Outside.{IsRead}
 use Rattle.mc_filter.specs.declared.rejection.Rejection.{Rejection}
 use Rattle.mc_filter.specs.declared.rejection.Rejection.TheVariants as rejection
 
@@ -45,17 +45,9 @@ abbrev pub judged : Result (List (ℕ × DeckLine)) (ℕ × DeckCause) → Resul
 judged (Ok lines) = Ok lines
 judged (Err e) = Err (deck_line e)
 
--- what was read to its end stands for this
-pub record Stands (a b : Stream) (v : Result (List (ℕ × DeckLine)) (List ℕ)) : Type 0 where
-  pub text : List ℕ
-  pub read : ReadWhole a.left b.left text
-  pub is : v ≡ judged (deck_read text)
-
--- more was read than the limit allows, and no more than the byte that shows it
-pub record IsTooLong (a b : Stream) (v : Result (List (ℕ × DeckLine)) (List ℕ)) : Type 0 where
-  pub over : TookMore a.left b.left input_limit
-  pub no_further : TookLimited a.left b.left
-  pub is : v ≡ Err too_long
+-- what a text within the limit stands for
+abbrev pub SpellsDeck : List ℕ → Result (List (ℕ × DeckLine)) (List ℕ) → Type 0
+SpellsDeck text v = v ≡ judged (deck_read text)
 
 -- the lines of a blank card: the one line `format`
 abbrev pub blank_deck : List (ℕ × DeckLine)
@@ -65,7 +57,7 @@ blank_deck = (1, Format) ∷ []
 abbrev pub IsDeck : Option Stream → Option Stream → Result (List (ℕ × DeckLine)) (List ℕ) → Type 0
 IsDeck None b v = v ≡ Ok blank_deck
 IsDeck (Some a) None v = ⊥
-IsDeck (Some a) (Some b) v = IsTooLong a b v ⊎ Stands a b v
+IsDeck (Some a) (Some b) v = IsRead Err SpellsDeck a.left b.left v
 
 -- no more was read of the deck's source, if there is one, than the limit and one byte behind it
 abbrev pub DeckLimited : Option Stream → Option Stream → Type 0

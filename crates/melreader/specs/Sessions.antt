@@ -1,21 +1,20 @@
 -- What the top call says of the outside at each of its statuses.
 use Rattle.std.specs.Prelude.{◌≡◌, ◌⊎◌, ℕ, ◌++◌, List, codes, decimal, Option, Result, Ok, Err}
 use Rattle.mc_model.specs.DeckGrammar.{DeckLine}
-use Rattle.mc_base.specs.declared.refusals.WriteFault.{WriteFault as Fault}
 use Rattle.mc_base.specs.declared.sink.Sink as sink
 use Rattle.mc_base.specs.declared.source.Source as source
 use Rattle.mc_model.specs.Device.{DeviceState, BenchState}
-use Rattle.mc_text.specs.Texts.{Sunk, Puts, sunk_in}
+use Rattle.mc_text.specs.Texts.{Sunk, sunk_in}
 use Rattle.mc_reader.specs.Sessions.{AroundSession, Serves}
 use Rattle.mc_reader.specs.declared.serve_error.ServeError.{ServeError}
 use Rattle.mc_reader.specs.declared.serve_error.ServeError.TheVariants as serve
-use Rattle.mc_filter.specs.Statuses.{ended}
+use Rattle.mc_filter.specs.Statuses.{IsWritten}
 use Rattle.mc_filter.specs.declared.status.Status.{Status}
 use Rattle.mc_filter.specs.declared.status.Status.TheVariants.{Done, Failed, NoForm, ReadFault, WriteFault, NoMemory}
 use Rattle.melreader.specs.Decks.{Stream, IsDeck, DeckFails, DeckLimited}
 
 -- what is told before and after the call: the deck's source, if there is one, the sink of refusals, and what a session has to do with
-pub record Outside : Type 0 where
+pub record ReaderOutside : Type 0 where
   pub deck_old : Option Stream
   pub deck : Option Stream
   pub err_old : Sunk
@@ -24,7 +23,7 @@ pub record Outside : Type 0 where
 
 -- the same of the values of a call
 abbrev pub outside : {S T E N : Type 0} → source.Ghosts S → sink.Ghosts T → sink.Ghosts E → (N → DeviceState) → (N → BenchState)
-    → Option Stream → Option Stream → S → S → T → T → E → E → N → N → Outside
+    → Option Stream → Option Stream → S → S → T → T → E → E → N → N → ReaderOutside
 outside s t e state bench deck_old deck in_old in_new out_old out_new err_old err_new dev_old dev_new =
     record {
       deck_old = deck_old;
@@ -54,23 +53,17 @@ AreKept in_old in_new out_old out_new dev_old dev_new = (in_new ≡ in_old) × (
 abbrev pub short_frame : ℕ → List ℕ
 short_frame n = codes "frame " ++ decimal n ++ codes " Short\n"
 
--- the line of a refusal was written, whole or up to a fault
-pub record IsRefused (line : List ℕ) (s : Status) (a b : Sunk) : Type 0 where
-  pub result : Result (Unit {0}) Fault
-  pub status : s ≡ ended Failed result
-  pub written : Puts a line result b
-
 -- ---- statuses: `Kept` says that input, answers and device are as they were handed in
 
 -- the deck is refused
-pub record SaysRefused (Kept : Type 0) (s : Status) (o : Outside) : Type 0 where
+pub record SaysRefused (Kept : Type 0) (s : Status) (o : ReaderOutside) : Type 0 where
   pub line : List ℕ
   pub deck : IsDeck o.deck_old o.deck (Err line)
-  pub refused : IsRefused line s o.err_old o.err
+  pub refused : IsWritten Failed line s o.err_old o.err
   pub kept : Kept
 
 -- the deck was not read: its source failed, or memory was short
-pub record SaysNoDeck (Kept Cause : Type 0) (o : Outside) : Type 0 where
+pub record SaysNoDeck (Kept Cause : Type 0) (o : ReaderOutside) : Type 0 where
   pub cause : Cause
   pub err : o.err ≡ o.err_old
   pub kept : Kept
@@ -78,13 +71,13 @@ pub record SaysNoDeck (Kept Cause : Type 0) (o : Outside) : Type 0 where
 -- the status of a session by how it ended, and what is written of it
 abbrev pub ReaderEnds : Result (Unit {0}) ServeError → Status → Sunk → Sunk → Type 0
 ReaderEnds (Ok u) s a b = (s ≡ Done) × (b ≡ a)
-ReaderEnds (Err (serve.Short n)) s a b = IsRefused (short_frame n) s a b
+ReaderEnds (Err (serve.Short n)) s a b = IsWritten Failed (short_frame n) s a b
 ReaderEnds (Err serve.ReadFault) s a b = (s ≡ ReadFault) × (b ≡ a)
 ReaderEnds (Err serve.WriteFault) s a b = (s ≡ WriteFault) × (b ≡ a)
 ReaderEnds (Err serve.NoMemory) s a b = (s ≡ NoMemory) × (b ≡ a)
 
 -- the deck was played, and the frames of the input were served
-pub record SaysServed (s : Status) (o : Outside) : Type 0 where
+pub record SaysServed (s : Status) (o : ReaderOutside) : Type 0 where
   pub lines : List (ℕ × DeckLine)
   pub deck : IsDeck o.deck_old o.deck (Ok lines)
   pub result : Result (Unit {0}) ServeError
@@ -92,7 +85,7 @@ pub record SaysServed (s : Status) (o : Outside) : Type 0 where
   pub ends : ReaderEnds result s o.err_old o.err
 
 -- what each status says
-abbrev pub MelreaderSays : Type 0 → Status → Outside → Type 0
+abbrev pub MelreaderSays : Type 0 → Status → ReaderOutside → Type 0
 MelreaderSays Kept Done o = SaysServed Done o
 MelreaderSays Kept Failed o = SaysRefused Kept Failed o ⊎ SaysServed Failed o
 MelreaderSays Kept NoForm o = ⊥

@@ -8,39 +8,15 @@ mod running;
 #[cfg(test)]
 mod tests;
 
-ghost use Rattle.std.specs.Prelude.{◌≡◌, ◌<◌, IfOk};
-ghost use Rattle.mc_nvm.specs.Sim.{blank_sim};
+ghost use Rattle.std.specs.Prelude.{◌≡◌, ◌<◌};
 
 use crate::running::melreader;
 use mc_base::{NoMemory, Source, StdSink, StdSource, Steps, put_all};
-use mc_filter::{Status, number};
-use mc_nvm::SimNvm;
-use std::alloc::Global;
+use mc_filter::{Status, blank_device, command_words, number};
 use std::fs::File;
-use std::io::ErrorKind;
 use std::marker::Brand;
 use std::process::ExitCode;
 use std::sync::ledger::{Blank, Ledger};
-use std::{env, io};
-
-// How many words the program's device has.
-const DEVICE_WORDS: u32 = 8192;
-
-// The words of the command line without the program's name.
-fn words(rt: &HostRuntime) -> io::Result<Vec<String>> {
-    let mut words = Vec::new(rt.alloc());
-    for word in env::args(rt)?.skip(1) {
-        words.push(word)?;
-    }
-    Ok(words)
-}
-
-// A blank device of 8,192 words.
-fn blank_device(alloc: Global) -> Result<SimNvm, NoMemory>
-    ensures { IfOk result (λ device. device ≡ blank_sim 8192) }
-{
-    SimNvm::new(alloc, DEVICE_WORDS)
-}
 
 // Says how the program is called.
 fn usage(rt: &HostRuntime) -> u8 {
@@ -89,15 +65,11 @@ fn program<L: Ledger>(rt: &HostRuntime, blank: Blank) -> u8
     requires some { 0 < blank.parts }
 {
     let mut steps = Steps::<L>::new(blank);
-    let words = match words(rt) {
-        Ok(words) => words,
-        Err(error) => {
-            if error.kind() == ErrorKind::OutOfMemory {
-                return number(Status::NoMemory);
-            }
-            // Words that cannot be had, as those that are not UTF-8, name no deck.
-            return usage(rt);
-        }
+    let words = match command_words(rt) {
+        Ok(Some(words)) => words,
+        // Words that cannot be had name no deck.
+        Ok(None) => return usage(rt),
+        Err(NoMemory) => return number(Status::NoMemory),
     };
     match words.as_slice() {
         [] => over_streams::<StdSource<File>, L>(rt, None, &mut steps),

@@ -11,4 +11,4 @@ returns-in-Refusal g c =
     let after = sunk_in g.T.Sink.taken g.T.Sink.faults c.put_all.new.sink in
     let said = c.put_all.ensures in
     let put = puts_by before after c.as_slice.result.now c.in-Refusal.line.items c.put_all.result c.as_slice.ensures.value said.bytes said.fault said.part said.counted in
-    subst (λ (e : Rejection). RejectionEnds e before c.ended.result after) (sym c.in-Refusal.is) (c.put_all.result, c.ended.ensures, put)
+    subst (λ (e : Rejection). RejectionEnds e before c.ended.result after) (sym c.in-Refusal.is) (record { result = c.put_all.result; status = c.ended.ensures; written = put })

@@ -3,17 +3,15 @@ use Rattle.mc_model.specs.Generator.{generated}
 use Rattle.melcard.specs.declared.job.Job.TheVariants as job
 use Rattle.mc_filter.specs.declared.status.Status.{Status}
 use Rattle.melcard.specs.Running.{PlaysInput, WritesInput}
-use Rattle.melcard.specs.Statuses.{bench_of, Around, IsSummed}
+use Rattle.melcard.specs.Statuses.{CardOutside, IsSummed}
 use Rattle.melcard.proofs.StatusLemmas.{around, err_always, memory_only, ok_is, rejected_at, says_at, says_played, says_summed, says_written}
 use Rattle.melcard.proofs.running.run.Goals as goal
 use Rattle.melcard.proofs.running.run.Goals.{in-Play, in-Generate, in-Write}
 
 pub returns-in-Ok : goal.returns-in-Ok
 returns-in-Ok g c =
-    let left = g.S.Source.left in
-    let reads = g.S.Source.faults in
-    let taken = g.T.Sink.taken in
-    let writes = g.T.Sink.faults in
+    let source = g.S.Source in
+    let sink = g.T.Sink in
     let state = g.N.Nvm.state in
     let bench = g.N.Bench.bench in
     let input = c.args.input.now in
@@ -25,32 +23,30 @@ returns-in-Ok g c =
       | in-Play w ↦
           let t = w.in-Play.telling in
           let did = w.tell-done in
-          let a : Around = around left reads taken writes state bench input did.new.input out did.new.out dev did.new.dev in
+          let a : CardOutside = around source sink state bench input did.new.input out did.new.out dev did.new.dev in
           let played = ok_is all.done did.result s (λ (s : Status). PlaysInput t s a) c.in-Ok.is w.done-is did.ensures.done in
-          says_at left reads taken writes state bench input all.input did.new.input out all.out did.new.out dev all.dev did.new.dev c.args.job (job.Play t) s w.input-is w.out-is w.dev-is w.in-Play.is
+          says_at source sink state bench input all.input did.new.input out all.out did.new.out dev all.dev did.new.dev c.args.job (job.Play t) s w.input-is w.out-is w.dev-is w.in-Play.is
           (says_played (did.new.dev ≡ dev) t s a played)
       | in-Generate w ↦
           let n = w.in-Generate.number in
           let did = w.sum-done in
-          let a : Around = around left reads taken writes state bench input input out did.new.out dev did.new.dev in
-          let summed = ok_is all.done did.result s (λ (s : Status). IsSummed (generated n) s a) c.in-Ok.is w.done-is (did.ensures.done (left input) (left input) (reads input) (reads input)) in
-          says_at left reads taken writes state bench input all.input input out all.out did.new.out dev all.dev did.new.dev c.args.job (job.Generate n) s w.input-is w.out-is w.dev-is w.in-Generate.is
+          let a : CardOutside = around source sink state bench input input out did.new.out dev did.new.dev in
+          let summed = ok_is all.done did.result s (λ (s : Status). IsSummed (generated n) s a.dev_old a.streams.out_old a.dev a.streams.out) c.in-Ok.is w.done-is did.ensures.done in
+          says_at source sink state bench input all.input input out all.out did.new.out dev all.dev did.new.dev c.args.job (job.Generate n) s w.input-is w.out-is w.dev-is w.in-Generate.is
           (says_summed (did.new.dev ≡ dev) n s a (record { left = refl; reads = refl }) summed)
       | in-Write w ↦
           let f = w.in-Write.form in
           let did = w.write-done in
-          let a : Around = around left reads taken writes state bench input did.new.input out did.new.out dev dev in
-          let written = ok_is all.done did.result s (λ (s : Status). WritesInput f s a) c.in-Ok.is w.done-is (did.ensures.done (bench_of state bench dev) (bench_of state bench dev)) in
-          says_at left reads taken writes state bench input all.input did.new.input out all.out did.new.out dev all.dev dev c.args.job (job.Write f) s w.input-is w.out-is w.dev-is w.in-Write.is
+          let a : CardOutside = around source sink state bench input did.new.input out did.new.out dev dev in
+          let written = ok_is all.done did.result s (λ (s : Status). WritesInput f s a.streams) c.in-Ok.is w.done-is did.ensures.done in
+          says_at source sink state bench input all.input did.new.input out all.out did.new.out dev all.dev dev c.args.job (job.Write f) s w.input-is w.out-is w.dev-is w.in-Write.is
           (says_written (dev ≡ dev) f s a refl written)
     ]
 
 pub returns-in-Err : goal.returns-in-Err
 returns-in-Err g c =
-    let left = g.S.Source.left in
-    let reads = g.S.Source.faults in
-    let taken = g.T.Sink.taken in
-    let writes = g.T.Sink.faults in
+    let source = g.S.Source in
+    let sink = g.T.Sink in
     let state = g.N.Nvm.state in
     let bench = g.N.Bench.bench in
     let input = c.args.input.now in
@@ -62,17 +58,17 @@ returns-in-Err g c =
     elim c.match-job.branch [
       | in-Play w ↦
           let did = w.tell-done in
-          rejected_at left reads taken writes state bench input all.input did.new.input out all.out did.new.out end.new.out dev all.dev did.new.dev c.args.job (job.Play w.in-Play.telling) all.done did.result why end.result
+          rejected_at source sink state bench input all.input did.new.input out all.out did.new.out end.new.out dev all.dev did.new.dev c.args.job (job.Play w.in-Play.telling) all.done did.result why end.result
           c.in-Err.is w.input-is w.out-is w.dev-is w.done-is w.in-Play.is did.ensures.rejected did.ensures.out did.ensures.device end.ensures
       | in-Generate w ↦
           let did = w.sum-done in
           let work = job.Generate w.in-Generate.number in
-          let a : Around = around left reads taken writes state bench input input out did.new.out dev did.new.dev in
-          rejected_at left reads taken writes state bench input all.input input out all.out did.new.out end.new.out dev all.dev did.new.dev c.args.job work all.done did.result why end.result
-          c.in-Err.is w.input-is w.out-is w.dev-is w.done-is w.in-Generate.is (memory_only work a did.result (record { left = refl; reads = refl }) did.ensures.rejected) did.ensures.out did.ensures.device end.ensures
+          let a : CardOutside = around source sink state bench input input out did.new.out dev did.new.dev in
+          rejected_at source sink state bench input all.input input out all.out did.new.out end.new.out dev all.dev did.new.dev c.args.job work all.done did.result why end.result
+          c.in-Err.is w.input-is w.out-is w.dev-is w.done-is w.in-Generate.is (memory_only work a.streams did.result (record { left = refl; reads = refl }) did.ensures.rejected) did.ensures.out did.ensures.device end.ensures
       | in-Write w ↦
           let did = w.write-done in
           let kept = err_always {P = dev ≡ dev} did.result refl in
-          rejected_at left reads taken writes state bench input all.input did.new.input out all.out did.new.out end.new.out dev all.dev dev c.args.job (job.Write w.in-Write.form) all.done did.result why end.result
-          c.in-Err.is w.input-is w.out-is w.dev-is w.done-is w.in-Write.is (did.ensures.rejected (bench_of state bench dev) (bench_of state bench dev)) did.ensures.out kept end.ensures
+          rejected_at source sink state bench input all.input did.new.input out all.out did.new.out end.new.out dev all.dev dev c.args.job (job.Write w.in-Write.form) all.done did.result why end.result
+          c.in-Err.is w.input-is w.out-is w.dev-is w.done-is w.in-Write.is did.ensures.rejected did.ensures.out kept end.ensures
     ]

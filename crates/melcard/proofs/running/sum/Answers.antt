@@ -12,7 +12,7 @@ pub summarise-requires-clause-dumps : goal.summarise-requires-clause-dumps
 summarise-requires-clause-dumps g c = generated_last c.in_ok-deck.deck c.args.number c.in_ok-deck.ensures
 
 pub returns-clause-done : goal.returns-clause-done
-returns-clause-done g c = λ old new reads_old reads.
+returns-clause-done g c =
     let before = bench_of g.N.Nvm.state g.N.Bench.bench c.args.dev.now in
     let after = bench_of g.N.Nvm.state g.N.Bench.bench c.summarise.new.dev in
     let from = sunk_in g.T.Sink.taken g.T.Sink.faults c.args.out.now in

@@ -5,7 +5,7 @@ use Rattle.melcard.specs.Verdicts.{IsTextOf, Whole}
 use Rattle.melcard.proofs.running.write.Goals as goal
 
 pub returns-clause-done : goal.returns-clause-done
-returns-clause-done g c = λ before after.
+returns-clause-done g c =
     let from = sunk_in g.T.Sink.taken g.T.Sink.faults c.args.out.now in
     let to = sunk_in g.T.Sink.taken g.T.Sink.faults c.put_all.new.sink in
     let said = c.put_all.ensures in

@@ -2,13 +2,13 @@ use Rattle.std.proofs.Common.{◌≡◌, ◌∙◌, ap, sym}
 use Rattle.mc_nvm.specs.Sim.{Sim}
 use Rattle.mc_lab.specs.Expectations.{count_failed, steady_steps, trial_read}
 use Rattle.mc_lab.specs.Trials.{trial_value}
-use Rattle.mellab.specs.Statuses.{outside, Around}
+use Rattle.mc_filter.specs.Outside.{outside, Outside}
 use Rattle.mellab.proofs.ToldLemmas.{if-ok, says_expected}
 use Rattle.mellab.proofs.running.expect_input.Goals as goal
 
 pub returns-clause-done : goal.returns-clause-done
 returns-clause-done g c =
-    let a : Around = outside g.S.Source g.T.Sink c.args.input.now c.read_input.new.input c.args.out.now c.expect.new.out in
+    let a : Outside = outside g.S.Source g.T.Sink c.args.input.now c.read_input.new.input c.args.out.now c.expect.new.out in
     let t = trial_value c.in_ok-trial.trial in
     let words = c.in_ok-device.device.words in
     let is = ap trial_read (sym c.as_slice.ensures.value) ∙ c.in_ok-trial.ensures.trial in
