@@ -1,4 +1,4 @@
-use Rattle.melcard.proofs.tests.ended.Given as goal
+use Rattle.melcard.proofs.tests.ended_on.Given as goal
 
 abbrev pub ghosts-counted : goal.ghosts-counted
 ghosts-counted a = record { name = a.blank.name; parts = a.blank.parts }
