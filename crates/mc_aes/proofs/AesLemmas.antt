@@ -1,9 +1,9 @@
 -- The public calls, from the rounds.
 use Rattle.std.proofs.Common.{◌≡◌, ℕ, ◌+◌, ◌-◌, ◌*◌, ◌/◌, ◌<◌, ◌≤◌, List, length, take, drop, reverse, refl, sym, ap, ◌∙◌, arith}
 use Rattle.std.proofs.Math.Nat.{sub-zero}
-use Rattle.mc_model.proofs.ModesLemmas.{chain_step}
-use Rattle.mc_model.specs.Modes.{added, blocks_of, chained}
-use Rattle.mc_model.specs.Aes.{aes_encipher, aes_decipher, aes_signature, round_keys, enciphered, deciphered}
+use Rattle.mc_model_machine.proofs.ModesLemmas.{chain_step}
+use Rattle.mc_model_machine.specs.Modes.{added, blocks_of, chained}
+use Rattle.mc_model_machine.specs.Aes.{aes_encipher, aes_decipher, aes_signature, round_keys, enciphered, deciphered}
 
 pub aes_encipher-open : (key block : List ℕ) → aes_encipher key block ≡ enciphered (round_keys key) block
 unfolding aes_encipher

@@ -1,8 +1,8 @@
 -- The key schedule on words.
 use Rattle.std.proofs.Common.{◌≡◌, ℕ, ◌/◌, ◌%◌, ◌^◌, List, [], ◌∷◌, ◌++◌, refl}
 use Rattle.std.specs.Prelude.{bit_xor}
-use Rattle.mc_model.specs.Modes.{added}
-use Rattle.mc_model.specs.Aes.{sub, changed, next_key, round_keys}
+use Rattle.mc_model_machine.specs.Modes.{added}
+use Rattle.mc_model_machine.specs.Aes.{sub, changed, next_key, round_keys}
 use Rattle.mc_aes.specs.State.{word, state_bytes}
 use Rattle.mc_aes.specs.declared.state.State.{State}
 use Rattle.mc_aes.proofs.StateLemmas.{word-xor}

@@ -7,9 +7,9 @@ use Rattle.std.proofs.lemmas.Nat.{xor_comm, xor_shr, xor_block, xor_mod, xor_lt}
 use Rattle.std.proofs.lemmas.Bool.{cases_lt, eqb-true, ltb-true, and_parts}
 use Rattle.std.proofs.lemmas.Slice.Eq.{bytes_eq-Decides}
 use Rattle.std.proofs.lemmas.List.{reverse-append, reverse-reverse, length-reverse, append_assoc}
-use Rattle.mc_model.specs.Modes.{added, AllBelow, IsBlock}
-use Rattle.mc_model.proofs.ModesLemmas.{all_below, below_at, added_back, length-added, AllBelow-append, AllBelow-take, AllBelow-drop, AllBelow-at, AllBelow-added, listed_from, listed}
-use Rattle.mc_model.specs.Aes.{times2, mul_bits, mul, sub, sub_back, dot, times_matrix, placed, shift_rows, shift_rows_back, mixed, mix_columns, mix_columns_back, round, last_round, round_back, last_round_back, changed, next_key, round_keys_from, round_keys, rounds, rounds_back, enciphered, deciphered, aes_encipher, aes_decipher}
+use Rattle.mc_model_machine.specs.Modes.{added, AllBelow, IsBlock}
+use Rattle.mc_model_machine.proofs.ModesLemmas.{all_below, below_at, added_back, length-added, AllBelow-append, AllBelow-take, AllBelow-drop, AllBelow-at, AllBelow-added, listed_from, listed}
+use Rattle.mc_model_machine.specs.Aes.{times2, mul_bits, mul, sub, sub_back, dot, times_matrix, placed, shift_rows, shift_rows_back, mixed, mix_columns, mix_columns_back, round, last_round, round_back, last_round_back, changed, next_key, round_keys_from, round_keys, rounds, rounds_back, enciphered, deciphered, aes_encipher, aes_decipher}
 use Rattle.mc_aes.proofs.CipherLemmas.{rounds-cons, rounds-last, rounds_back-cons, rounds_back-last, enciphered-cons, deciphered-cons}
 use Rattle.mc_aes.proofs.AesLemmas.{aes_encipher-open, aes_decipher-open}
 

@@ -3,9 +3,9 @@ use Rattle.std.proofs.Common.{◌≡◌, ℕ, ◌*◌, ◌/◌, ◌%◌, ◌^◌
 use Rattle.std.specs.Int.{w32, from_be_bytes, to_be_bytes}
 use Rattle.std.specs.Int.Bits.{bit_xor, xor_zero_r}
 use Rattle.std.proofs.lemmas.Nat.{xor_shr, xor_mod}
-use Rattle.mc_model.proofs.ModesLemmas.{listed_from, listed}
-use Rattle.mc_model.specs.Modes.{added}
-use Rattle.mc_model.specs.Aes.{mul, times_matrix}
+use Rattle.mc_model_machine.proofs.ModesLemmas.{listed_from, listed}
+use Rattle.mc_model_machine.specs.Modes.{added}
+use Rattle.mc_model_machine.specs.Aes.{mul, times_matrix}
 use Rattle.mc_aes.specs.State.{word, state_bytes}
 use Rattle.mc_aes.specs.declared.state.State.{State}
 

@@ -1,6 +1,6 @@
 -- A state of 16 bytes in four words, one for each column.
 use Rattle.std.specs.Prelude.{ℕ, ◌/◌, ◌%◌, ◌^◌, List, [], ◌∷◌, ◌++◌}
-use Rattle.mc_model.specs.Aes.{sub, sub_back}
+use Rattle.mc_model_machine.specs.Aes.{sub, sub_back}
 use Rattle.mc_aes.specs.declared.state.State.{State}
 
 -- the four bytes of a word, the highest first

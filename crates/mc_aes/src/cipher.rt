@@ -1,7 +1,7 @@
 // A block through all rounds.
 
 ghost use Rattle.std.specs.Prelude.{◌≡◌, map, reverse};
-ghost use Rattle.mc_model.specs.Aes.{enciphered, deciphered};
+ghost use Rattle.mc_model_machine.specs.Aes.{enciphered, deciphered};
 ghost use Rattle.mc_aes.specs.State.{state_bytes};
 
 use crate::rounds::{last_round, last_round_back, round, round_back};

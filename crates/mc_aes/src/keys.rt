@@ -1,7 +1,7 @@
 // The round keys.
 
 ghost use Rattle.std.specs.Prelude.{◌≡◌, map};
-ghost use Rattle.mc_model.specs.Aes.{changed, next_key, round_keys};
+ghost use Rattle.mc_model_machine.specs.Aes.{changed, next_key, round_keys};
 ghost use Rattle.mc_aes.specs.State.{word, state_bytes};
 
 use crate::state::{State, byte0, byte1, byte2, byte3, load};

@@ -3,7 +3,7 @@
 //! AES with keys of 128 bits (FIPS 197), and the last block of its chain (NIST SP 800-38A, CBC).
 
 ghost use Rattle.std.specs.Prelude.{◌≡◌, ◌%◌, ◌<◌, length};
-ghost use Rattle.mc_model.specs.Aes.{aes_encipher, aes_decipher, aes_signature};
+ghost use Rattle.mc_model_machine.specs.Aes.{aes_encipher, aes_decipher, aes_signature};
 
 mod cipher;
 mod keys;

@@ -1,7 +1,7 @@
 // The state: four columns of four bytes, each in a word, the byte of row 0 highest.
 
 ghost use Rattle.std.specs.Prelude.{◌≡◌, [], ◌∷◌, length, ◌/◌, ◌%◌, ◌^◌};
-ghost use Rattle.mc_model.specs.Modes.{added};
+ghost use Rattle.mc_model_machine.specs.Modes.{added};
 ghost use Rattle.mc_aes.specs.State.{word, state_bytes};
 
 #[derive(Clone, Copy)]

@@ -1,7 +1,7 @@
 // The tables of bytes and columns. Each is read by one function, whose contract says what an entry is.
 
 ghost use Rattle.std.specs.Prelude.{◌≡◌, [], ◌∷◌};
-ghost use Rattle.mc_model.specs.Aes.{mul, sub, sub_back};
+ghost use Rattle.mc_model_machine.specs.Aes.{mul, sub, sub_back};
 ghost use Rattle.mc_aes.specs.State.{word};
 
 // The substitute of each byte.

@@ -1,5 +1,5 @@
 -- The parts of a command, without where its data lie.
-use Rattle.mc_model.specs.Apdu.{ApduParts, Rest}
+use Rattle.mc_model_machine.specs.Apdu.{ApduParts, Rest}
 use Rattle.mc_apdu.specs.declared.command.Apdu.{Apdu}
 use Rattle.mc_apdu.specs.declared.command.Fields.{Fields}
 

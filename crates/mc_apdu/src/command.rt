@@ -1,5 +1,5 @@
 ghost use Rattle.std.specs.Prelude.{◌≡◌, ◌≢◌, ◌+◌, ◌*◌, ◌≤◌, length, Some, None, IfOk, IfSome, MatchOption, MatchResult};
-ghost use Rattle.mc_model.specs.Apdu.{apdu_read, apdu_case, extended_body, extended_le, extended_rest, rest_read, short_le, short_rest};
+ghost use Rattle.mc_model_machine.specs.Apdu.{apdu_read, apdu_case, extended_body, extended_le, extended_rest, rest_read, short_le, short_rest};
 ghost use Rattle.mc_apdu.specs.Command.{parts_of, rest_of};
 
 /// A command of ISO/IEC 7816-4: its header, P3, its data, and Le, how many bytes of data its reply
@@ -44,7 +44,7 @@ struct Fields<'a> {
 
 /// Takes a command apart by the four short cases and the three extended ones of ISO/IEC 7816-4, with
 /// at most 1,024 bytes of data. The data are borrowed from the command's bytes.
-#[tactic(auto, unfolding(mc_model::specs::Apdu::apdu_read))]
+#[tactic(auto, unfolding(mc_model_machine::specs::Apdu::apdu_read))]
 pub fn parse(bytes: &[u8]) -> Result<Apdu<'_>, WrongLength>
     ensures read { MatchResult result (λ a. apdu_read bytes.now ≡ Some (parts_of a)) (λ _. apdu_read bytes.now ≡ None) }
     ensures body { IfOk result (λ a. length a.body.now ≤ 1024) }

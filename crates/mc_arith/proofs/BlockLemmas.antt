@@ -3,8 +3,8 @@ use Rattle.std.proofs.Common.{◌≡◌, ℕ, zero, suc, ◌+◌, ◌*◌, ◌/�
 use Rattle.std.specs.List.{AllByRecursion}
 use Rattle.std.proofs.Math.Arith.{digits_div, digits_mod}
 use Rattle.std.proofs.Math.Nat.{pow-succ'}
-use Rattle.mc_model.specs.Bytes.{num, bytes, AreBytes}
-use Rattle.mc_model.specs.Blocks.{Worked, worked, is_zero}
+use Rattle.mc_model_device.specs.Bytes.{num, bytes, AreBytes}
+use Rattle.mc_model_machine.specs.Blocks.{Worked, worked, is_zero}
 
 pub all_bytes : (l : List ℕ) → ((i : ℕ) → Fits w8 (get_or l i 0)) → AreBytes l
 all_bytes [] h = tt

@@ -1,2 +1,2 @@
-pub use Rattle.mc_model.specs.Blocks
+pub use Rattle.mc_model_machine.specs.Blocks
 pub mod Carry

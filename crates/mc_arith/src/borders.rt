@@ -1,6 +1,6 @@
 // What the definitions give at the borders. The results were computed with whole numbers elsewhere.
 ghost use Rattle.std.specs.Prelude.{◌≡◌, [], ◌∷◌, true, false};
-ghost use Rattle.mc_model.specs.Blocks.{add_blocks, sub_blocks, inc_block, dec_block, shift_left_block, shift_right_block, and_blocks, or_blocks, xor_blocks, not_block};
+ghost use Rattle.mc_model_machine.specs.Blocks.{add_blocks, sub_blocks, inc_block, dec_block, shift_left_block, shift_right_block, and_blocks, or_blocks, xor_blocks, not_block};
 
 /// Sums at the borders, with the carry and zero.
 pub fn sums()

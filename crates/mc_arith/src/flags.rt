@@ -1,5 +1,5 @@
 ghost use Rattle.std.specs.Prelude.{◌≡◌};
-ghost use Rattle.mc_model.specs.Blocks.{is_zero};
+ghost use Rattle.mc_model_machine.specs.Blocks.{is_zero};
 
 /// The flags that a row sets: C is the carry, the borrow, or the last bit shifted out, and Z says that the result is zero.
 #[derive(Clone, Copy, Debug, PartialEq, Eq)]

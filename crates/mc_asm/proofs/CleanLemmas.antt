@@ -1,10 +1,10 @@
 -- Texts of characters that nothing cuts, and lines that are put together of them.
 use Rattle.std.proofs.Common.{◌≡◌, ℕ, Bool, true, false, List, [], ◌∷◌, ◌++◌, append-nil, map, Option, Some, None, Ok, arith, refl, ap, ◌∙◌}
 use Rattle.std.specs.Prelude.{◌==◌, ◌&&◌, not, nat_lt, nat_le}
-use Rattle.mc_model.specs.Bytes.{lookup}
-use Rattle.mc_model.specs.Text.{first_cut, pieces, is_blank, is_empty, trim, trim_front, trim_end, before_trimmed, every}
-use Rattle.mc_model.specs.Assembly.{WordForm, CodeItem, words, worded, operands, word_and_operands, line_read}
-use Rattle.mc_model.proofs.ListLemmas.{and-true as and_both}
+use Rattle.mc_model_device.specs.Bytes.{lookup}
+use Rattle.mc_model_machine.specs.Text.{first_cut, pieces, is_blank, is_empty, trim, trim_front, trim_end, before_trimmed, every}
+use Rattle.mc_model_machine.specs.Assembly.{WordForm, CodeItem, words, worded, operands, word_and_operands, line_read}
+use Rattle.mc_model_device.proofs.ListLemmas.{and-true as and_both}
 
 -- a character of an operand: no blank or less, no comma, no colon, no semicolon
 abbrev pub solid : ℕ → Bool

@@ -1,11 +1,11 @@
 -- The listing of code, place by place.
 use Rattle.std.proofs.Common.{◌≡◌, ℕ, zero, suc, ◌+◌, ◌<◌, ◌≤◌, List, [], ◌∷◌, ◌++◌, length, drop, Option, Some, None, Result, Ok, Err, arith, refl, sym, ap, length-drop, append_assoc, ◌∙◌}
 use Rattle.std.specs.Prelude.{codes}
-use Rattle.mc_model.specs.Text.{ok_as}
-use Rattle.mc_model.specs.Code.{Form, form, made_of, front, from_place, decoded}
-use Rattle.mc_model.specs.Listing.{text_of, line_before, listed_from, listed}
-use Rattle.mc_model.specs.declared.instruction.DecodeFault.{DecodeFault}
-use Rattle.mc_model.specs.declared.instruction.Ins.{Ins}
+use Rattle.mc_model_machine.specs.Text.{ok_as}
+use Rattle.mc_model_machine.specs.Code.{Form, form, made_of, front, from_place, decoded}
+use Rattle.mc_model_machine.specs.Listing.{text_of, line_before, listed_from, listed}
+use Rattle.mc_model_machine.specs.declared.instruction.DecodeFault.{DecodeFault}
+use Rattle.mc_model_machine.specs.declared.instruction.Ins.{Ins}
 
 -- an instruction has a byte at least
 made_some : (o : Option Form) (bs : List ℕ) (p : Ins × ℕ) → made_of o bs ≡ Ok p → 1 ≤ p.1

@@ -5,9 +5,9 @@ use Rattle.std.specs.Int.{w8, w16}
 use Rattle.std.specs.Fmt.{signed_decimal}
 use Rattle.std.proofs.lemmas.Fmt.{decimal_by_steps}
 use Rattle.std.proofs.lemmas.Int.{ints}
-use Rattle.mc_model.specs.Text.{every, is_digit, is_empty, digits_onto, decimal_number, hex_value, begins, is_within}
-use Rattle.mc_model.specs.Listing.{hex_digit, hex_word, condition_name, register_name, register_names, address_text}
-use Rattle.mc_model.specs.Assembly.{natural, fits_signed, byte, word, signed_operand, condition, address, is_label, place_among}
+use Rattle.mc_model_machine.specs.Text.{every, is_digit, is_empty, digits_onto, decimal_number, hex_value, begins, is_within}
+use Rattle.mc_model_machine.specs.Listing.{hex_digit, hex_word, condition_name, register_name, register_names, address_text}
+use Rattle.mc_model_machine.specs.Assembly.{natural, fits_signed, byte, word, signed_operand, condition, address, is_label, place_among}
 use Rattle.mc_asm.proofs.CleanLemmas.{Solid, solid, every_as, every_append, pieces_none, pieces_there, and_first, and_second}
 
 -- ---- decimal digits

@@ -3,13 +3,13 @@ use Rattle.std.proofs.Common.{◌≡◌, ℕ, zero, suc, ◌+◌, ◌-◌, ◌<�
 use Rattle.std.specs.Prelude.{◌==◌, not, nat_le, codes, slice_index, IfOk}
 use Rattle.std.specs.List.{AllByRecursion}
 use Rattle.std.proofs.lemmas.List.{take-append-drop}
-use Rattle.mc_model.specs.Text.{◌>>=◌, ok_as, every, lines, numbered}
-use Rattle.mc_model.specs.declared.instruction.DecodeFault.{DecodeFault}
-use Rattle.mc_model.specs.declared.instruction.Ins.{Ins}
-use Rattle.mc_model.specs.Code.{Shaped, DecodesTo, spell, front, from_place}
-use Rattle.mc_model.specs.Listing.{text_of, line_before, listed_one, length_of, listed_from, listed}
-use Rattle.mc_model.specs.Assembly.{assembled, line_laid}
-use Rattle.mc_model.specs.Bytes.{AreBytes}
+use Rattle.mc_model_machine.specs.Text.{◌>>=◌, ok_as, every, lines, numbered}
+use Rattle.mc_model_machine.specs.declared.instruction.DecodeFault.{DecodeFault}
+use Rattle.mc_model_machine.specs.declared.instruction.Ins.{Ins}
+use Rattle.mc_model_machine.specs.Code.{Shaped, DecodesTo, spell, front, from_place}
+use Rattle.mc_model_machine.specs.Listing.{text_of, line_before, listed_one, length_of, listed_from, listed}
+use Rattle.mc_model_machine.specs.Assembly.{assembled, line_laid}
+use Rattle.mc_model_device.specs.Bytes.{AreBytes}
 use Rattle.mc_isa.proofs.PlaceLemmas.{decoded_stands}
 use Rattle.mc_text.specs.Reading.{next_line, without_return}
 use Rattle.mc_asm.specs.Passes.{places, coded, label_and_end, code_and_end}

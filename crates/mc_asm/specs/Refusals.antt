@@ -1,7 +1,7 @@
 -- What a refusal says of a text, and of code.
 use Rattle.std.specs.Prelude.{◌≡◌, ℕ, List, Result, Err, ⊤}
-use Rattle.mc_model.specs.declared.assembler.AsmCause.{AsmCause}
-use Rattle.mc_model.specs.declared.instruction.DecodeFault.{DecodeFault}
+use Rattle.mc_model_machine.specs.declared.assembler.AsmCause.{AsmCause}
+use Rattle.mc_model_machine.specs.declared.instruction.DecodeFault.{DecodeFault}
 use Rattle.mc_asm.specs.declared.refusal.AsmRefusal.{AsmRefusal}
 use Rattle.mc_asm.specs.declared.refusal.AsmRefusal.TheVariants.{At, NoMemory}
 use Rattle.mc_asm.specs.declared.refusal.ListRefusal.{ListRefusal}

@@ -1,9 +1,9 @@
 -- From code to its listing and back.
 use Rattle.std.specs.Prelude.{◌≡◌, ℕ, ◌<◌, ◌≤◌, List, length, Ok}
 use Rattle.std.specs.List.{AllByRecursion}
-use Rattle.mc_model.specs.Limits.{most_code}
-use Rattle.mc_model.specs.Assembly.{assembled}
-use Rattle.mc_model.specs.Listing.{listed}
+use Rattle.mc_model_device.specs.Limits.{most_code}
+use Rattle.mc_model_machine.specs.Assembly.{assembled}
+use Rattle.mc_model_machine.specs.Listing.{listed}
 
 -- whatever code has a listing, the listing assembles to it
 abbrev pub ListedIsAssembled : Type 0

@@ -1,8 +1,8 @@
 // The code of a text.
 ghost use Rattle.std.specs.Prelude.{◌≡◌, ◌+◌, ◌≤◌, ℕ, pos, ◌-ℤ◌, List, [], ◌∷◌, ◌++◌, length, Some, None, Ok, Err, IfOk, IfErr, MatchResult, OnOk, vec_len};
-ghost use Rattle.mc_model.specs.Limits.{most_code};
-ghost use Rattle.mc_model.specs.Text.{lines, numbered};
-ghost use Rattle.mc_model.specs.Assembly.{emitted, size, assembled, assembled_lines};
+ghost use Rattle.mc_model_device.specs.Limits.{most_code};
+ghost use Rattle.mc_model_machine.specs.Text.{lines, numbered};
+ghost use Rattle.mc_model_machine.specs.Assembly.{emitted, size, assembled, assembled_lines};
 ghost use Rattle.mc_asm.specs.Items.{item_of, Ready};
 ghost use Rattle.mc_asm.specs.Passes.{AreLabels, AssemblyRefuses, code_and_end, coded, near, numbered_lines};
 ghost use Rattle.mc_asm.specs.declared.refusal.AsmRefusal.TheVariants.{NoMemory};
@@ -14,7 +14,7 @@ use crate::line::{NumberedLine, read_line};
 use crate::refusal::AsmRefusal;
 use arrayvec::ArrayVec;
 use mc_isa::encode;
-use mc_model::{AsmCause, Ins};
+use mc_model_machine::{AsmCause, Ins};
 use mc_text::next_line;
 use std::alloc::Global;
 
@@ -161,7 +161,7 @@ fn lines_of(alloc: Global, text: &[u8]) -> Result<Vec<NumberedLine<'_>>, AsmRefu
 ///
 /// `At` names the first refused line, counted from 1, and its cause: the first line that is refused by itself, and where
 /// there is none, the first whose label is unknown or too far for a branch.
-#[tactic(auto, unfolding(mc_model::specs::Assembly::assembled))]
+#[tactic(auto, unfolding(mc_model_machine::specs::Assembly::assembled))]
 pub fn assemble(alloc: Global, text: &[u8]) -> Result<Vec<u8>, AsmRefusal>
     ensures code { IfOk result (λ v. assembled text.now ≡ Ok v.items) }
     ensures refused { IfErr result (λ e. AssemblyRefuses (assembled text.now) e) }

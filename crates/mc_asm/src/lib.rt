@@ -17,5 +17,5 @@ pub use coding::{assemble, assemble_lines};
 pub use laws::a_listing_is_assembled;
 pub use line::NumberedLine;
 pub use listing::list;
-pub use mc_model::{AsmCause, DecodeFault};
+pub use mc_model_machine::{AsmCause, DecodeFault};
 pub use refusal::{AsmRefusal, ListRefusal};

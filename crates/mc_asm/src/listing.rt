@@ -1,14 +1,14 @@
 // The listing of code.
 ghost use Rattle.std.specs.Prelude.{◌≡◌, ◌≤◌, ◌++◌, length, codes, Ok, IfOk, IfErr, OnOk};
-ghost use Rattle.mc_model.specs.Limits.{most_code};
-ghost use Rattle.mc_model.specs.Listing.{listed, text_of};
-ghost use Rattle.mc_model.specs.Code.{Shaped};
-ghost use Rattle.mc_model.specs.Assembly.{assembled};
+ghost use Rattle.mc_model_device.specs.Limits.{most_code};
+ghost use Rattle.mc_model_machine.specs.Listing.{listed, text_of};
+ghost use Rattle.mc_model_machine.specs.Code.{Shaped};
+ghost use Rattle.mc_model_machine.specs.Assembly.{assembled};
 ghost use Rattle.mc_asm.specs.Refusals.{RefusesListing};
 
 use crate::refusal::ListRefusal;
 use mc_isa::{decode, text_of};
-use mc_model::Ins;
+use mc_model_machine::Ins;
 use std::alloc::{AllocError, Global};
 
 // The line of an instruction behind a text.

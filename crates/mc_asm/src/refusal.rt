@@ -1,4 +1,4 @@
-use mc_model::{AsmCause, DecodeFault};
+use mc_model_machine::{AsmCause, DecodeFault};
 use std::alloc::AllocError;
 use thiserror::Error;
 

@@ -4,14 +4,14 @@ use Rattle.std.specs.Prelude.{map}
 use Rattle.std.proofs.lemmas.Bool.{cases_lt}
 use Rattle.std.proofs.lemmas.List.{length-take-le, length-drop, length-set, take-append-drop, take_all, drop_all}
 use Rattle.std.proofs.lemmas.List.Edits.{paste_none}
-use Rattle.mc_model.specs.declared.card.Part.{Part}
-use Rattle.mc_model.specs.declared.card.Part.TheVariants.{Code, Data, Dir, Fci}
-use Rattle.mc_model.specs.declared.card.Sizes.{Sizes}
-use Rattle.mc_model.specs.Orders.{InOrder}
-use Rattle.mc_model.specs.Bytes.{splice}
-use Rattle.mc_model.specs.Card.{App}
-use Rattle.mc_model.specs.Items.{Site, Piece}
-use Rattle.mc_model.specs.Manager.{in_words}
+use Rattle.mc_model_card.specs.declared.card.Part.{Part}
+use Rattle.mc_model_card.specs.declared.card.Part.TheVariants.{Code, Data, Dir, Fci}
+use Rattle.mc_model_card.specs.declared.card.Sizes.{Sizes}
+use Rattle.mc_model_device.specs.Orders.{InOrder}
+use Rattle.mc_model_device.specs.Bytes.{splice}
+use Rattle.mc_model_device.specs.Card.{App}
+use Rattle.mc_model_card.specs.Items.{Site, Piece}
+use Rattle.mc_model_card.specs.Manager.{in_words}
 use Rattle.mc_bank.specs.declared.bank.Facts.{Facts}
 use Rattle.mc_bank.specs.declared.entries.Entry.{Entry}
 use Rattle.mc_bank.specs.Bank.{app_of, sizes_of, part_len, FitsLimits, IsGoodSite}

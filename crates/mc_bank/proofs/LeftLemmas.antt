@@ -5,12 +5,12 @@ use Rattle.std.specs.List.{AllByRecursion}
 use Rattle.std.proofs.lemmas.List.{length-take-le, length-append, length-drop, length-replicate, length-set, take-take, drop-take}
 use Rattle.std.proofs.lemmas.List.Edits.{paste-paste}
 use Rattle.std.proofs.Math.Seq.{take-length, take-append-add}
-use Rattle.mc_model.specs.Orders.{Answer, InOrder}
-use Rattle.mc_model.specs.Bytes.{zeros, splice, lookup}
-use Rattle.mc_model.specs.Pieces.{laid_pieces, word_pieces}
-use Rattle.mc_model.specs.Card.{App}
-use Rattle.mc_model.specs.Items.{Site, BankItem, Blank, Note, Commit, Enter, Remove}
-use Rattle.mc_model.specs.Manager.{word_parts}
+use Rattle.mc_model_device.specs.Orders.{Answer, InOrder}
+use Rattle.mc_model_device.specs.Bytes.{zeros, splice, lookup}
+use Rattle.mc_model_device.specs.Pieces.{laid_pieces, word_pieces}
+use Rattle.mc_model_device.specs.Card.{App}
+use Rattle.mc_model_card.specs.Items.{Site, BankItem, Blank, Note, Commit, Enter, Remove}
+use Rattle.mc_model_card.specs.Manager.{word_parts}
 use Rattle.mc_base.specs.Name.{IsName}
 use Rattle.mc_bank.specs.declared.bank.Facts.{Facts}
 use Rattle.mc_bank.specs.declared.entries.Entry.{Entry}

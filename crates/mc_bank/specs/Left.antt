@@ -1,10 +1,10 @@
 -- What each call leaves of the entries of a bank in memory.
 use Rattle.std.specs.Prelude.{◌≡◌, ◌≢◌, ℕ, List, [], ◌∷◌, map, IsSome, Some, Ok}
-use Rattle.mc_model.specs.declared.card.Part.{Part}
-use Rattle.mc_model.specs.Orders.{InOrder}
-use Rattle.mc_model.specs.Bytes.{splice, insert, remove}
-use Rattle.mc_model.specs.Items.{Site, Piece, Commit, Remove}
-use Rattle.mc_model.specs.Manager.{word_parts, create_items}
+use Rattle.mc_model_card.specs.declared.card.Part.{Part}
+use Rattle.mc_model_device.specs.Orders.{InOrder}
+use Rattle.mc_model_device.specs.Bytes.{splice, insert, remove}
+use Rattle.mc_model_card.specs.Items.{Site, Piece, Commit, Remove}
+use Rattle.mc_model_card.specs.Manager.{word_parts, create_items}
 use Rattle.mc_bank.specs.declared.entries.Entry.{Entry}
 use Rattle.mc_bank.specs.Bank.{name_or, committed, entered, StayGood, BytesStay, IsChanged}
 use Rattle.mc_bank.specs.Memory.{memory_named, apps_from, memory_state, memory_room, memory_standing, IsMemory, MemoryDid}

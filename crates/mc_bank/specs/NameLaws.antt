@@ -5,7 +5,7 @@ use Rattle.std.proofs.Common.{suc, refl, ap, subst, ◌∙◌, arith}
 use Rattle.std.proofs.lemmas.Slice.Eq.{bytes_eq-Decides}
 use Rattle.std.proofs.lemmas.Bool.{false_from_ne_true}
 use Rattle.std.proofs.lemmas.Bool.Decides.{nat_tests}
-use Rattle.mc_model.specs.Bytes.{lookup, insert, remove, name_before}
+use Rattle.mc_model_device.specs.Bytes.{lookup, insert, remove, name_before}
 use Rattle.mc_bank.specs.Bank.{AscendByName}
 
 -- ---- names

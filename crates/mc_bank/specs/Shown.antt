@@ -1,7 +1,7 @@
 -- What the entry of a slot shows of its application.
 use Rattle.std.specs.Prelude.{◌≡◌, ℕ, ◌+◌, ◌≤◌, List, length, take, drop, IsSome, Some}
-use Rattle.mc_model.specs.Bytes.{lookup}
-use Rattle.mc_model.specs.Card.{App}
+use Rattle.mc_model_device.specs.Bytes.{lookup}
+use Rattle.mc_model_device.specs.Card.{App}
 use Rattle.mc_bank.specs.declared.bank.Facts.{Facts}
 use Rattle.mc_bank.specs.declared.entries.Entry.{Entry}
 use Rattle.mc_bank.specs.Bank.{app_of, sizes_of, FitsLimits}

@@ -3,13 +3,13 @@ use Rattle.std.specs.Prelude.{◌≡◌, ◌≢◌, ℕ, suc, ◌+◌, ◌*◌, 
 use Rattle.std.proofs.Common.{refl, ap, sym, subst, ◌∙◌, arith}
 use Rattle.std.proofs.lemmas.List.{length-take-le}
 use Rattle.std.proofs.lemmas.Bool.{false_from_ne_true}
-use Rattle.mc_model.specs.declared.card.Part.{Part}
-use Rattle.mc_model.specs.declared.card.Sizes.{Sizes}
-use Rattle.mc_model.specs.Bytes.{lookup, insert, remove, splice}
-use Rattle.mc_model.specs.Pieces.{laid_pieces, laid_words, word_pieces}
-use Rattle.mc_model.specs.Card.{App}
-use Rattle.mc_model.specs.Items.{Site, BankItem, Piece, Blank, Note, Commit, Enter, Remove}
-use Rattle.mc_model.proofs.ListLemmas.{splice-longer as splice-long}
+use Rattle.mc_model_card.specs.declared.card.Part.{Part}
+use Rattle.mc_model_card.specs.declared.card.Sizes.{Sizes}
+use Rattle.mc_model_device.specs.Bytes.{lookup, insert, remove, splice}
+use Rattle.mc_model_device.specs.Pieces.{laid_pieces, laid_words, word_pieces}
+use Rattle.mc_model_device.specs.Card.{App}
+use Rattle.mc_model_card.specs.Items.{Site, BankItem, Piece, Blank, Note, Commit, Enter, Remove}
+use Rattle.mc_model_device.proofs.ListLemmas.{splice-longer as splice-long}
 use Rattle.mc_bank.specs.Bank.{app_of, no_app, sizes_of, with_words, entered, item_done, Spares}
 use Rattle.mc_bank.specs.NameLaws.{same_name, name_is_itself, lookup-inserted, lookup-beside}
 use Rattle.mc_bank.specs.Slots.{slot_number, digit, slot_place, slot_sizes, listed, same_sizes, name_of_slot, AreDigits}

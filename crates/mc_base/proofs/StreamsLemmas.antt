@@ -3,7 +3,7 @@ use Rattle.std.proofs.Common.{◌≡◌, ℕ, ◌+◌, ◌-◌, ◌<◌, ◌≤�
 use Rattle.std.proofs.Common.{length-append, length-take}
 use Rattle.std.proofs.lemmas.List.{append-nil, take_rest, take_at, drop-drop, take-append-drop}
 use Rattle.std.proofs.Math.Seq.{take-add}
-use Rattle.mc_model.specs.Counts.{Rose, last_count}
+use Rattle.mc_model_device.specs.Counts.{Rose, last_count}
 use Rattle.mc_base.specs.Streams.{Took, AtEnd, Grew, Stays, TookAtMost, TookMore, GrewByPart}
 
 -- a take after a take

@@ -1,7 +1,7 @@
 -- What the calls of a source and a sink over memory do, exactly.
 use Rattle.std.specs.Prelude.{ℕ, ◌+◌, ◌-◌, ◌==◌, min, Bool, true, false, ◌||◌, ◌&&◌, not, cond, List, [], ◌∷◌, ◌++◌, length, take, drop, Result, Ok, Err}
 use Rattle.std.specs.List.{list_any}
-use Rattle.mc_model.specs.Counts.{last_count}
+use Rattle.mc_model_device.specs.Counts.{last_count}
 use Rattle.mc_base.specs.declared.refusals.Failed.{Failed}
 
 -- a source over bytes: what is left, the numbers of the calls that fail, and how many calls and faults there were

@@ -13,7 +13,7 @@ mod source;
 
 pub use aid::Aid;
 pub use ledger::Steps;
-pub use mc_model::Stop;
+pub use mc_model_device::Stop;
 pub use memory::{MemSink, MemSource};
 pub use numbers::{bytes_of, number_of};
 pub use outside::{StdSink, StdSource};

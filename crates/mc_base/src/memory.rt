@@ -52,7 +52,7 @@ impl MemSource {
 
 impl Source for MemSource {
     ghost use Rattle.std.specs.Prelude.{◌≡◌, ℕ, ◌+◌, ◌<◌, ◌≤◌, min, List, length, take, Option, Some, is_err, IfOk, OnErr};
-    ghost use Rattle.mc_model.specs.Counts.{Rose};
+    ghost use Rattle.mc_model_device.specs.Counts.{Rose};
     ghost use Rattle.mc_base.specs.Streams.{Took, AtEnd, Stays};
     ghost use Rattle.mc_base.specs.MemoryStreams.{take_fails, left_after};
 
@@ -161,7 +161,7 @@ impl MemSink {
 
 impl Sink for MemSink {
     ghost use Rattle.std.specs.Prelude.{◌≡◌, ℕ, ◌+◌, ◌<◌, ◌≤◌, min, List, length, take, Option, Some, is_err, IfOk, OnErr};
-    ghost use Rattle.mc_model.specs.Counts.{Rose};
+    ghost use Rattle.mc_model_device.specs.Counts.{Rose};
     ghost use Rattle.mc_base.specs.Streams.{Grew, Stays};
     ghost use Rattle.mc_base.specs.MemoryStreams.{put_fails, taken_after};
 

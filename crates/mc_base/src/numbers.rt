@@ -1,5 +1,5 @@
 ghost use Rattle.std.specs.Prelude.{◌≡◌, ◌+◌, ◌*◌};
-ghost use Rattle.mc_model.specs.Bytes.{bytes2};
+ghost use Rattle.mc_model_device.specs.Bytes.{bytes2};
 
 /// The number in two bytes, the high byte first.
 pub fn number_of(high: u8, low: u8) -> u16

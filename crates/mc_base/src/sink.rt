@@ -1,5 +1,5 @@
 ghost use Rattle.std.specs.Prelude.{◌≡◌, ℕ, ◌+◌, ◌<◌, ◌≤◌, List, length, take, Option, IfOk, OnOk, OnErr};
-ghost use Rattle.mc_model.specs.Counts.{Rose};
+ghost use Rattle.mc_model_device.specs.Counts.{Rose};
 ghost use Rattle.mc_base.specs.Streams.{Grew, GrewByPart, Stays};
 
 use crate::refusals::{Failed, WriteFault};

@@ -3,11 +3,11 @@ use Rattle.std.proofs.Common.{◌≡◌, ◌≢◌, ℕ, ◌+◌, ◌<◌, ◌�
 use Rattle.std.specs.Prelude.{nat_lt, ◌==◌, bytes_eq, MatchBool}
 use Rattle.std.proofs.lemmas.Bool.{and_parts, eq-eqb, ne_eqb, ltb-true, or_right, or_left}
 use Rattle.std.proofs.lemmas.Slice.Eq.{bytes_eq-Decides}
-use Rattle.mc_model.specs.Bytes.{insert, lookup, name_before, has_name}
-use Rattle.mc_model.specs.Image.{Closed, look}
-use Rattle.mc_model.specs.Device.{IsSized}
-use Rattle.mc_model.specs.Card.{App, Card, Block, means, blocks, name_in, name_at, app_at, apps_of, record_at}
-use Rattle.mc_model.specs.Layout.{spans, is_record, bad_record, IsWellLaid}
+use Rattle.mc_model_device.specs.Bytes.{insert, lookup, name_before, has_name}
+use Rattle.mc_model_device.specs.Image.{Closed, look}
+use Rattle.mc_model_device.specs.Device.{IsSized}
+use Rattle.mc_model_device.specs.Card.{App, Card, Block, means, blocks, name_in, name_at, app_at, apps_of, record_at}
+use Rattle.mc_model_device.specs.Layout.{spans, is_record, bad_record, IsWellLaid}
 use Rattle.mc_blocks.specs.Blocks.{used_spans, admitted}
 use Rattle.mc_blocks.specs.Plans.{has_span}
 use Rattle.mc_blocks.proofs.Tiles.{Tiled}

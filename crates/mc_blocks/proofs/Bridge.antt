@@ -2,12 +2,12 @@
 use Rattle.std.proofs.Common.{◌≡◌, ℕ, ◌+◌, ◌<◌, ◌≤◌, Bool, true, false, ◌&&◌, List, [], ◌∷◌, length, Option, Some, None, refl, sym, ◌∙◌, ap, subst, arith, cond, not}
 use Rattle.std.specs.Prelude.{nat_lt, ◌==◌, slice_index, MatchBool}
 use Rattle.std.proofs.lemmas.Bool.{and_parts, eqb-true, not-true}
-use Rattle.mc_model.specs.Bytes.{up, be2, has_name, or_else, insert}
-use Rattle.mc_model.specs.Image.{Look, Closed, look, replayed}
-use Rattle.mc_model.specs.Device.{IsSized}
-use Rattle.mc_model.specs.Card.{App, Block, blocks, section, record_at, name_in, name_at, app_at, apps_of, card_of, words_after, means, needed, needed_of, heap_start}
-use Rattle.mc_model.specs.Layout.{spans, spans_of, gaps, gaps_from, put_at, no_root, is_record, bad_block, bad_record, bad_chain, by_cause, words_fault, fault_of, fault, IsWellLaid}
-use Rattle.mc_model.specs.declared.card.Cause.{Cause}
+use Rattle.mc_model_device.specs.Bytes.{up, be2, has_name, or_else, insert}
+use Rattle.mc_model_device.specs.Image.{Look, Closed, look, replayed}
+use Rattle.mc_model_device.specs.Device.{IsSized}
+use Rattle.mc_model_device.specs.Card.{App, Block, blocks, section, record_at, name_in, name_at, app_at, apps_of, card_of, words_after, means, needed, needed_of, heap_start}
+use Rattle.mc_model_device.specs.Layout.{spans, spans_of, gaps, gaps_from, put_at, no_root, is_record, bad_block, bad_record, bad_chain, by_cause, words_fault, fault_of, fault, IsWellLaid}
+use Rattle.mc_model_device.specs.declared.cause.Cause.{Cause}
 use Rattle.mc_blocks.specs.Chains.{SpansAbove}
 use Rattle.mc_blocks.specs.Blocks.{used_spans, hole_spans, admitted}
 use Rattle.mc_blocks.proofs.Sections.{length-section}

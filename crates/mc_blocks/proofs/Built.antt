@@ -3,11 +3,11 @@ use Rattle.std.proofs.Common.{◌≡◌, ℕ, ◌+◌, ◌<◌, ◌≤◌, Bool,
 use Rattle.std.specs.Prelude.{nat_lt, ◌==◌, slice_index, MatchBool}
 use Rattle.std.proofs.lemmas.Bool.{le-ltb, lt-ltb, le-leb, eq-eqb, and_from, and_parts, eqb-true}
 use Rattle.std.proofs.lemmas.List.{get_or_past}
-use Rattle.mc_model.specs.Bytes.{be2, or_else, has_name, insert, up}
-use Rattle.mc_model.specs.Device.{IsSized}
-use Rattle.mc_model.specs.Card.{App, Block, word, header, blocks, heap_start, section, record_at, name_in, name_at, app_at, app_of, apps_of, card_of, needed_of}
-use Rattle.mc_model.specs.Layout.{no_root, is_record, bad_header, bad_block, bad_record, bad_link, bad_chain, first_hole, by_cause, words_fault}
-use Rattle.mc_model.specs.declared.card.Cause.TheVariants.{NoRoot, BadBlock, BadRecord, BadChain}
+use Rattle.mc_model_device.specs.Bytes.{be2, or_else, has_name, insert, up}
+use Rattle.mc_model_device.specs.Device.{IsSized}
+use Rattle.mc_model_device.specs.Card.{App, Block, word, header, blocks, heap_start, section, record_at, name_in, name_at, app_at, app_of, apps_of, card_of, needed_of}
+use Rattle.mc_model_device.specs.Layout.{no_root, is_record, bad_header, bad_block, bad_record, bad_link, bad_chain, first_hole, by_cause, words_fault}
+use Rattle.mc_model_device.specs.declared.cause.Cause.TheVariants.{NoRoot, BadBlock, BadRecord, BadChain}
 use Rattle.mc_blocks.specs.Blocks.{fitting, blocks_at, bad_from, admitted, used_spans, is_root_word, FollowsBlock, WordsAgree}
 use Rattle.mc_blocks.proofs.Sections.{same-cells}
 use Rattle.mc_blocks.proofs.Steps.{blocks_step, blocks_stop, blocks_all}

@@ -4,10 +4,10 @@ use Rattle.std.specs.Prelude.{nat_lt, ◌==◌, bytes_eq, MatchBool}
 use Rattle.std.specs.List.{AllByRecursion, list_any}
 use Rattle.std.proofs.lemmas.Bool.{eq-eqb, and_from, or_left, or_right, or_parts, or_cases, eqb-true}
 use Rattle.std.proofs.lemmas.Slice.Eq.{bytes_eq-Decides}
-use Rattle.mc_model.specs.Bytes.{insert, lookup, has_name}
-use Rattle.mc_model.specs.Card.{App, Block, record_at, name_in, name_at, app_at, apps_of}
-use Rattle.mc_model.specs.Layout.{first_hole, hole_header, used_header, same_pair, is_record}
-use Rattle.mc_model.proofs.ListLemmas.{or-swap, other-name as turned}
+use Rattle.mc_model_device.specs.Bytes.{insert, lookup, has_name}
+use Rattle.mc_model_device.specs.Card.{App, Block, record_at, name_in, name_at, app_at, apps_of}
+use Rattle.mc_model_device.specs.Layout.{first_hole, hole_header, used_header, same_pair, is_record}
+use Rattle.mc_model_device.proofs.ListLemmas.{or-swap, other-name as turned}
 use Rattle.mc_blocks.specs.Blocks.{used_spans, hole_spans}
 use Rattle.mc_blocks.specs.Plans.{changes, has_room, has_span}
 use Rattle.mc_blocks.specs.Chains.{SpansAbove}

@@ -3,10 +3,10 @@ use Rattle.std.proofs.Common.{◌≡◌, ℕ, ◌+◌, ◌<◌, ◌≤◌, Bool,
 use Rattle.std.specs.Prelude.{nat_le, nat_lt, ◌==◌, slice_index, bytes_eq, MatchBool}
 use Rattle.std.proofs.lemmas.Bool.{and_parts, leb-true, eqb-true, false_from_ne_true}
 use Rattle.std.proofs.lemmas.List.{map-append}
-use Rattle.mc_model.specs.Bytes.{be2, has_name, up}
-use Rattle.mc_model.specs.Card.{Block, word, header, blocks, record_at, name_in, needed_of}
-use Rattle.mc_model.specs.Layout.{is_record, bad_record}
-use Rattle.mc_model.proofs.ListLemmas.{or-swap as swapped}
+use Rattle.mc_model_device.specs.Bytes.{be2, has_name, up}
+use Rattle.mc_model_device.specs.Card.{Block, word, header, blocks, record_at, name_in, needed_of}
+use Rattle.mc_model_device.specs.Layout.{is_record, bad_record}
+use Rattle.mc_model_device.proofs.ListLemmas.{or-swap as swapped}
 use Rattle.mc_blocks.specs.Blocks.{fitting, blocks_at, admitted, Admits}
 use Rattle.mc_blocks.proofs.Steps.{blocks_step, blocks_stop, blocks_all}
 

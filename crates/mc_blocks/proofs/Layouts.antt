@@ -4,13 +4,13 @@ use Rattle.std.specs.Prelude.{nat_le, nat_lt, ◌==◌, slice_index, bytes_eq}
 use Rattle.std.specs.List.{AllByRecursion}
 use Rattle.std.proofs.lemmas.Bool.{and_parts, eqb-true}
 use Rattle.std.proofs.lemmas.Slice.Eq.{bytes_eq-Decides}
-use Rattle.mc_model.specs.Bytes.{AreBytes, be2, bytes2, or_else}
-use Rattle.mc_model.specs.Device.{IsImage, sized}
-use Rattle.mc_model.specs.Image.{Look, Refused, Closed, Pending, look, replayed, after}
-use Rattle.mc_model.specs.Card.{Block, used_tag, hole_tag, word, is_header, header, blocks, card_of, words_after, means}
-use Rattle.mc_model.specs.Layout.{put_at, spans, gaps, first_place, first_hole, hole_header, used_header, root, chained, with_used, layout, no_root, bad_link, words_fault, fault_of, IsWellLaid}
-use Rattle.mc_model.proofs.LookLemmas.{IsFull}
-use Rattle.mc_model.proofs.ImageBytes.{image-settled}
+use Rattle.mc_model_device.specs.Bytes.{AreBytes, be2, bytes2, or_else}
+use Rattle.mc_model_device.specs.Device.{IsImage, sized}
+use Rattle.mc_model_device.specs.Image.{Look, Refused, Closed, Pending, look, replayed, after}
+use Rattle.mc_model_device.specs.Card.{Block, used_tag, hole_tag, word, is_header, header, blocks, card_of, words_after, means}
+use Rattle.mc_model_device.specs.Layout.{put_at, spans, gaps, first_place, first_hole, hole_header, used_header, root, chained, with_used, layout, no_root, bad_link, words_fault, fault_of, IsWellLaid}
+use Rattle.mc_model_device.proofs.LookLemmas.{IsFull}
+use Rattle.mc_model_device.proofs.ImageBytes.{image-settled}
 use Rattle.mc_blocks.specs.Blocks.{used_spans, hole_spans}
 use Rattle.mc_blocks.proofs.Steps.{header-is}
 use Rattle.mc_blocks.proofs.Tiles.{HeadersRead, first-is}

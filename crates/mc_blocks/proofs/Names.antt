@@ -3,9 +3,9 @@ use Rattle.std.proofs.Common.{◌≡◌, ℕ, true, false, List, [], ◌∷◌, 
 use Rattle.std.specs.Prelude.{bytes_eq}
 use Rattle.std.proofs.lemmas.Slice.Eq.{bytes_eq-Decides}
 use Rattle.std.proofs.lemmas.Bool.Decides.{nat_tests}
-use Rattle.mc_model.specs.Bytes.{lookup, insert, remove, name_before}
-use Rattle.mc_model.specs.Card.{App}
-use Rattle.mc_model.proofs.ListLemmas.{other-name as turned}
+use Rattle.mc_model_device.specs.Bytes.{lookup, insert, remove, name_before}
+use Rattle.mc_model_device.specs.Card.{App}
+use Rattle.mc_model_device.proofs.ListLemmas.{other-name as turned}
 
 same_name : (a b : List ℕ) → bytes_eq a b ≡ true → a ≡ b
 same_name a b h = (bytes_eq-Decides a b).0 h

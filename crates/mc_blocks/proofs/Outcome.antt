@@ -3,14 +3,13 @@ use Rattle.std.proofs.Common.{◌≡◌, ◌≢◌, ◌⊎◌, ℕ, ◌+◌, ◌
 use Rattle.std.specs.Prelude.{nat_lt, ◌==◌, slice_index, MatchBool}
 use Rattle.std.specs.List.{AllByRecursion, list_any}
 use Rattle.std.proofs.lemmas.Bool.{eqb-true}
-use Rattle.mc_model.specs.Bytes.{be2, insert, lookup, remove, has_name}
-use Rattle.mc_model.specs.Image.{Closed, look}
-use Rattle.mc_model.specs.Device.{IsSized}
-use Rattle.mc_model.specs.Card.{App, Card, Block, word, blocks, means, record_at, name_at, app_at, apps_of}
-use Rattle.mc_model.specs.Layout.{first_hole, gaps, spans, put_at, root, same_pair, is_record, IsWellLaid}
-use Rattle.mc_model.specs.Image.{Two}
-use Rattle.mc_model.specs.Stopped.{InJournal, LaidWhole as WrittenBy}
-use Rattle.mc_model.proofs.ImageLemmas.{HoldsWords, all-append, laid-other, length-laid}
+use Rattle.mc_model_device.specs.Bytes.{be2, insert, lookup, remove, has_name}
+use Rattle.mc_model_device.specs.Image.{Closed, look, Two}
+use Rattle.mc_model_device.specs.Device.{IsSized}
+use Rattle.mc_model_device.specs.Card.{App, Card, Block, word, blocks, means, record_at, name_at, app_at, apps_of}
+use Rattle.mc_model_device.specs.Layout.{first_hole, gaps, spans, put_at, root, same_pair, is_record, IsWellLaid}
+use Rattle.mc_model_device.specs.Stopped.{InJournal, LaidWhole as WrittenBy}
+use Rattle.mc_model_device.proofs.ImageLemmas.{HoldsWords, all-append, laid-other, length-laid}
 use Rattle.mc_blocks.specs.Blocks.{used_spans, hole_spans}
 use Rattle.mc_blocks.specs.Outcomes.{OthersKept, Planned, HoldsApplications}
 use Rattle.mc_blocks.specs.Plans.{changes, layout_of, plan, link_word, without, has_room, has_span}

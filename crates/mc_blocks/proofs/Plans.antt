@@ -2,12 +2,12 @@
 use Rattle.std.proofs.Common.{◌≡◌, ◌≢◌, ◌⊎◌, ℕ, ◌+◌, ◌-◌, ◌<◌, ◌≤◌, Bool, true, false, ◌&&◌, List, [], ◌∷◌, length, not, Some, refl, sym, ◌∙◌, ap, subst, inl, inr, arith, cond}
 use Rattle.std.specs.Prelude.{nat_lt, nat_le, ◌==◌, slice_index}
 use Rattle.std.proofs.lemmas.Bool.{lt-ltb, le-leb, ltb-true, eq-eqb, ne_eqb, eqb-true, or_cases, and_from, or_left, or_right}
-use Rattle.mc_model.specs.Bytes.{be2}
-use Rattle.mc_model.specs.Image.{Closed, look, within, ascend}
-use Rattle.mc_model.specs.Device.{IsSized}
-use Rattle.mc_model.specs.Stopped.{IsAtomic}
-use Rattle.mc_model.specs.Card.{Card, Block, means, card_of, word, header, blocks}
-use Rattle.mc_model.specs.Layout.{gaps, spans, put_at, hole_header, used_header, IsWellLaid}
+use Rattle.mc_model_device.specs.Bytes.{be2}
+use Rattle.mc_model_device.specs.Image.{Closed, look, within, ascend}
+use Rattle.mc_model_device.specs.Device.{IsSized}
+use Rattle.mc_model_device.specs.Stopped.{IsAtomic}
+use Rattle.mc_model_device.specs.Card.{Card, Block, means, card_of, word, header, blocks}
+use Rattle.mc_model_device.specs.Layout.{gaps, spans, put_at, hole_header, used_header, IsWellLaid}
 use Rattle.mc_blocks.specs.Chains.{SpansAbove}
 use Rattle.mc_blocks.specs.Blocks.{used_spans, hole_spans}
 use Rattle.mc_blocks.specs.Plans.{changes, layout_of, plan, without, has_room, has_span, link_word, gap_before, gaps_behind, touches, take_front, take_list, joined_words, joined_next, put_hole, free_list}

@@ -1,15 +1,14 @@
 -- The words of a record.
 use Rattle.std.proofs.Common.{◌≡◌, ℕ, ◌+◌, ◌<◌, ◌≤◌, List, [], ◌∷◌, length, take, drop, refl, sym, ◌∙◌, ap, arith, subst, length-drop, Bool, true, false, ◌&&◌}
 use Rattle.std.specs.Prelude.{nat_le, ◌==◌, slice_index, bytes_eq}
-use Rattle.mc_model.specs.Bytes.{be2, zeros}
-use Rattle.mc_model.specs.Card.{needed_of}
-use Rattle.mc_model.specs.Layout.{is_record}
+use Rattle.mc_model_device.specs.Bytes.{be2, zeros}
+use Rattle.mc_model_device.specs.Card.{needed_of, word, record_at}
+use Rattle.mc_model_device.specs.Layout.{is_record}
 use Rattle.mc_blocks.specs.Records.{named, sized, allowed}
 use Rattle.std.specs.List.{flat_map}
 use Rattle.std.proofs.lemmas.List.{drop_more, take_all}
 use Rattle.std.proofs.lemmas.Bool.{le-leb}
 use Rattle.std.proofs.lemmas.List.Concat.{concat_is}
-use Rattle.mc_model.specs.Card.{word, record_at}
 
 -- the four words behind a header
 four : (m : List (List ℕ)) (p : ℕ) → p + 5 ≤ length m → take 4 (drop (p + 1) m) ≡ word m (p + 1) ∷ word m (p + 2) ∷ word m (p + 3) ∷ word m (p + 4) ∷ []

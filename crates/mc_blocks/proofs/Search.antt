@@ -2,11 +2,11 @@
 use Rattle.std.proofs.Common.{◌≡◌, ◌≢◌, ℕ, suc, ◌+◌, ◌-◌, ◌<◌, ◌≤◌, Bool, true, false, List, [], ◌∷◌, length, Option, Some, None, refl, sym, ◌∙◌, ap, subst, arith, cond, not}
 use Rattle.std.specs.Prelude.{nat_le, ◌==◌}
 use Rattle.std.proofs.lemmas.Bool.{leb-true, leb-false, le-leb, lt-leb, ne_eqb, eqb-true}
-use Rattle.mc_model.specs.Bytes.{be2, or_else}
-use Rattle.mc_model.specs.Image.{Closed, look}
-use Rattle.mc_model.specs.Device.{IsSized}
-use Rattle.mc_model.specs.Card.{Card, Block, word, header, blocks, means}
-use Rattle.mc_model.specs.Layout.{first_hole, first_place, first_fitting, gaps, bad_link, IsWellLaid}
+use Rattle.mc_model_device.specs.Bytes.{be2, or_else}
+use Rattle.mc_model_device.specs.Image.{Closed, look}
+use Rattle.mc_model_device.specs.Device.{IsSized}
+use Rattle.mc_model_device.specs.Card.{Card, Block, word, header, blocks, means}
+use Rattle.mc_model_device.specs.Layout.{first_hole, first_place, first_fitting, gaps, bad_link, IsWellLaid}
 use Rattle.mc_blocks.specs.Chains.{SpansAbove, IsChain, looked_at}
 use Rattle.mc_blocks.specs.Blocks.{hole_spans}
 use Rattle.mc_blocks.proofs.Steps.{HeaderIs, header-is}

@@ -2,12 +2,12 @@
 use Rattle.std.proofs.Common.{◌≡◌, ◌≢◌, ℕ, ◌+◌, ◌<◌, ◌≤◌, Bool, true, false, ◌||◌, List, [], ◌∷◌, length, refl, sym, ◌∙◌, ap, subst, inl, inr, arith, cond, not}
 use Rattle.std.specs.Prelude.{◌==◌, bytes_eq, slice_index, MatchBool}
 use Rattle.std.proofs.lemmas.Bool.{cases_eq, ne_eqb}
-use Rattle.mc_model.specs.Bytes.{be2, insert, has_name}
-use Rattle.mc_model.specs.Image.{Closed, look}
-use Rattle.mc_model.specs.Device.{IsSized}
-use Rattle.mc_model.specs.Card.{App, Card, Block, word, header, blocks, means, record_at, name_in, name_at, app_at, apps_of}
-use Rattle.mc_model.specs.Layout.{first_hole, spans, bad_link, is_record, IsWellLaid}
-use Rattle.mc_model.proofs.ListLemmas.{other-name as turned}
+use Rattle.mc_model_device.specs.Bytes.{be2, insert, has_name}
+use Rattle.mc_model_device.specs.Image.{Closed, look}
+use Rattle.mc_model_device.specs.Device.{IsSized}
+use Rattle.mc_model_device.specs.Card.{App, Card, Block, word, header, blocks, means, record_at, name_in, name_at, app_at, apps_of}
+use Rattle.mc_model_device.specs.Layout.{first_hole, spans, bad_link, is_record, IsWellLaid}
+use Rattle.mc_model_device.proofs.ListLemmas.{other-name as turned}
 use Rattle.mc_blocks.specs.Blocks.{used_spans, is_root_word}
 use Rattle.mc_blocks.specs.Chains.{SpansAbove}
 use Rattle.mc_blocks.specs.Outcomes.{HoldsApplications, AgreeBut}

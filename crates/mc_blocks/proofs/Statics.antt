@@ -3,11 +3,11 @@ use Rattle.std.proofs.Common.{◌≡◌, ◌⊎◌, ℕ, ◌+◌, ◌<◌, ◌�
 use Rattle.std.specs.Prelude.{◌==◌, nat_le, slice_index, bytes_eq, MatchBool}
 use Rattle.std.proofs.lemmas.Slice.Eq.{bytes_eq-Decides}
 use Rattle.std.proofs.lemmas.Bool.{eqb-true, leb-true, and_parts, or_cases}
-use Rattle.mc_model.specs.Bytes.{up, be2, lookup, insert, has_name}
-use Rattle.mc_model.specs.Device.{IsSized}
-use Rattle.mc_model.specs.Card.{App, Block, word, header, blocks, section, record_at, name_in, name_at, app_of, app_at, apps_of, card_of, needed_of}
-use Rattle.mc_model.specs.Layout.{is_record, words_fault, first_hole, bad_link}
-use Rattle.mc_model.proofs.ListLemmas.{other-name}
+use Rattle.mc_model_device.specs.Bytes.{up, be2, lookup, insert, has_name}
+use Rattle.mc_model_device.specs.Device.{IsSized}
+use Rattle.mc_model_device.specs.Card.{App, Block, word, header, blocks, section, record_at, name_in, name_at, app_of, app_at, apps_of, card_of, needed_of}
+use Rattle.mc_model_device.specs.Layout.{is_record, words_fault, first_hole, bad_link}
+use Rattle.mc_model_device.proofs.ListLemmas.{other-name}
 use Rattle.mc_blocks.specs.Chains.{SpansAbove}
 use Rattle.mc_blocks.specs.Blocks.{hole_spans, is_root_word}
 use Rattle.mc_blocks.specs.Plans.{has_room}

@@ -2,8 +2,8 @@
 use Rattle.std.proofs.Common.{◌≡◌, ◌≢◌, ◌⊎◌, ℕ, ◌+◌, ◌-◌, ◌<◌, ◌≤◌, Bool, true, false, ◌&&◌, List, [], ◌∷◌, refl, sym, ◌∙◌, ap, subst, inl, inr, arith, cond, not}
 use Rattle.std.specs.Prelude.{nat_lt, nat_le, ◌==◌}
 use Rattle.std.proofs.lemmas.Bool.{le-ltb, ltb-true, ltb-false, eq-eqb, ne_eqb, eqb-true, and_parts, leb-true, or_cases}
-use Rattle.mc_model.specs.Card.{Block, heap_start}
-use Rattle.mc_model.specs.Layout.{first_hole, first_place, hole_header, used_header, put_at}
+use Rattle.mc_model_device.specs.Card.{Block, heap_start}
+use Rattle.mc_model_device.specs.Layout.{first_hole, first_place, hole_header, used_header, put_at}
 use Rattle.mc_blocks.specs.Chains.{SpansAbove}
 use Rattle.mc_blocks.specs.Blocks.{used_spans, hole_spans}
 use Rattle.mc_blocks.specs.Plans.{changes, layout_of, link_word, has_room, gap_before, gaps_behind, take_list}

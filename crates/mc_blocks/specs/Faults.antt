@@ -1,6 +1,6 @@
 -- What the code found wrong, as a fault.
 use Rattle.std.specs.Prelude.{ℕ, Option, Some, None, Result, Ok, Err}
-use Rattle.mc_model.specs.declared.card.Cause.{Cause}
+use Rattle.mc_model_device.specs.declared.cause.Cause.{Cause}
 use Rattle.mc_blocks.specs.declared.image.Shape.{Shape}
 use Rattle.mc_blocks.specs.declared.image.Unusable.{Unusable}
 

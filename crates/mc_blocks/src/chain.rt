@@ -1,7 +1,7 @@
 // The links of an image, judged by the blocks: root and holes name the next hole, used headers name none.
 ghost use Rattle.std.specs.Prelude.{◌≡◌, ◌+◌, ◌≤◌, length, cond};
-ghost use Rattle.mc_model.specs.Card.{blocks};
-ghost use Rattle.mc_model.specs.Layout.{bad_chain, bad_link, first_hole};
+ghost use Rattle.mc_model_device.specs.Card.{blocks};
+ghost use Rattle.mc_model_device.specs.Layout.{bad_chain, bad_link, first_hole};
 ghost use Rattle.mc_blocks.specs.Blocks.{blocks_at, used_spans, hole_spans};
 
 use crate::block::{Block, block_at};

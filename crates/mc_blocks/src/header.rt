@@ -1,5 +1,5 @@
 ghost use Rattle.std.specs.Prelude.{◌≡◌};
-ghost use Rattle.mc_model.specs.Layout.{hole_header, used_header, root};
+ghost use Rattle.mc_model_device.specs.Layout.{hole_header, used_header, root};
 
 use mc_base::{Word, bytes_of};
 

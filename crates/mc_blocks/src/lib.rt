@@ -22,6 +22,6 @@ pub use laws::{
     fits_room, format_rows, holds_layout, inserts_span, keeps_card, plan_rows, plans_steps,
     removes_span, sets_application, walks_card, writes_plan,
 };
-pub use mc_model::Cause;
+pub use mc_model_device::Cause;
 pub use plan::{free_plan, take_plan};
 pub use room::first_fit;

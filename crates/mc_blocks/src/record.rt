@@ -1,7 +1,7 @@
 ghost use Rattle.std.specs.Prelude.{◌≡◌, ◌+◌, ◌≤◌, length, slice_index, bytes_eq};
-ghost use Rattle.mc_model.specs.Bytes.{be2, zeros, up};
-ghost use Rattle.mc_model.specs.Card.{record_at, needed_of};
-ghost use Rattle.mc_model.specs.Layout.{is_record};
+ghost use Rattle.mc_model_device.specs.Bytes.{be2, zeros, up};
+ghost use Rattle.mc_model_device.specs.Card.{record_at, needed_of};
+ghost use Rattle.mc_model_device.specs.Layout.{is_record};
 ghost use Rattle.mc_blocks.specs.Records.{named, sized, allowed};
 
 use mc_base::number_of;

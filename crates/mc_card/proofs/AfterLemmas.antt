@@ -1,14 +1,13 @@
 -- What the atomic writes of a chain leave of a card.
 use Rattle.std.proofs.Common.{◌≡◌, ℕ, true, false, List, length, Option, Some, None, Ok, refl, sym, ◌∙◌, subst}
 use Rattle.std.specs.Prelude.{option_map}
-use Rattle.mc_model.specs.declared.card.Part.{Part}
-use Rattle.mc_model.specs.Orders.{Answer, InOrder}
-use Rattle.mc_model.specs.Device.{DeviceState, Wrote as DeviceWrote}
-use Rattle.mc_model.specs.Card.{Card as ModelCard, means}
-use Rattle.mc_model.specs.Items.{Site, BankItem, card_done}
-use Rattle.mc_model.specs.Manager.{Selected, Seat}
-use Rattle.mc_model.specs.Chain.{Write}
-use Rattle.mc_model.specs.Play.{write_items}
+use Rattle.mc_model_card.specs.declared.card.Part.{Part}
+use Rattle.mc_model_device.specs.Orders.{Answer, InOrder}
+use Rattle.mc_model_device.specs.Device.{DeviceState, Wrote as DeviceWrote}
+use Rattle.mc_model_device.specs.Card.{Card as ModelCard, means}
+use Rattle.mc_model_card.specs.Items.{Site, BankItem, card_done, write_items}
+use Rattle.mc_model_card.specs.Manager.{Selected, Seat}
+use Rattle.mc_model_machine.specs.Chain.{Write}
 use Rattle.mc_bank.specs.Bank.{BankState, app_of}
 use Rattle.mc_bank.proofs.Commits.{slots-in_order, sites-in_order}
 use Rattle.mc_store.specs.declared.store.Store.{Store}

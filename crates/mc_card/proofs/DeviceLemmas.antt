@@ -1,15 +1,15 @@
 -- What a command leaves of the device itself: which one it is, its power, and its counts of stops.
 use Rattle.std.proofs.Common.{◌≡◌, ℕ, true, List, Some, Result, Ok, Err, refl, sym, subst}
-use Rattle.mc_model.specs.declared.device.Stop.{Stop}
-use Rattle.mc_model.specs.Orders.{Answer, answer_of}
-use Rattle.mc_model.specs.Apdu.{ApduParts}
-use Rattle.mc_model.specs.Manager.{routed}
-use Rattle.mc_model.specs.Play.{Command, by_route}
-use Rattle.mc_model.specs.Device.{DeviceState, Wrote, Ended}
-use Rattle.mc_model.specs.Card.{Card}
-use Rattle.mc_model.specs.Items.{Item}
-use Rattle.mc_model.proofs.DeviceLemmas.{DoneAll, makes-done, makes-stopped}
-use Rattle.mc_model.proofs.LoopLemmas.{makes-same}
+use Rattle.mc_model_device.specs.declared.device.Stop.{Stop}
+use Rattle.mc_model_device.specs.Orders.{Answer, answer_of}
+use Rattle.mc_model_machine.specs.Apdu.{ApduParts}
+use Rattle.mc_model_card.specs.Manager.{routed}
+use Rattle.mc_model_card.specs.Commands.{Command, by_route}
+use Rattle.mc_model_device.specs.Device.{DeviceState, Wrote, Ended}
+use Rattle.mc_model_device.specs.Card.{Card}
+use Rattle.mc_model_card.specs.Items.{Item}
+use Rattle.mc_model_device.proofs.DeviceLemmas.{DoneAll, makes-done, makes-stopped}
+use Rattle.mc_model_device.proofs.LoopLemmas.{makes-same}
 use Rattle.mc_machine.specs.declared.outcome.Outcome.{Outcome}
 use Rattle.mc_store.specs.GoingLaws.{going_is}
 use Rattle.mc_card.specs.declared.card.Card.{Card as CardOf}

@@ -2,21 +2,21 @@
 use Rattle.std.proofs.Common.{◌≡◌, ℕ, Bool, true, false, cond, List, [], ◌∷◌, length, Option, Some, None, Ok, Err, refl, sym, ◌∙◌, ap, subst}
 use Rattle.std.specs.Prelude.{◌==◌, ◌&&◌, Result, bytes_eq, is_some, option_map, unwrap_or, IsSome}
 use Rattle.std.proofs.lemmas.List.{length-replicate}
-use Rattle.mc_model.specs.declared.card.Part.{Part}
-use Rattle.mc_model.specs.declared.card.Part.TheVariants as part
-use Rattle.mc_model.specs.declared.card.Sizes.{Sizes}
-use Rattle.mc_model.specs.declared.unit.AidFault.{AidFault}
-use Rattle.mc_model.specs.declared.device.Stop.{Stop}
-use Rattle.mc_model.specs.Orders.{Answer, InOrder}
-use Rattle.mc_model.specs.Apdu.{ApduParts}
-use Rattle.mc_model.specs.Bytes.{zeros, lookup, insert, remove}
-use Rattle.mc_model.specs.Device.{DeviceState, Wrote}
-use Rattle.mc_model.specs.Card.{App, Card as ModelCard}
-use Rattle.mc_model.specs.Units.{name_of}
-use Rattle.mc_model.specs.Items.{BankItem}
-use Rattle.mc_model.specs.Manager.{Selected, Seat, Open, Managed, Declines, Accepts, Accepted, Route, WrongLength, WrongClass, ToSelect, ToManager, ToApplication, routed, fresh, first_status, answered, select_refusals, select_done, select, open_refusals, open_done, load_refusals, load_done, load_part, create_refusals, create_done, create, dir_in, is_taken, delete_refusals, delete_done, delete, is_selected, manage, room_on}
-use Rattle.mc_model.specs.Chain.{Reply}
-use Rattle.mc_model.specs.Play.{Command, managed, passed, by_route}
+use Rattle.mc_model_card.specs.declared.card.Part.{Part}
+use Rattle.mc_model_card.specs.declared.card.Part.TheVariants as part
+use Rattle.mc_model_card.specs.declared.card.Sizes.{Sizes}
+use Rattle.mc_model_card.specs.declared.unit.AidFault.{AidFault}
+use Rattle.mc_model_device.specs.declared.device.Stop.{Stop}
+use Rattle.mc_model_device.specs.Orders.{Answer, InOrder}
+use Rattle.mc_model_machine.specs.Apdu.{ApduParts}
+use Rattle.mc_model_device.specs.Bytes.{zeros, lookup, insert, remove}
+use Rattle.mc_model_device.specs.Device.{DeviceState, Wrote}
+use Rattle.mc_model_device.specs.Card.{App, Card as ModelCard}
+use Rattle.mc_model_card.specs.Units.{name_of}
+use Rattle.mc_model_card.specs.Items.{BankItem}
+use Rattle.mc_model_card.specs.Manager.{Selected, Seat, Open, Managed, Declines, Accepts, Accepted, Route, WrongLength, WrongClass, ToSelect, ToManager, ToApplication, routed, fresh, first_status, answered, select_refusals, select_done, select, open_refusals, open_done, load_refusals, load_done, load_part, create_refusals, create_done, create, dir_in, is_taken, delete_refusals, delete_done, delete, is_selected, manage, room_on}
+use Rattle.mc_model_machine.specs.Chain.{Reply}
+use Rattle.mc_model_card.specs.Commands.{Command, managed, passed, by_route}
 use Rattle.mc_bank.specs.Bank.{no_app, app_of}
 use Rattle.mc_bank.specs.NameLaws.{name_is_itself, same_name, lookup-beside}
 use Rattle.mc_bank.specs.Slots.{slot_place}

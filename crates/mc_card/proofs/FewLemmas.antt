@@ -2,25 +2,25 @@
 use Rattle.std.proofs.Common.{◌≡◌, ℕ, zero, suc, ◌+◌, ◌-◌, ◌≤◌, Bool, true, false, cond, not, List, [], ◌∷◌, ◌++◌, length, map, Option, Some, None, Result, Ok, Err, refl, sym, ap, subst, inl, inr, arith, length-append}
 use Rattle.std.specs.Prelude.{⊤, ◌==◌}
 use Rattle.std.specs.List.{AllByRecursion}
-use Rattle.mc_model.specs.declared.card.Part.{Part}
-use Rattle.mc_model.specs.declared.card.Part.TheVariants as part
-use Rattle.mc_model.specs.declared.unit.AidFault.{AidFault}
-use Rattle.mc_model.specs.declared.device.Stop.{Stop}
-use Rattle.mc_model.specs.Orders.{Answer, InOrder}
-use Rattle.mc_model.specs.Bytes.{lookup}
-use Rattle.mc_model.specs.Image.{Two}
-use Rattle.mc_model.specs.Stopped.{cost}
-use Rattle.mc_model.specs.Apdu.{ApduParts}
-use Rattle.mc_model.specs.Device.{DeviceState, IsSized, Wrote as DeviceWrote}
-use Rattle.mc_model.specs.Card.{App, Card, means}
-use Rattle.mc_model.specs.Chain.{Write, no_app}
-use Rattle.mc_model.specs.Items.{Change, Fixed, Created, Deleted, Item, Plain, Atomic, weight, moves, card_done, BankItem, Piece, Blank, Note, Commit, Enter, Remove}
-use Rattle.mc_model.specs.Manager.{Seat, Selected, Route, WrongLength, WrongClass, ToSelect, ToManager, ToApplication, Open, Accepted, Managed, Declines, Accepts, answered, select, select_done, manage, open_load, open_refusals, open_done, delete, delete_refusals, delete_done, load_part, load_done, load_refusals, create, create_done, create_refusals, first_status, dir_in, room_on}
-use Rattle.mc_model.specs.Units.{name_of}
-use Rattle.mc_model.specs.Play.{write_items, item_of, atomic_of, managed, by_route}
-use Rattle.mc_model.proofs.OrdersLemmas.{InOrder-append}
-use Rattle.mc_family.proofs.FewHeaders.{few_headers_law}
-use Rattle.mc_family.proofs.RowWords.{few_writes_law}
+use Rattle.mc_model_card.specs.declared.card.Part.{Part}
+use Rattle.mc_model_card.specs.declared.card.Part.TheVariants as part
+use Rattle.mc_model_card.specs.declared.unit.AidFault.{AidFault}
+use Rattle.mc_model_device.specs.declared.device.Stop.{Stop}
+use Rattle.mc_model_device.specs.Orders.{Answer, InOrder}
+use Rattle.mc_model_device.specs.Bytes.{lookup}
+use Rattle.mc_model_device.specs.Image.{Two}
+use Rattle.mc_model_device.specs.Stopped.{cost}
+use Rattle.mc_model_machine.specs.Apdu.{ApduParts}
+use Rattle.mc_model_device.specs.Device.{DeviceState, IsSized, Wrote as DeviceWrote}
+use Rattle.mc_model_device.specs.Card.{App, Card, means}
+use Rattle.mc_model_machine.specs.Chain.{Write, no_app}
+use Rattle.mc_model_card.specs.Items.{Change, Fixed, Created, Deleted, Item, Plain, Atomic, weight, moves, card_done, BankItem, Piece, Blank, Note, Commit, Enter, Remove, write_items}
+use Rattle.mc_model_card.specs.Manager.{Seat, Selected, Route, WrongLength, WrongClass, ToSelect, ToManager, ToApplication, Open, Accepted, Managed, Declines, Accepts, answered, select, select_done, manage, open_load, open_refusals, open_done, delete, delete_refusals, delete_done, load_part, load_done, load_refusals, create, create_done, create_refusals, first_status, dir_in, room_on}
+use Rattle.mc_model_card.specs.Units.{name_of}
+use Rattle.mc_model_card.specs.Commands.{item_of, atomic_of, managed, by_route}
+use Rattle.mc_model_device.proofs.OrdersLemmas.{InOrder-append}
+use Rattle.mc_machine_laws.proofs.FewHeaders.{few_headers_law}
+use Rattle.mc_machine_laws.proofs.RowWords.{few_writes_law}
 use Rattle.mc_bank.specs.Bank.{BankState, AreApps}
 use Rattle.mc_store.specs.declared.store.Store.{Store}
 use Rattle.mc_store.specs.Store.{apps_in, is_going, store_state}

@@ -5,21 +5,21 @@ use Rattle.std.specs.List.{AllByRecursion}
 use Rattle.std.proofs.lemmas.List.{length-map}
 use Rattle.std.proofs.lemmas.Bool.{cases_lt, le-leb, lt-leb, eq-eqb, leb-false}
 use Rattle.std.proofs.lemmas.Bool.Decides.{eqb_tells}
-use Rattle.mc_model.specs.declared.card.Cause.{Cause}
-use Rattle.mc_model.specs.declared.device.Stop.{Stop}
-use Rattle.mc_model.specs.Orders.{Answer, InOrder}
-use Rattle.mc_model.specs.Bytes.{lookup}
-use Rattle.mc_model.specs.Image.{Two, look, Closed, debt}
-use Rattle.mc_model.specs.Device.{DeviceState, IsSized, Wrote}
-use Rattle.mc_model.specs.Stopped.{cost, stands, owes, torn, writes, IsAtomic}
-use Rattle.mc_model.specs.Card.{App, Card, card_of, means}
-use Rattle.mc_model.specs.Layout.{words_fault, fault, step_of, IsWellLaid}
-use Rattle.mc_model.specs.Items.{Change, Item, Plain, Atomic, Stopped, with_item, in_flight, weight, moves, changed, done, card_done, at_stop, BankItem, Piece, Blank, Note, Commit, Enter, Remove}
-use Rattle.mc_model.specs.Play.{OnCard, base_of}
-use Rattle.mc_model.proofs.OrdersLemmas.{InOrder-append}
-use Rattle.mc_model.proofs.DeviceLemmas.{DoneAll, makes-done}
-use Rattle.mc_model.proofs.StoppedLemmas.{torn-within, torn-past}
-use Rattle.mc_model.proofs.CallLemmas.{length-writes}
+use Rattle.mc_model_device.specs.declared.cause.Cause.{Cause}
+use Rattle.mc_model_device.specs.declared.device.Stop.{Stop}
+use Rattle.mc_model_device.specs.Orders.{Answer, InOrder}
+use Rattle.mc_model_device.specs.Bytes.{lookup}
+use Rattle.mc_model_device.specs.Image.{Two, look, Closed, debt}
+use Rattle.mc_model_device.specs.Device.{DeviceState, IsSized, Wrote}
+use Rattle.mc_model_device.specs.Stopped.{cost, stands, owes, torn, writes, IsAtomic}
+use Rattle.mc_model_device.specs.Card.{App, Card, card_of, means}
+use Rattle.mc_model_device.specs.Layout.{words_fault, fault, step_of, IsWellLaid}
+use Rattle.mc_model_card.specs.Items.{Change, Item, Plain, Atomic, Stopped, with_item, in_flight, weight, moves, changed, done, card_done, at_stop, BankItem, Piece, Blank, Note, Commit, Enter, Remove}
+use Rattle.mc_model_device.specs.PowerUp.{OnCard, base_of}
+use Rattle.mc_model_device.proofs.OrdersLemmas.{InOrder-append}
+use Rattle.mc_model_device.proofs.DeviceLemmas.{DoneAll, makes-done}
+use Rattle.mc_model_device.proofs.StoppedLemmas.{torn-within, torn-past}
+use Rattle.mc_model_device.proofs.CallLemmas.{length-writes}
 use Rattle.mc_bank.specs.Bank.{no_app, app_of, CanCommit, item_done}
 use Rattle.mc_store.specs.Store.{apps_in, part_in, static_writes, card_with, card_without, item_writes, store_standing, Allows, StoreDid}
 use Rattle.mc_store.specs.Power.{HoldsBase}

@@ -4,22 +4,23 @@ use Rattle.std.specs.Prelude.{◌==◌, Result, option_map}
 use Rattle.std.specs.Option.{ForSome}
 use Rattle.std.specs.List.{AllByRecursion}
 use Rattle.std.proofs.lemmas.List.{map-append}
-use Rattle.mc_model.specs.declared.card.Part.{Part}
-use Rattle.mc_model.specs.declared.card.Part.TheVariants as part
-use Rattle.mc_model.specs.declared.card.Sizes.{Sizes}
-use Rattle.mc_model.specs.declared.unit.AidFault.{AidFault}
-use Rattle.mc_model.specs.declared.device.Stop.{Stop}
-use Rattle.mc_model.specs.Orders.{Answer, InOrder}
-use Rattle.mc_model.specs.Apdu.{ApduParts}
-use Rattle.mc_model.specs.Bytes.{lookup, insert}
-use Rattle.mc_model.specs.Image.{Two}
-use Rattle.mc_model.specs.Device.{DeviceState, Wrote}
-use Rattle.mc_model.specs.Card.{App, Card, means}
-use Rattle.mc_model.specs.Layout.{step_of}
-use Rattle.mc_model.specs.Units.{name_of}
-use Rattle.mc_model.specs.Items.{Created, Deleted, Item, Plain, Atomic, card_done, Site, BankItem, Piece, Blank, Note, Commit, Enter, Remove}
-use Rattle.mc_model.specs.Manager.{Seat, Open, got_of, select_body, Managed, Declines, Accepts, Accepted, Route, WrongLength, WrongClass, ToSelect, ToManager, ToApplication, can_create, first_status, answered, select_refusals, select_done, select, open_refusals, open_done, open_load, load_refusals, load_done, load_part, create_refusals, create_done, create_items, create, dir_in, fresh, delete_refusals, delete_done, delete, manage, word_parts, room_on}
-use Rattle.mc_model.specs.Play.{OnCard, item_of, atomic_of, managed, passed, by_route}
+use Rattle.mc_model_card.specs.declared.card.Part.{Part}
+use Rattle.mc_model_card.specs.declared.card.Part.TheVariants as part
+use Rattle.mc_model_card.specs.declared.card.Sizes.{Sizes}
+use Rattle.mc_model_card.specs.declared.unit.AidFault.{AidFault}
+use Rattle.mc_model_device.specs.declared.device.Stop.{Stop}
+use Rattle.mc_model_device.specs.Orders.{Answer, InOrder}
+use Rattle.mc_model_machine.specs.Apdu.{ApduParts}
+use Rattle.mc_model_device.specs.Bytes.{lookup, insert}
+use Rattle.mc_model_device.specs.Image.{Two}
+use Rattle.mc_model_device.specs.Device.{DeviceState, Wrote}
+use Rattle.mc_model_device.specs.Card.{App, Card, means}
+use Rattle.mc_model_device.specs.Layout.{step_of}
+use Rattle.mc_model_card.specs.Units.{name_of}
+use Rattle.mc_model_card.specs.Items.{Created, Deleted, Item, Plain, Atomic, card_done, Site, BankItem, Piece, Blank, Note, Commit, Enter, Remove}
+use Rattle.mc_model_card.specs.Manager.{Seat, Open, got_of, select_body, Managed, Declines, Accepts, Accepted, Route, WrongLength, WrongClass, ToSelect, ToManager, ToApplication, can_create, first_status, answered, select_refusals, select_done, select, open_refusals, open_done, open_load, load_refusals, load_done, load_part, create_refusals, create_done, create_items, create, dir_in, fresh, delete_refusals, delete_done, delete, manage, word_parts, room_on}
+use Rattle.mc_model_device.specs.PowerUp.{OnCard}
+use Rattle.mc_model_card.specs.Commands.{item_of, atomic_of, managed, passed, by_route}
 use Rattle.mc_bank.specs.Bank.{entered}
 use Rattle.mc_manager.specs.ManagerState.{BankView, Loaded, ManagerState, open_of, seat_of, ManagerFits, FitsLoad}
 use Rattle.mc_manager.specs.declared.selection.Selection.{Selection}

@@ -1,10 +1,10 @@
 -- The static segment of an application of a card, as its bank shows it.
 use Rattle.std.proofs.Common.{◌≡◌, ℕ, true, false, List, length, Option, Some, None, refl, sym, ◌∙◌, ap}
 use Rattle.std.specs.Prelude.{is_some, option_map, unwrap_or, IsSome}
-use Rattle.mc_model.specs.Bytes.{lookup}
-use Rattle.mc_model.specs.Device.{DeviceState}
-use Rattle.mc_model.specs.Card.{App, means}
-use Rattle.mc_model.specs.declared.card.Sizes.{Sizes}
+use Rattle.mc_model_device.specs.Bytes.{lookup}
+use Rattle.mc_model_device.specs.Device.{DeviceState}
+use Rattle.mc_model_device.specs.Card.{App, means}
+use Rattle.mc_model_card.specs.declared.card.Sizes.{Sizes}
 use Rattle.mc_bank.specs.Bank.{no_app, app_of, sizes_of}
 use Rattle.mc_store.specs.Store.{apps_in, is_going, store_named}
 use Rattle.mc_store.specs.GoingLaws.{going_is}

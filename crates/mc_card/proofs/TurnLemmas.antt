@@ -1,13 +1,12 @@
 -- What a turn of a chain leaves of a card.
 use Rattle.std.proofs.Common.{◌≡◌, ℕ, ◌+◌, ◌-◌, true, false, List, length, Option, Some, None, Result, Ok, Err, refl, sym, ◌∙◌, ap, subst, arith}
 use Rattle.std.specs.Prelude.{option_map, is_some}
-use Rattle.mc_model.specs.declared.device.Stop.{Stop}
-use Rattle.mc_model.specs.Orders.{Answer, answer_of, InOrder}
-use Rattle.mc_model.specs.Device.{DeviceState, IsSized, Wrote as DeviceWrote}
-use Rattle.mc_model.specs.Card.{App}
-use Rattle.mc_model.specs.Items.{BankItem, done}
-use Rattle.mc_model.specs.Chain.{Chain, Turn as ModelTurn, Outcome as ModelOutcome, Acted, Follows, Continues, Ends, chain_session, end_of, turn_of}
-use Rattle.mc_model.specs.Play.{write_items}
+use Rattle.mc_model_device.specs.declared.device.Stop.{Stop}
+use Rattle.mc_model_device.specs.Orders.{Answer, answer_of, InOrder}
+use Rattle.mc_model_device.specs.Device.{DeviceState, IsSized, Wrote as DeviceWrote}
+use Rattle.mc_model_device.specs.Card.{App}
+use Rattle.mc_model_card.specs.Items.{BankItem, done, write_items}
+use Rattle.mc_model_machine.specs.Chain.{Chain, Turn as ModelTurn, Outcome as ModelOutcome, Acted, Follows, Continues, Ends, chain_session, end_of, turn_of}
 use Rattle.mc_bank.specs.Bank.{BankState, AreApps, app_of}
 use Rattle.mc_store.specs.declared.store.Store.{Store}
 use Rattle.mc_store.specs.Store.{store_state, store_named}

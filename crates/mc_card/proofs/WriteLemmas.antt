@@ -2,14 +2,13 @@
 use Rattle.std.proofs.Common.{◌≡◌, ℕ, ◌+◌, ◌≤◌, true, List, [], ◌∷◌, ◌++◌, length, take, drop, Option, Some, Ok, Err, refl, sym, ◌∙◌, ap, subst, inl, inr, arith, append-nil}
 use Rattle.std.specs.Prelude.{unwrap_or}
 use Rattle.std.proofs.lemmas.List.{length-map, take-append-drop}
-use Rattle.mc_model.specs.Orders.{Answer, InOrder}
-use Rattle.mc_model.specs.Bytes.{lookup, insert, splice}
-use Rattle.mc_model.specs.Pieces.{laid_pieces, laid_words, with_words, with_touched, touched, HoldPieces, LieIn}
-use Rattle.mc_model.specs.Device.{DeviceState, Wrote as DeviceWrote}
-use Rattle.mc_model.specs.Card.{App, Card, means}
-use Rattle.mc_model.specs.Chain.{Write, changed_app, map_changed}
-use Rattle.mc_model.specs.Items.{Fixed, Item, Atomic, card_done, BankItem, Commit}
-use Rattle.mc_model.specs.Play.{write_items}
+use Rattle.mc_model_device.specs.Orders.{Answer, InOrder}
+use Rattle.mc_model_device.specs.Bytes.{lookup, insert, splice}
+use Rattle.mc_model_device.specs.Pieces.{laid_pieces, laid_words, with_words, with_touched, touched, HoldPieces, LieIn}
+use Rattle.mc_model_device.specs.Device.{DeviceState, Wrote as DeviceWrote}
+use Rattle.mc_model_device.specs.Card.{App, Card, means}
+use Rattle.mc_model_machine.specs.Chain.{Write, changed_app, map_changed}
+use Rattle.mc_model_card.specs.Items.{Fixed, Item, Atomic, card_done, BankItem, Commit, write_items}
 use Rattle.mc_trans.proofs.Holding.{words_laid}
 use Rattle.mc_trans.proofs.Putting.{held_same}
 use Rattle.mc_bank.specs.Bank.{BankState, no_app, app_of, with_words as app_with, committed, item_done, Changes}
@@ -23,7 +22,7 @@ use Rattle.mc_card.proofs.StaticLemmas.{going-apps}
 use Rattle.mc_card.proofs.ManagerLemmas.{not-false}
 use Rattle.mc_store.specs.TurnLaws.{some-is}
 use Rattle.mc_card.specs.ItemWrites.{ItemsMade}
-use Rattle.mc_family.specs.FewWords.{PiecesWithin}
+use Rattle.mc_machine_laws.specs.FewWords.{PiecesWithin}
 use Rattle.mc_machine.specs.Chains.{ChainWrote}
 use Rattle.mc_machine.proofs.SoundChains.{IsSoundWrite, AreSound}
 use Rattle.mc_card.proofs.MadeLemmas.{card-found, closed-base, made-none, made-stopped, made-append, IsAtomicAs, made-one}

@@ -1,13 +1,13 @@
 -- The device writes of items on a card, what words they leave wherever one of them stops, and where none does.
 use Rattle.std.specs.Prelude.{◌≡◌, ℕ, zero, suc, ◌-◌, ◌≤◌, List, [], ◌∷◌, length, Ok, Err}
 use Rattle.std.specs.List.{AllByRecursion}
-use Rattle.mc_model.specs.Orders.{Answer}
-use Rattle.mc_model.specs.Image.{Two}
-use Rattle.mc_model.specs.Device.{DeviceState, Makes}
-use Rattle.mc_model.specs.Stopped.{torn}
-use Rattle.mc_model.specs.Card.{Card}
-use Rattle.mc_model.specs.Items.{Item, Stopped, weight, moves, card_done, at_stop}
-use Rattle.mc_model.specs.Play.{OnCard}
+use Rattle.mc_model_device.specs.Orders.{Answer}
+use Rattle.mc_model_device.specs.Image.{Two}
+use Rattle.mc_model_device.specs.Device.{DeviceState, Makes}
+use Rattle.mc_model_device.specs.Stopped.{torn}
+use Rattle.mc_model_device.specs.Card.{Card}
+use Rattle.mc_model_card.specs.Items.{Item, Stopped, weight, moves, card_done, at_stop}
+use Rattle.mc_model_device.specs.PowerUp.{OnCard}
 use Rattle.mc_store.specs.Power.{HoldsBase}
 
 -- words that are a card after the whole items of a stop, and owe what it owes

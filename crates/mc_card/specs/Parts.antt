@@ -1,12 +1,12 @@
 -- What a card is made of, and what it shows: the card in its device's words, its selection and open load, and the chain that runs on it.
 use Rattle.std.specs.Prelude.{◌≡◌, ℕ, true, List, length, option_map, Some, None}
 use Rattle.std.specs.Option.{ForSome}
-use Rattle.mc_model.specs.Device.{DeviceState}
-use Rattle.mc_model.specs.Card.{means}
-use Rattle.mc_model.specs.Card as model
-use Rattle.mc_model.specs.Chain.{Chain, first_frame}
-use Rattle.mc_model.specs.Manager.{Selected, Seat}
-use Rattle.mc_model.specs.Play.{Command, command}
+use Rattle.mc_model_device.specs.Device.{DeviceState}
+use Rattle.mc_model_device.specs.Card.{means}
+use Rattle.mc_model_device.specs.Card as model
+use Rattle.mc_model_machine.specs.Chain.{Chain, first_frame}
+use Rattle.mc_model_card.specs.Manager.{Selected, Seat}
+use Rattle.mc_model_card.specs.Commands.{Command, command}
 use Rattle.mc_bank.specs.Bank.{app_of}
 use Rattle.mc_store.specs.Store.{is_going, store_state, store_named, store_room, store_standing}
 use Rattle.mc_store.specs.Power.{device_of, count_of, over}

@@ -2,17 +2,17 @@
 use Rattle.std.proofs.Common.{◌≡◌, ℕ, ◌+◌, ◌-◌, ◌≤◌, Bool, true, false, cond, List, ◌++◌, length, take, drop, Option, Some, None, refl, sym, ap, subst, ◌∙◌, inl, inr, arith}
 use Rattle.std.specs.Prelude.{◌⊎◌, ◌==◌, not}
 use Rattle.std.proofs.lemmas.Bool.{false_from_ne_true, eqb-true}
-use Rattle.mc_model.specs.declared.instruction.Ins.{Ins}
-use Rattle.mc_model.specs.declared.instruction.Ins.TheVariants as ins
-use Rattle.mc_model.specs.declared.machine.Abend.{Abend}
-use Rattle.mc_model.specs.Bytes.{bytes2, num, splice}
-use Rattle.mc_model.specs.Frame.{Frame, dynamic_base, top, popped, entered}
-use Rattle.mc_model.specs.Primitives.{Around, Done, Goes, going, framed}
-use Rattle.mc_model.specs.Row.{causes, effect, first_cause, judged, row, Abends, Does, holds}
-use Rattle.mc_model.specs.Row as rows
-use Rattle.mc_model.specs.Chain.{stepped}
-use Rattle.mc_model.specs.StackRows.{call_target, is_conditional}
-use Rattle.mc_model.specs.StackShape.{Routine, At, fact, Reached, calls, passes, Depth, called, Accepts, Gives}
+use Rattle.mc_model_machine.specs.declared.instruction.Ins.{Ins}
+use Rattle.mc_model_machine.specs.declared.instruction.Ins.TheVariants as ins
+use Rattle.mc_model_machine.specs.declared.machine.Abend.{Abend}
+use Rattle.mc_model_device.specs.Bytes.{bytes2, num, splice}
+use Rattle.mc_model_machine.specs.Frame.{Frame, dynamic_base, top, popped, entered}
+use Rattle.mc_model_machine.specs.Primitives.{Around, Done, Goes, going, framed}
+use Rattle.mc_model_machine.specs.Row.{causes, effect, first_cause, judged, row, Abends, Does, holds}
+use Rattle.mc_model_machine.specs.Row as rows
+use Rattle.mc_model_machine.specs.Chain.{stepped}
+use Rattle.mc_model_machine.specs.StackRows.{call_target, is_conditional}
+use Rattle.mc_model_machine.specs.StackShape.{Routine, At, fact, Reached, calls, passes, Depth, called, Accepts, Gives}
 use Rattle.mc_check.specs.Standing.{OpenCalls, call}
 use Rattle.mc_check.proofs.AcceptedFacts.{GoodAt, HasStackRoom, HasBases, room_at, gives_at}
 use Rattle.mc_check.proofs.OpenCalls.{IsAtFact, open_front, open_depth, spliced_length, spliced_above, spliced_words}

@@ -2,16 +2,16 @@
 use Rattle.std.proofs.Common.{◌≡◌, ℕ, ◌+◌, ◌-◌, ◌*◌, ◌≤◌, ℤ, Bool, true, false, cond, List, [], ◌∷◌, Option, Some, None, refl, sym, ap, subst, ◌∙◌, arith, le-ltb}
 use Rattle.std.specs.Prelude.{◌==◌, ◌&&◌, ◌||◌, not, nat_lt, slice_index}
 use Rattle.std.proofs.lemmas.Bool.{and_parts, and_left, and_right, not_from_true}
-use Rattle.mc_model.specs.declared.instruction.Ins.{Ins}
-use Rattle.mc_model.specs.declared.instruction.Ins.TheVariants as ins
-use Rattle.mc_model.specs.declared.machine.Abend.{Abend}
-use Rattle.mc_model.specs.declared.machine.Abend.TheVariants.{A06}
-use Rattle.mc_model.specs.Bytes.{num}
-use Rattle.mc_model.specs.Frame.{Frame, floor, dynamic_end, is_under, is_over, popped, top}
-use Rattle.mc_model.specs.Primitives.{Around, Primitive, CheckCase, LoadCcr, StoreCcr, Lookup, MemoryCompare, MemoryCopy, DelegateTo, DelegatorAid, Digest, CompareFixed, CopyFixed, SetProtection, Encipher, Decipher, Sign, BitByte, ShiftLeft, ShiftRight, BitWord, primitive, prim_causes, later_causes, told_causes}
-use Rattle.mc_model.specs.Chain.{stepped}
-use Rattle.mc_model.specs.Row.{causes, first_cause, holds, no_place, on_stack, immediate_reads, immediate_writes, pair_reads, pair_writes}
-use Rattle.mc_model.specs.StackRows.{need, always_abends, prim_abends, height_after, pair_uses, prim_uses, row_uses, is_indirect, counts, call_target, is_inside, target_inside, call_inside, goes_on, jump_target, places_inside}
+use Rattle.mc_model_machine.specs.declared.instruction.Ins.{Ins}
+use Rattle.mc_model_machine.specs.declared.instruction.Ins.TheVariants as ins
+use Rattle.mc_model_machine.specs.declared.machine.Abend.{Abend}
+use Rattle.mc_model_machine.specs.declared.machine.Abend.TheVariants.{A06}
+use Rattle.mc_model_device.specs.Bytes.{num}
+use Rattle.mc_model_machine.specs.Frame.{Frame, floor, dynamic_end, is_under, is_over, popped, top}
+use Rattle.mc_model_machine.specs.Primitives.{Around, Primitive, CheckCase, LoadCcr, StoreCcr, Lookup, MemoryCompare, MemoryCopy, DelegateTo, DelegatorAid, Digest, CompareFixed, CopyFixed, SetProtection, Encipher, Decipher, Sign, BitByte, ShiftLeft, ShiftRight, BitWord, primitive, prim_causes, later_causes, told_causes}
+use Rattle.mc_model_machine.specs.Chain.{stepped}
+use Rattle.mc_model_machine.specs.Row.{causes, first_cause, holds, no_place, on_stack, immediate_reads, immediate_writes, pair_reads, pair_writes}
+use Rattle.mc_model_machine.specs.StackRows.{need, always_abends, prim_abends, height_after, pair_uses, prim_uses, row_uses, is_indirect, counts, call_target, is_inside, target_inside, call_inside, goes_on, jump_target, places_inside}
 use Rattle.mc_check.specs.Checked.{is_excluded}
 use Rattle.mc_check.specs.Standing.{StandsAt}
 use Rattle.mc_check.proofs.CalmWrites.{IsRoomy, stands_roomy}

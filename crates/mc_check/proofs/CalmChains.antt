@@ -3,23 +3,23 @@ use Rattle.std.proofs.Common.{◌≡◌, ℕ, ◌-◌, ◌≤◌, ◌<◌, Bool,
 use Rattle.std.specs.Prelude.{unwrap_or, bytes_eq, ◌||◌, nat_lt, nat_le}
 use Rattle.std.specs.List.{AllByRecursion}
 use Rattle.std.proofs.lemmas.List.{length-append, length-replicate}
-use Rattle.mc_model.specs.declared.instruction.DecodeFault.{DecodeFault}
-use Rattle.mc_model.specs.declared.instruction.DecodeFault.TheVariants.{Undefined, Past}
-use Rattle.mc_model.specs.declared.instruction.Ins.{Ins}
-use Rattle.mc_model.specs.Bytes.{bytes2, lookup, insert, zeros}
-use Rattle.mc_model.specs.Card.{App}
-use Rattle.mc_model.specs.Code.{decoded}
-use Rattle.mc_model.specs.Frame.{Frame, Effect, dynamic_base, public_base, public_end, new_frame, with_sw, la_of}
-use Rattle.mc_model.specs.Primitives.{Around, Then, Goes, Exits, Delegates, Done}
-use Rattle.mc_model.specs.Row.{RowEnd, Abends, Does, row}
-use Rattle.mc_model.specs.Chain.{Chain, Outcome, Reply, Abended, Follows, Continues, Ends, code_in, around, with_pieces, changed_app, map_changed, settled, called, called_app, is_active, depth_of, exited, follows, end_of, told_frame, row_turn, stepped, fetched, acted}
-use Rattle.mc_model.specs.Limits.{most_static}
-use Rattle.mc_model.specs.StackShape.{Main, fact, begins, main, Accepts}
+use Rattle.mc_model_machine.specs.declared.instruction.DecodeFault.{DecodeFault}
+use Rattle.mc_model_machine.specs.declared.instruction.DecodeFault.TheVariants.{Undefined, Past}
+use Rattle.mc_model_machine.specs.declared.instruction.Ins.{Ins}
+use Rattle.mc_model_device.specs.Bytes.{bytes2, lookup, insert, zeros}
+use Rattle.mc_model_device.specs.Card.{App}
+use Rattle.mc_model_machine.specs.Code.{decoded}
+use Rattle.mc_model_machine.specs.Frame.{Frame, Effect, dynamic_base, public_base, public_end, new_frame, with_sw, la_of}
+use Rattle.mc_model_machine.specs.Primitives.{Around, Then, Goes, Exits, Delegates, Done}
+use Rattle.mc_model_machine.specs.Row.{RowEnd, Abends, Does, row}
+use Rattle.mc_model_machine.specs.Chain.{Chain, Outcome, Reply, Abended, Follows, Continues, Ends, code_in, around, with_pieces, changed_app, map_changed, settled, called, called_app, is_active, depth_of, exited, follows, end_of, told_frame, row_turn, stepped, fetched, acted}
+use Rattle.mc_model_device.specs.Limits.{most_static}
+use Rattle.mc_model_machine.specs.StackShape.{Main, fact, begins, main, Accepts}
 use Rattle.mc_bank.specs.Bank.{no_app, app_of}
 use Rattle.mc_bank.specs.NameLaws.{same_name, lookup-inserted, lookup-beside}
-use Rattle.mc_model.proofs.ListLemmas.{splice-longer}
+use Rattle.mc_model_device.proofs.ListLemmas.{splice-longer}
 use Rattle.mc_check.specs.Checked.{ends_excluded, RunsCode, IsCalm, OnFollows}
-use Rattle.mc_family.specs.Begins.{AreLimited}
+use Rattle.mc_machine_laws.specs.Limited.{AreLimited}
 use Rattle.mc_machine.specs.Sound.{IsSoundFrame, IsSoundChain}
 use Rattle.mc_check.specs.Standing.{none}
 use Rattle.mc_machine.proofs.SoundRows.{ChangesWithin, KeepsPartsOf, RowKeeps, row_keeps}

@@ -2,14 +2,14 @@
 use Rattle.std.proofs.Common.{ℕ, ◌-◌, ◌≤◌, Bool, true, false, cond, List, [], ◌∷◌, ◌++◌, length, Option, Some, None, arith}
 use Rattle.std.specs.Prelude.{◌==◌, ◌||◌, nat_le, slice_index, unwrap_or}
 use Rattle.std.proofs.lemmas.List.{length-append, length-replicate}
-use Rattle.mc_model.specs.declared.instruction.Ins.{Ins}
-use Rattle.mc_model.specs.declared.instruction.Ins.TheVariants as ins
-use Rattle.mc_model.specs.Apdu.{ApduParts}
-use Rattle.mc_model.specs.Bytes.{bytes2, zeros}
-use Rattle.mc_model.specs.Frame.{Frame, Effect, Place, Static, Dynamic, Public, where_is, public_base, public_end, static_bytes, static_written, written_in, written, committed, popped, protect, with_sw, with_la, new_public}
-use Rattle.mc_model.specs.Primitives.{Around, Primitive, Lookup, MemoryCopy, DelegatorAid, Digest, CopyFixed, SetProtection, Encipher, Decipher, Sign, primitive, prim_done, prim_effect, looked_up, delegator_told}
-use Rattle.mc_model.specs.Row.{effect}
-use Rattle.mc_model.proofs.ListLemmas.{splice-longer}
+use Rattle.mc_model_machine.specs.declared.instruction.Ins.{Ins}
+use Rattle.mc_model_machine.specs.declared.instruction.Ins.TheVariants as ins
+use Rattle.mc_model_machine.specs.Apdu.{ApduParts}
+use Rattle.mc_model_device.specs.Bytes.{bytes2, zeros}
+use Rattle.mc_model_machine.specs.Frame.{Frame, Effect, Place, Static, Dynamic, Public, where_is, public_base, public_end, static_bytes, static_written, written_in, written, committed, popped, protect, with_sw, with_la, new_public}
+use Rattle.mc_model_machine.specs.Primitives.{Around, Primitive, Lookup, MemoryCopy, DelegatorAid, Digest, CopyFixed, SetProtection, Encipher, Decipher, Sign, primitive, prim_done, prim_effect, looked_up, delegator_told}
+use Rattle.mc_model_machine.specs.Row.{effect}
+use Rattle.mc_model_device.proofs.ListLemmas.{splice-longer}
 
 -- the public segment of an effect is no shorter than this one
 abbrev PublicGrows : List ℕ → Effect → Type 0

@@ -2,14 +2,14 @@
 use Rattle.std.proofs.Common.{◌≡◌, ℕ, zero, suc, ◌≤◌, ◌<◌, List, length, Option, Some, None, refl, sym, ap, ◌∙◌}
 use Rattle.std.specs.Prelude.{unwrap_or}
 use Rattle.std.specs.List.{AllByRecursion}
-use Rattle.mc_model.specs.Apdu.{ApduParts}
-use Rattle.mc_model.specs.Bytes.{lookup}
-use Rattle.mc_model.specs.Card.{App}
-use Rattle.mc_model.specs.Chain.{Chain, Follows, Continues, Ends, acted, turn_of, no_app, start, start_app}
-use Rattle.mc_model.specs.StackShape.{Accepts}
+use Rattle.mc_model_machine.specs.Apdu.{ApduParts}
+use Rattle.mc_model_device.specs.Bytes.{lookup}
+use Rattle.mc_model_device.specs.Card.{App}
+use Rattle.mc_model_machine.specs.Chain.{Chain, Follows, Continues, Ends, acted, turn_of, no_app, start, start_app}
+use Rattle.mc_model_machine.specs.StackShape.{Accepts}
 use Rattle.mc_bank.specs.Bank.{app_of}
 use Rattle.mc_check.specs.Checked.{RunsCode, IsCalm, OnFollows, RunsCalmly, IsChecked}
-use Rattle.mc_family.specs.Begins.{session_in, AreLimited}
+use Rattle.mc_machine_laws.specs.Limited.{session_in, AreLimited}
 use Rattle.mc_machine.specs.Sound.{IsSoundChain}
 use Rattle.mc_machine.proofs.SoundChains.{FollowsSound, turn_sound}
 use Rattle.mc_machine.proofs.SoundRuns.{start_sound}

@@ -3,17 +3,17 @@ use Rattle.std.proofs.Common.{◌≡◌, ℕ, ◌+◌, ◌-◌, ◌≤◌, ◌<�
 use Rattle.std.specs.Prelude.{◌⊎◌}
 use Rattle.std.specs.List.{AllByRecursion}
 use Rattle.std.proofs.lemmas.Bool.{cases_Bool}
-use Rattle.mc_model.specs.declared.checker.CheckCause.TheVariants.{Wild}
-use Rattle.mc_model.specs.declared.instruction.DecodeFault.{DecodeFault}
-use Rattle.mc_model.specs.declared.instruction.Ins.{Ins}
-use Rattle.mc_model.specs.declared.machine.Abend.{Abend}
-use Rattle.mc_model.specs.Code.{Shaped, DecodesTo, decoded}
-use Rattle.mc_model.specs.Frame.{Frame, dynamic_base, public_base, public_end, come_back}
-use Rattle.mc_model.specs.Primitives.{Around, Then, Goes, Exits, Delegates, Done, going, framed}
-use Rattle.mc_model.specs.Row.{effect, first_cause, row, RowEnd, Abends, Does}
-use Rattle.mc_model.specs.Chain.{stepped}
-use Rattle.mc_model.specs.StackRows.{height_after, always_abends, writing, is_plain, counts, goes_on, jump_target, call_target}
-use Rattle.mc_model.specs.StackShape.{Routine, fact, Reached, goes, jumps, Gives, Depth, Accepts}
+use Rattle.mc_model_machine.specs.declared.checker.CheckCause.TheVariants.{Wild}
+use Rattle.mc_model_machine.specs.declared.instruction.DecodeFault.{DecodeFault}
+use Rattle.mc_model_machine.specs.declared.instruction.Ins.{Ins}
+use Rattle.mc_model_machine.specs.declared.machine.Abend.{Abend}
+use Rattle.mc_model_machine.specs.Code.{Shaped, DecodesTo, decoded}
+use Rattle.mc_model_machine.specs.Frame.{Frame, dynamic_base, public_base, public_end, come_back}
+use Rattle.mc_model_machine.specs.Primitives.{Around, Then, Goes, Exits, Delegates, Done, going, framed}
+use Rattle.mc_model_machine.specs.Row.{effect, first_cause, row, RowEnd, Abends, Does}
+use Rattle.mc_model_machine.specs.Chain.{stepped}
+use Rattle.mc_model_machine.specs.StackRows.{height_after, always_abends, writing, is_plain, counts, goes_on, jump_target, call_target}
+use Rattle.mc_model_machine.specs.StackShape.{Routine, fact, Reached, goes, jumps, Gives, Depth, Accepts}
 use Rattle.mc_isa.proofs.PlaceLemmas.{decoded_stands}
 use Rattle.mc_check.specs.Checked.{is_excluded}
 use Rattle.mc_check.specs.Standing.{StandsAt, OpenCalls, none, call, calls_of}

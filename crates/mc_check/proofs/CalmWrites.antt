@@ -3,10 +3,10 @@ use Rattle.std.proofs.Common.{◌≡◌, ℕ, ◌+◌, ◌-◌, ◌≤◌, Bool,
 use Rattle.std.specs.Prelude.{◌==◌, ◌&&◌, ◌||◌, nat_le}
 use Rattle.std.proofs.lemmas.Bool.{and_parts, leb-true}
 use Rattle.std.proofs.lemmas.List.{length-append, length-take-le, take-append-le, drop-take}
-use Rattle.mc_model.specs.Bytes.{splice}
-use Rattle.mc_model.specs.Frame.{Frame, Effect, Place, Static, Dynamic, Public, where_is, floor, dynamic_base, dynamic_end, static_written, written_in, written, pushed, popped, topped, flagged, protect, static_bytes, committed}
-use Rattle.mc_model.specs.Primitives.{framed, effect_flagged}
-use Rattle.mc_model.proofs.ListLemmas.{length-splice}
+use Rattle.mc_model_device.specs.Bytes.{splice}
+use Rattle.mc_model_machine.specs.Frame.{Frame, Effect, Place, Static, Dynamic, Public, where_is, floor, dynamic_base, dynamic_end, static_written, written_in, written, pushed, popped, topped, flagged, protect, static_bytes, committed}
+use Rattle.mc_model_machine.specs.Primitives.{framed, effect_flagged}
+use Rattle.mc_model_device.proofs.ListLemmas.{length-splice}
 use Rattle.mc_check.specs.Standing.{StandsAt, calls_of}
 
 -- ---- lists

@@ -2,15 +2,17 @@
 use Rattle.std.proofs.Common.{ℕ, zero, suc, Bool, true, false, List, [], ◌∷◌, Option, Some, None}
 use Rattle.std.specs.Prelude.{drop}
 use Rattle.std.specs.List.{AllByRecursion}
-use Rattle.mc_model.proofs.ImageLemmas.{all-append}
-use Rattle.mc_model.specs.Apdu.{ApduParts}
-use Rattle.mc_model.specs.Card.{App, Card}
-use Rattle.mc_model.specs.Chain.{Chain, Turn, Follows, Continues, Ends, acted}
-use Rattle.mc_model.specs.Items.{card_done}
-use Rattle.mc_model.specs.Manager.{Selected, Seat, Route, WrongLength, WrongClass, ToSelect, ToManager, ToApplication, route}
-use Rattle.mc_model.specs.DeckGrammar.{DeckLine}
-use Rattle.mc_model.specs.Laws.{bytes_of}
-use Rattle.mc_model.specs.Play.{WornAt, Live, Running, Unpowered, Muted, Base, OnCard, AtFault, State, Cold, Hot, command, is_done, first_worn, plays, start, step}
+use Rattle.mc_model_device.proofs.ImageLemmas.{all-append}
+use Rattle.mc_model_machine.specs.Apdu.{ApduParts}
+use Rattle.mc_model_device.specs.Card.{App, Card}
+use Rattle.mc_model_machine.specs.Chain.{Chain, Turn, Follows, Continues, Ends, acted}
+use Rattle.mc_model_card.specs.Items.{card_done}
+use Rattle.mc_model_card.specs.Manager.{Selected, Seat, Route, WrongLength, WrongClass, ToSelect, ToManager, ToApplication, route}
+use Rattle.mc_model_play.specs.DeckGrammar.{DeckLine}
+use Rattle.mc_model_play.specs.Laws.{bytes_of}
+use Rattle.mc_model_play.specs.Play.{WornAt, Live, Running, Unpowered, Muted, State, Cold, Hot, is_done, first_worn, plays, start, step}
+use Rattle.mc_model_device.specs.PowerUp.{Base, OnCard, AtFault}
+use Rattle.mc_model_card.specs.Commands.{command}
 use Rattle.mc_family.specs.Begins.{BehindDone, OnPassed, OnRouted, OnSent, OnTaken, OnLine, OnEachRun}
 use Rattle.mc_family.proofs.EachRun.{each_run}
 use Rattle.mc_check.specs.Checked.{RunsCode, IsCalm, OnFollows, RunsCalmly}

@@ -1,11 +1,11 @@
 -- The steps of the search: what a CALL and a plain instruction leave in the tables, which facts they reach, and which refusals are due.
 use Rattle.std.proofs.Common.{◌≡◌, ◌≢◌, ◌⊎◌, ◌<◌, ◌≤◌, ◌+◌, ◌-◌, ℕ, Bool, true, false, ◌&&◌, nat_eq, eq-eqb, List, slice_get, Option, Some, None, sym, ap, ap₂, ◌∙◌, subst, inl, inr, arith}
 use Rattle.std.proofs.lemmas.Bool.{cases_eq, true≢false, and_from}
-use Rattle.mc_model.specs.declared.checker.CheckCause.TheVariants.{Returns, Under}
-use Rattle.mc_model.specs.declared.instruction.Ins.{Ins}
-use Rattle.mc_model.specs.StackRows.{counts, goes_on, jump_target, call_target, is_conditional, height_after}
-use Rattle.mc_model.specs.StackShape.{Routine, Main, At, Fact, fact, Stands, look, Gives, Reached, ReturnsWith, Refuses}
-use Rattle.mc_model.specs.StackShape as shape
+use Rattle.mc_model_machine.specs.declared.checker.CheckCause.TheVariants.{Returns, Under}
+use Rattle.mc_model_machine.specs.declared.instruction.Ins.{Ins}
+use Rattle.mc_model_machine.specs.StackRows.{counts, goes_on, jump_target, call_target, is_conditional, height_after}
+use Rattle.mc_model_machine.specs.StackShape.{Routine, Main, At, Fact, fact, Stands, look, Gives, Reached, ReturnsWith, Refuses}
+use Rattle.mc_model_machine.specs.StackShape as shape
 use Rattle.mc_check.specs.declared.table.Entry.{Entry}
 use Rattle.mc_check.specs.declared.shape.Counts.{Counts as Pair}
 use Rattle.mc_check.specs.Table.{IsIn}

@@ -1,12 +1,12 @@
 -- The open calls of a frame: they depend on the bytes below LB alone, and they are calls of the code. And lists that have bytes spliced in.
 use Rattle.std.proofs.Common.{◌≡◌, ℕ, ◌+◌, ◌-◌, ◌≤◌, ◌<◌, true, List, ◌++◌, length, take, drop, Some, refl, sym, ap, ◌∙◌, arith}
 use Rattle.std.proofs.lemmas.List.{length-append, length-take, length-drop, length-take-le, take-take, drop-take, drop-drop, take_at, drop_at, append_assoc}
-use Rattle.mc_model.specs.declared.instruction.Ins.{Ins}
-use Rattle.mc_model.specs.declared.instruction.Ins.TheVariants as ins
-use Rattle.mc_model.specs.Bytes.{bytes2, num, splice}
-use Rattle.mc_model.specs.Frame.{Frame, floor}
-use Rattle.mc_model.specs.StackRows.{call_target, is_call}
-use Rattle.mc_model.specs.StackShape.{Routine, fact, Reached, Depth, main, called}
+use Rattle.mc_model_machine.specs.declared.instruction.Ins.{Ins}
+use Rattle.mc_model_machine.specs.declared.instruction.Ins.TheVariants as ins
+use Rattle.mc_model_device.specs.Bytes.{bytes2, num, splice}
+use Rattle.mc_model_machine.specs.Frame.{Frame, floor}
+use Rattle.mc_model_machine.specs.StackRows.{call_target, is_call}
+use Rattle.mc_model_machine.specs.StackShape.{Routine, fact, Reached, Depth, main, called}
 use Rattle.mc_check.proofs.FactLooks.{fine}
 use Rattle.mc_check.specs.Standing.{StandsAt, OpenCalls, none, call, calls_of}
 

@@ -1,17 +1,18 @@
 -- The turns that a line tells are those of its runs.
 use Rattle.std.proofs.Common.{◌≡◌, ℕ, zero, suc, Bool, true, false, List, [], ◌∷◌, ◌++◌, Option, Some, None, refl, sym, ap, subst, ◌∙◌}
 use Rattle.std.proofs.lemmas.List.{map-append, append-nil}
-use Rattle.mc_model.specs.Apdu.{ApduParts}
-use Rattle.mc_model.specs.Card.{Card}
-use Rattle.mc_model.specs.Chain.{Chain, Turn, Acted, Ran, Follows, Continues, Ends, acted, chain_session, ran, ran_on}
-use Rattle.mc_model.specs.Chain.{start as begun}
-use Rattle.mc_model.specs.Items.{card_done}
-use Rattle.mc_model.specs.Manager.{Selected, Seat, Route, WrongLength, WrongClass, ToSelect, ToManager, ToApplication, Managed, Declines, Accepts, select, manage, room_on, route}
-use Rattle.mc_model.specs.DeckGrammar.{DeckLine}
-use Rattle.mc_model.specs.DeckGrammar as line
-use Rattle.mc_model.specs.Laws.{bytes_of}
-use Rattle.mc_model.specs.Play.{WornAt, Live, Running, Unpowered, Muted, Base, OnCard, AtFault, Warm, State, Cold, Hot, Step, Command, Armed, command, managed, passed, by_route, is_done, send, sent_on, line_command, card_line, hot_step, cold_step, step, select_bytes, delete_bytes}
-use Rattle.mc_model.proofs.PlayLemmas.{step_is}
+use Rattle.mc_model_machine.specs.Apdu.{ApduParts}
+use Rattle.mc_model_device.specs.Card.{Card}
+use Rattle.mc_model_machine.specs.Chain.{Chain, Turn, Acted, Ran, Follows, Continues, Ends, acted, chain_session, ran, ran_on, start as begun}
+use Rattle.mc_model_card.specs.Items.{card_done}
+use Rattle.mc_model_card.specs.Manager.{Selected, Seat, Route, WrongLength, WrongClass, ToSelect, ToManager, ToApplication, Managed, Declines, Accepts, select, manage, room_on, route}
+use Rattle.mc_model_play.specs.DeckGrammar.{DeckLine}
+use Rattle.mc_model_play.specs.DeckGrammar as line
+use Rattle.mc_model_play.specs.Laws.{bytes_of}
+use Rattle.mc_model_play.specs.Play.{WornAt, Live, Running, Unpowered, Muted, Warm, State, Cold, Hot, Step, Armed, is_done, send, sent_on, line_command, card_line, hot_step, cold_step, step, select_bytes, delete_bytes}
+use Rattle.mc_model_device.specs.PowerUp.{Base, OnCard, AtFault}
+use Rattle.mc_model_card.specs.Commands.{Command, command, managed, passed, by_route}
+use Rattle.mc_model_play.proofs.PlayLemmas.{step_is}
 use Rattle.mc_check.specs.Turns.{turns_on, turns_from, turns_passed, turns_routed, turns_behind, turns_sent, turns_taken, turns_in, turns_with, bare}
 
 -- ---- runs

@@ -1,11 +1,11 @@
 -- What is seen of an instruction, in the definition's words.
 use Rattle.std.specs.Prelude.{ℕ, Result, Ok, Err}
-use Rattle.mc_model.specs.declared.checker.CheckCause.{CheckCause}
-use Rattle.mc_model.specs.declared.checker.CheckCause.TheVariants.{Undefined, Past}
-use Rattle.mc_model.specs.declared.instruction.DecodeFault.{DecodeFault}
-use Rattle.mc_model.specs.declared.instruction.DecodeFault.TheVariants as fault
-use Rattle.mc_model.specs.StackRows as shape
-use Rattle.mc_model.specs.StackShape.{FactLook, Bad, Stands}
+use Rattle.mc_model_machine.specs.declared.checker.CheckCause.{CheckCause}
+use Rattle.mc_model_machine.specs.declared.checker.CheckCause.TheVariants.{Undefined, Past}
+use Rattle.mc_model_machine.specs.declared.instruction.DecodeFault.{DecodeFault}
+use Rattle.mc_model_machine.specs.declared.instruction.DecodeFault.TheVariants as fault
+use Rattle.mc_model_machine.specs.StackRows as shape
+use Rattle.mc_model_machine.specs.StackShape.{FactLook, Bad, Stands}
 use Rattle.mc_check.specs.declared.shape.Counts.{Counts}
 use Rattle.mc_check.specs.declared.shape.Seen.{Seen}
 use Rattle.mc_check.specs.declared.uses.Uses.{Uses}

@@ -1,10 +1,10 @@
 -- A frame that runs accepted code: where it stands, and its open calls.
 use Rattle.std.specs.Prelude.{◌≡◌, ◌≤◌, ◌+◌, ◌-◌, ℕ, List, length, take, drop, Some}
-use Rattle.mc_model.specs.declared.instruction.Ins.{Ins}
-use Rattle.mc_model.specs.Bytes.{bytes2}
-use Rattle.mc_model.specs.Frame.{Frame, floor, dynamic_base}
-use Rattle.mc_model.specs.StackRows.{call_target}
-use Rattle.mc_model.specs.StackShape.{Routine, Main, At, fact, Reached, Gives}
+use Rattle.mc_model_machine.specs.declared.instruction.Ins.{Ins}
+use Rattle.mc_model_device.specs.Bytes.{bytes2}
+use Rattle.mc_model_machine.specs.Frame.{Frame, floor, dynamic_base}
+use Rattle.mc_model_machine.specs.StackRows.{call_target}
+use Rattle.mc_model_machine.specs.StackShape.{Routine, Main, At, fact, Reached, Gives}
 
 -- a frame with so many session bytes, whose DT lies that much above LB, and LB that much above the floor
 pub record StandsAt (len size base height : ℕ) (f : Frame) : Type 0 where

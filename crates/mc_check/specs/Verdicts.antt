@@ -1,6 +1,6 @@
 -- What a verdict of the checker says of code, and of every run of it.
 use Rattle.std.specs.Prelude.{ℕ, List, ⊤}
-use Rattle.mc_model.specs.StackShape.{Accepts, Refuses}
+use Rattle.mc_model_machine.specs.StackShape.{Accepts, Refuses}
 use Rattle.mc_check.specs.declared.verdict.Verdict.{Verdict}
 use Rattle.mc_check.specs.declared.verdict.Verdict.TheVariants.{Accept, Refuse}
 use Rattle.mc_check.specs.Checked.{IsChecked}

@@ -1,13 +1,13 @@
 // The bases of routines, or a call by which a routine reaches itself: a search along the calls, from routines to their callers.
 ghost use Rattle.std.specs.Prelude.{◌≡◌, ◌<◌, ◌≤◌, ◌-◌, ◌^◌, ◌++◌, ◌∷◌, ℕ, [], length, replicate, map, take, slice_get, slice_set, Some, OnOk, IfOk, IfErr};
-ghost use Rattle.mc_model.specs.Limits.{most_code};
+ghost use Rattle.mc_model_device.specs.Limits.{most_code};
 ghost use Rattle.mc_check.specs.Table.{IsWholeTable, AreBases, IsFaultDue};
 ghost use Rattle.mc_check.specs.CallList.{AreClosed, AreBasesIn, IsCalled, IsRing};
 ghost use Rattle.mc_check.specs.Searching.{told, Answers, AreBelow, IsSeen, StaySeen, Searches, left, base_of};
 
 use crate::calls::{Call, list_calls};
 use crate::table::{Entry, Fault, Refusal, Routine};
-use mc_model::CheckCause;
+use mc_model_machine::CheckCause;
 use std::alloc::{AllocError, Global};
 
 // How far the search has come with a routine.

@@ -1,7 +1,7 @@
 // Code whose verdict is known.
 use crate::verdict::{Verdict, check};
 use mc_base::NoMemory;
-use mc_model::CheckCause;
+use mc_model_machine::CheckCause;
 use std::alloc::Global;
 use std::test::Fail;
 

@@ -1,10 +1,10 @@
 // Where an instruction goes, and what is seen of a fact alone.
 ghost use Rattle.std.specs.Prelude.{◌≡◌, ◌≤◌, ◌==◌, ◌&&◌, if◌then◌else◌, IfOk, is_some, length, option_map, option_and_then};
-ghost use Rattle.mc_model.specs.Limits.{most_code};
-ghost use Rattle.mc_model.specs.Code.{Shaped};
-ghost use Rattle.mc_model.specs.Frame as frame;
-ghost use Rattle.mc_model.specs.StackRows as shape;
-ghost use Rattle.mc_model.specs.StackShape.{is_main, look, seen};
+ghost use Rattle.mc_model_device.specs.Limits.{most_code};
+ghost use Rattle.mc_model_machine.specs.Code.{Shaped};
+ghost use Rattle.mc_model_machine.specs.Frame as frame;
+ghost use Rattle.mc_model_machine.specs.StackRows as shape;
+ghost use Rattle.mc_model_machine.specs.StackShape.{is_main, look, seen};
 ghost use Rattle.mc_check.specs.Seen.{pair_of, cause_of, seen_as};
 ghost use Rattle.mc_check.specs.Table.{fact_of, routine_of};
 
@@ -13,7 +13,7 @@ pub use crate::uses::height_after;
 use crate::uses::{always_abends, need};
 pub use crate::writing::is_plain;
 use mc_isa::decode;
-use mc_model::{CheckCause, DecodeFault, Ins};
+use mc_model_machine::{CheckCause, DecodeFault, Ins};
 
 // The condition of a jump or call that always goes.
 const ALWAYS: u8 = 7;
@@ -182,7 +182,7 @@ fn looked_at(len: usize, entry: Entry, ins: Ins, next: u16) -> Result<Seen, Chec
 
 /// What stands at a place of code that is reached so: the instruction and the place behind it, or the first rule that is
 /// broken there, as far as it is seen from this alone.
-#[tactic(auto, unfolding(mc_model::specs::StackShape::look))]
+#[tactic(auto, unfolding(mc_model_machine::specs::StackShape::look))]
 pub fn look(code: &[u8], place: u16, entry: Entry) -> Result<Seen, CheckCause>
     requires high { length code.now ≤ most_code }
     ensures seen { seen_as result ≡ look code.now (fact_of place entry) }

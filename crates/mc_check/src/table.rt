@@ -1,5 +1,5 @@
 // What the checker has found out: for each place of the code at most one fact.
-use mc_model::CheckCause;
+use mc_model_machine::CheckCause;
 use std::alloc::{AllocError, AllocFailed};
 
 /// Where a place of code belongs: to the main code, or to the routine that begins at a place.

@@ -1,13 +1,13 @@
 // What an instruction does to the stack: the bytes that it needs, pops and pushes.
 ghost use Rattle.std.specs.Prelude.{◌≡◌, ◌≤◌, ◌*◌};
-ghost use Rattle.mc_model.specs.Code.{Shaped};
-ghost use Rattle.mc_model.specs.Primitives as model;
-ghost use Rattle.mc_model.specs.StackRows as shape;
-ghost use Rattle.mc_model.specs.Row as row;
+ghost use Rattle.mc_model_machine.specs.Code.{Shaped};
+ghost use Rattle.mc_model_machine.specs.Primitives as model;
+ghost use Rattle.mc_model_machine.specs.StackRows as shape;
+ghost use Rattle.mc_model_machine.specs.Row as row;
 ghost use Rattle.mc_prims.specs.Table.{primitive_of};
 ghost use Rattle.mc_check.specs.Seen.{uses_of};
 
-use mc_model::Ins;
+use mc_model_machine::Ins;
 use mc_prims::Primitive;
 
 // The bytes of the stack that an instruction needs, those that it pops, and those that it pushes then.

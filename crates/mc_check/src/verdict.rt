@@ -1,6 +1,6 @@
 // The verdict on code.
 ghost use Rattle.std.specs.Prelude.{◌≤◌, length, IfOk, IfErr};
-ghost use Rattle.mc_model.specs.Limits.{most_code};
+ghost use Rattle.mc_model_device.specs.Limits.{most_code};
 ghost use Rattle.mc_check.specs.Verdicts.{IsVerdictOf, KeepsTo};
 ghost use Rattle.mc_check.specs.Table.{IsFaultDue};
 
@@ -9,7 +9,7 @@ use crate::closing::close;
 use crate::judging::judge;
 use crate::table::Fault;
 use mc_base::NoMemory;
-use mc_model::CheckCause;
+use mc_model_machine::CheckCause;
 use std::alloc::Global;
 
 /// What the checker says of code: how many bytes of stack it takes at most, or where a rule is broken.

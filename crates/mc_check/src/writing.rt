@@ -1,11 +1,11 @@
 // Where an instruction writes, and which of these addresses are plain: they touch no byte of an open call.
 ghost use Rattle.std.specs.Prelude.{◌≡◌, ◌<◌};
-ghost use Rattle.mc_model.specs.Primitives as model;
-ghost use Rattle.mc_model.specs.StackRows as shape;
+ghost use Rattle.mc_model_machine.specs.Primitives as model;
+ghost use Rattle.mc_model_machine.specs.StackRows as shape;
 ghost use Rattle.mc_check.specs.Seen.{writing_of};
 
 use crate::uses::always_abends;
-use mc_model::Ins;
+use mc_model_machine::Ins;
 use mc_prims::Primitive;
 
 // Where an instruction writes: at no address, at n bytes of an address by tag and offset, or at an address that comes

@@ -3,12 +3,12 @@ use Rattle.std.proofs.Common.{◌≡◌, ℕ, zero, suc, ◌+◌, ◌/◌, ◌%�
 use Rattle.std.specs.Prelude.{nat_lt, ◌==◌}
 use Rattle.std.specs.List.{AllByRecursion}
 use Rattle.std.proofs.lemmas.Bool.{and_parts, ltb-true}
-use Rattle.mc_model.specs.Bytes.{AreBytes, bytes}
-use Rattle.mc_model.specs.Text.{numbered, every}
-use Rattle.mc_model.specs.DeckGrammar.{DeckLine, Power, Load, Select, Delete, Apdu}
-use Rattle.mc_model.specs.Generator.{command, next, draw, turns, line_of, opening, closing, cut_line, purse_line, generated, counter, purse, relay, counter_aid, purse_aid, relay_aid}
-use Rattle.mc_model.specs.ReadyAgain.{IsLine}
-use Rattle.mc_model.proofs.ImageLemmas.{all-append}
+use Rattle.mc_model_device.specs.Bytes.{AreBytes, bytes}
+use Rattle.mc_model_machine.specs.Text.{numbered, every}
+use Rattle.mc_model_play.specs.DeckGrammar.{DeckLine, Power, Load, Select, Delete, Apdu}
+use Rattle.mc_model_play.specs.Generator.{command, next, draw, turns, line_of, opening, closing, cut_line, purse_line, generated, counter, purse, relay, counter_aid, purse_aid, relay_aid}
+use Rattle.mc_model_play.specs.ReadyAgain.{IsLine}
+use Rattle.mc_model_device.proofs.ImageLemmas.{all-append}
 
 -- numbers that are all seen to be below 256
 low : (l : List ℕ) → every (λ b. nat_lt b 256) l ≡ true → AreBytes l

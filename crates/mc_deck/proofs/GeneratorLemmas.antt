@@ -2,10 +2,10 @@
 use Rattle.std.proofs.Common.{◌≡◌, ◌==◌, ◌/◌, ℕ, zero, suc, ◌+◌, ◌-◌, ◌<◌, ◌≤◌, ◌%◌, Bool, true, false, cond, List, [], ◌∷◌, ◌++◌, length, append-nil, append_assoc, add-one, arith, refl, sym, ap, ◌∙◌}
 use Rattle.std.specs.Prelude.{nat_lt}
 use Rattle.std.specs.List.{AllByRecursion}
-use Rattle.mc_model.specs.Bytes.{bytes, zeros}
-use Rattle.mc_model.specs.Text.{numbered}
-use Rattle.mc_model.specs.DeckGrammar.{DeckLine, Format, Power, Named, Load, Select, Delete, Dump, Apdu, made_unit}
-use Rattle.mc_model.specs.Generator.{command, next, draw, turns, line_of, opening, closing, opening_word, cut_line, purse_line, generated, counter, purse, relay, counter_aid, purse_aid, relay_aid}
+use Rattle.mc_model_device.specs.Bytes.{bytes, zeros}
+use Rattle.mc_model_machine.specs.Text.{numbered}
+use Rattle.mc_model_play.specs.DeckGrammar.{DeckLine, Format, Power, Named, Load, Select, Delete, Dump, Apdu, made_unit}
+use Rattle.mc_model_play.specs.Generator.{command, next, draw, turns, line_of, opening, closing, opening_word, cut_line, purse_line, generated, counter, purse, relay, counter_aid, purse_aid, relay_aid}
 use Rattle.mc_unit.proofs.Made.{made_name}
 use Rattle.mc_deck.specs.declared.line.OwnedLine.{OwnedLine}
 use Rattle.mc_deck.specs.Lines.{powered_by, UnitWithin, GoodLine, GoodUnit, Timely, OnTime, AreDeck}

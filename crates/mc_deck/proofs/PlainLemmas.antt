@@ -1,9 +1,9 @@
 -- A line that is `apdu`, one blank and digits.
 use Rattle.std.proofs.Common.{◌≡◌, ℕ, ◌<◌, true, List, [], ◌∷◌, length, Option, Some, None, Ok, arith, refl, ap, ◌∙◌}
 use Rattle.std.specs.Prelude.{not, option_and_then, ok_or}
-use Rattle.mc_model.specs.Text.{hex_value, hex_values, before_values, paired, every, is_blank, fields}
-use Rattle.mc_model.specs.declared.deck.DeckCause.TheVariants.{BadHex}
-use Rattle.mc_model.specs.DeckGrammar.{Context, Says, Apdu, hex_field, stated}
+use Rattle.mc_model_machine.specs.Text.{hex_value, hex_values, before_values, paired, every, is_blank, fields}
+use Rattle.mc_model_play.specs.declared.deck.DeckCause.TheVariants.{BadHex}
+use Rattle.mc_model_play.specs.DeckGrammar.{Context, Says, Apdu, hex_field, stated}
 use Rattle.mc_asm.proofs.CleanLemmas.{pieces_none}
 use Rattle.mc_deck.specs.Readers.{line_stated}
 

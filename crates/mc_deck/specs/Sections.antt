@@ -1,12 +1,12 @@
 -- Sections as the code has them, and what they stand for.
 use Rattle.std.specs.Prelude.{ℕ, List, Result}
-use Rattle.mc_model.specs.Text.{err_as}
-use Rattle.mc_model.specs.Units.{UnitParts}
-use Rattle.mc_model.specs.DeckGrammar
-use Rattle.mc_model.specs.Assembly.{assembled_lines}
-use Rattle.mc_model.specs.DeckGrammar.{section_program, unit_within}
-use Rattle.mc_model.specs.declared.deck.DeckCause.{DeckCause}
-use Rattle.mc_model.specs.declared.deck.DeckCause.TheVariants.{Asm, Unit}
+use Rattle.mc_model_machine.specs.Text.{err_as}
+use Rattle.mc_model_card.specs.Units.{UnitParts}
+use Rattle.mc_model_play.specs.DeckGrammar
+use Rattle.mc_model_machine.specs.Assembly.{assembled_lines}
+use Rattle.mc_model_play.specs.DeckGrammar.{section_program, unit_within}
+use Rattle.mc_model_play.specs.declared.deck.DeckCause.{DeckCause}
+use Rattle.mc_model_play.specs.declared.deck.DeckCause.TheVariants.{Asm, Unit}
 use Rattle.mc_asm.specs.Passes.{numbered_lines}
 use Rattle.mc_deck.specs.declared.section.Section.{Section}
 

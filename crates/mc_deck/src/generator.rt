@@ -1,9 +1,9 @@
 // The deck that a number generates.
 ghost use Rattle.std.specs.Prelude.{◌≡◌, ◌≢◌, ◌<◌, ◌≤◌, ◌*◌, ◌+◌, ◌^◌, ℕ, List, [], ◌∷◌, ◌++◌, length, IfOk, OnOk};
 ghost use Rattle.std.specs.List.{AllByRecursion};
-ghost use Rattle.mc_model.specs.Text.{numbered};
-ghost use Rattle.mc_model.specs.Bytes.{bytes};
-ghost use Rattle.mc_model.specs.Generator.{closing, cut_line, generated, line_of, next, opening, purse_line, turns};
+ghost use Rattle.mc_model_machine.specs.Text.{numbered};
+ghost use Rattle.mc_model_device.specs.Bytes.{bytes};
+ghost use Rattle.mc_model_play.specs.Generator.{closing, cut_line, generated, line_of, next, opening, purse_line, turns};
 ghost use Rattle.mc_deck.specs.Lines.{said, said_lines, UnitWithin};
 ghost use Rattle.mc_deck.specs.Generated.{AreUnits};
 

@@ -19,6 +19,6 @@ mod unit;
 pub use deck::Deck;
 pub use generator::generate;
 pub use line::Line;
-pub use mc_model::DeckCause;
+pub use mc_model_play::DeckCause;
 pub use reading::read_deck;
 pub use refusal::DeckRefusal;

@@ -1,9 +1,9 @@
 // Decks, read line by line.
 ghost use Rattle.std.specs.Prelude.{◌≡◌, ◌≢◌, ◌==◌, ◌≤◌, ◌<◌, ◌++◌, ◌∷◌, [], ⊤, true, length, option_map, Ok, Err, Some, None, IfOk, IfErr, OnOk, MatchOption, MatchResult};
 ghost use Rattle.std.specs.List.{AllByRecursion};
-ghost use Rattle.mc_model.specs.Text.{begins, fields};
-ghost use Rattle.mc_model.specs.DeckGrammar.{between, deck_read, turn_at, turn_in, turn_of, with_unit, Context, Named, Within};
-ghost use Rattle.mc_model.specs.ReadyAgain.{IsLine};
+ghost use Rattle.mc_model_machine.specs.Text.{begins, fields};
+ghost use Rattle.mc_model_play.specs.DeckGrammar.{between, deck_read, turn_at, turn_in, turn_of, with_unit, Context, Named, Within};
+ghost use Rattle.mc_model_play.specs.ReadyAgain.{IsLine};
 ghost use Rattle.mc_asm.specs.Items.{texts};
 ghost use Rattle.mc_asm.specs.Passes.{numbered_lines};
 ghost use Rattle.mc_deck.specs.Refused.{DeckRefuses};
@@ -23,7 +23,7 @@ use crate::statement::{Statement, keyword_named, read_statement};
 use crate::text::fields;
 use crate::unit::OwnedUnit;
 use mc_asm::NumberedLine;
-use mc_model::DeckCause;
+use mc_model_play::DeckCause;
 use mc_text::next_line;
 use std::alloc::Global;
 
@@ -296,7 +296,7 @@ fn deck_of(reader: Reader<'_>) -> Deck
 /// which the last may lack; an empty line and one that begins with `#` are skipped. The grammar is this project's own.
 ///
 /// `At` names the first refused line, counted from 1, and its cause.
-#[tactic(auto, unfolding(mc_model::specs::DeckGrammar::deck_read))]
+#[tactic(auto, unfolding(mc_model_play::specs::DeckGrammar::deck_read))]
 pub fn read_deck(alloc: Global, text: &[u8]) -> Result<Deck, DeckRefusal>
     ensures lines { IfOk result (λ d. deck_read text.now ≡ Ok d) }
     ensures refused { IfErr result (λ e. DeckRefuses (deck_read text.now) e) }

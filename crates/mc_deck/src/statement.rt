@@ -1,11 +1,11 @@
 // Statements: a line by its word and its fields.
 ghost use Rattle.std.specs.Prelude.{◌≡◌, ◌<◌, ◌+◌, ℕ, Bool, false, List, [], ◌∷◌, length, option_map, Ok, Err, IfOk, MatchResult};
 ghost use Rattle.std.specs.List.{AllByRecursion};
-ghost use Rattle.mc_model.specs.Bytes.{lookup};
-ghost use Rattle.mc_model.specs.Text.{err_as};
-ghost use Rattle.mc_model.specs.Units.{unit_read};
-ghost use Rattle.mc_model.specs.declared.deck.DeckCause.TheVariants.{Unit};
-ghost use Rattle.mc_model.specs.DeckGrammar.{deck_words, new_name, stated, Context, FormatWord, PowerWord, UnitWord, AppWord, LoadWord, SelectWord, DeleteWord, DumpWord, ApduWord, BudgetWord, CutWord, FailWord, PokeWord};
+ghost use Rattle.mc_model_device.specs.Bytes.{lookup};
+ghost use Rattle.mc_model_machine.specs.Text.{err_as};
+ghost use Rattle.mc_model_card.specs.Units.{unit_read};
+ghost use Rattle.mc_model_play.specs.declared.deck.DeckCause.TheVariants.{Unit};
+ghost use Rattle.mc_model_play.specs.DeckGrammar.{deck_words, new_name, stated, Context, FormatWord, PowerWord, UnitWord, AppWord, LoadWord, SelectWord, DeleteWord, DumpWord, ApduWord, BudgetWord, CutWord, FailWord, PokeWord};
 ghost use Rattle.mc_asm.specs.Items.{texts};
 ghost use Rattle.mc_asm.specs.Parts.{pair_of};
 ghost use Rattle.mc_deck.specs.Refused.{Faulty};
@@ -22,7 +22,7 @@ use crate::names::{Names, place_of};
 use crate::refusal::Fault;
 use crate::unit::{OwnedUnit, copied};
 use mc_base::Aid;
-use mc_model::DeckCause;
+use mc_model_play::DeckCause;
 use mc_unit::read_unit;
 use std::alloc::Global;
 
@@ -96,7 +96,7 @@ pub fn keyword_named(word: &[u8]) -> Option<Keyword>
 }
 
 // `format`, which stands before each `power`.
-#[tactic(auto, unfolding(mc_model::specs::DeckGrammar::stated))]
+#[tactic(auto, unfolding(mc_model_play::specs::DeckGrammar::stated))]
 fn format_statement<'a>(powered: bool, fields: &[&'a [u8]]) -> Result<Statement<'a>, Fault>
     ensures value { (us : List OwnedUnit) (c : Context) (n : ℕ) → powered ≡ c.powered
         → MatchResult result (λ s. stated c n FormatWord (texts fields.now) ≡ Ok (stated_of us c n s))
@@ -115,7 +115,7 @@ fn format_statement<'a>(powered: bool, fields: &[&'a [u8]]) -> Result<Statement<
 }
 
 // `power`.
-#[tactic(auto, unfolding(mc_model::specs::DeckGrammar::stated))]
+#[tactic(auto, unfolding(mc_model_play::specs::DeckGrammar::stated))]
 fn power_statement<'a>(powered: bool, fields: &[&'a [u8]]) -> Result<Statement<'a>, Fault>
     ensures value { (us : List OwnedUnit) (c : Context) (n : ℕ)
         → MatchResult result (λ s. stated c n PowerWord (texts fields.now) ≡ Ok (stated_of us c n s))
@@ -202,7 +202,7 @@ fn new_name<'a>(names: &Names<'a>, name: &'a [u8]) -> Result<(), DeckCause>
 }
 
 // `app NAME AID`.
-#[tactic(auto, unfolding(mc_model::specs::DeckGrammar::stated))]
+#[tactic(auto, unfolding(mc_model_play::specs::DeckGrammar::stated))]
 fn app_statement<'a>(
     alloc: Global,
     names: &Names<'a>,
@@ -224,7 +224,7 @@ fn app_statement<'a>(
 }
 
 // `load NAME STATIC SESSION`.
-#[tactic(auto, unfolding(mc_model::specs::DeckGrammar::stated))]
+#[tactic(auto, unfolding(mc_model_play::specs::DeckGrammar::stated))]
 fn load_statement<'a>(names: &Names<'a>, fields: &[&'a [u8]]) -> Result<Statement<'a>, Fault>
     ensures value { (c : Context) (n : ℕ) → AreNames names.now.places names.now.units.items c.units
         → MatchResult result
@@ -250,7 +250,7 @@ fn load_statement<'a>(names: &Names<'a>, fields: &[&'a [u8]]) -> Result<Statemen
 }
 
 // `select AID`.
-#[tactic(auto, unfolding(mc_model::specs::DeckGrammar::stated))]
+#[tactic(auto, unfolding(mc_model_play::specs::DeckGrammar::stated))]
 fn select_statement<'a>(alloc: Global, fields: &[&'a [u8]]) -> Result<Statement<'a>, Fault>
     ensures value { (us : List OwnedUnit) (c : Context) (n : ℕ)
         → MatchResult result (λ s. stated c n SelectWord (texts fields.now) ≡ Ok (stated_of us c n s))
@@ -264,7 +264,7 @@ fn select_statement<'a>(alloc: Global, fields: &[&'a [u8]]) -> Result<Statement<
 }
 
 // `delete AID`.
-#[tactic(auto, unfolding(mc_model::specs::DeckGrammar::stated))]
+#[tactic(auto, unfolding(mc_model_play::specs::DeckGrammar::stated))]
 fn delete_statement<'a>(alloc: Global, fields: &[&'a [u8]]) -> Result<Statement<'a>, Fault>
     ensures value { (us : List OwnedUnit) (c : Context) (n : ℕ)
         → MatchResult result (λ s. stated c n DeleteWord (texts fields.now) ≡ Ok (stated_of us c n s))
@@ -278,7 +278,7 @@ fn delete_statement<'a>(alloc: Global, fields: &[&'a [u8]]) -> Result<Statement<
 }
 
 // `dump AID`.
-#[tactic(auto, unfolding(mc_model::specs::DeckGrammar::stated))]
+#[tactic(auto, unfolding(mc_model_play::specs::DeckGrammar::stated))]
 fn dump_statement<'a>(alloc: Global, fields: &[&'a [u8]]) -> Result<Statement<'a>, Fault>
     ensures value { (us : List OwnedUnit) (c : Context) (n : ℕ)
         → MatchResult result (λ s. stated c n DumpWord (texts fields.now) ≡ Ok (stated_of us c n s))
@@ -292,7 +292,7 @@ fn dump_statement<'a>(alloc: Global, fields: &[&'a [u8]]) -> Result<Statement<'a
 }
 
 // `apdu HEX`. A field has a digit, so there is a byte.
-#[tactic(auto, unfolding(mc_model::specs::DeckGrammar::stated))]
+#[tactic(auto, unfolding(mc_model_play::specs::DeckGrammar::stated))]
 fn apdu_statement<'a>(alloc: Global, fields: &[&'a [u8]]) -> Result<Statement<'a>, Fault>
     requires { AllByRecursion (λ t. 0 < length t.now) fields.now }
     ensures value { (us : List OwnedUnit) (c : Context) (n : ℕ)
@@ -310,7 +310,7 @@ fn apdu_statement<'a>(alloc: Global, fields: &[&'a [u8]]) -> Result<Statement<'a
 }
 
 // `budget N`.
-#[tactic(auto, unfolding(mc_model::specs::DeckGrammar::stated))]
+#[tactic(auto, unfolding(mc_model_play::specs::DeckGrammar::stated))]
 fn budget_statement<'a>(fields: &[&'a [u8]]) -> Result<Statement<'a>, Fault>
     ensures value { (us : List OwnedUnit) (c : Context) (n : ℕ)
         → MatchResult result (λ s. stated c n BudgetWord (texts fields.now) ≡ Ok (stated_of us c n s))
@@ -324,7 +324,7 @@ fn budget_statement<'a>(fields: &[&'a [u8]]) -> Result<Statement<'a>, Fault>
 }
 
 // `cut K FILL`.
-#[tactic(auto, unfolding(mc_model::specs::DeckGrammar::stated))]
+#[tactic(auto, unfolding(mc_model_play::specs::DeckGrammar::stated))]
 fn cut_statement<'a>(alloc: Global, fields: &[&'a [u8]]) -> Result<Statement<'a>, Fault>
     ensures value { (us : List OwnedUnit) (c : Context) (n : ℕ)
         → MatchResult result (λ s. stated c n CutWord (texts fields.now) ≡ Ok (stated_of us c n s))
@@ -342,7 +342,7 @@ fn cut_statement<'a>(alloc: Global, fields: &[&'a [u8]]) -> Result<Statement<'a>
 }
 
 // `fail K`.
-#[tactic(auto, unfolding(mc_model::specs::DeckGrammar::stated))]
+#[tactic(auto, unfolding(mc_model_play::specs::DeckGrammar::stated))]
 fn fail_statement<'a>(fields: &[&'a [u8]]) -> Result<Statement<'a>, Fault>
     ensures value { (us : List OwnedUnit) (c : Context) (n : ℕ)
         → MatchResult result (λ s. stated c n FailWord (texts fields.now) ≡ Ok (stated_of us c n s))
@@ -356,7 +356,7 @@ fn fail_statement<'a>(fields: &[&'a [u8]]) -> Result<Statement<'a>, Fault>
 }
 
 // `poke AT FILL`, which stands before each `power`.
-#[tactic(auto, unfolding(mc_model::specs::DeckGrammar::stated))]
+#[tactic(auto, unfolding(mc_model_play::specs::DeckGrammar::stated))]
 fn poke_statement<'a>(
     alloc: Global,
     powered: bool,

@@ -7,8 +7,8 @@ use Rattle.std.proofs.Math.Nat.{mul_comm, div-add-mod}
 use Rattle.std.proofs.lemmas.Nat.{and_mask, mod-pow-add}
 use Rattle.std.proofs.lemmas.Nat.Bits.{bit_at_cat_low}
 use Rattle.std.proofs.lemmas.List.{take_at, drop_at, drop_all, get_or-map, length-map}
-use Rattle.mc_model.specs.Modes.{added}
-use Rattle.mc_model.specs.Des.{bits, number, bits_of, bytes_of, pick, rounds, f, with_keys, ciphered, initial, final}
+use Rattle.mc_model_machine.specs.Modes.{added}
+use Rattle.mc_model_machine.specs.Des.{bits, number, bits_of, bytes_of, pick, rounds, f, with_keys, ciphered, initial, final}
 use Rattle.mc_des.specs.Words.{key_bits, passed}
 use Rattle.mc_des.proofs.BitsLemmas.{bits-xor, bits-cat, length-bits}
 use Rattle.mc_des.proofs.CipherFunction.{or_parts}

@@ -5,9 +5,9 @@ use Rattle.std.specs.Int.Bits.{bit_xor}
 use Rattle.std.proofs.Math.Nat.{sub-zero}
 use Rattle.std.proofs.lemmas.Nat.{xor_shr, xor_mod}
 use Rattle.std.proofs.lemmas.List.{reverse-append, length-drop, take_all, map-append}
-use Rattle.mc_model.proofs.ModesLemmas.{chain_step}
-use Rattle.mc_model.specs.Modes.{added, blocks_of, chained}
-use Rattle.mc_model.specs.Des.{ciphered, round_keys, des_encipher, des_decipher, tdes_encipher, tdes_decipher, des_signature, tdes_signature}
+use Rattle.mc_model_machine.proofs.ModesLemmas.{chain_step}
+use Rattle.mc_model_machine.specs.Modes.{added, blocks_of, chained}
+use Rattle.mc_model_machine.specs.Des.{ciphered, round_keys, des_encipher, des_decipher, tdes_encipher, tdes_decipher, des_signature, tdes_signature}
 
 -- ---- the definitions, opened once
 

@@ -4,9 +4,9 @@ use Rattle.std.proofs.Math.Nat.{pow-suc, one-mul, zero-mul}
 use Rattle.std.proofs.lemmas.Bool.{cases_lt}
 use Rattle.std.proofs.lemmas.Nat.Bits.{bit_at_cat_low, bit_at_cat_high}
 use Rattle.std.proofs.lemmas.List.{reverse-append, reverse-reverse, take_at, drop_at, take-append-drop}
-use Rattle.mc_model.specs.Modes.{added, AllBelow, IsBlock}
-use Rattle.mc_model.specs.Des.{bits, number, bits_of, bytes_of, pick, initial, final, permutation, through, boxes, box_at, expansion, f, rounds, with_keys, ciphered, round_keys, des_encipher, des_decipher, tdes_encipher, tdes_decipher}
-use Rattle.mc_model.proofs.ModesLemmas.{added_back, length-added, AllBelow-append, AllBelow-take, AllBelow-drop, AllBelow-at, AllBelow-added, listed_from, listed}
+use Rattle.mc_model_machine.specs.Modes.{added, AllBelow, IsBlock}
+use Rattle.mc_model_machine.specs.Des.{bits, number, bits_of, bytes_of, pick, initial, final, permutation, through, boxes, box_at, expansion, f, rounds, with_keys, ciphered, round_keys, des_encipher, des_decipher, tdes_encipher, tdes_decipher}
+use Rattle.mc_model_machine.proofs.ModesLemmas.{added_back, length-added, AllBelow-append, AllBelow-take, AllBelow-drop, AllBelow-at, AllBelow-added, listed_from, listed}
 use Rattle.mc_des.proofs.BitsLemmas.{length-bits, length-pick}
 use Rattle.mc_des.proofs.BlockLemmas.{number-bits, rounds-cons, rounds-none, with_keys-open, ciphered-open, bytes_of-open, bytes_of-none, bits_of-open}
 use Rattle.mc_des.proofs.CipherFunction.{f-open}

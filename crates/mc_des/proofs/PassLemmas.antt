@@ -2,7 +2,7 @@
 -- permutations between two of them undo each other.
 use Rattle.std.proofs.Common.{◌≡◌, ℕ, List, length, refl, sym, ap, ◌∙◌}
 use Rattle.std.specs.Int.{w64, to_be_bytes}
-use Rattle.mc_model.specs.Des.{bits, bytes_of, pick, initial, final, with_keys, ciphered}
+use Rattle.mc_model_machine.specs.Des.{bits, bytes_of, pick, initial, final, with_keys, ciphered}
 use Rattle.mc_des.specs.Words.{passed}
 use Rattle.mc_des.proofs.BitsLemmas.{length-bits, length-pick}
 use Rattle.mc_des.proofs.BlockLemmas.{bytes_of-bits, ciphered-open}

@@ -1,7 +1,7 @@
 -- How words of the code stand for lists of bits.
 use Rattle.std.specs.Prelude.{ℕ, ◌-◌, ◌*◌, ◌/◌, ◌^◌, List, [], ◌++◌, take, drop, slice_index_or}
-use Rattle.mc_model.specs.Bytes.{zeros}
-use Rattle.mc_model.specs.Des.{bits, box_at, boxes, rounds}
+use Rattle.mc_model_device.specs.Bytes.{zeros}
+use Rattle.mc_model_machine.specs.Des.{bits, box_at, boxes, rounds}
 
 -- four bits alone at a place of n fours, and zeros at the others
 abbrev pub alone : ℕ → ℕ → ℕ → List ℕ

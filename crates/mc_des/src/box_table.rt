@@ -2,7 +2,7 @@
 // its six bits, and is read by one function, whose contract says what it is.
 
 ghost use Rattle.std.specs.Prelude.{◌≡◌, ◌<◌};
-ghost use Rattle.mc_model.specs.Des.{bits, pick, permutation};
+ghost use Rattle.mc_model_machine.specs.Des.{bits, pick, permutation};
 ghost use Rattle.mc_des.specs.Words.{box_alone};
 
 // What each box gives, permuted.

@@ -2,7 +2,7 @@
 // bits plus their value. Each table is read by one function, whose contract says what an entry is.
 
 ghost use Rattle.std.specs.Prelude.{◌≡◌, ◌<◌};
-ghost use Rattle.mc_model.specs.Des.{bits, pick, choice1, choice2};
+ghost use Rattle.mc_model_machine.specs.Des.{bits, pick, choice1, choice2};
 ghost use Rattle.mc_des.specs.Words.{alone, key_bits};
 
 // The first choice of the key schedule.

@@ -1,8 +1,8 @@
 // Known answers of public standards, as theorems: the definition computes them.
 
 ghost use Rattle.std.specs.Prelude.{◌≡◌, true, [], ◌∷◌, ◌++◌, codes};
-ghost use Rattle.mc_model.specs.Bytes.{bytes};
-ghost use Rattle.mc_model.specs.Des.{tdes_encipher, tdes_decipher, des_signature, tdes_signature};
+ghost use Rattle.mc_model_device.specs.Bytes.{bytes};
+ghost use Rattle.mc_model_machine.specs.Des.{tdes_encipher, tdes_decipher, des_signature, tdes_signature};
 ghost use Rattle.mc_des.specs.Vectors.{all_encipher, all_decipher, worked, variable_plaintext, variable_key, permutation_operation, substitution_table};
 
 /// Worked examples, both ways.

@@ -4,22 +4,22 @@ use Rattle.std.specs.Prelude.{⊤, ◌==◌, ◌&&◌, nat_lt, nat_le, bytes_eq,
 use Rattle.std.specs.List.{AllByRecursion, concat}
 use Rattle.std.proofs.lemmas.Bool.{and_parts, leb-true, ltb-true}
 use Rattle.std.proofs.lemmas.List.{length-take}
-use Rattle.mc_model.specs.Bytes.{AreBytes, lookup, insert, remove, up, be2, zeros, has_name}
-use Rattle.mc_model.specs.Code.{DecodesTo}
-use Rattle.mc_model.specs.Device.{IsImage}
-use Rattle.mc_model.specs.Image.{Two, look, after}
-use Rattle.mc_model.specs.Stopped.{cost, stands}
-use Rattle.mc_model.specs.Card.{App, Block, needed_of, record_at, name_in, name_at, app_at, apps_of, blocks, cells, section, words_after, means}
-use Rattle.mc_model.specs.Layout.{is_record, bad_record, fault}
-use Rattle.mc_model.specs.Chain.{code_in, with_pieces, changed_app}
-use Rattle.mc_model.specs.Items.{Change, Fixed, Created, Deleted, Item, Plain, Atomic, changed, done, Stopped, at_stop, in_flight, with_item}
-use Rattle.mc_model.proofs.ImageLemmas.{all-append}
-use Rattle.mc_model.proofs.ImageBytes.{image-settled}
+use Rattle.mc_model_device.specs.Bytes.{AreBytes, lookup, insert, remove, up, be2, zeros, has_name}
+use Rattle.mc_model_machine.specs.Code.{DecodesTo}
+use Rattle.mc_model_device.specs.Device.{IsImage}
+use Rattle.mc_model_device.specs.Image.{Two, look, after}
+use Rattle.mc_model_device.specs.Stopped.{cost, stands}
+use Rattle.mc_model_device.specs.Card.{App, Block, needed_of, record_at, name_in, name_at, app_at, apps_of, blocks, cells, section, words_after, means}
+use Rattle.mc_model_device.specs.Layout.{is_record, bad_record, fault}
+use Rattle.mc_model_machine.specs.Chain.{code_in, with_pieces, changed_app}
+use Rattle.mc_model_card.specs.Items.{Change, Fixed, Created, Deleted, Item, Plain, Atomic, changed, done, Stopped, at_stop, in_flight, with_item}
+use Rattle.mc_model_device.proofs.ImageLemmas.{all-append}
+use Rattle.mc_model_device.proofs.ImageBytes.{image-settled}
 use Rattle.mc_isa.proofs.PlaceLemmas.{decoded_stands}
-use Rattle.mc_family.specs.FewRuns.{AreCoded}
-use Rattle.mc_family.proofs.AscendingMaps.{Ascending, each-found, each-inserted, each-removed, ascending-inserted, ascending-removed, length-again}
-use Rattle.mc_family.proofs.AppSizes.{Limited, are-limited}
-use Rattle.mc_family.proofs.FewHeaders.{insert-length, remove-length}
+use Rattle.mc_machine_laws.specs.FewRuns.{AreCoded}
+use Rattle.mc_machine_laws.proofs.AscendingMaps.{Ascending, each-found, each-inserted, each-removed, ascending-inserted, ascending-removed, length-again}
+use Rattle.mc_machine_laws.proofs.AppSizes.{Limited, are-limited}
+use Rattle.mc_machine_laws.proofs.FewHeaders.{insert-length, remove-length}
 use Rattle.mc_family.proofs.PlaySizes.{good-records, sound-after}
 
 -- ---- lists of bytes

@@ -1,22 +1,23 @@
 -- A creation is the last item of its line, so where it stands the map has it.
 use Rattle.std.specs.Prelude.{◌≡◌, ℕ, ◌-◌, Bool, true, false, cond, nat_le, ◌==◌, List, [], ◌∷◌, ◌++◌, length, map, Option, Some, None, Result, Ok, Err, ⊤}
 use Rattle.std.proofs.Common.{refl, ap, sym, subst, ◌∙◌}
-use Rattle.mc_model.specs.declared.card.Part.{Part}
-use Rattle.mc_model.specs.declared.card.Part.TheVariants as part
-use Rattle.mc_model.specs.declared.unit.AidFault.{AidFault}
-use Rattle.mc_model.specs.Bytes.{zeros, lookup, insert, remove}
-use Rattle.mc_model.specs.Image.{Two}
-use Rattle.mc_model.specs.Stopped.{cost, stands}
-use Rattle.mc_model.specs.Apdu.{ApduParts}
-use Rattle.mc_model.specs.Units.{name_of}
-use Rattle.mc_model.specs.Card.{App, Card}
-use Rattle.mc_model.specs.Chain.{Write, map_changed, run}
-use Rattle.mc_model.specs.Items.{Change, Fixed, Created, Deleted, Item, Plain, Atomic, done, Stopped, with_item, in_flight, at_stop, Site, BankItem, Piece, Blank, Note, Commit, Enter, Remove}
-use Rattle.mc_model.specs.Items as items
-use Rattle.mc_model.specs.Manager.{Selected, Open, Seat, Route, WrongLength, WrongClass, ToSelect, ToManager, ToApplication, route, Managed, Accepts, Accepted, answered, first_status, select_done, select_refusals, open_refusals, open_done, load_refusals, load_done, load_part, dir_in, create_refusals, create_done, fresh, got_of, word_parts, delete_refusals, delete_done, manage, room_on}
-use Rattle.mc_model.specs.Play.{Command, item_of, atomic_of, managed, passed, by_route, command, refused, write_items, is_done, send, sent_on}
-use Rattle.mc_model.specs.Laws.{Sent, made_by, made_of, created_in, without_places, AllAreIn}
-use Rattle.mc_family.proofs.MapLemmas.{lookup-inserted}
+use Rattle.mc_model_card.specs.declared.card.Part.{Part}
+use Rattle.mc_model_card.specs.declared.card.Part.TheVariants as part
+use Rattle.mc_model_card.specs.declared.unit.AidFault.{AidFault}
+use Rattle.mc_model_device.specs.Bytes.{zeros, lookup, insert, remove}
+use Rattle.mc_model_device.specs.Image.{Two}
+use Rattle.mc_model_device.specs.Stopped.{cost, stands}
+use Rattle.mc_model_machine.specs.Apdu.{ApduParts}
+use Rattle.mc_model_card.specs.Units.{name_of}
+use Rattle.mc_model_device.specs.Card.{App, Card}
+use Rattle.mc_model_machine.specs.Chain.{Write, map_changed, run}
+use Rattle.mc_model_card.specs.Items.{Change, Fixed, Created, Deleted, Item, Plain, Atomic, done, Stopped, with_item, in_flight, at_stop, Site, BankItem, Piece, Blank, Note, Commit, Enter, Remove, write_items}
+use Rattle.mc_model_card.specs.Items as items
+use Rattle.mc_model_card.specs.Manager.{Selected, Open, Seat, Route, WrongLength, WrongClass, ToSelect, ToManager, ToApplication, route, Managed, Accepts, Accepted, answered, first_status, select_done, select_refusals, open_refusals, open_done, load_refusals, load_done, load_part, dir_in, create_refusals, create_done, fresh, got_of, word_parts, delete_refusals, delete_done, manage, room_on}
+use Rattle.mc_model_card.specs.Commands.{Command, item_of, atomic_of, managed, passed, by_route, command, refused}
+use Rattle.mc_model_play.specs.Play.{is_done, send, sent_on}
+use Rattle.mc_model_play.specs.Laws.{Sent, made_by, made_of, created_in, without_places, AllAreIn}
+use Rattle.mc_machine_laws.proofs.MapLemmas.{lookup-inserted}
 use Rattle.mc_family.proofs.LoadCommands.{IsFiller, AreFillers}
 use Rattle.mc_family.proofs.FreshCommands.{load_sent, made_at, command-fresh}
 

@@ -4,24 +4,24 @@ use Rattle.std.specs.Prelude.{⊤, ◌==◌, nat_lt, nat_le, ok_or, option_map, 
 use Rattle.std.specs.List.{AllByRecursion}
 use Rattle.std.proofs.lemmas.Bool.{and_parts, leb-true}
 use Rattle.std.proofs.Math.Seq.{take-length}
-use Rattle.mc_model.specs.declared.deck.DeckCause.{DeckCause}
-use Rattle.mc_model.specs.declared.deck.DeckCause.TheVariants.{BadLine, BadHex, OutOfRange, UnknownName, LateLine}
-use Rattle.mc_model.specs.declared.deck.DeckCause.TheVariants as causes
-use Rattle.mc_model.specs.declared.unit.UnitRefusal.TheVariants.{NoCode, TooLarge}
-use Rattle.mc_model.specs.Bytes.{AreBytes, lookup}
-use Rattle.mc_model.specs.Text.{◌>>=◌, ok_as, err_as, only_if, begins, lines, numbered, fields, is_within, is_digit, hex_value, before_values, hex_values, paired, hex_bytes}
-use Rattle.mc_model.specs.Units.{UnitParts, unit_read}
-use Rattle.mc_model.specs.Assembly.{assembled_lines}
-use Rattle.mc_model.specs.DeckGrammar.{DeckLine, hex_field, bytes_field, aid_field, fill_field, name_field, number_field, Context, Section, Stated, Says, Opens, Word, FormatWord, PowerWord, UnitWord, AppWord, LoadWord, SelectWord, DeleteWord, DumpWord, ApduWord, BudgetWord, CutWord, FailWord, PokeWord, deck_words, new_name, early, with_unit, stated, made_unit, unit_within, is_data, is_end, data_hex, data_of_line, section_data, section_program, section_unit, Mode, Between, Within, LineTurn, turn_of, between, within, turn_in, turn_at, ended, deck_lines, deck_read}
-use Rattle.mc_model.specs.DeckGrammar as line
-use Rattle.mc_model.specs.Play.{WornAt, State, step, plays, first_worn, start}
-use Rattle.mc_model.specs.ReadyAgain.{AllFitJournal, IsLine, AreLines}
-use Rattle.mc_model.proofs.ImageLemmas.{all-append}
+use Rattle.mc_model_play.specs.declared.deck.DeckCause.{DeckCause}
+use Rattle.mc_model_play.specs.declared.deck.DeckCause.TheVariants.{BadLine, BadHex, OutOfRange, UnknownName, LateLine}
+use Rattle.mc_model_play.specs.declared.deck.DeckCause.TheVariants as causes
+use Rattle.mc_model_card.specs.declared.unit.UnitRefusal.TheVariants.{NoCode, TooLarge}
+use Rattle.mc_model_device.specs.Bytes.{AreBytes, lookup}
+use Rattle.mc_model_machine.specs.Text.{◌>>=◌, ok_as, err_as, only_if, begins, lines, numbered, fields, is_within, is_digit, hex_value, before_values, hex_values, paired, hex_bytes}
+use Rattle.mc_model_card.specs.Units.{UnitParts, unit_read}
+use Rattle.mc_model_machine.specs.Assembly.{assembled_lines}
+use Rattle.mc_model_play.specs.DeckGrammar.{DeckLine, hex_field, bytes_field, aid_field, fill_field, name_field, number_field, Context, Section, Stated, Says, Opens, Word, FormatWord, PowerWord, UnitWord, AppWord, LoadWord, SelectWord, DeleteWord, DumpWord, ApduWord, BudgetWord, CutWord, FailWord, PokeWord, deck_words, new_name, early, with_unit, stated, made_unit, unit_within, is_data, is_end, data_hex, data_of_line, section_data, section_program, section_unit, Mode, Between, Within, LineTurn, turn_of, between, within, turn_in, turn_at, ended, deck_lines, deck_read}
+use Rattle.mc_model_play.specs.DeckGrammar as line
+use Rattle.mc_model_play.specs.Play.{WornAt, State, step, plays, first_worn, start}
+use Rattle.mc_model_play.specs.ReadyAgain.{AllFitJournal, IsLine, AreLines}
+use Rattle.mc_model_device.proofs.ImageLemmas.{all-append}
 use Rattle.mc_family.specs.ReadDecks.{ReadLinesLaw, ReadDecksLaw}
-use Rattle.mc_family.proofs.AscendingMaps.{each-found}
+use Rattle.mc_machine_laws.proofs.AscendingMaps.{each-found}
 use Rattle.mc_family.proofs.AssembledBytes.{bind-ok, as-ok, err-ok, only-ok, cond-ok, any-ok, assembled-ok}
 use Rattle.mc_family.proofs.UnitBytes.{UnitBytes, unit-ok}
-use Rattle.mc_model.proofs.PlayLemmas.{step_is}
+use Rattle.mc_model_play.proofs.PlayLemmas.{step_is}
 use Rattle.mc_family.proofs.FewLines.{few_words}
 use Rattle.mc_family.proofs.ReadyLines.{ready_again}
 

@@ -2,14 +2,14 @@
 use Rattle.std.specs.Prelude.{◌≡◌, ℕ, zero, suc, ◌+◌, ◌-◌, ◌<◌, ◌≤◌, Bool, true, false, cond, ◌==◌, nat_le, List, [], ◌∷◌, ◌++◌, refl, Result, Ok, Err}
 use Rattle.std.proofs.Common.{arith, ap, sym, ◌∙◌}
 use Rattle.std.proofs.lemmas.Bool.Decides.{nat_tests}
-use Rattle.mc_model.specs.declared.instruction.Ins.{Ins}
-use Rattle.mc_model.specs.declared.instruction.DecodeFault.{DecodeFault}
-use Rattle.mc_model.specs.declared.instruction.DecodeFault.TheVariants.{Undefined, Past}
-use Rattle.mc_model.specs.Image.{Two}
-use Rattle.mc_model.specs.Stopped.{cost}
-use Rattle.mc_model.specs.Items.{Item, Plain, Atomic, moves, at_stop, with_item, Stopped}
-use Rattle.mc_model.specs.Row.{RowEnd, Abends, Does}
-use Rattle.mc_model.specs.Chain.{Chain, Ran, Acted, Follows, Continues, Ends, acted, fetched, row_turn, ran, ran_on}
+use Rattle.mc_model_machine.specs.declared.instruction.Ins.{Ins}
+use Rattle.mc_model_machine.specs.declared.instruction.DecodeFault.{DecodeFault}
+use Rattle.mc_model_machine.specs.declared.instruction.DecodeFault.TheVariants.{Undefined, Past}
+use Rattle.mc_model_device.specs.Image.{Two}
+use Rattle.mc_model_device.specs.Stopped.{cost}
+use Rattle.mc_model_card.specs.Items.{Item, Plain, Atomic, moves, at_stop, with_item, Stopped}
+use Rattle.mc_model_machine.specs.Row.{RowEnd, Abends, Does}
+use Rattle.mc_model_machine.specs.Chain.{Chain, Ran, Acted, Follows, Continues, Ends, acted, fetched, row_turn, ran, ran_on}
 use Rattle.mc_family.specs.Split.{with_whole}
 
 -- a test of k that chooses between a stop in the first item and one behind it

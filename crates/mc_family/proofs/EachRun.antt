@@ -1,13 +1,15 @@
 -- What holds of every run that begins well holds of every run of a play.
 use Rattle.std.proofs.Common.{ℕ, Bool, true, false, List, [], ◌∷◌, Option, Some, None}
-use Rattle.mc_model.specs.Apdu.{ApduParts}
-use Rattle.mc_model.specs.Card.{App, Card}
-use Rattle.mc_model.specs.Chain.{Chain}
-use Rattle.mc_model.specs.Items.{card_done}
-use Rattle.mc_model.specs.Manager.{Selected, Seat, Route, WrongLength, WrongClass, ToSelect, ToManager, ToApplication, route}
-use Rattle.mc_model.specs.DeckGrammar.{DeckLine}
-use Rattle.mc_model.specs.Play.{WornAt, Live, Running, Unpowered, Muted, Base, OnCard, AtFault, State, Cold, Hot, Step, command, is_done, plays, start}
-use Rattle.mc_model.specs.Laws.{bytes_of}
+use Rattle.mc_model_machine.specs.Apdu.{ApduParts}
+use Rattle.mc_model_device.specs.Card.{App, Card}
+use Rattle.mc_model_machine.specs.Chain.{Chain}
+use Rattle.mc_model_card.specs.Items.{card_done}
+use Rattle.mc_model_card.specs.Manager.{Selected, Seat, Route, WrongLength, WrongClass, ToSelect, ToManager, ToApplication, route}
+use Rattle.mc_model_play.specs.DeckGrammar.{DeckLine}
+use Rattle.mc_model_play.specs.Play.{WornAt, Live, Running, Unpowered, Muted, State, Cold, Hot, Step, is_done, plays, start}
+use Rattle.mc_model_device.specs.PowerUp.{Base, OnCard, AtFault}
+use Rattle.mc_model_card.specs.Commands.{command}
+use Rattle.mc_model_play.specs.Laws.{bytes_of}
 use Rattle.mc_family.specs.Begins.{PassedWell, RoutedWell, BehindDone, SentWell, TakenWell, LineWell, BeginWell, OnPassed, OnRouted, OnSent, OnTaken, OnLine, OnEachRun, HoldsWherever}
 use Rattle.mc_family.proofs.PlaySizes.{begins_law}
 

@@ -1,17 +1,17 @@
 -- The law of isolation for a family, by induction on the lines of a play.
 use Rattle.std.specs.Prelude.{◌≡◌, ◌⊎◌, ℕ, zero, suc, Bool, true, false, cond, ◌&&◌, List, [], ◌∷◌, ◌++◌, take, bytes_eq, Option, Some, None, ⊤}
 use Rattle.std.proofs.Common.{refl, ap, sym, subst, ◌∙◌, inl, inr}
-use Rattle.mc_model.specs.Bytes.{has_name, lookup}
-use Rattle.mc_model.specs.Card.{App, placed}
-use Rattle.mc_model.specs.Items.{Item, StopAt}
-use Rattle.mc_model.specs.Play.{Armed, State, Cold, Hot, LineResult, Step, WornAt, MayHit, Possible, step, cold_step, hit_of, power_moves, power_after, warmed, plays, last_state, start}
-use Rattle.mc_model.specs.Family.{ClosedPairs, Closed, is_own}
-use Rattle.mc_model.specs.Given.{Event, own_apps, apps_in, is_power, first_apps, events_of, events, given, dump_events}
-use Rattle.mc_model.specs.Solo.{Solo, Heard, silent, heard_before, hears_all, solo}
-use Rattle.mc_model.specs.View.{is_seen, seen_if, answers, rest_of, work_if, work, IsIsolated}
-use Rattle.mc_model.specs.DeckGrammar.{DeckLine}
-use Rattle.mc_model.specs.DeckGrammar as line
-use Rattle.mc_family.proofs.MapLemmas.{same_name}
+use Rattle.mc_model_device.specs.Bytes.{has_name, lookup}
+use Rattle.mc_model_device.specs.Card.{App, placed}
+use Rattle.mc_model_card.specs.Items.{Item, StopAt}
+use Rattle.mc_model_play.specs.Play.{Armed, State, Cold, Hot, LineResult, Step, WornAt, MayHit, Possible, step, cold_step, hit_of, power_moves, power_after, warmed, plays, last_state, start}
+use Rattle.mc_model_play.specs.Family.{ClosedPairs, Closed, is_own}
+use Rattle.mc_model_play.specs.Given.{Event, own_apps, apps_in, is_power, first_apps, events_of, events, given, dump_events}
+use Rattle.mc_model_play.specs.Solo.{Solo, Heard, silent, heard_before, hears_all, solo}
+use Rattle.mc_model_play.specs.View.{is_seen, seen_if, answers, rest_of, work_if, work, IsIsolated}
+use Rattle.mc_model_play.specs.DeckGrammar.{DeckLine}
+use Rattle.mc_model_play.specs.DeckGrammar as line
+use Rattle.mc_machine_laws.proofs.MapLemmas.{same_name}
 use Rattle.mc_family.proofs.Agreement.{bare, MapsAgree}
 use Rattle.mc_family.proofs.Sim.{Simulates, LineKeepsSimulation, hears_all-append, hears_none, rest-alike}
 use Rattle.mc_family.proofs.HotLines.{hot-kept, SameAfterPower, powered, power-keeps}

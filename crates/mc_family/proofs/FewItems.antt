@@ -2,25 +2,26 @@
 use Rattle.std.proofs.Common.{◌≡◌, ℕ, ◌+◌, ◌*◌, ◌-◌, ◌≤◌, ◌<◌, Bool, true, false, cond, not, List, [], ◌∷◌, ◌++◌, take, drop, length, Option, Some, None, Result, Ok, Err, refl, sym, subst, ◌∙◌, arith}
 use Rattle.std.specs.Prelude.{⊤, ◌==◌, ◌&&◌, ◌||◌, nat_lt, nat_le, map, is_none, is_ok, option_map, option_and_then}
 use Rattle.std.specs.List.{AllByRecursion}
-use Rattle.mc_model.specs.declared.card.Part.{Part}
-use Rattle.mc_model.specs.declared.card.Part.TheVariants as part
-use Rattle.mc_model.specs.declared.unit.AidFault.{AidFault}
-use Rattle.mc_model.specs.declared.unit.AidFault.TheVariants.{AidLength}
-use Rattle.mc_model.specs.Bytes.{AreBytes, lookup, insert, remove, zeros}
-use Rattle.mc_model.specs.Apdu.{ApduParts, Rest, rest_read, short_rest, extended_rest, extended_body, apdu_read}
-use Rattle.mc_model.specs.Units.{name_of, checked_name, template_of, name_among}
-use Rattle.mc_model.specs.Card.{App, Card}
-use Rattle.mc_model.specs.Layout.{step_of}
-use Rattle.mc_model.specs.Chain.{Write, no_app, run}
-use Rattle.mc_model.specs.Items.{Change, Fixed, Created, Plain, Atomic, changed, done, card_done, Site, Piece, Blank}
-use Rattle.mc_model.specs.Manager.{Selected, Open, Seat, Route, WrongLength, WrongClass, ToSelect, ToManager, ToApplication, route, routed, Accepted, Managed, Declines, Accepts, answered, first_status, is_empty, p1p2, select_done, select_refusals, select, sizes_in, fits_limits, open_done, open_load, load_refusals, load_done, load_part, word_parts, got_of, with_got, Got, can_create, dir_in, is_taken, fresh, create_done, create, is_selected, delete_done, delete, manage, room_on}
-use Rattle.mc_model.specs.Play.{Command, item_of, managed, write_items, passed, by_route, command, is_done, sent_on, send}
-use Rattle.mc_model.specs.ReadyAgain.{FitsJournal}
-use Rattle.mc_model.proofs.ImageLemmas.{all-append}
-use Rattle.mc_family.proofs.AppSizes.{Limited, limited-done, done-append}
+use Rattle.mc_model_card.specs.declared.card.Part.{Part}
+use Rattle.mc_model_card.specs.declared.card.Part.TheVariants as part
+use Rattle.mc_model_card.specs.declared.unit.AidFault.{AidFault}
+use Rattle.mc_model_card.specs.declared.unit.AidFault.TheVariants.{AidLength}
+use Rattle.mc_model_device.specs.Bytes.{AreBytes, lookup, insert, remove, zeros}
+use Rattle.mc_model_machine.specs.Apdu.{ApduParts, Rest, rest_read, short_rest, extended_rest, extended_body, apdu_read}
+use Rattle.mc_model_card.specs.Units.{name_of, checked_name, template_of, name_among}
+use Rattle.mc_model_device.specs.Card.{App, Card}
+use Rattle.mc_model_device.specs.Layout.{step_of}
+use Rattle.mc_model_machine.specs.Chain.{Write, no_app, run}
+use Rattle.mc_model_card.specs.Items.{Change, Fixed, Created, Plain, Atomic, changed, done, card_done, Site, Piece, Blank, write_items}
+use Rattle.mc_model_card.specs.Manager.{Selected, Open, Seat, Route, WrongLength, WrongClass, ToSelect, ToManager, ToApplication, route, routed, Accepted, Managed, Declines, Accepts, answered, first_status, is_empty, p1p2, select_done, select_refusals, select, sizes_in, fits_limits, open_done, open_load, load_refusals, load_done, load_part, word_parts, got_of, with_got, Got, can_create, dir_in, is_taken, fresh, create_done, create, is_selected, delete_done, delete, manage, room_on}
+use Rattle.mc_model_card.specs.Commands.{Command, item_of, managed, passed, by_route, command}
+use Rattle.mc_model_play.specs.Play.{is_done, sent_on, send}
+use Rattle.mc_model_play.specs.ReadyAgain.{FitsJournal}
+use Rattle.mc_model_device.proofs.ImageLemmas.{all-append}
+use Rattle.mc_machine_laws.proofs.AppSizes.{Limited, limited-done, done-append}
 use Rattle.mc_family.proofs.CardFacts.{all-take, AreOnCard, are-coded, name-short, ChangeStands, ItemsStand, fixed-again, done-stands, stand-append}
-use Rattle.mc_family.proofs.FewHeaders.{few_headers_law}
-use Rattle.mc_family.proofs.FewRuns.{few_runs_law}
+use Rattle.mc_machine_laws.proofs.FewHeaders.{few_headers_law}
+use Rattle.mc_machine_laws.proofs.FewRuns.{few_runs_law}
 use Rattle.mc_family.proofs.PlaySizes.{notes, SeatFits, CommandFits, command-fits}
 
 -- ---- the bytes of a command

@@ -2,29 +2,31 @@
 use Rattle.std.proofs.Common.{◌≡◌, ℕ, zero, suc, ◌+◌, ◌-◌, ◌<◌, Bool, true, false, cond, List, [], ◌∷◌, ◌++◌, take, drop, length, Option, Some, None, refl, subst, arith}
 use Rattle.std.specs.Prelude.{⊤, ◌==◌, nat_le, slice_set}
 use Rattle.std.specs.List.{AllByRecursion}
-use Rattle.mc_model.specs.declared.card.Cause.{Cause}
-use Rattle.mc_model.specs.declared.device.Stop.{Stop}
-use Rattle.mc_model.specs.declared.device.Stop.TheVariants as stop
-use Rattle.mc_model.specs.Bytes.{AreBytes, bytes2, zeros}
-use Rattle.mc_model.specs.Units.{UnitParts}
-use Rattle.mc_model.specs.Device.{IsImage}
-use Rattle.mc_model.specs.Image.{Journal, One, shut}
-use Rattle.mc_model.specs.Stopped.{stands}
-use Rattle.mc_model.specs.Card.{App, Card, heap_start}
-use Rattle.mc_model.specs.Layout.{root, hole_header, fault}
-use Rattle.mc_model.specs.Items.{moves, done, StopAt, at_stop}
-use Rattle.mc_model.specs.Manager.{Seat}
-use Rattle.mc_model.specs.DeckGrammar.{DeckLine}
-use Rattle.mc_model.specs.DeckGrammar as line
-use Rattle.mc_model.specs.Play.{Armed, Live, Running, Unpowered, Muted, Base, OnCard, AtFault, Warm, State, Cold, Hot, Step, Command, select_bytes, delete_bytes, piece_commands, section_commands, load_commands, line_command, hit_of, WornAt, live_after, migrated, power_live, power_after, stopped_power, power_moves, line_after, card_line, hot_step, cold_step, step, base_of, warmed, plays, first_worn, start, formatted}
-use Rattle.mc_model.specs.ReadyAgain.{FitsJournal, AllFitJournal, IsLine, AreLines}
-use Rattle.mc_model.proofs.ImageLemmas.{all-append}
-use Rattle.mc_model.proofs.LookLemmas.{IsFull}
-use Rattle.mc_model.proofs.PlayLemmas.{step_is}
-use Rattle.mc_model.proofs.ImageBytes.{image-set, shut-full}
+use Rattle.mc_model_device.specs.declared.cause.Cause.{Cause}
+use Rattle.mc_model_device.specs.declared.device.Stop.{Stop}
+use Rattle.mc_model_device.specs.declared.device.Stop.TheVariants as stop
+use Rattle.mc_model_device.specs.Bytes.{AreBytes, bytes2, zeros}
+use Rattle.mc_model_card.specs.Units.{UnitParts}
+use Rattle.mc_model_device.specs.Device.{IsImage}
+use Rattle.mc_model_device.specs.Image.{Journal, One, shut}
+use Rattle.mc_model_device.specs.Stopped.{stands}
+use Rattle.mc_model_device.specs.Card.{App, Card, heap_start}
+use Rattle.mc_model_device.specs.Layout.{root, hole_header, fault}
+use Rattle.mc_model_card.specs.Items.{moves, done, StopAt, at_stop}
+use Rattle.mc_model_card.specs.Manager.{Seat}
+use Rattle.mc_model_play.specs.DeckGrammar.{DeckLine}
+use Rattle.mc_model_play.specs.DeckGrammar as line
+use Rattle.mc_model_play.specs.Play.{Armed, Live, Running, Unpowered, Muted, Warm, State, Cold, Hot, Step, select_bytes, delete_bytes, piece_commands, section_commands, load_commands, line_command, hit_of, WornAt, live_after, power_live, power_after, stopped_power, power_moves, line_after, card_line, hot_step, cold_step, step, warmed, plays, first_worn, start, formatted}
+use Rattle.mc_model_device.specs.PowerUp.{Base, OnCard, AtFault, migrated, base_of}
+use Rattle.mc_model_card.specs.Commands.{Command}
+use Rattle.mc_model_play.specs.ReadyAgain.{FitsJournal, AllFitJournal, IsLine, AreLines}
+use Rattle.mc_model_device.proofs.ImageLemmas.{all-append}
+use Rattle.mc_model_device.proofs.LookLemmas.{IsFull}
+use Rattle.mc_model_play.proofs.PlayLemmas.{step_is}
+use Rattle.mc_model_device.proofs.ImageBytes.{image-set, shut-full}
 use Rattle.mc_family.proofs.CardFacts.{all-take, all-drop, AreOnCard, done-stands, whole-stand, means-on-card}
 use Rattle.mc_family.proofs.FewItems.{IsSent, SeatStands, CommandStands, command-stands, send-stands}
-use Rattle.mc_family.proofs.AppSizes.{Limited}
+use Rattle.mc_machine_laws.proofs.AppSizes.{Limited}
 use Rattle.mc_family.proofs.HotLines.{hot}
 use Rattle.mc_family.proofs.PlaySizes.{SeatFits, BaseFits, StateFits, step-fits}
 

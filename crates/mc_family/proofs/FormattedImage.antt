@@ -4,12 +4,12 @@ use Rattle.std.specs.Prelude.{bytes_eq, nat_le, ◌==◌, slice_index, slice_set
 use Rattle.std.proofs.lemmas.Bool.{le-leb, le-ltb, eq-eqb, ne_eqb}
 use Rattle.std.proofs.lemmas.List.{length-set, get_or-set_same, get_or-set_other, get_or_past}
 use Rattle.std.proofs.lemmas.Slice.Eq.{bytes_eq-Decides}
-use Rattle.mc_model.specs.Bytes.{be2, zeros, or_else}
-use Rattle.mc_model.specs.Image.{One, Two, opening, shut, which_of, Closed, look, look_at, word_at}
-use Rattle.mc_model.specs.Card.{Block, word, header, heap_start, blocks_from, blocks, block_and}
-use Rattle.mc_model.specs.Layout.{root, hole_header, no_root, bad_block, bad_record, bad_chain, by_cause, words_fault, fault, fault_of}
-use Rattle.mc_model.specs.declared.card.Cause.TheVariants.{NoRoot, BadBlock, BadRecord, BadChain}
-use Rattle.mc_model.specs.Play.{formatted}
+use Rattle.mc_model_device.specs.Bytes.{be2, zeros, or_else}
+use Rattle.mc_model_device.specs.Image.{One, Two, opening, shut, which_of, Closed, look, look_at, word_at}
+use Rattle.mc_model_device.specs.Card.{Block, word, header, heap_start, blocks_from, blocks, block_and}
+use Rattle.mc_model_device.specs.Layout.{root, hole_header, no_root, bad_block, bad_record, bad_chain, by_cause, words_fault, fault, fault_of}
+use Rattle.mc_model_device.specs.declared.cause.Cause.TheVariants.{NoRoot, BadBlock, BadRecord, BadChain}
+use Rattle.mc_model_play.specs.Play.{formatted}
 
 -- the words of an empty card of layout 2
 record IsEmptyCard (n : ℕ) (w : List (List ℕ)) : Type 0 where

@@ -3,19 +3,20 @@ use Rattle.std.specs.Prelude.{◌≡◌, ℕ, ◌-◌, Bool, true, false, cond, 
 use Rattle.std.proofs.Common.{refl, ap, sym, ◌∙◌}
 use Rattle.std.proofs.lemmas.Bool.{eqb-true, and_parts}
 use Rattle.std.proofs.lemmas.List.{append_assoc, append-nil}
-use Rattle.mc_model.specs.declared.card.Part.{Part}
-use Rattle.mc_model.specs.declared.card.Part.TheVariants as part
-use Rattle.mc_model.specs.declared.unit.AidFault.{AidFault}
-use Rattle.mc_model.specs.Bytes.{zeros, lookup}
-use Rattle.mc_model.specs.Apdu.{ApduParts}
-use Rattle.mc_model.specs.Units.{name_of}
-use Rattle.mc_model.specs.Card.{App, Card, placed}
-use Rattle.mc_model.specs.Chain.{Write, run}
-use Rattle.mc_model.specs.Items.{Created, Item, Plain, Atomic, Site, BankItem, Piece, Blank, Note, Commit, Enter, Remove}
-use Rattle.mc_model.specs.Items as items
-use Rattle.mc_model.specs.Manager.{Selected, Open, Seat, Route, WrongLength, WrongClass, ToSelect, ToManager, ToApplication, route, Managed, Declines, Accepts, Accepted, answered, first_status, is_empty, p1p2, select_done, select_refusals, select, sizes_in, open_refusals, open_done, open_load, got_of, word_parts, load_refusals, load_done, load_part, is_complete, dir_in, is_taken, create_refusals, create_items, create_done, create, fresh, delete_refusals, delete_done, delete, manage, room_on}
-use Rattle.mc_model.specs.Play.{Command, item_of, managed, passed, by_route, command, refused, write_items, is_done, send, sent_on}
-use Rattle.mc_model.specs.Laws.{Sent, sent_app, with_sent, sent_by, sent_after, named_app, made_of, made_by, sent_after_all, made_by_all, taken_if, taken, created_by, created_in, without_places}
+use Rattle.mc_model_card.specs.declared.card.Part.{Part}
+use Rattle.mc_model_card.specs.declared.card.Part.TheVariants as part
+use Rattle.mc_model_card.specs.declared.unit.AidFault.{AidFault}
+use Rattle.mc_model_device.specs.Bytes.{zeros, lookup}
+use Rattle.mc_model_machine.specs.Apdu.{ApduParts}
+use Rattle.mc_model_card.specs.Units.{name_of}
+use Rattle.mc_model_device.specs.Card.{App, Card, placed}
+use Rattle.mc_model_machine.specs.Chain.{Write, run}
+use Rattle.mc_model_card.specs.Items.{Created, Item, Plain, Atomic, Site, BankItem, Piece, Blank, Note, Commit, Enter, Remove, write_items}
+use Rattle.mc_model_card.specs.Items as items
+use Rattle.mc_model_card.specs.Manager.{Selected, Open, Seat, Route, WrongLength, WrongClass, ToSelect, ToManager, ToApplication, route, Managed, Declines, Accepts, Accepted, answered, first_status, is_empty, p1p2, select_done, select_refusals, select, sizes_in, open_refusals, open_done, open_load, got_of, word_parts, load_refusals, load_done, load_part, is_complete, dir_in, is_taken, create_refusals, create_items, create_done, create, fresh, delete_refusals, delete_done, delete, manage, room_on}
+use Rattle.mc_model_card.specs.Commands.{Command, item_of, managed, passed, by_route, command, refused}
+use Rattle.mc_model_play.specs.Play.{is_done, send, sent_on}
+use Rattle.mc_model_play.specs.Laws.{Sent, sent_app, with_sent, sent_by, sent_after, named_app, made_of, made_by, sent_after_all, made_by_all, taken_if, taken, created_by, created_in, without_places}
 
 -- ---- lists
 

@@ -1,17 +1,19 @@
 -- No new application has a stale byte, for every front of a play.
 use Rattle.std.specs.Prelude.{◌≡◌, ℕ, zero, suc, Bool, true, false, nat_le, List, [], ◌∷◌, take, drop, Option, Some, None, ⊤}
 use Rattle.std.proofs.Common.{refl, ap, sym, subst, ◌∙◌}
-use Rattle.mc_model.specs.declared.device.Stop.{Stop}
-use Rattle.mc_model.specs.declared.device.Stop.TheVariants as stop
-use Rattle.mc_model.specs.Image.{Journal}
-use Rattle.mc_model.specs.Card.{Card}
-use Rattle.mc_model.specs.Items.{Item, moves, StopAt, at_stop}
-use Rattle.mc_model.specs.Manager.{Seat}
-use Rattle.mc_model.specs.Play.{Armed, Live, Running, Unpowered, Muted, Base, OnCard, AtFault, Warm, State, Cold, Hot, Step, Command, command_step, select_bytes, delete_bytes, load_commands, line_command, hit_of, live_after, WornAt, step, hot_step, cold_step, card_line, power_after, stopped_power, power_moves, power_live, warmed, plays, first_worn, start}
-use Rattle.mc_model.specs.Given.{is_power, apps_in}
-use Rattle.mc_model.specs.Laws.{Sent, sent_after_all, made_by_all, taken, bytes_of, taken_on, taken_in, kept_sent, created_in, without_places, AllAreIn, KeepsFresh, NoStaleByte}
-use Rattle.mc_model.specs.DeckGrammar.{DeckLine}
-use Rattle.mc_model.specs.DeckGrammar as line
+use Rattle.mc_model_device.specs.declared.device.Stop.{Stop}
+use Rattle.mc_model_device.specs.declared.device.Stop.TheVariants as stop
+use Rattle.mc_model_device.specs.Image.{Journal}
+use Rattle.mc_model_device.specs.Card.{Card}
+use Rattle.mc_model_card.specs.Items.{Item, moves, StopAt, at_stop}
+use Rattle.mc_model_card.specs.Manager.{Seat}
+use Rattle.mc_model_play.specs.Play.{Armed, Live, Running, Unpowered, Muted, Warm, State, Cold, Hot, Step, command_step, select_bytes, delete_bytes, load_commands, line_command, hit_of, live_after, WornAt, step, hot_step, cold_step, card_line, power_after, stopped_power, power_moves, power_live, warmed, plays, first_worn, start}
+use Rattle.mc_model_device.specs.PowerUp.{Base, OnCard, AtFault}
+use Rattle.mc_model_card.specs.Commands.{Command}
+use Rattle.mc_model_play.specs.Given.{is_power, apps_in}
+use Rattle.mc_model_play.specs.Laws.{Sent, sent_after_all, made_by_all, taken, bytes_of, taken_on, taken_in, kept_sent, created_in, without_places, AllAreIn, KeepsFresh, NoStaleByte}
+use Rattle.mc_model_play.specs.DeckGrammar.{DeckLine}
+use Rattle.mc_model_play.specs.DeckGrammar as line
 use Rattle.mc_family.proofs.HotLines.{hot}
 use Rattle.mc_family.proofs.LoadCommands.{load_front, create_bytes, front-fillers}
 use Rattle.mc_family.proofs.FreshCommands.{load_sent, AllFresh, send-fresh, command-all-fresh}

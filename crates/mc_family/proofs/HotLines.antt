@@ -1,19 +1,21 @@
 -- Every line of a play past its first power line keeps the relation: a case for each kind of line.
 use Rattle.std.specs.Prelude.{◌≡◌, ℕ, ◌-◌, ◌≤◌, Bool, true, false, cond, ◌&&◌, nat_le, List, [], ◌∷◌, Option, Some, None}
 use Rattle.std.proofs.Common.{refl, ap, sym, subst, ◌∙◌, arith}
-use Rattle.mc_model.specs.Bytes.{has_name, lookup}
-use Rattle.mc_model.specs.Image.{Journal, One}
-use Rattle.mc_model.specs.Stopped.{stands}
-use Rattle.mc_model.specs.Card.{App, Card}
-use Rattle.mc_model.specs.Items.{moves, StopAt}
-use Rattle.mc_model.specs.Manager.{Seat, route}
-use Rattle.mc_model.specs.Play.{Armed, Unarmed, ArmedCut, ArmedFail, Live, Running, Unpowered, Muted, Base, OnCard, AtFault, Warm, State, Hot, LineResult, NoCard, Silenced, Step, command, select_bytes, delete_bytes, load_commands, send, hit_of, WornAt, MayHit, moves_of, step, hot_step, quiet, power_step, power_after, stopped_power, power_live, migrated, power_moves, without_card, static_of}
-use Rattle.mc_model.specs.Family.{ClosedPairs, routes_in, command_of, is_own, is_own_command, live_in, is_running}
-use Rattle.mc_model.specs.Given.{Event, Dumps, Leaves, apps_on, left_if, line_events, dump_events, is_done_reply, is_foreign_select}
-use Rattle.mc_model.specs.Solo.{Solo, Heard, silent, hears, hears_all}
-use Rattle.mc_model.specs.View.{seen_if}
-use Rattle.mc_model.specs.DeckGrammar.{DeckLine}
-use Rattle.mc_model.specs.DeckGrammar as line
+use Rattle.mc_model_device.specs.Bytes.{has_name, lookup}
+use Rattle.mc_model_device.specs.Image.{Journal, One}
+use Rattle.mc_model_device.specs.Stopped.{stands}
+use Rattle.mc_model_device.specs.Card.{App, Card}
+use Rattle.mc_model_card.specs.Items.{moves, StopAt}
+use Rattle.mc_model_card.specs.Manager.{Seat, route}
+use Rattle.mc_model_play.specs.Play.{Armed, Unarmed, ArmedCut, ArmedFail, Live, Running, Unpowered, Muted, Warm, State, Hot, LineResult, NoCard, Silenced, Step, select_bytes, delete_bytes, load_commands, send, hit_of, WornAt, MayHit, moves_of, step, hot_step, quiet, power_step, power_after, stopped_power, power_live, power_moves, without_card, static_of}
+use Rattle.mc_model_device.specs.PowerUp.{Base, OnCard, AtFault, migrated}
+use Rattle.mc_model_card.specs.Commands.{command}
+use Rattle.mc_model_play.specs.Family.{ClosedPairs, routes_in, command_of, is_own, is_own_command, live_in, is_running}
+use Rattle.mc_model_play.specs.Given.{Event, Dumps, Leaves, apps_on, left_if, line_events, dump_events, is_done_reply, is_foreign_select}
+use Rattle.mc_model_play.specs.Solo.{Solo, Heard, silent, hears, hears_all}
+use Rattle.mc_model_play.specs.View.{seen_if}
+use Rattle.mc_model_play.specs.DeckGrammar.{DeckLine}
+use Rattle.mc_model_play.specs.DeckGrammar as line
 use Rattle.mc_family.proofs.Agreement.{MapsAgree}
 use Rattle.mc_family.proofs.Sim.{own_selected, IsRunnable, Simulates, KeepsSimulation, LineKeepsSimulation, hears_none, hears_leave, static_alike}
 use Rattle.mc_family.proofs.Stops.{WornWithin}

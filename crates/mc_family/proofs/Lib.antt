@@ -1,7 +1,4 @@
-pub mod MapLemmas
-pub mod AscendingMaps
 pub mod Agreement
-pub mod RowNames
 pub mod RunLemma
 pub mod Sim
 pub mod Stops
@@ -17,16 +14,8 @@ pub mod CreationLast
 pub mod FreshFold
 pub mod FlatTexts
 pub mod TraceLines
-pub mod TouchedWords
-pub mod BlockLengths
-pub mod RowSizes
-pub mod RowWords
-pub mod AppSizes
-pub mod RunSizes
 pub mod PlaySizes
 pub mod EachRun
-pub mod FewRuns
-pub mod FewHeaders
 pub mod CardFacts
 pub mod FewItems
 pub mod FewLines

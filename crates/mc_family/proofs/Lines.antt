@@ -1,17 +1,19 @@
 -- One line of a play on a running card keeps the relation, and both sides tell and work alike.
 use Rattle.std.specs.Prelude.{◌≡◌, ℕ, Bool, true, false, ◌&&◌, List, [], ◌∷◌, ◌++◌, Option, Some, None}
 use Rattle.std.proofs.Common.{refl, ap, sym, subst, ◌∙◌}
-use Rattle.mc_model.specs.declared.device.Stop.{Stop}
-use Rattle.mc_model.specs.declared.device.Stop.TheVariants as stop
-use Rattle.mc_model.specs.Image.{Journal}
-use Rattle.mc_model.specs.Card.{App, Card}
-use Rattle.mc_model.specs.Items.{moves, done, card_done, StopAt, at_stop}
-use Rattle.mc_model.specs.Manager.{Selected, Seat, route}
-use Rattle.mc_model.specs.Play.{Armed, Running, Base, OnCard, Warm, Hot, Answered, Command, command, command_step, hit_of, live_after, WornAt}
-use Rattle.mc_model.specs.Family.{ClosedPairs, routes_in, command_of}
-use Rattle.mc_model.specs.Given.{Event, Commands, given_stop, told, is_left, left_if, is_done_reply, is_foreign_select, line_events, command_event}
-use Rattle.mc_model.specs.Solo.{Solo, SoloCommand, Heard, silent, hears, heard_before, hears_all, solo_hit, heard_command, solo_command}
-use Rattle.mc_model.specs.DeckGrammar.{DeckLine}
+use Rattle.mc_model_device.specs.declared.device.Stop.{Stop}
+use Rattle.mc_model_device.specs.declared.device.Stop.TheVariants as stop
+use Rattle.mc_model_device.specs.Image.{Journal}
+use Rattle.mc_model_device.specs.Card.{App, Card}
+use Rattle.mc_model_card.specs.Items.{moves, done, card_done, StopAt, at_stop}
+use Rattle.mc_model_card.specs.Manager.{Selected, Seat, route}
+use Rattle.mc_model_play.specs.Play.{Armed, Running, Warm, Hot, Answered, command_step, hit_of, live_after, WornAt}
+use Rattle.mc_model_device.specs.PowerUp.{Base, OnCard}
+use Rattle.mc_model_card.specs.Commands.{Command, command}
+use Rattle.mc_model_play.specs.Family.{ClosedPairs, routes_in, command_of}
+use Rattle.mc_model_play.specs.Given.{Event, Commands, given_stop, told, is_left, left_if, is_done_reply, is_foreign_select, line_events, command_event}
+use Rattle.mc_model_play.specs.Solo.{Solo, SoloCommand, Heard, silent, hears, heard_before, hears_all, solo_hit, heard_command, solo_command}
+use Rattle.mc_model_play.specs.DeckGrammar.{DeckLine}
 use Rattle.mc_family.proofs.Agreement.{MapsAgree, Agree-done}
 use Rattle.mc_family.proofs.Sim.{own_selected, IsRunnable, Simulates, KeepsSimulation, hears_all-append, hears_none, hears_leave}
 use Rattle.mc_family.proofs.Stops.{WornWithin, hits-given, whole-others, StillAgrees, told-alike}

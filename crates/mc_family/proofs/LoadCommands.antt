@@ -1,11 +1,11 @@
 -- The commands of a load and of a deletion reach the manager, and of a load only the last one creates.
 use Rattle.std.specs.Prelude.{◌≡◌, ℕ, zero, suc, ◌+◌, Bool, true, false, cond, ◌==◌, List, [], ◌∷◌, ◌++◌, length, take, drop, option_map, Option, Some, None, ⊤}
 use Rattle.std.proofs.Common.{refl, ap, ◌∙◌}
-use Rattle.mc_model.specs.Bytes.{bytes2}
-use Rattle.mc_model.specs.Apdu.{Rest, rest_read, apdu_read}
-use Rattle.mc_model.specs.Units.{UnitParts}
-use Rattle.mc_model.specs.Manager.{Route, WrongLength, WrongClass, ToSelect, ToManager, ToApplication, routed, route}
-use Rattle.mc_model.specs.Play.{delete_bytes, piece_commands, section_commands, load_commands}
+use Rattle.mc_model_device.specs.Bytes.{bytes2}
+use Rattle.mc_model_machine.specs.Apdu.{Rest, rest_read, apdu_read}
+use Rattle.mc_model_card.specs.Units.{UnitParts}
+use Rattle.mc_model_card.specs.Manager.{Route, WrongLength, WrongClass, ToSelect, ToManager, ToApplication, routed, route}
+use Rattle.mc_model_play.specs.Play.{delete_bytes, piece_commands, section_commands, load_commands}
 use Rattle.mc_family.proofs.OtherCommand.{IsManagers, AreManagers}
 
 -- a command that reaches the manager with an INS that neither creates nor deletes, or nothing

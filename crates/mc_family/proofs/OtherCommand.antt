@@ -1,20 +1,21 @@
 -- A command that is none of a family leaves its applications as they are, and its selection, but for a SELECT that is done.
 use Rattle.std.specs.Prelude.{◌≡◌, ℕ, Bool, true, false, cond, not, ◌&&◌, ◌||◌, ◌==◌, List, [], ◌∷◌, map, is_none, Option, Some, None, Result, Ok, Err, ⊤}
 use Rattle.std.proofs.Common.{refl, ap, sym, ◌∙◌}
-use Rattle.mc_model.specs.declared.card.Part.{Part}
-use Rattle.mc_model.specs.declared.card.Part.TheVariants as part
-use Rattle.mc_model.specs.declared.unit.AidFault.{AidFault}
-use Rattle.mc_model.specs.Bytes.{zeros, has_name, lookup}
-use Rattle.mc_model.specs.Apdu.{ApduParts}
-use Rattle.mc_model.specs.Units.{name_of}
-use Rattle.mc_model.specs.Card.{App, Card}
-use Rattle.mc_model.specs.Chain.{run}
-use Rattle.mc_model.specs.Items.{Item, BankItem, Piece, Blank, Note, Commit, Enter, Remove}
-use Rattle.mc_model.specs.Manager.{Selected, Open, Seat, Route, WrongLength, WrongClass, ToSelect, ToManager, ToApplication, route, Managed, Declines, Accepted, answered, first_status, is_empty, select_done, select, open_refusals, open_done, load_refusals, load_done, create_refusals, create_done, delete_refusals, delete_done, manage, room_on, dir_in, open_load, load_part, create, delete}
-use Rattle.mc_model.specs.Play.{Command, Answered, item_of, atomic_of, managed, passed, by_route, command, send, sent_on, is_done}
-use Rattle.mc_model.specs.Items as items
-use Rattle.mc_model.specs.Family.{ClosedPairs, routes_in, selects_in}
-use Rattle.mc_model.specs.Given.{is_done_reply, selects_foreign, is_foreign_select}
+use Rattle.mc_model_card.specs.declared.card.Part.{Part}
+use Rattle.mc_model_card.specs.declared.card.Part.TheVariants as part
+use Rattle.mc_model_card.specs.declared.unit.AidFault.{AidFault}
+use Rattle.mc_model_device.specs.Bytes.{zeros, has_name, lookup}
+use Rattle.mc_model_machine.specs.Apdu.{ApduParts}
+use Rattle.mc_model_card.specs.Units.{name_of}
+use Rattle.mc_model_device.specs.Card.{App, Card}
+use Rattle.mc_model_machine.specs.Chain.{run}
+use Rattle.mc_model_card.specs.Items.{Item, BankItem, Piece, Blank, Note, Commit, Enter, Remove}
+use Rattle.mc_model_card.specs.Manager.{Selected, Open, Seat, Route, WrongLength, WrongClass, ToSelect, ToManager, ToApplication, route, Managed, Declines, Accepted, answered, first_status, is_empty, select_done, select, open_refusals, open_done, load_refusals, load_done, create_refusals, create_done, delete_refusals, delete_done, manage, room_on, dir_in, open_load, load_part, create, delete}
+use Rattle.mc_model_card.specs.Commands.{Command, item_of, atomic_of, managed, passed, by_route, command}
+use Rattle.mc_model_play.specs.Play.{Answered, send, sent_on, is_done}
+use Rattle.mc_model_card.specs.Items as items
+use Rattle.mc_model_play.specs.Family.{ClosedPairs, routes_in, selects_in}
+use Rattle.mc_model_play.specs.Given.{is_done_reply, selects_foreign, is_foreign_select}
 use Rattle.mc_family.proofs.RunLemma.{RunAlike, run-alike}
 use Rattle.mc_family.proofs.Sim.{own_of}
 use Rattle.mc_family.proofs.Stops.{IsOther, AreOthers, AreOthers-append, writes-others}

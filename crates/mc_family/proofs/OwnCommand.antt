@@ -1,14 +1,14 @@
 -- A command of a family does on a card of its own what it does in the play.
 use Rattle.std.specs.Prelude.{◌≡◌, ℕ, Bool, true, cond, not, ◌||◌, ◌==◌, List, [], ◌∷◌, is_none, Option, Some, None}
 use Rattle.std.proofs.Common.{refl, ap, sym, ◌∙◌}
-use Rattle.mc_model.specs.Bytes.{zeros, has_name, lookup}
-use Rattle.mc_model.specs.Apdu.{ApduParts}
-use Rattle.mc_model.specs.Card.{App, Card, placed}
-use Rattle.mc_model.specs.Chain.{Reply, Ran, run}
-use Rattle.mc_model.specs.Manager.{Selected, Seat, Route, WrongLength, WrongClass, ToSelect, ToManager, ToApplication, route, answered, first_status, is_empty, select_body, select_done, select}
-use Rattle.mc_model.specs.Play.{Command, managed, passed, by_route, command}
-use Rattle.mc_model.specs.Family.{ClosedPairs, routes_in, selects_in}
-use Rattle.mc_model.specs.Solo.{Solo, SoloCommand, solo_selected, solo_ran, solo_passed, solo_routed, solo_command}
+use Rattle.mc_model_device.specs.Bytes.{zeros, has_name, lookup}
+use Rattle.mc_model_machine.specs.Apdu.{ApduParts}
+use Rattle.mc_model_device.specs.Card.{App, Card, placed}
+use Rattle.mc_model_machine.specs.Chain.{Reply, Ran, run}
+use Rattle.mc_model_card.specs.Manager.{Selected, Seat, Route, WrongLength, WrongClass, ToSelect, ToManager, ToApplication, route, answered, first_status, is_empty, select_body, select_done, select}
+use Rattle.mc_model_card.specs.Commands.{Command, managed, passed, by_route, command}
+use Rattle.mc_model_play.specs.Family.{ClosedPairs, routes_in, selects_in}
+use Rattle.mc_model_play.specs.Solo.{Solo, SoloCommand, solo_selected, solo_ran, solo_passed, solo_routed, solo_command}
 use Rattle.mc_family.proofs.Agreement.{bare, MapsAgree}
 use Rattle.mc_family.proofs.RunLemma.{RunAlike, run-alike}
 use Rattle.mc_family.proofs.Sim.{own_of}

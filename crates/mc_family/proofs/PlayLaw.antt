@@ -2,9 +2,9 @@
 use Rattle.std.specs.Prelude.{ℕ, List, length, Option}
 use Rattle.std.proofs.Common.{subst}
 use Rattle.std.proofs.Math.Seq.{take-length}
-use Rattle.mc_model.specs.DeckGrammar.{DeckLine}
-use Rattle.mc_model.specs.Play.{WornAt, Step, Possible, plays, start}
-use Rattle.mc_model.specs.Laws.{HoldsOf, IsolationLaw}
+use Rattle.mc_model_play.specs.DeckGrammar.{DeckLine}
+use Rattle.mc_model_play.specs.Play.{WornAt, Step, Possible, plays, start}
+use Rattle.mc_model_play.specs.Laws.{HoldsOf, IsolationLaw}
 use Rattle.mc_family.proofs.FamilyFold.{isolated}
 use Rattle.mc_family.proofs.WholeLines.{whole_lines}
 use Rattle.mc_family.proofs.FreshFold.{no_stale_byte}

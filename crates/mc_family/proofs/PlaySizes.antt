@@ -4,32 +4,35 @@ use Rattle.std.specs.Prelude.{⊤, ◌==◌, ◌&&◌, ◌||◌, nat_lt, nat_le,
 use Rattle.std.specs.List.{AllByRecursion}
 use Rattle.std.proofs.lemmas.Bool.{and_parts, leb-true, eqb-true}
 use Rattle.std.proofs.lemmas.List.{length-append, length-take, length-replicate}
-use Rattle.mc_model.specs.declared.card.Cause.{Cause}
-use Rattle.mc_model.specs.declared.card.Cause.TheVariants.{NoRoot, BadBlock, BadRecord, BadChain}
-use Rattle.mc_model.specs.declared.card.Part.{Part}
-use Rattle.mc_model.specs.declared.card.Part.TheVariants as part
-use Rattle.mc_model.specs.declared.card.Sizes.{Sizes}
-use Rattle.mc_model.specs.declared.device.Stop.{Stop}
-use Rattle.mc_model.specs.declared.device.Stop.TheVariants as stop
-use Rattle.mc_model.specs.declared.unit.AidFault.{AidFault}
-use Rattle.mc_model.specs.Bytes.{lookup, insert, remove, zeros, or_else, up, be2, has_name}
-use Rattle.mc_model.specs.Apdu.{ApduParts}
-use Rattle.mc_model.specs.Units.{name_of}
-use Rattle.mc_model.specs.Image.{Journal, Look, Refused, Closed, Pending, look, replayed, after}
-use Rattle.mc_model.specs.Card.{App, Card, Block, needed_of, record_at, name_in, name_at, app_at, apps_of, blocks, cells, words_after, means}
-use Rattle.mc_model.specs.Layout.{is_record, no_root, bad_block, bad_record, bad_chain, by_cause, words_fault, fault_of, fault}
-use Rattle.mc_model.specs.Chain.{Write, run}
-use Rattle.mc_model.specs.Items.{Change, Fixed, Created, Item, Plain, Atomic, moves, changed, done, card_done, StopAt, at_stop, Site, BankItem, Piece, Blank, Note, Enter}
-use Rattle.mc_model.specs.Limits.{most_static, most_code, most_session, most_record}
-use Rattle.mc_model.specs.Manager.{Selected, Open, Seat, Route, WrongLength, WrongClass, ToSelect, ToManager, ToApplication, route, Accepted, Managed, Declines, Accepts, answered, first_status, is_empty, p1p2, select_done, select_refusals, select, sizes_in, fits_limits, open_done, open_load, load_refusals, load_done, load_part, word_parts, is_complete, can_create, dir_in, is_taken, fresh, create_done, create, is_selected, delete_done, delete, manage, room_on}
-use Rattle.mc_model.specs.Play.{Armed, Live, Running, Unpowered, Muted, Base, OnCard, AtFault, Warm, State, Cold, Hot, Step, Command, item_of, managed, write_items, passed, by_route, command, is_done, sent_on, send, line_command, hit_of, WornAt, live_after, migrated, power_live, power_after, stopped_power, power_moves, line_after, card_line, hot_step, cold_step, step, base_of, warmed, plays, first_worn, start, select_bytes, delete_bytes, load_commands}
-use Rattle.mc_model.specs.Laws.{bytes_of}
-use Rattle.mc_model.specs.DeckGrammar.{DeckLine}
-use Rattle.mc_model.specs.DeckGrammar as line
-use Rattle.mc_family.specs.Begins.{session_in, PassedWell, RoutedWell, BehindDone, SentWell, TakenWell, LineWell, BeginWell, BeginsLaw}
-use Rattle.mc_family.proofs.MapLemmas.{same_name, name_is_itself, lookup-beside, lookup-left}
-use Rattle.mc_family.proofs.AppSizes.{size_of, size_in, SameSizes, changed-sizes, WriteFits, moved-writes, Limited, are-limited, limited-inserted, ChangeFits, ItemsFit, limited-done, fit-whole, fit-append, done-append}
-use Rattle.mc_family.proofs.RunSizes.{RanFits, run-fits}
+use Rattle.mc_model_device.specs.declared.cause.Cause.{Cause}
+use Rattle.mc_model_device.specs.declared.cause.Cause.TheVariants.{NoRoot, BadBlock, BadRecord, BadChain}
+use Rattle.mc_model_card.specs.declared.card.Part.{Part}
+use Rattle.mc_model_card.specs.declared.card.Part.TheVariants as part
+use Rattle.mc_model_card.specs.declared.card.Sizes.{Sizes}
+use Rattle.mc_model_device.specs.declared.device.Stop.{Stop}
+use Rattle.mc_model_device.specs.declared.device.Stop.TheVariants as stop
+use Rattle.mc_model_card.specs.declared.unit.AidFault.{AidFault}
+use Rattle.mc_model_device.specs.Bytes.{lookup, insert, remove, zeros, or_else, up, be2, has_name}
+use Rattle.mc_model_machine.specs.Apdu.{ApduParts}
+use Rattle.mc_model_card.specs.Units.{name_of}
+use Rattle.mc_model_device.specs.Image.{Journal, Look, Refused, Closed, Pending, look, replayed, after}
+use Rattle.mc_model_device.specs.Card.{App, Card, Block, needed_of, record_at, name_in, name_at, app_at, apps_of, blocks, cells, words_after, means}
+use Rattle.mc_model_device.specs.Layout.{is_record, no_root, bad_block, bad_record, bad_chain, by_cause, words_fault, fault_of, fault}
+use Rattle.mc_model_machine.specs.Chain.{Write, run}
+use Rattle.mc_model_card.specs.Items.{Change, Fixed, Created, Item, Plain, Atomic, moves, changed, done, card_done, StopAt, at_stop, Site, BankItem, Piece, Blank, Note, Enter, write_items}
+use Rattle.mc_model_device.specs.Limits.{most_static, most_code, most_session, most_record}
+use Rattle.mc_model_card.specs.Manager.{Selected, Open, Seat, Route, WrongLength, WrongClass, ToSelect, ToManager, ToApplication, route, Accepted, Managed, Declines, Accepts, answered, first_status, is_empty, p1p2, select_done, select_refusals, select, sizes_in, fits_limits, open_done, open_load, load_refusals, load_done, load_part, word_parts, is_complete, can_create, dir_in, is_taken, fresh, create_done, create, is_selected, delete_done, delete, manage, room_on}
+use Rattle.mc_model_play.specs.Play.{Armed, Live, Running, Unpowered, Muted, Warm, State, Cold, Hot, Step, is_done, sent_on, send, line_command, hit_of, WornAt, live_after, power_live, power_after, stopped_power, power_moves, line_after, card_line, hot_step, cold_step, step, warmed, plays, first_worn, start, select_bytes, delete_bytes, load_commands}
+use Rattle.mc_model_device.specs.PowerUp.{Base, OnCard, AtFault, migrated, base_of}
+use Rattle.mc_model_card.specs.Commands.{Command, item_of, managed, passed, by_route, command}
+use Rattle.mc_model_play.specs.Laws.{bytes_of}
+use Rattle.mc_model_play.specs.DeckGrammar.{DeckLine}
+use Rattle.mc_model_play.specs.DeckGrammar as line
+use Rattle.mc_machine_laws.specs.Limited.{session_in}
+use Rattle.mc_family.specs.Begins.{PassedWell, RoutedWell, BehindDone, SentWell, TakenWell, LineWell, BeginWell, BeginsLaw}
+use Rattle.mc_machine_laws.proofs.MapLemmas.{same_name, name_is_itself, lookup-beside, lookup-left}
+use Rattle.mc_machine_laws.proofs.AppSizes.{size_of, size_in, SameSizes, changed-sizes, WriteFits, moved-writes, Limited, are-limited, limited-inserted, ChangeFits, ItemsFit, limited-done, fit-whole, fit-append, done-append}
+use Rattle.mc_machine_laws.proofs.RunSizes.{RanFits, run-fits}
 use Rattle.mc_family.proofs.HotLines.{hot}
 
 -- ---- a running card

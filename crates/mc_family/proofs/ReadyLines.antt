@@ -3,21 +3,23 @@ use Rattle.std.proofs.Common.{◌≡◌, ℕ, zero, suc, ◌+◌, ◌-◌, ◌�
 use Rattle.std.specs.Prelude.{⊤, nat_le, ◌==◌, slice_set}
 use Rattle.std.specs.List.{AllByRecursion}
 use Rattle.std.proofs.lemmas.List.{length-set}
-use Rattle.mc_model.specs.declared.card.Cause.{Cause}
-use Rattle.mc_model.specs.declared.device.Stop.{Stop}
-use Rattle.mc_model.specs.declared.device.Stop.TheVariants as stop
-use Rattle.mc_model.specs.Bytes.{lookup}
-use Rattle.mc_model.specs.Image.{Journal, One, Two, Which, Both, Only, Neither, Look, Refused, Closed, Pending, look_at, look_j, debt, owed, which}
-use Rattle.mc_model.specs.Stopped.{cost, stands}
-use Rattle.mc_model.specs.Card.{App, Card}
-use Rattle.mc_model.specs.Layout.{fault}
-use Rattle.mc_model.specs.Items.{Item, Plain, Atomic, weight, moves, StopAt, Stopped, at_stop, in_flight, with_item}
-use Rattle.mc_model.specs.Play.{Armed, Live, Running, Unpowered, Muted, Base, OnCard, AtFault, Warm, State, Cold, Hot, LineResult, Step, Command, command_step, line_command, line_after, line_says, hit_of, result_of_stop, WornAt, step, hot_step, cold_step, card_line, power_step, stopped_power, power_moves, migrated, migration, warmed, base_of, plays, first_worn, start, static_of, dumped, without_card, quiet, formatted}
-use Rattle.mc_model.specs.ReadyAgain.{is_found, is_cold, is_poke, sure_after, PowerIsReady, ReadyLine, ReadyAgain, FitsJournal, AllFitJournal}
-use Rattle.mc_model.specs.DeckGrammar.{DeckLine}
-use Rattle.mc_model.specs.DeckGrammar as line
-use Rattle.mc_model.proofs.LookLemmas.{good-pending}
-use Rattle.mc_model.specs.Device.{IsImage}
+use Rattle.mc_model_device.specs.declared.cause.Cause.{Cause}
+use Rattle.mc_model_device.specs.declared.device.Stop.{Stop}
+use Rattle.mc_model_device.specs.declared.device.Stop.TheVariants as stop
+use Rattle.mc_model_device.specs.Bytes.{lookup}
+use Rattle.mc_model_device.specs.Image.{Journal, One, Two, Which, Both, Only, Neither, Look, Refused, Closed, Pending, look_at, look_j, debt, owed, which}
+use Rattle.mc_model_device.specs.Stopped.{cost, stands}
+use Rattle.mc_model_device.specs.Card.{App, Card}
+use Rattle.mc_model_device.specs.Layout.{fault}
+use Rattle.mc_model_card.specs.Items.{Item, Plain, Atomic, weight, moves, StopAt, Stopped, at_stop, in_flight, with_item}
+use Rattle.mc_model_play.specs.Play.{Armed, Live, Running, Unpowered, Muted, Warm, State, Cold, Hot, LineResult, Step, command_step, line_command, line_after, line_says, hit_of, result_of_stop, WornAt, step, hot_step, cold_step, card_line, power_step, stopped_power, power_moves, warmed, plays, first_worn, start, static_of, dumped, without_card, quiet, formatted}
+use Rattle.mc_model_device.specs.PowerUp.{Base, OnCard, AtFault, migrated, migration, base_of}
+use Rattle.mc_model_card.specs.Commands.{Command}
+use Rattle.mc_model_play.specs.ReadyAgain.{is_found, is_cold, is_poke, sure_after, PowerIsReady, ReadyLine, ReadyAgain, FitsJournal, AllFitJournal}
+use Rattle.mc_model_play.specs.DeckGrammar.{DeckLine}
+use Rattle.mc_model_play.specs.DeckGrammar as line
+use Rattle.mc_model_device.proofs.LookLemmas.{good-pending}
+use Rattle.mc_model_device.specs.Device.{IsImage}
 use Rattle.mc_family.proofs.FormattedImage.{formatted_sound, formatted_size}
 use Rattle.mc_family.proofs.HotLines.{hot}
 

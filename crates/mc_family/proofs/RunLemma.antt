@@ -1,20 +1,20 @@
 -- The run of a chain reads and writes on one side of a closed family alone: over two maps that agree there, it is the same run.
 use Rattle.std.specs.Prelude.{◌≡◌, ℕ, zero, suc, Bool, true, false, cond, ◌||◌, nat_lt, nat_le, List, [], ◌∷◌, ◌++◌, unwrap_or, Option, Some, None, Result, Ok, Err, ⊤}
 use Rattle.std.proofs.Common.{refl, ap, sym, subst, ◌∙◌}
-use Rattle.mc_model.specs.declared.instruction.Ins.{Ins}
-use Rattle.mc_model.specs.declared.instruction.DecodeFault.{DecodeFault}
-use Rattle.mc_model.specs.declared.instruction.DecodeFault.TheVariants.{Undefined, Past}
-use Rattle.mc_model.specs.Bytes.{has_name, lookup}
-use Rattle.mc_model.specs.Apdu.{ApduParts}
-use Rattle.mc_model.specs.Code.{decoded}
-use Rattle.mc_model.specs.Card.{App, placed}
-use Rattle.mc_model.specs.Frame.{Frame, Effect, la_of}
-use Rattle.mc_model.specs.Primitives.{Then, Goes, Exits, Delegates, Done}
-use Rattle.mc_model.specs.Row.{RowEnd, Abends, Does, row}
-use Rattle.mc_model.specs.Chain.{Outcome, Write, Chain, Ran, Acted, Follows, Continues, Ends, code_in, map_changed, write_of, settled, is_active, depth_of, entered_app, called_app, called, exited, follows, pair_of, done_turn, row_turn, fetched, stepped, around, acted, ends_with, goes_on, ran_on, chain_session, ran, start_app, start, no_app, run}
-use Rattle.mc_model.specs.Family.{ClosedPairs}
+use Rattle.mc_model_machine.specs.declared.instruction.Ins.{Ins}
+use Rattle.mc_model_machine.specs.declared.instruction.DecodeFault.{DecodeFault}
+use Rattle.mc_model_machine.specs.declared.instruction.DecodeFault.TheVariants.{Undefined, Past}
+use Rattle.mc_model_device.specs.Bytes.{has_name, lookup}
+use Rattle.mc_model_machine.specs.Apdu.{ApduParts}
+use Rattle.mc_model_machine.specs.Code.{decoded}
+use Rattle.mc_model_device.specs.Card.{App, placed}
+use Rattle.mc_model_machine.specs.Frame.{Frame, Effect, la_of}
+use Rattle.mc_model_machine.specs.Primitives.{Then, Goes, Exits, Delegates, Done}
+use Rattle.mc_model_machine.specs.Row.{RowEnd, Abends, Does, row}
+use Rattle.mc_model_machine.specs.Chain.{Outcome, Write, Chain, Ran, Acted, Follows, Continues, Ends, code_in, map_changed, write_of, settled, is_active, depth_of, entered_app, called_app, called, exited, follows, pair_of, done_turn, row_turn, fetched, stepped, around, acted, ends_with, goes_on, ran_on, chain_session, ran, start_app, start, no_app, run}
+use Rattle.mc_model_play.specs.Family.{ClosedPairs}
 use Rattle.mc_family.proofs.Agreement.{bare, MapsAgree, Agree-map_changed}
-use Rattle.mc_family.proofs.RowNames.{RowKeepsName, row-name}
+use Rattle.mc_machine_laws.proofs.RowNames.{RowKeepsName, row-name}
 
 -- ---- sides
 

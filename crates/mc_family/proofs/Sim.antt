@@ -2,16 +2,17 @@
 use Rattle.std.specs.Prelude.{◌≡◌, ℕ, Bool, true, false, cond, ◌||◌, List, [], ◌∷◌, ◌++◌, bytes_eq, Option, Some, None, ⊤}
 use Rattle.std.proofs.Common.{refl, ap, sym, ◌∙◌}
 use Rattle.std.proofs.lemmas.List.{append_assoc}
-use Rattle.mc_model.specs.Bytes.{has_name, lookup}
-use Rattle.mc_model.specs.Card.{App}
-use Rattle.mc_model.specs.Items.{Item, StopAt}
-use Rattle.mc_model.specs.Manager.{Selected}
-use Rattle.mc_model.specs.Play.{Live, Running, Unpowered, Muted, Base, OnCard, AtFault, State, Cold, Hot, LineResult, Step, static_of}
-use Rattle.mc_model.specs.Family.{live_in, is_own}
-use Rattle.mc_model.specs.Given.{Event, Leaves, apps_in, events_of}
-use Rattle.mc_model.specs.Solo.{Solo, Heard, silent, hears, heard_before, hears_all}
-use Rattle.mc_model.specs.View.{is_seen, seen_if, rest_of, work_if}
-use Rattle.mc_family.proofs.MapLemmas.{name_is_itself}
+use Rattle.mc_model_device.specs.Bytes.{has_name, lookup}
+use Rattle.mc_model_device.specs.Card.{App}
+use Rattle.mc_model_card.specs.Items.{Item, StopAt}
+use Rattle.mc_model_card.specs.Manager.{Selected}
+use Rattle.mc_model_play.specs.Play.{Live, Running, Unpowered, Muted, State, Cold, Hot, LineResult, Step, static_of}
+use Rattle.mc_model_device.specs.PowerUp.{Base, OnCard, AtFault}
+use Rattle.mc_model_play.specs.Family.{live_in, is_own}
+use Rattle.mc_model_play.specs.Given.{Event, Leaves, apps_in, events_of}
+use Rattle.mc_model_play.specs.Solo.{Solo, Heard, silent, hears, heard_before, hears_all}
+use Rattle.mc_model_play.specs.View.{is_seen, seen_if, rest_of, work_if}
+use Rattle.mc_machine_laws.proofs.MapLemmas.{name_is_itself}
 use Rattle.mc_family.proofs.Agreement.{bare, MapsAgree}
 
 -- ---- the relation

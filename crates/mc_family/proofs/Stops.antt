@@ -2,17 +2,17 @@
 use Rattle.std.specs.Prelude.{◌≡◌, ℕ, ◌-◌, ◌≤◌, Bool, true, false, cond, nat_le, ◌==◌, List, [], ◌∷◌, ◌++◌, Option, Some, None, ⊤}
 use Rattle.std.proofs.Common.{refl, ap, ◌∙◌}
 use Rattle.std.proofs.lemmas.Bool.{le-leb}
-use Rattle.mc_model.specs.declared.device.Stop.TheVariants as stop
-use Rattle.mc_model.specs.Bytes.{has_name, lookup, insert, remove}
-use Rattle.mc_model.specs.Image.{Two}
-use Rattle.mc_model.specs.Stopped.{cost, stands}
-use Rattle.mc_model.specs.Card.{App, placed}
-use Rattle.mc_model.specs.Chain.{Write, map_changed}
-use Rattle.mc_model.specs.Items.{Change, Fixed, Created, Deleted, Item, Plain, Atomic, done, StopAt, Stopped, with_item, in_flight, at_stop}
-use Rattle.mc_model.specs.Manager.{Selected}
-use Rattle.mc_model.specs.Play.{Armed, Unarmed, ArmedCut, ArmedFail, WornAt, hit_of, write_items}
-use Rattle.mc_model.specs.Given.{Event, Arrives, Departs, given_stop, told}
-use Rattle.mc_model.specs.Solo.{Solo, Heard, silent, hears, heard_before, hears_all, hits}
+use Rattle.mc_model_device.specs.declared.device.Stop.TheVariants as stop
+use Rattle.mc_model_device.specs.Bytes.{has_name, lookup, insert, remove}
+use Rattle.mc_model_device.specs.Image.{Two}
+use Rattle.mc_model_device.specs.Stopped.{cost, stands}
+use Rattle.mc_model_device.specs.Card.{App, placed}
+use Rattle.mc_model_machine.specs.Chain.{Write, map_changed}
+use Rattle.mc_model_card.specs.Items.{Change, Fixed, Created, Deleted, Item, Plain, Atomic, done, StopAt, Stopped, with_item, in_flight, at_stop, write_items}
+use Rattle.mc_model_card.specs.Manager.{Selected}
+use Rattle.mc_model_play.specs.Play.{Armed, Unarmed, ArmedCut, ArmedFail, WornAt, hit_of}
+use Rattle.mc_model_play.specs.Given.{Event, Arrives, Departs, given_stop, told}
+use Rattle.mc_model_play.specs.Solo.{Solo, Heard, silent, hears, heard_before, hears_all, hits}
 use Rattle.mc_family.proofs.Agreement.{MapsAgree, Agree-inserted, Agree-removed, Agree-beside, Agree-left, Agree-changed_app, Agree-joined}
 use Rattle.mc_family.proofs.RunLemma.{WritesOn}
 

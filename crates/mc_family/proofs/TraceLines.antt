@@ -2,12 +2,14 @@
 use Rattle.std.proofs.Common.{◌≡◌, ℕ, ◌+◌, Bool, true, false, cond, not, List, [], ◌∷◌, ◌++◌, Option, Some, None, refl, sym, ◌∙◌, ap, subst, arith, append_assoc}
 use Rattle.std.specs.Prelude.{◌==◌, codes, decimal, filter}
 use Rattle.std.proofs.lemmas.Bool.{and_from, and_parts, ne_eqb, not-true}
-use Rattle.mc_model.specs.Bytes.{bytes2}
-use Rattle.mc_model.specs.Text.{begins, pieces, cut_or_joined, every}
-use Rattle.mc_model.specs.Chain.{Turn}
-use Rattle.mc_model.specs.Transcript.{hex_text, shown, line_text, transcript}
-use Rattle.mc_model.specs.TraceText.{ins_text, bit_text, turn_line, shown_turns, turn_lines, traced, is_turn_line, joined, TraceLaw}
-use Rattle.mc_model.specs.Play.{LineResult, Step}
+use Rattle.mc_model_device.specs.Bytes.{bytes2}
+use Rattle.mc_model_machine.specs.Text.{begins, pieces, cut_or_joined, every}
+use Rattle.mc_model_machine.specs.Chain.{Turn}
+use Rattle.mc_model_machine.specs.Listing.{hex_text}
+use Rattle.mc_model_play.specs.Transcript.{shown, line_text, transcript}
+use Rattle.mc_model_machine.specs.TurnText.{ins_text, bit_text, turn_line, turn_lines}
+use Rattle.mc_model_play.specs.TraceText.{shown_turns, traced, is_turn_line, joined, TraceLaw}
+use Rattle.mc_model_play.specs.Play.{LineResult, Step}
 use Rattle.mc_family.proofs.FlatTexts.{unfed, unmarked, Flat, flat-append, flat-decimal, unmarked-decimal, flat-hex, flat-ins, flat-bit, flat-shown}
 
 -- a line with its line feed, and whether it begins with `>`

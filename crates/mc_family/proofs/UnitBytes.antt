@@ -1,10 +1,10 @@
 -- The fields of a unit that was read of bytes are bytes.
 use Rattle.std.proofs.Common.{ℕ, ◌<◌, Bool, true, false, List, length, take, drop, Result, Ok, Err}
 use Rattle.std.specs.Prelude.{⊤, nat_lt, ◌==◌, if◌then◌else◌, IfOk}
-use Rattle.mc_model.specs.declared.unit.UnitRefusal.{UnitRefusal}
-use Rattle.mc_model.specs.declared.unit.UnitRefusal.TheVariants.{Short, NoCode, TooLarge, Signed, Enciphered}
-use Rattle.mc_model.specs.Bytes.{AreBytes, be2}
-use Rattle.mc_model.specs.Units.{UnitParts, ◌>>=◌, bytes_at, length_at, field_at, code_at, empty_at, end_at, refused_name, name_of, unit_read}
+use Rattle.mc_model_card.specs.declared.unit.UnitRefusal.{UnitRefusal}
+use Rattle.mc_model_card.specs.declared.unit.UnitRefusal.TheVariants.{Short, NoCode, TooLarge, Signed, Enciphered}
+use Rattle.mc_model_device.specs.Bytes.{AreBytes, be2}
+use Rattle.mc_model_card.specs.Units.{UnitParts, ◌>>=◌, bytes_at, length_at, field_at, code_at, empty_at, end_at, refused_name, name_of, unit_read}
 use Rattle.mc_family.proofs.CardFacts.{all-take, all-drop}
 
 -- all fields of a unit are bytes

@@ -1,13 +1,15 @@
 -- Every line leaves the card before it with the whole items of that line, all of them where it was not stopped.
 use Rattle.std.specs.Prelude.{◌≡◌, ℕ, zero, suc, List, [], ◌∷◌, take, drop, Option, Some, None}
 use Rattle.std.proofs.Common.{refl}
-use Rattle.mc_model.specs.Card.{Card}
-use Rattle.mc_model.specs.Image.{Journal}
-use Rattle.mc_model.specs.Items.{moves, StopAt}
-use Rattle.mc_model.specs.Play.{Armed, Live, Running, Unpowered, Muted, Base, OnCard, AtFault, Warm, State, Cold, Hot, Command, command_step, line_command, hit_of, WornAt, step, hot_step, cold_step, card_line, power_moves, warmed, plays, first_worn}
-use Rattle.mc_model.specs.Laws.{KeepsLine, KeepsLines, whole_of}
-use Rattle.mc_model.specs.DeckGrammar.{DeckLine}
-use Rattle.mc_model.specs.DeckGrammar as line
+use Rattle.mc_model_device.specs.Card.{Card}
+use Rattle.mc_model_device.specs.Image.{Journal}
+use Rattle.mc_model_card.specs.Items.{moves, StopAt}
+use Rattle.mc_model_play.specs.Play.{Armed, Live, Running, Unpowered, Muted, Warm, State, Cold, Hot, command_step, line_command, hit_of, WornAt, step, hot_step, cold_step, card_line, power_moves, warmed, plays, first_worn}
+use Rattle.mc_model_device.specs.PowerUp.{Base, OnCard, AtFault}
+use Rattle.mc_model_card.specs.Commands.{Command}
+use Rattle.mc_model_play.specs.Laws.{KeepsLine, KeepsLines, whole_of}
+use Rattle.mc_model_play.specs.DeckGrammar.{DeckLine}
+use Rattle.mc_model_play.specs.DeckGrammar as line
 use Rattle.mc_family.proofs.HotLines.{hot, powered}
 
 whole_of-none : (t : Option StopAt) → [] ≡ whole_of [] t

@@ -1,25 +1,18 @@
 -- Every application of a play is limited, and each run begins with as many session bytes as its application has.
 use Rattle.std.specs.Prelude.{◌≡◌, ℕ, ◌≤◌, Bool, true, false, List, [], ◌∷◌, length, Option, Some, None, ⊤}
-use Rattle.mc_model.specs.Bytes.{lookup}
-use Rattle.mc_model.specs.Apdu.{ApduParts}
-use Rattle.mc_model.specs.Card.{App, Card}
-use Rattle.mc_model.specs.Chain.{Chain}
-use Rattle.mc_model.specs.Chain.{start as begun}
-use Rattle.mc_model.specs.Items.{card_done}
-use Rattle.mc_model.specs.Limits.{most_static}
-use Rattle.mc_model.specs.Manager.{Selected, Seat, Route, WrongLength, WrongClass, ToSelect, ToManager, ToApplication, route}
-use Rattle.mc_model.specs.DeckGrammar.{DeckLine}
-use Rattle.mc_model.specs.Play.{WornAt, Live, Running, Unpowered, Muted, Base, OnCard, AtFault, State, Cold, Hot, Step, command, is_done, plays, start}
-use Rattle.mc_model.specs.Laws.{bytes_of}
-
--- the session bytes of an application, none where it is not there
-abbrev pub session_in : Option App → ℕ
-session_in None = 0
-session_in (Some a) = a.session
-
--- each application keeps to the most static bytes
-abbrev pub AreLimited : List (List ℕ × App) → Type 0
-AreLimited map = (name : List ℕ) (a : App) → lookup map name ≡ Some a → length a.fixed ≤ most_static
+use Rattle.mc_machine_laws.specs.Limited.{AreLimited, session_in}
+use Rattle.mc_model_device.specs.Bytes.{lookup}
+use Rattle.mc_model_machine.specs.Apdu.{ApduParts}
+use Rattle.mc_model_device.specs.Card.{App, Card}
+use Rattle.mc_model_machine.specs.Chain.{Chain, start as begun}
+use Rattle.mc_model_card.specs.Items.{card_done}
+use Rattle.mc_model_device.specs.Limits.{most_static}
+use Rattle.mc_model_card.specs.Manager.{Selected, Seat, Route, WrongLength, WrongClass, ToSelect, ToManager, ToApplication, route}
+use Rattle.mc_model_play.specs.DeckGrammar.{DeckLine}
+use Rattle.mc_model_play.specs.Play.{WornAt, Live, Running, Unpowered, Muted, State, Cold, Hot, Step, is_done, plays, start}
+use Rattle.mc_model_device.specs.PowerUp.{Base, OnCard, AtFault}
+use Rattle.mc_model_card.specs.Commands.{command}
+use Rattle.mc_model_play.specs.Laws.{bytes_of}
 
 -- a run of the selected application begins on limited applications, with the session bytes of its own
 pub record BeginsWell (map : List (List ℕ × App)) (s : Selected) : Type 0 where

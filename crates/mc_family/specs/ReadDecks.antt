@@ -1,10 +1,10 @@
 -- A deck that was read carries bytes, so that its plays need no premise on their lines.
 use Rattle.std.specs.Prelude.{◌≡◌, ℕ, false, List, take, Option, Ok}
 use Rattle.std.specs.List.{AllByRecursion}
-use Rattle.mc_model.specs.Device.{IsImage}
-use Rattle.mc_model.specs.DeckGrammar.{DeckLine, deck_read}
-use Rattle.mc_model.specs.Play.{WornAt, plays, start}
-use Rattle.mc_model.specs.ReadyAgain.{AllFitJournal, IsLine, ReadyAgain}
+use Rattle.mc_model_device.specs.Device.{IsImage}
+use Rattle.mc_model_play.specs.DeckGrammar.{DeckLine, deck_read}
+use Rattle.mc_model_play.specs.Play.{WornAt, plays, start}
+use Rattle.mc_model_play.specs.ReadyAgain.{AllFitJournal, IsLine, ReadyAgain}
 
 -- what each line of a deck that was read carries is bytes
 abbrev pub ReadLinesLaw : Type 0

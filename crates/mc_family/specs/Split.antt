@@ -1,6 +1,6 @@
 -- Whole items before those of a stop.
 use Rattle.std.specs.Prelude.{List, ◌++◌}
-use Rattle.mc_model.specs.Items.{Item, Stopped}
+use Rattle.mc_model_card.specs.Items.{Item, Stopped}
 
 -- a stop behind items that are whole
 abbrev pub with_whole : List Item → Stopped → Stopped

@@ -1,23 +1,24 @@
 -- A play of two counters on one card, as a worked example of views: a family of one, and a stranger.
 use Rattle.std.specs.Prelude.{ℕ, List, [], ◌∷◌, replicate}
-use Rattle.mc_model.specs.Bytes.{zeros}
-use Rattle.mc_model.specs.Units.{UnitParts, name_of, made_dir, made_fci}
-use Rattle.mc_model.specs.Apdu.{apdu_read}
-use Rattle.mc_model.specs.Pieces.{touched}
-use Rattle.mc_model.specs.Image.{targets_1, targets_2, pairs, opening, Two}
-use Rattle.mc_model.specs.Card.{blocks_from, apps_of}
-use Rattle.mc_model.specs.Layout.{layout, step_of, bad_block, bad_record}
-use Rattle.mc_model.specs.Frame.{bytes_at, written, too_many}
-use Rattle.mc_model.specs.Primitives.{later_causes, prim_effect}
-use Rattle.mc_model.specs.Row.{causes, effect, row}
-use Rattle.mc_model.specs.Chain.{acted, ran}
-use Rattle.mc_model.specs.Manager.{manage}
-use Rattle.mc_model.specs.Play.{Step, start, command, send, warmed, step, plays, moves_of, steady_worn}
-use Rattle.mc_model.specs.Given.{events, given}
-use Rattle.mc_model.specs.Solo.{solo_command, hears, hears_all}
-use Rattle.mc_model.specs.View.{View, answers, view, solo_view}
-use Rattle.mc_model.specs.DeckGrammar.{DeckLine}
-use Rattle.mc_model.specs.DeckGrammar as line
+use Rattle.mc_model_device.specs.Bytes.{zeros}
+use Rattle.mc_model_card.specs.Units.{UnitParts, name_of, made_dir, made_fci}
+use Rattle.mc_model_machine.specs.Apdu.{apdu_read}
+use Rattle.mc_model_device.specs.Pieces.{touched}
+use Rattle.mc_model_device.specs.Image.{targets_1, targets_2, pairs, opening, Two}
+use Rattle.mc_model_device.specs.Card.{blocks_from, apps_of}
+use Rattle.mc_model_device.specs.Layout.{layout, step_of, bad_block, bad_record}
+use Rattle.mc_model_machine.specs.Frame.{bytes_at, written, too_many}
+use Rattle.mc_model_machine.specs.Primitives.{later_causes, prim_effect}
+use Rattle.mc_model_machine.specs.Row.{causes, effect, row}
+use Rattle.mc_model_machine.specs.Chain.{acted, ran}
+use Rattle.mc_model_card.specs.Manager.{manage}
+use Rattle.mc_model_play.specs.Play.{Step, start, send, warmed, step, plays, moves_of, steady_worn}
+use Rattle.mc_model_card.specs.Commands.{command}
+use Rattle.mc_model_play.specs.Given.{events, given}
+use Rattle.mc_model_play.specs.Solo.{solo_command, hears, hears_all}
+use Rattle.mc_model_play.specs.View.{View, answers, view, solo_view}
+use Rattle.mc_model_play.specs.DeckGrammar.{DeckLine}
+use Rattle.mc_model_play.specs.DeckGrammar as line
 
 -- a name
 abbrev pub first : List ℕ

@@ -1,18 +1,17 @@
-//! The law of isolation and the other laws of plays, over the definitions of `mc_model` alone.
+//! The law of isolation and the other laws of plays, over the definitions alone.
 #![tactic(auto)]
 
 mod definitions;
 
 ghost use Rattle.std.specs.Prelude.{◌≡◌, [], ◌∷◌};
-ghost use Rattle.mc_model.specs.Chain.{Reply};
-ghost use Rattle.mc_model.specs.Play.{Answered, OffAt, Static};
-ghost use Rattle.mc_model.specs.View.{View};
-ghost use Rattle.mc_model.specs.Laws.{IsolationLaw};
+ghost use Rattle.mc_model_machine.specs.Chain.{Reply};
+ghost use Rattle.mc_model_play.specs.Play.{Answered, OffAt, Static};
+ghost use Rattle.mc_model_play.specs.View.{View};
+ghost use Rattle.mc_model_play.specs.Laws.{IsolationLaw};
 ghost use Rattle.mc_family.specs.Worked.{seen_in_play, seen_alone};
 
 pub use definitions::{
-    changes_write_few_headers, counts_within_budget, few_words_cost_few_writes, pairs_compose,
-    read_decks_fit, rows_write_few_words, runs_begin_well, runs_write_few_words, stops_split,
+    counts_within_budget, pairs_compose, read_decks_fit, runs_begin_well, stops_split,
     traces_hold_transcripts,
 };
 

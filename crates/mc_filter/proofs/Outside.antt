@@ -1,6 +1,6 @@
 -- What a program says at the status that it ended with, and that a job is complete where no call of source or sink fails.
 use Rattle.std.proofs.Common.{◌≡◌, ◌⊎◌, ℕ, List, Option, Result, Ok, Err, refl, sym, subst, inl, inr}
-use Rattle.mc_model.specs.Counts.{Rose}
+use Rattle.mc_model_device.specs.Counts.{Rose}
 use Rattle.mc_base.specs.declared.refusals.WriteFault.{WriteFault as Fault}
 use Rattle.mc_filter.specs.declared.status.Status.{Status}
 use Rattle.mc_filter.specs.declared.status.Status.TheVariants.{Done, Failed, NoForm, ReadFault, WriteFault, NoMemory}

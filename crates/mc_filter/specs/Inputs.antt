@@ -1,8 +1,8 @@
 -- What was read of an input, or why it is not used.
 use Rattle.std.specs.Prelude.{◌≡◌, ℕ, ◌+◌, ◌≤◌, List, length, Option, Some, None, Result, Ok, Err, ⊤}
-use Rattle.mc_model.specs.Counts.{Rose}
-use Rattle.mc_model.specs.DeckGrammar.{DeckLine}
-use Rattle.mc_model.specs.declared.deck.DeckCause.{DeckCause}
+use Rattle.mc_model_device.specs.Counts.{Rose}
+use Rattle.mc_model_play.specs.DeckGrammar.{DeckLine}
+use Rattle.mc_model_play.specs.declared.deck.DeckCause.{DeckCause}
 use Rattle.mc_base.specs.Streams.{Took, AtEnd, TookAtMost, TookMore}
 use Rattle.mc_filter.specs.declared.rejection.Rejection.{Rejection}
 use Rattle.mc_filter.specs.declared.rejection.Rejection.TheVariants as rejection

@@ -1,7 +1,7 @@
 -- The lines that refuse an input.
 use Rattle.std.specs.Prelude.{ℕ, List, ◌++◌, codes, decimal}
-use Rattle.mc_model.specs.Words.{deck_word}
-use Rattle.mc_model.specs.declared.deck.DeckCause.{DeckCause}
+use Rattle.mc_model_play.specs.Words.{deck_word}
+use Rattle.mc_model_play.specs.declared.deck.DeckCause.{DeckCause}
 
 -- a line or a place, its number, and why it is refused
 abbrev pub refusal_line : List ℕ → ℕ → List ℕ → List ℕ

@@ -1,7 +1,7 @@
 -- What a program tells of its source and its sink, and what it says of them at each of its statuses. A program has verdicts of its own on
 -- an input, a refusal by a line among them, and knows what an input stands for, what is due, and how a verdict is done.
 use Rattle.std.specs.Prelude.{◌≡◌, ℕ, ◌≤◌, ◌<◌, ◌⊎◌, List, length, Option, Some, None}
-use Rattle.mc_model.specs.Counts.{Rose}
+use Rattle.mc_model_device.specs.Counts.{Rose}
 use Rattle.mc_base.specs.Streams.{TookMore}
 use Rattle.mc_base.specs.declared.sink.Sink as sink
 use Rattle.mc_base.specs.declared.source.Source as source

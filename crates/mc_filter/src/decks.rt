@@ -1,6 +1,6 @@
 // The deck that an input spells.
 ghost use Rattle.std.specs.Prelude.{◌≡◌, Ok, IfErr, IfOk};
-ghost use Rattle.mc_model.specs.DeckGrammar.{deck_read};
+ghost use Rattle.mc_model_play.specs.DeckGrammar.{deck_read};
 ghost use Rattle.mc_filter.specs.Inputs.{refused_deck, Rejects};
 
 use crate::lines::refused;

@@ -1,11 +1,11 @@
 -- An atomic write in its three parts, whichever the journal is: the entries, the head and the gate, and the replay.
 use Rattle.std.proofs.Common.{ℕ, List, [], ◌∷◌, ◌++◌, length, Ok, Err}
-use Rattle.mc_model.specs.declared.device.Stop.{Stop}
-use Rattle.mc_model.specs.Orders.{Answer}
-use Rattle.mc_model.specs.Device.{Makes}
-use Rattle.mc_model.specs.Image.{Journal, gate, opening}
-use Rattle.mc_model.specs.Stopped.{numbered, entries, replay, writes}
-use Rattle.mc_model.proofs.LoopLemmas.{then, stopped}
+use Rattle.mc_model_device.specs.declared.device.Stop.{Stop}
+use Rattle.mc_model_device.specs.Orders.{Answer}
+use Rattle.mc_model_device.specs.Device.{Makes}
+use Rattle.mc_model_device.specs.Image.{Journal, gate, opening}
+use Rattle.mc_model_device.specs.Stopped.{numbered, entries, replay, writes}
+use Rattle.mc_model_device.proofs.LoopLemmas.{then, stopped}
 
 -- the head and the gate
 abbrev pub opens : Journal → List (ℕ × List ℕ) → List (ℕ × List ℕ)

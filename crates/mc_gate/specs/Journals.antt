@@ -1,6 +1,6 @@
 -- The journals as the code names them, and where their values lie.
 use Rattle.std.specs.Prelude.{ℕ, ◌+◌, ◌*◌}
-use Rattle.mc_model.specs.Image as image
+use Rattle.mc_model_device.specs.Image as image
 use Rattle.mc_gate.specs.declared.journals.Journal.{Journal}
 use Rattle.mc_gate.specs.declared.journals.Journal.TheVariants.{Plain, Packed}
 

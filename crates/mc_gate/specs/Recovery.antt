@@ -1,6 +1,6 @@
 -- How a recovery ended, from its answer.
 use Rattle.std.specs.Prelude.{ℕ, Result, Ok, Err}
-use Rattle.mc_model.specs.Stopped.{RecoveryOutcome, Recovered, Interrupted, BadAt}
+use Rattle.mc_model_device.specs.Stopped.{RecoveryOutcome, Recovered, Interrupted, BadAt}
 use Rattle.mc_gate.specs.declared.recovery.Recover.{Recover}
 use Rattle.mc_gate.specs.declared.recovery.Recover.TheVariants.{Stop as RecoverStop, BadJournal as RecoverBad}
 

@@ -1,5 +1,5 @@
 ghost use Rattle.std.specs.Prelude.{◌≡◌};
-ghost use Rattle.mc_model.specs.Stopped.{numbered};
+ghost use Rattle.mc_model_device.specs.Stopped.{numbered};
 
 use mc_base::{Word, bytes_of};
 

@@ -1,8 +1,8 @@
 ghost use Rattle.std.specs.Prelude.{◌≡◌, ◌≤◌, true, [], ◌∷◌, length, OnOk};
 ghost use Rattle.std.specs.List.{AllByRecursion};
-ghost use Rattle.mc_model.specs.Device.{Makes};
-ghost use Rattle.mc_model.specs.Image.{within, gate, opening};
-ghost use Rattle.mc_model.specs.Stopped.{numbered, replay};
+ghost use Rattle.mc_model_device.specs.Device.{Makes};
+ghost use Rattle.mc_model_device.specs.Image.{within, gate, opening};
+ghost use Rattle.mc_model_device.specs.Stopped.{numbered, replay};
 ghost use Rattle.mc_gate.specs.Journals.{journal_of};
 
 use crate::journals::{HEAD, Journal, SHUT};

@@ -3,14 +3,14 @@ use Rattle.std.proofs.Common.{◌≡◌, ℕ, zero, suc, ◌+◌, ◌<◌, ◌�
 use Rattle.std.specs.Prelude.{nat_le, option_map, slice_index}
 use Rattle.std.specs.Int.{w8}
 use Rattle.std.proofs.lemmas.List.{take-append-drop}
-use Rattle.mc_model.specs.Code.{Form, made, made_of, operands, total, form, spell, front, decoded, IsUndefined, IsPast, DecodesTo, kinds, from_place, Kind}
-use Rattle.mc_model.specs.declared.instruction.DecodeFault.{DecodeFault}
-use Rattle.mc_model.specs.declared.instruction.DecodeFault.TheVariants.{Undefined, Past}
-use Rattle.mc_model.specs.declared.instruction.Ins.{Ins}
-use Rattle.mc_model.specs.declared.instruction.Ins.TheVariants.{Prim}
+use Rattle.mc_model_machine.specs.Code.{Form, made, made_of, operands, total, form, spell, front, decoded, IsUndefined, IsPast, DecodesTo, kinds, from_place, Kind}
+use Rattle.mc_model_machine.specs.declared.instruction.DecodeFault.{DecodeFault}
+use Rattle.mc_model_machine.specs.declared.instruction.DecodeFault.TheVariants.{Undefined, Past}
+use Rattle.mc_model_machine.specs.declared.instruction.Ins.{Ins}
+use Rattle.mc_model_machine.specs.declared.instruction.Ins.TheVariants.{Prim}
 use Rattle.std.proofs.Common.{Fits, get_or}
 use Rattle.mc_isa.proofs.RowLemmas.{Good, GoodRow, good_form, made_good}
-use Rattle.mc_model.specs.Bytes.{AreBytes}
+use Rattle.mc_model_device.specs.Bytes.{AreBytes}
 use Rattle.mc_isa.proofs.SpellingLemmas.{front_spell}
 
 -- ---- what stands at a place

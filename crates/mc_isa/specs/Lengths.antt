@@ -1,6 +1,6 @@
 -- How long instructions are, by their first byte.
 use Rattle.std.specs.Prelude.{ℕ, ◌+◌, ◌*◌, List, [], ◌∷◌, map, option_map, unwrap_or}
-use Rattle.mc_model.specs.Code.{kinds, total}
+use Rattle.mc_model_machine.specs.Code.{kinds, total}
 
 -- the length of the instruction that a byte begins, 0 where it begins none
 abbrev pub length_at : ℕ → ℕ

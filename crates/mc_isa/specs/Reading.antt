@@ -1,7 +1,7 @@
 -- Operands that are read from the bytes behind an instruction byte.
 use Rattle.std.specs.Prelude.{◌≡◌, ℕ, true, false, nat_le, List, length, Result, Ok, Err}
-use Rattle.mc_model.specs.declared.instruction.DecodeFault.{DecodeFault}
-use Rattle.mc_model.specs.declared.instruction.DecodeFault.TheVariants.{Past}
+use Rattle.mc_model_machine.specs.declared.instruction.DecodeFault.{DecodeFault}
+use Rattle.mc_model_machine.specs.declared.instruction.DecodeFault.TheVariants.{Past}
 
 -- the value is read where the n bytes that it takes are there
 abbrev pub ReadsOperand : {V : Type 0} → Result V DecodeFault → ℕ → List ℕ → V → Type 0

@@ -1,15 +1,14 @@
 // From bytes to instructions: the table of machine rows, by op and tag. A row answers the instruction and its length.
 ghost use Rattle.std.specs.Prelude.{◌≡◌, ℕ, ◌+◌, ◌*◌, ◌/◌, ◌%◌, ◌<◌, ◌≤◌, length, take, drop, ◌++◌};
-ghost use Rattle.mc_model.specs.declared.instruction.Ins.TheVariants.{Branch, Jump, Call};
-ghost use Rattle.mc_model.specs.Limits.{most_code};
-ghost use Rattle.mc_model.specs.Code.{made_of, row_at, row_of, register_rows, stack_rows, call_rows, near_row};
-ghost use Rattle.mc_model.specs.Code.{target_row, form, front, decoded, DecodesTo};
+ghost use Rattle.mc_model_machine.specs.declared.instruction.Ins.TheVariants.{Branch, Jump, Call};
+ghost use Rattle.mc_model_device.specs.Limits.{most_code};
+ghost use Rattle.mc_model_machine.specs.Code.{made_of, row_at, row_of, register_rows, stack_rows, call_rows, near_row, target_row, form, front, decoded, DecodesTo};
 
 use crate::reading::{
     arguments, byte, byte_and_offset, bytes, displacement, offset, offset_size, target,
     target_size, word, word_and_offset, words,
 };
-use mc_model::{DecodeFault, Ins};
+use mc_model_machine::{DecodeFault, Ins};
 
 // Op 00: the status registers and exits.
 #[inline(always)]

@@ -1,9 +1,9 @@
 // What the table, the spelling and the decoder have to do with each other.
 ghost use Rattle.std.specs.Prelude.{◌≡◌, ◌+◌, ◌<◌, ℕ, List, [], ◌++◌, length, Result};
 ghost use Rattle.std.specs.List.{AllByRecursion};
-ghost use Rattle.mc_model.specs.Code.{Shaped, spell, decoded, DecodesTo};
-ghost use Rattle.mc_model.specs.declared.instruction.DecodeFault.{DecodeFault};
-ghost use Rattle.mc_model.specs.declared.instruction.Ins.{Ins};
+ghost use Rattle.mc_model_machine.specs.Code.{Shaped, spell, decoded, DecodesTo};
+ghost use Rattle.mc_model_machine.specs.declared.instruction.DecodeFault.{DecodeFault};
+ghost use Rattle.mc_model_machine.specs.declared.instruction.Ins.{Ins};
 
 /// At each place of code exactly one answer holds: one instruction with one next place, `Undefined`, or `Past`.
 pub fn one_answer_at_each_place()

@@ -1,8 +1,8 @@
 -- One step of reading the targets of the journal.
 use Rattle.std.proofs.Common.{◌≡◌, ℕ, suc, ◌+◌, ◌-◌, ◌*◌, ◌<◌, List, [], ◌∷◌, ◌++◌, length, Option, Some, None, Result, Ok, Err, sym, ◌∙◌, ap, arith}
 use Rattle.std.proofs.lemmas.List.{append-nil}
-use Rattle.mc_model.specs.Image.{word_at, number, within, before, one_before, targets_1}
-use Rattle.mc_model.proofs.JournalLemmas.{before-before}
+use Rattle.mc_model_device.specs.Image.{word_at, number, within, before, one_before, targets_1}
+use Rattle.mc_model_device.proofs.JournalLemmas.{before-before}
 
 more : (m : List (List ℕ)) (i n k : ℕ) → n ≡ suc k → targets_1 m i n ≡ one_before (number (within (length m)) (word_at m (3 + 2 * i))) (3 + 2 * i) (targets_1 m (i + 1) k)
 unfolding targets_1

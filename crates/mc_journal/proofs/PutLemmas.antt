@@ -1,7 +1,7 @@
 -- One step through lists of pairs and their entries.
 use Rattle.std.proofs.Common.{◌≡◌, ℕ, ◌+◌, ◌*◌, ◌<◌, List, [], ◌∷◌, ◌++◌, length, drop, get_or, ap}
-use Rattle.mc_model.specs.Stopped.{entries_1, numbered}
-use Rattle.mc_model.proofs.JournalLemmas.{pair-step}
+use Rattle.mc_model_device.specs.Stopped.{entries_1, numbered}
+use Rattle.mc_model_device.proofs.JournalLemmas.{pair-step}
 
 pub entry-step : (list : List (ℕ × List ℕ)) (i : ℕ) → i < length list
     → entries_1 i (drop i list) ≡ ((3 + 2 * i, numbered (get_or list i (0, [])).0) ∷ (4 + 2 * i, (get_or list i (0, [])).1) ∷ []) ++ entries_1 (i + 1) (drop (i + 1) list)

@@ -1,5 +1,5 @@
 ghost use Rattle.std.specs.Prelude.{◌≡◌, ◌≤◌, length};
-ghost use Rattle.mc_model.specs.Image.{One, within, targets, number, look_j};
+ghost use Rattle.mc_model_device.specs.Image.{One, within, targets, number, look_j};
 ghost use Rattle.mc_gate.specs.Look.{look_of, read_as};
 
 use arrayvec::ArrayVec;

@@ -1,7 +1,7 @@
 ghost use Rattle.std.specs.Prelude.{◌≡◌, ◌+◌, ◌*◌, ◌<◌, ◌≤◌, true, [], ◌∷◌, length, OnOk};
-ghost use Rattle.mc_model.specs.Device.{Makes};
-ghost use Rattle.mc_model.specs.Image.{One};
-ghost use Rattle.mc_model.specs.Stopped.{entries, numbered};
+ghost use Rattle.mc_model_device.specs.Device.{Makes};
+ghost use Rattle.mc_model_device.specs.Image.{One};
+ghost use Rattle.mc_model_device.specs.Stopped.{entries, numbered};
 
 use mc_base::{Stop, Word};
 use mc_gate::{Journal, number_word};

@@ -1,7 +1,7 @@
 ghost use Rattle.std.specs.Prelude.{◌≡◌, true};
-ghost use Rattle.mc_model.specs.Device.{Makes};
-ghost use Rattle.mc_model.specs.Image.{One, look_j};
-ghost use Rattle.mc_model.specs.Stopped.{owed_writes, outcome_answer, RecoverEnds};
+ghost use Rattle.mc_model_device.specs.Device.{Makes};
+ghost use Rattle.mc_model_device.specs.Image.{One, look_j};
+ghost use Rattle.mc_model_device.specs.Stopped.{owed_writes, outcome_answer, RecoverEnds};
 ghost use Rattle.mc_gate.specs.Recovery.{outcome_of};
 
 use crate::look::look;

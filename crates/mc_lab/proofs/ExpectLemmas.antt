@@ -2,13 +2,13 @@
 use Rattle.std.proofs.Common.{◌≡◌, ◌+◌, ◌<◌, ◌≤◌, refl, sym, ◌∙◌, ap, subst, ℕ, zero, suc, List, [], ◌∷◌, ◌++◌, length, drop, map, filter, not, Bool, true, false, cond, Option, Some, None, Result, Ok, Err, IsErr, arith, add-one, zero-add, append_assoc}
 use Rattle.std.specs.Prelude.{slice_index_or}
 use Rattle.std.proofs.lemmas.List.{length-map}
-use Rattle.mc_model.specs.Play.{Step}
+use Rattle.mc_model_play.specs.Play.{Step}
 use Rattle.mc_asm.specs.declared.line.NumberedLine.{NumberedLine}
 use Rattle.mc_asm.specs.Passes.{numbered_lines}
 use Rattle.mc_base.specs.declared.refusals.WriteFault.{WriteFault}
 use Rattle.mc_text.specs.Texts.{Sunk, Puts, Writes, Fails}
 use Rattle.mc_text.proofs.TextLemmas.{fails_before, puts_as, puts_then}
-use Rattle.mc_lab.specs.Patterns.{holds}
+use Rattle.mc_model_play.specs.Patterns.{holds}
 use Rattle.mc_lab.specs.Expectations.{count_failed, count_text, expect_text, failed_lines, is_met, result_above, told_of}
 use Rattle.mc_lab.specs.Judged.{done_of, expectation_of, text_left}
 

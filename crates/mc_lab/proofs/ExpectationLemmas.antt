@@ -1,8 +1,8 @@
 -- Lines that are expectations, and those that are none.
 use Rattle.std.proofs.Common.{◌≡◌, ◌+◌, ◌<◌, length, refl, sym, ◌∙◌, ap, subst, ℕ, suc, List, [], ◌∷◌, ◌++◌, Bool, true, false, not, cond, filter, Option, Some, None, append_assoc, append-nil, arith, add-one}
 use Rattle.std.specs.Prelude.{◌&&◌, codes, bytes_eq}
-use Rattle.mc_model.specs.Text.{fields, first_cut, cut_or_joined, cut_or_kept, is_blank, is_empty, lines, numbered, pieces, trim_front}
-use Rattle.mc_model.specs.DeckGrammar.{is_end}
+use Rattle.mc_model_machine.specs.Text.{fields, first_cut, cut_or_joined, cut_or_kept, is_blank, is_empty, lines, numbered, pieces, trim_front}
+use Rattle.mc_model_play.specs.DeckGrammar.{is_end}
 use Rattle.mc_text.specs.Reading.{next_line}
 use Rattle.mc_text.proofs.ReadingLemmas.{pieces_at, pieces_cut}
 use Rattle.mc_asm.proofs.PassLemmas.{numbered_some, numbered_none}

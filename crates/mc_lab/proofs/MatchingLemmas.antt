@@ -1,8 +1,8 @@
 -- Blanks that are left out, and walks of a pattern along a text.
 use Rattle.std.proofs.Common.{◌≡◌, ◌+◌, ◌<◌, ◌≤◌, ◌||◌, ◌&&◌, ◌==◌, refl, sym, ◌∙◌, ap, subst, ℕ, List, [], ◌∷◌, Bool, true, false, cond, not, length, filter, arith}
-use Rattle.mc_model.specs.Text.{is_blank, is_empty}
+use Rattle.mc_model_machine.specs.Text.{is_blank, is_empty}
 use Rattle.mc_lab.specs.Walks.{Parts}
-use Rattle.mc_lab.specs.Patterns.{is_any, is_star, some_rest, first_and_rest, matches, without_blanks}
+use Rattle.mc_model_play.specs.Patterns.{is_any, is_star, some_rest, first_and_rest, matches, without_blanks}
 
 -- ---- blanks
 

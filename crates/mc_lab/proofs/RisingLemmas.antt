@@ -1,14 +1,14 @@
 -- The numbers of the lines of a deck rise.
 use Rattle.std.proofs.Common.{◌≡◌, ◌+◌, ◌<◌, ◌≤◌, refl, sym, ◌∙◌, ap, subst, ℕ, zero, suc, List, [], ◌∷◌, ◌++◌, Bool, true, false, cond, Option, Some, None, Result, Ok, Err, arith}
 use Rattle.std.specs.Prelude.{◌==◌, not, ok_or}
-use Rattle.mc_model.specs.declared.deck.DeckCause.{DeckCause}
-use Rattle.mc_model.specs.declared.deck.DeckCause.TheVariants.{BadLine, UnknownName, LateLine}
-use Rattle.mc_model.specs.declared.deck.DeckCause.TheVariants as causes
-use Rattle.mc_model.specs.Bytes.{lookup}
-use Rattle.mc_model.specs.Units.{UnitParts, unit_read}
-use Rattle.mc_model.specs.Text.{◌>>=◌, ok_as, err_as, only_if, begins, fields, lines, numbered}
-use Rattle.mc_model.specs.DeckGrammar.{DeckLine, Named, Context, Section, Stated, Says, Opens, Word, FormatWord, PowerWord, UnitWord, AppWord, LoadWord, SelectWord, DeleteWord, DumpWord, ApduWord, BudgetWord, CutWord, FailWord, PokeWord, Mode, Between, Within, LineTurn, stated, early, deck_words, turn_of, between, within, turn_in, turn_at, ended, deck_lines, deck_read, section_unit, with_unit, is_end, name_field, hex_field, aid_field, fill_field, number_field, new_name}
-use Rattle.mc_model.specs.DeckGrammar as line
+use Rattle.mc_model_play.specs.declared.deck.DeckCause.{DeckCause}
+use Rattle.mc_model_play.specs.declared.deck.DeckCause.TheVariants.{BadLine, UnknownName, LateLine}
+use Rattle.mc_model_play.specs.declared.deck.DeckCause.TheVariants as causes
+use Rattle.mc_model_device.specs.Bytes.{lookup}
+use Rattle.mc_model_card.specs.Units.{UnitParts, unit_read}
+use Rattle.mc_model_machine.specs.Text.{◌>>=◌, ok_as, err_as, only_if, begins, fields, lines, numbered}
+use Rattle.mc_model_play.specs.DeckGrammar.{DeckLine, Named, Context, Section, Stated, Says, Opens, Word, FormatWord, PowerWord, UnitWord, AppWord, LoadWord, SelectWord, DeleteWord, DumpWord, ApduWord, BudgetWord, CutWord, FailWord, PokeWord, Mode, Between, Within, LineTurn, stated, early, deck_words, turn_of, between, within, turn_in, turn_at, ended, deck_lines, deck_read, section_unit, with_unit, is_end, name_field, hex_field, aid_field, fill_field, number_field, new_name}
+use Rattle.mc_model_play.specs.DeckGrammar as line
 use Rattle.mc_lab.specs.Rising.{Rising}
 use Rattle.mc_lab.specs.Expectations.{line_number}
 

@@ -1,7 +1,7 @@
 -- Accounts of other lengths are not the same.
 use Rattle.std.specs.Prelude.{◌≡◌, ◌≢◌, ℕ, suc, Bool, true, false, ◌&&◌, List, [], ◌∷◌, length, map, Option, refl}
 use Rattle.std.proofs.Common.{arith, sym, ◌∙◌}
-use Rattle.mc_model.proofs.ListLemmas.{length-map as map-length}
+use Rattle.mc_model_device.proofs.ListLemmas.{length-map as map-length}
 use Rattle.mc_lab.specs.Sweeps.{is_same_held, are_same_held}
 
 neither-same : (b c : Bool) → false ≡ c → false ≡ (b && c)

@@ -4,13 +4,13 @@ use Rattle.std.proofs.Common.{arith, ap, sym, subst, ◌∙◌}
 use Rattle.std.proofs.lemmas.Slice.Eq.{bytes_eq-Decides}
 use Rattle.std.proofs.lemmas.Bool.{lt-ltb, leb-true, eqb-true}
 use Rattle.std.proofs.lemmas.Bool.Decides.{nat_tests}
-use Rattle.mc_model.proofs.LookLemmas.{both}
-use Rattle.mc_model.specs.Image.{Two}
-use Rattle.mc_model.specs.Image as image
-use Rattle.mc_model.specs.Stopped.{cost, opens_at, stands}
-use Rattle.mc_model.specs.Card.{App}
-use Rattle.mc_model.specs.Items.{Change, Item, Plain, Atomic, moves, changed, done, at_stop, Stopped}
-use Rattle.mc_model.proofs.ListLemmas.{and-true as joined}
+use Rattle.mc_model_device.proofs.LookLemmas.{both}
+use Rattle.mc_model_device.specs.Image.{Two}
+use Rattle.mc_model_device.specs.Image as image
+use Rattle.mc_model_device.specs.Stopped.{cost, opens_at, stands}
+use Rattle.mc_model_device.specs.Card.{App}
+use Rattle.mc_model_card.specs.Items.{Change, Item, Plain, Atomic, moves, changed, done, at_stop, Stopped}
+use Rattle.mc_model_device.proofs.ListLemmas.{and-true as joined}
 use Rattle.mc_lab.specs.Sweeps.{held_under, is_same_held, are_same_held}
 use Rattle.mc_lab.specs.SweepLaws.{changes, changing, opening}
 

@@ -4,16 +4,18 @@ use Rattle.std.proofs.Common.{arith, ap, sym, subst, inl, inr, ◌∙◌, append
 use Rattle.std.proofs.lemmas.Bool.{le-leb, cases_lt}
 use Rattle.std.proofs.lemmas.List.{append-nil}
 use Rattle.std.proofs.Math.ListN.{drop_of_length-le}
-use Rattle.mc_model.proofs.LookLemmas.{both}
-use Rattle.mc_model.specs.Card.{Card}
-use Rattle.mc_model.specs.Play.{Live, Running, Unpowered, Muted, Base, OnCard, AtFault, Warm, State, Cold, Hot, WornAt, Command, step, card_line, line_command, hit_of, warmed, power_moves, power_after, stopped_power, line_after, armed_in, is_card_line, plays, steady_worn}
-use Rattle.mc_model.specs.Items.{StopAt, moves}
-use Rattle.mc_model.specs.DeckGrammar.{DeckLine}
-use Rattle.mc_model.specs.DeckGrammar as line
+use Rattle.mc_model_device.proofs.LookLemmas.{both}
+use Rattle.mc_model_device.specs.Card.{Card}
+use Rattle.mc_model_play.specs.Play.{Live, Running, Unpowered, Muted, Warm, State, Cold, Hot, WornAt, step, card_line, line_command, hit_of, warmed, power_moves, power_after, stopped_power, line_after, armed_in, is_card_line, plays, steady_worn}
+use Rattle.mc_model_device.specs.PowerUp.{Base, OnCard, AtFault}
+use Rattle.mc_model_card.specs.Commands.{Command}
+use Rattle.mc_model_card.specs.Items.{StopAt, moves}
+use Rattle.mc_model_play.specs.DeckGrammar.{DeckLine}
+use Rattle.mc_model_play.specs.DeckGrammar as line
 use Rattle.mc_base.specs.declared.refusals.WriteFault.{WriteFault}
 use Rattle.mc_text.specs.Texts.{Sunk, Puts, Fails, Writes}
 use Rattle.mc_text.proofs.TextLemmas.{puts_as, puts_then, fails_before}
-use Rattle.mc_model.proofs.ListLemmas.{and-true, length-map as map-length}
+use Rattle.mc_model_device.proofs.ListLemmas.{and-true, length-map as map-length}
 use Rattle.mc_lab.specs.declared.sweep_trial.Place.{Place}
 use Rattle.mc_lab.specs.declared.sweep_text.Sums.{Sums}
 use Rattle.mc_lab.specs.declared.sweep_word.Word.{Word}

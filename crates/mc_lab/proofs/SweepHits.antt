@@ -2,13 +2,15 @@
 use Rattle.std.specs.Prelude.{◌≡◌, ℕ, ◌+◌, ◌≤◌, Bool, true, false, cond, nat_le, List, Some, None, refl}
 use Rattle.std.proofs.Common.{arith, ap, sym, ◌∙◌}
 use Rattle.std.proofs.lemmas.Bool.{lt-leb}
-use Rattle.mc_model.specs.declared.device.Stop.TheVariants as stop
-use Rattle.mc_model.specs.Image.{Journal}
-use Rattle.mc_model.specs.Card.{Card}
-use Rattle.mc_model.specs.Items.{moves, StopAt}
-use Rattle.mc_model.specs.Play.{Armed, Unarmed, ArmedCut, ArmedFail, Live, Running, Unpowered, Muted, Base, OnCard, AtFault, Warm, State, Cold, Hot, Command, step, moves_of, armed_in, is_card_line, warmed, power_moves, power_step, power_result, card_line, command_step, line_command}
-use Rattle.mc_model.specs.DeckGrammar.{DeckLine}
-use Rattle.mc_model.specs.DeckGrammar as line
+use Rattle.mc_model_device.specs.declared.device.Stop.TheVariants as stop
+use Rattle.mc_model_device.specs.Image.{Journal}
+use Rattle.mc_model_device.specs.Card.{Card}
+use Rattle.mc_model_card.specs.Items.{moves, StopAt}
+use Rattle.mc_model_play.specs.Play.{Armed, Unarmed, ArmedCut, ArmedFail, Live, Running, Unpowered, Muted, Warm, State, Cold, Hot, step, moves_of, armed_in, is_card_line, warmed, power_moves, power_step, power_result, card_line, command_step, line_command}
+use Rattle.mc_model_device.specs.PowerUp.{Base, OnCard, AtFault}
+use Rattle.mc_model_card.specs.Commands.{Command}
+use Rattle.mc_model_play.specs.DeckGrammar.{DeckLine}
+use Rattle.mc_model_play.specs.DeckGrammar as line
 use Rattle.mc_lab.specs.Sweeps.{stepped, played, cut}
 use Rattle.mc_lab.specs.SweepLaws.{is_off, HitsWithin}
 use Rattle.mc_lab.proofs.SweepPlays.{next, played-one}

@@ -3,7 +3,7 @@ use Rattle.std.specs.Prelude.{◌≡◌, ◌≢◌, ℕ, suc, ◌+◌, ◌-◌, 
 use Rattle.std.specs.List.{AllByRecursion}
 use Rattle.std.proofs.Common.{arith, ap, sym, subst, inl, inr, ◌∙◌}
 use Rattle.std.proofs.lemmas.Bool.{cases_lt}
-use Rattle.mc_model.specs.DeckGrammar.{DeckLine}
+use Rattle.mc_model_play.specs.DeckGrammar.{DeckLine}
 use Rattle.mc_lab.specs.Sweeps.{told, word_by, count_from, runs, writes_behind, Tried, tried, Swept, swept, is_swept, swept_if, sweep_behind, sweep, names_from}
 use Rattle.mc_lab.specs.declared.sweep_word.Word.{Word}
 use Rattle.mc_lab.specs.declared.sweep_word.Word.TheVariants.{Same, Between, Torn}

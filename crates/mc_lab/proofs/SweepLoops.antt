@@ -3,10 +3,10 @@ use Rattle.std.specs.Prelude.{◌≡◌, ℕ, zero, suc, ◌+◌, ◌*◌, slice
 use Rattle.std.proofs.Common.{arith, ap, sym, ◌∙◌}
 use Rattle.std.proofs.lemmas.Bool.{leb-true}
 use Rattle.std.proofs.lemmas.Bool.Decides.{nat_tests}
-use Rattle.mc_model.specs.Play.{Armed, Unarmed, ArmedCut, ArmedFail, Hot, armed_in}
-use Rattle.mc_model.proofs.ListLemmas.{length-map as map-length}
+use Rattle.mc_model_play.specs.Play.{Armed, Unarmed, ArmedCut, ArmedFail, Hot, armed_in}
+use Rattle.mc_model_device.proofs.ListLemmas.{length-map as map-length}
 use Rattle.mc_lab.specs.Sweeps.{Tried, plays_of, played, ToldState, is_same, all_same, count_from, cut, power, under_cut, ones, tried, is_unarmed}
-use Rattle.mc_model.specs.Bytes.{zeros}
+use Rattle.mc_model_device.specs.Bytes.{zeros}
 use Rattle.std.proofs.Common.{length-append}
 use Rattle.mc_lab.specs.declared.sweep_word.Word.{Word}
 use Rattle.mc_lab.specs.SweepBodies.{word_with, tried_in, IsUnarmedLine, OpensNoGate, front_of, line_in, hit_in, told_in, writes_in, again_in, recovered_in}

@@ -1,7 +1,7 @@
 -- The names of the lines that are left.
 use Rattle.std.specs.Prelude.{◌≡◌, ℕ, zero, suc, ◌+◌, List, [], ◌∷◌, drop, slice_get, Some}
 use Rattle.std.proofs.Common.{arith, ap, sym, ◌∙◌}
-use Rattle.mc_model.specs.DeckGrammar.{DeckLine}
+use Rattle.mc_model_play.specs.DeckGrammar.{DeckLine}
 use Rattle.mc_lab.specs.Sweeps.{names_from, with_names, mentioned}
 
 pub next-line : (ls : List (ℕ × DeckLine)) (i : ℕ) (x : ℕ × DeckLine) → slice_get ls i ≡ Some x → drop i ls ≡ x ∷ drop (i + 1) ls

@@ -3,13 +3,14 @@ use Rattle.std.specs.Prelude.{◌≡◌, ℕ, zero, suc, ◌+◌, ◌<◌, ◌�
 use Rattle.std.proofs.Common.{arith, ap, sym, subst, ◌∙◌}
 use Rattle.std.proofs.lemmas.List.{length-set}
 use Rattle.mc_blocks.specs.declared.image.Unusable.{Unusable}
-use Rattle.mc_model.specs.Bytes.{lookup}
-use Rattle.mc_model.specs.Card.{App, heap_start}
-use Rattle.mc_model.specs.Chain.{Turn}
-use Rattle.mc_model.specs.Device.{blank_words, device_words, DeviceState, BenchState, Entry}
-use Rattle.mc_model.specs.Play.{Armed, Live, Running, Unpowered, Muted, Base, OnCard, AtFault, Warm, State, Cold, Hot, WornAt, LineResult, step, card_line, static_of, steady_at, moves_of, armed_in, warmed, power_moves, migration, laid_entries, words_left, start, formatted, plays, steady_worn}
-use Rattle.mc_model.specs.DeckGrammar.{DeckLine}
-use Rattle.mc_model.specs.DeckGrammar as line
+use Rattle.mc_model_device.specs.Bytes.{lookup}
+use Rattle.mc_model_device.specs.Card.{App, heap_start}
+use Rattle.mc_model_machine.specs.Chain.{Turn}
+use Rattle.mc_model_device.specs.Device.{blank_words, device_words, DeviceState, BenchState, Entry}
+use Rattle.mc_model_play.specs.Play.{Armed, Live, Running, Unpowered, Muted, Warm, State, Cold, Hot, WornAt, LineResult, step, card_line, static_of, steady_at, moves_of, armed_in, warmed, power_moves, laid_entries, words_left, start, formatted, plays, steady_worn}
+use Rattle.mc_model_device.specs.PowerUp.{Base, OnCard, AtFault, migration}
+use Rattle.mc_model_play.specs.DeckGrammar.{DeckLine}
+use Rattle.mc_model_play.specs.DeckGrammar as line
 use Rattle.mc_family.proofs.ReadyLines.{owed-most}
 use Rattle.mc_script.specs.declared.answer.Answer.{Answer}
 use Rattle.mc_script.specs.declared.answer.Answer.TheVariants as answer
@@ -20,7 +21,7 @@ use Rattle.mc_card.specs.declared.card.Card.{Card}
 use Rattle.mc_card.specs.Parts.{card_in, device_in}
 use Rattle.mc_script.specs.Players.{answer_value, device_of, dump_value, statics_by, statics_in, LiveIs, StateIs, IsPlayerAt, IsPlaying}
 use Rattle.mc_script.specs.Lines.{LineDone}
-use Rattle.mc_model.proofs.ImageLemmas.{length-laid as laid-size}
+use Rattle.mc_model_device.proofs.ImageLemmas.{length-laid as laid-size}
 use Rattle.mc_lab.specs.Sweeps.{played, played_from, told, told_by, Holds, held_under, running_apps, running_in, cut, under_cut}
 use Rattle.mc_lab.specs.SweepLaws.{is_off}
 use Rattle.mc_lab.specs.SweepBodies.{told_with, next, lines_behind, hits, front_of, line_in, names_in, told_in, hit_in, again_in, IsFewBehind}

@@ -2,16 +2,18 @@
 use Rattle.std.specs.Prelude.{◌≡◌, ℕ, ◌-◌, ◌≤◌, Bool, true, false, cond, ◌&&◌, ◌||◌, ◌⊎◌, nat_lt, nat_le, ◌==◌, bytes_eq, List, [], ◌∷◌, ◌++◌, Option, Some, None, refl}
 use Rattle.std.proofs.Common.{arith, ap, sym, inl, inr, ◌∙◌}
 use Rattle.std.proofs.lemmas.Bool.{le-leb}
-use Rattle.mc_model.specs.declared.device.Stop.TheVariants as stop
-use Rattle.mc_model.specs.Image.{Journal, One, Two, opening}
-use Rattle.mc_model.specs.Stopped.{cost, opens_at, stands}
-use Rattle.mc_model.specs.Card.{Card}
-use Rattle.mc_model.specs.Items.{Item, Plain, Atomic, moves, at_stop, Stopped, StopAt, card_done}
-use Rattle.mc_model.specs.Bytes.{zeros}
-use Rattle.mc_model.specs.Given.{apps_in}
-use Rattle.mc_model.specs.Play.{Armed, Unarmed, ArmedCut, ArmedFail, Live, Running, Unpowered, Muted, Base, OnCard, AtFault, Warm, State, Cold, Hot, Command, step, plays, steady_worn, steady_at, moves_of, armed_in, is_card_line, warmed, migrated, power_moves, power_step, power_after, stopped_power, hit_of, WornAt, card_line, command_step, stopped_line, line_command}
-use Rattle.mc_model.specs.DeckGrammar.{DeckLine}
-use Rattle.mc_model.specs.DeckGrammar as line
+use Rattle.mc_model_device.specs.declared.device.Stop.TheVariants as stop
+use Rattle.mc_model_device.specs.Image.{Journal, One, Two, opening}
+use Rattle.mc_model_device.specs.Stopped.{cost, opens_at, stands}
+use Rattle.mc_model_device.specs.Card.{Card}
+use Rattle.mc_model_card.specs.Items.{Item, Plain, Atomic, moves, at_stop, Stopped, StopAt, card_done}
+use Rattle.mc_model_device.specs.Bytes.{zeros}
+use Rattle.mc_model_play.specs.Given.{apps_in}
+use Rattle.mc_model_play.specs.Play.{Armed, Unarmed, ArmedCut, ArmedFail, Live, Running, Unpowered, Muted, Warm, State, Cold, Hot, step, plays, steady_worn, steady_at, moves_of, armed_in, is_card_line, warmed, power_moves, power_step, power_after, stopped_power, hit_of, WornAt, card_line, command_step, stopped_line, line_command}
+use Rattle.mc_model_device.specs.PowerUp.{Base, OnCard, AtFault, migrated}
+use Rattle.mc_model_card.specs.Commands.{Command}
+use Rattle.mc_model_play.specs.DeckGrammar.{DeckLine}
+use Rattle.mc_model_play.specs.DeckGrammar as line
 use Rattle.mc_lab.specs.Sweeps.{stepped, played_from, played, ToldState, Holds, NoCard, held_under, told_of, told, ones, cut, power}
 use Rattle.mc_lab.specs.SweepBodies.{OpensNoGate}
 

@@ -4,16 +4,17 @@ use Rattle.std.specs.List.{AllByRecursion}
 use Rattle.std.proofs.Common.{arith, ap, sym, subst, inl, inr, ◌∙◌}
 use Rattle.std.proofs.lemmas.Bool.{leb-true, eq-eqb}
 use Rattle.std.proofs.lemmas.Slice.Eq.{bytes_eq-Decides}
-use Rattle.mc_model.proofs.LookLemmas.{both}
-use Rattle.mc_model.proofs.ImageLemmas.{all-append}
-use Rattle.mc_model.specs.Bytes.{zeros}
-use Rattle.mc_model.specs.Card.{App, Card}
-use Rattle.mc_model.specs.Items.{Item, moves, done, at_stop}
-use Rattle.mc_model.specs.Given.{apps_in}
-use Rattle.mc_model.specs.Transcript.{cause_text}
-use Rattle.mc_model.specs.Play.{Armed, Unarmed, ArmedCut, ArmedFail, Base, OnCard, State, Hot, moves_of, armed_in, is_card_line}
-use Rattle.mc_model.specs.DeckGrammar.{DeckLine}
-use Rattle.mc_model.proofs.ListLemmas.{and-true as both-true}
+use Rattle.mc_model_device.proofs.LookLemmas.{both}
+use Rattle.mc_model_device.proofs.ImageLemmas.{all-append}
+use Rattle.mc_model_device.specs.Bytes.{zeros}
+use Rattle.mc_model_device.specs.Card.{App, Card}
+use Rattle.mc_model_card.specs.Items.{Item, moves, done, at_stop}
+use Rattle.mc_model_play.specs.Given.{apps_in}
+use Rattle.mc_model_device.specs.Words.{cause_text}
+use Rattle.mc_model_play.specs.Play.{Armed, Unarmed, ArmedCut, ArmedFail, State, Hot, moves_of, armed_in, is_card_line}
+use Rattle.mc_model_device.specs.PowerUp.{Base, OnCard}
+use Rattle.mc_model_play.specs.DeckGrammar.{DeckLine}
+use Rattle.mc_model_device.proofs.ListLemmas.{and-true as both-true}
 use Rattle.mc_lab.specs.Sweeps.{played, ToldState, Holds, NoCard, held_under, are_same_held, told, is_same, word_by, word_if, word_of, all_same, ones, cut, power, under_cut, under_cuts, writes_behind, recovered, tried, is_unarmed, is_swept}
 use Rattle.mc_lab.specs.declared.sweep_word.Word.{Word}
 use Rattle.mc_lab.specs.declared.sweep_word.Word.TheVariants.{Before, After, Same}

@@ -1,8 +1,8 @@
 -- Decks with their expectations: which lines stand above an expectation, and which expectation has no result.
 use Rattle.std.proofs.Common.{◌≡◌, ◌+◌, ◌<◌, ◌≤◌, refl, sym, ◌∙◌, ap, subst, ℕ, zero, suc, List, [], ◌∷◌, length, drop, Bool, true, false, cond, Option, Some, None, Result, Ok, Err, arith}
 use Rattle.std.specs.Prelude.{nat_lt}
-use Rattle.mc_model.specs.DeckGrammar.{DeckLine, deck_read}
-use Rattle.mc_model.specs.declared.deck.DeckCause.{DeckCause}
+use Rattle.mc_model_play.specs.DeckGrammar.{DeckLine, deck_read}
+use Rattle.mc_model_play.specs.declared.deck.DeckCause.{DeckCause}
 use Rattle.mc_deck.specs.Refused.{DeckRefuses}
 use Rattle.mc_deck.specs.declared.refusal.DeckRefusal.{DeckRefusal}
 use Rattle.mc_deck.specs.declared.refusal.DeckRefusal.TheVariants as deck

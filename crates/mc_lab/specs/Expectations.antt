@@ -1,12 +1,12 @@
 -- Expectations: comments of a deck that begin with `#>`, each with a pattern for the result of the statement above it.
 use Rattle.std.specs.Prelude.{ℕ, suc, ◌+◌, Bool, true, false, cond, not, ◌&&◌, nat_lt, List, [], ◌∷◌, ◌++◌, length, filter, flat_map, bytes_eq, codes, decimal, Option, Some, None, Result, Ok, Err}
-use Rattle.mc_model.specs.Text.{trim, trim_front, fields, first_cut, is_blank, lines, numbered}
-use Rattle.mc_model.specs.declared.deck.DeckCause.{DeckCause}
-use Rattle.mc_model.specs.DeckGrammar.{DeckLine, is_end, deck_read}
-use Rattle.mc_model.specs.DeckGrammar as line
-use Rattle.mc_model.specs.Play.{LineResult, State, Step, plays, start, steady_worn}
-use Rattle.mc_model.specs.Transcript.{shown}
-use Rattle.mc_lab.specs.Patterns.{holds}
+use Rattle.mc_model_machine.specs.Text.{trim, trim_front, fields, first_cut, is_blank, lines, numbered}
+use Rattle.mc_model_play.specs.declared.deck.DeckCause.{DeckCause}
+use Rattle.mc_model_play.specs.DeckGrammar.{DeckLine, is_end, deck_read}
+use Rattle.mc_model_play.specs.DeckGrammar as line
+use Rattle.mc_model_play.specs.Play.{LineResult, State, Step, plays, start, steady_worn}
+use Rattle.mc_model_play.specs.Transcript.{shown}
+use Rattle.mc_model_play.specs.Patterns.{holds}
 
 -- ---- which lines of a text they are
 

@@ -1,6 +1,6 @@
 -- Expectations as the code has them, and how far they were told.
 use Rattle.std.specs.Prelude.{ℕ, List, ◌++◌, length, Result, Ok, Err}
-use Rattle.mc_model.specs.Play.{Step}
+use Rattle.mc_model_play.specs.Play.{Step}
 use Rattle.mc_asm.specs.declared.line.NumberedLine.{NumberedLine}
 use Rattle.mc_lab.specs.Expectations.{count_failed, count_text, failed_lines}
 

@@ -1,10 +1,10 @@
-pub use Rattle.mc_model.specs.Text
-pub use Rattle.mc_model.specs.DeckGrammar
-pub use Rattle.mc_model.specs.Play
-pub use Rattle.mc_model.specs.Transcript
+pub use Rattle.mc_model_machine.specs.Text
+pub use Rattle.mc_model_play.specs.DeckGrammar
+pub use Rattle.mc_model_play.specs.Play
+pub use Rattle.mc_model_play.specs.Transcript
 pub use Rattle.mc_asm.specs.Passes
 pub use Rattle.mc_script.specs.Players
-pub mod Patterns
+pub use Rattle.mc_model_play.specs.Patterns
 pub mod Walks
 pub mod Rising
 pub mod Expectations

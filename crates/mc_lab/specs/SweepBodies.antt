@@ -2,10 +2,10 @@
 use Rattle.std.specs.Prelude.{◌≡◌, ℕ, ◌≤◌, ◌<◌, Bool, true, false, List, [], ◌∷◌, ◌++◌, length, take, get_or, map, option_map, Option, Some, None, bytes_eq}
 use Rattle.arrayvec.specs.ArrayVec.{ArrayVec}
 use Rattle.mc_blocks.specs.declared.image.Unusable.{Unusable}
-use Rattle.mc_model.specs.Image.{opening, Two}
-use Rattle.mc_model.specs.Play.{State, armed_in, is_card_line}
-use Rattle.mc_model.specs.DeckGrammar.{DeckLine}
-use Rattle.mc_model.specs.DeckGrammar as line
+use Rattle.mc_model_device.specs.Image.{opening, Two}
+use Rattle.mc_model_play.specs.Play.{State, armed_in, is_card_line}
+use Rattle.mc_model_play.specs.DeckGrammar.{DeckLine}
+use Rattle.mc_model_play.specs.DeckGrammar as line
 use Rattle.mc_lab.specs.declared.sweep_word.Word.{Word}
 use Rattle.mc_lab.specs.Sweeps.{word_if, word_by, recovered, told, Tried, tried, stepped, played, cut, power, under_cut, under_cuts, writes_behind, is_unarmed, ToldState, Holds, NoCard}
 use Rattle.mc_lab.specs.SweepLaws.{is_off}

@@ -1,8 +1,8 @@
 -- A sweep by its lines, and how the call ends.
 use Rattle.std.specs.Prelude.{◌≡◌, ℕ, ◌+◌, ◌*◌, ◌≤◌, ◌<◌, Bool, true, false, ◌&&◌, List, [], length, take, drop, Result, Ok, Err}
-use Rattle.mc_model.specs.Play.{armed_in, is_card_line}
-use Rattle.mc_model.specs.DeckGrammar.{DeckLine}
-use Rattle.mc_model.specs.DeckGrammar as line
+use Rattle.mc_model_play.specs.Play.{armed_in, is_card_line}
+use Rattle.mc_model_play.specs.DeckGrammar.{DeckLine}
+use Rattle.mc_model_play.specs.DeckGrammar as line
 use Rattle.mc_text.specs.Texts.{Sunk, Writes, Fails}
 use Rattle.mc_lab.specs.Sweeps.{played, is_unarmed, is_swept, swept, swept_if, Swept, sweep_behind, total, writes_behind, names_from}
 use Rattle.mc_lab.specs.declared.sweep_trial.Place.{Place}

@@ -1,13 +1,13 @@
 -- The laws of sweeps: no line is torn, only two changes leave a card between two states, and one change splits its line where its gate opens.
 use Rattle.std.specs.Prelude.{◌≡◌, ◌≢◌, ℕ, ◌+◌, ◌≤◌, Bool, true, false, cond, not, nat_le, List, [], ◌∷◌, ◌++◌, Option, Some, None, ⊤}
 use Rattle.std.specs.List.{AllByRecursion}
-use Rattle.mc_model.specs.Image.{Two}
-use Rattle.mc_model.specs.Stopped.{opens_at}
-use Rattle.mc_model.specs.Card.{App}
-use Rattle.mc_model.specs.Items.{Item, Plain, Atomic, weight, done}
-use Rattle.mc_model.specs.Given.{apps_in}
-use Rattle.mc_model.specs.Play.{Unarmed, LineResult, OffAt, step, armed_in, is_card_line}
-use Rattle.mc_model.specs.DeckGrammar.{DeckLine}
+use Rattle.mc_model_device.specs.Image.{Two}
+use Rattle.mc_model_device.specs.Stopped.{opens_at}
+use Rattle.mc_model_device.specs.Card.{App}
+use Rattle.mc_model_card.specs.Items.{Item, Plain, Atomic, weight, done}
+use Rattle.mc_model_play.specs.Given.{apps_in}
+use Rattle.mc_model_play.specs.Play.{Unarmed, LineResult, OffAt, step, armed_in, is_card_line}
+use Rattle.mc_model_play.specs.DeckGrammar.{DeckLine}
 use Rattle.mc_lab.specs.Sweeps.{stepped, played, cut, held_under, are_same_held, Swept, swept, is_swept, writes_behind, names_from, Run, runs, sweep}
 use Rattle.mc_lab.specs.declared.sweep_word.Word.{Word}
 use Rattle.mc_lab.specs.declared.sweep_word.Word.TheVariants.{Before, After, Same, Between, Torn}

@@ -1,13 +1,14 @@
 -- Sweeps: power cut in every device write of every line of a deck, and in every write of the recovery behind it, and what the card was then.
 use Rattle.std.specs.Prelude.{ℕ, zero, suc, ◌+◌, Bool, true, false, cond, ◌&&◌, nat_le, ◌==◌, List, [], ◌∷◌, ◌++◌, length, map, replicate, bytes_eq, codes, decimal, Option, Some, None, option_map}
-use Rattle.mc_model.specs.declared.card.Cause.{Cause}
-use Rattle.mc_model.specs.Bytes.{zeros, has_name, lookup}
-use Rattle.mc_model.specs.Device.{blank_words, device_words}
-use Rattle.mc_model.specs.Card.{App}
-use Rattle.mc_model.specs.Play.{Armed, Unarmed, ArmedCut, ArmedFail, Live, Running, Base, OnCard, State, Cold, Hot, Step, LineResult, Unusable, start, step, plays, steady_worn, steady_at, last_state, moves_of, armed_in, is_card_line}
-use Rattle.mc_model.specs.Transcript.{cause_text}
-use Rattle.mc_model.specs.DeckGrammar.{DeckLine}
-use Rattle.mc_model.specs.DeckGrammar as line
+use Rattle.mc_model_device.specs.declared.cause.Cause.{Cause}
+use Rattle.mc_model_device.specs.Bytes.{zeros, has_name, lookup}
+use Rattle.mc_model_device.specs.Device.{blank_words, device_words}
+use Rattle.mc_model_device.specs.Card.{App}
+use Rattle.mc_model_play.specs.Play.{Armed, Unarmed, ArmedCut, ArmedFail, Live, Running, State, Cold, Hot, Step, LineResult, Unusable, start, step, plays, steady_worn, steady_at, last_state, moves_of, armed_in, is_card_line}
+use Rattle.mc_model_device.specs.PowerUp.{Base, OnCard}
+use Rattle.mc_model_device.specs.Words.{cause_text}
+use Rattle.mc_model_play.specs.DeckGrammar.{DeckLine}
+use Rattle.mc_model_play.specs.DeckGrammar as line
 use Rattle.mc_lab.specs.declared.sweep_word.Word.{Word}
 use Rattle.mc_lab.specs.declared.sweep_word.Word.TheVariants.{Before, After, Same, Between, Torn}
 

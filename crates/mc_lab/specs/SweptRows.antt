@@ -1,20 +1,21 @@
 -- The text of a sweep of a deck's text.
 use Rattle.std.specs.Prelude.{ℕ, List, ◌++◌, codes, Result, Ok, Err}
 use Rattle.std.specs.Fmt.{digits}
-use Rattle.mc_model.specs.declared.deck.DeckCause.{DeckCause}
-use Rattle.mc_model.specs.Units.{name_of}
-use Rattle.mc_model.specs.Apdu.{apdu_read}
-use Rattle.mc_model.specs.Pieces.{touched}
-use Rattle.mc_model.specs.Image.{targets_1, targets_2, pairs}
-use Rattle.mc_model.specs.Card.{blocks_from, apps_of}
-use Rattle.mc_model.specs.Layout.{layout, step_of, bad_block, bad_record}
-use Rattle.mc_model.specs.Frame.{bytes_at, written, too_many}
-use Rattle.mc_model.specs.Primitives.{later_causes, prim_effect}
-use Rattle.mc_model.specs.Row.{causes, effect, row}
-use Rattle.mc_model.specs.Chain.{acted, ran}
-use Rattle.mc_model.specs.Manager.{manage}
-use Rattle.mc_model.specs.Play.{command, send, warmed, step, plays, moves_of, steady_worn}
-use Rattle.mc_model.specs.DeckGrammar.{DeckLine, deck_read}
+use Rattle.mc_model_play.specs.declared.deck.DeckCause.{DeckCause}
+use Rattle.mc_model_card.specs.Units.{name_of}
+use Rattle.mc_model_machine.specs.Apdu.{apdu_read}
+use Rattle.mc_model_device.specs.Pieces.{touched}
+use Rattle.mc_model_device.specs.Image.{targets_1, targets_2, pairs}
+use Rattle.mc_model_device.specs.Card.{blocks_from, apps_of}
+use Rattle.mc_model_device.specs.Layout.{layout, step_of, bad_block, bad_record}
+use Rattle.mc_model_machine.specs.Frame.{bytes_at, written, too_many}
+use Rattle.mc_model_machine.specs.Primitives.{later_causes, prim_effect}
+use Rattle.mc_model_machine.specs.Row.{causes, effect, row}
+use Rattle.mc_model_machine.specs.Chain.{acted, ran}
+use Rattle.mc_model_card.specs.Manager.{manage}
+use Rattle.mc_model_card.specs.Commands.{command}
+use Rattle.mc_model_play.specs.Play.{send, warmed, step, plays, moves_of, steady_worn}
+use Rattle.mc_model_play.specs.DeckGrammar.{DeckLine, deck_read}
 use Rattle.mc_lab.specs.Sweeps.{sweep_text}
 
 -- the sweep of the lines that a text gives

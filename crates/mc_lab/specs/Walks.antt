@@ -2,7 +2,7 @@
 use Rattle.std.specs.Prelude.{◌≡◌, ◌+◌, ◌<◌, ◌≤◌, List, ℕ, length, true, false}
 use Rattle.mc_lab.specs.declared.matching.Walk.{Walk}
 use Rattle.mc_lab.specs.declared.matching.Walk.TheVariants as walk
-use Rattle.mc_lab.specs.Patterns.{matches, some_rest, without_blanks}
+use Rattle.mc_model_play.specs.Patterns.{matches, some_rest, without_blanks}
 
 -- a pattern and a text, without their blanks, were walked up to a `*`: it matches from here, or from further on, exactly where the rest of it does
 pub record Parts (p t ps ts : List ℕ) : Type 0 where

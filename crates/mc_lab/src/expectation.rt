@@ -1,7 +1,7 @@
 // The expectations of a deck's text.
 ghost use Rattle.std.specs.Prelude.{◌≡◌, ◌^◌, ◌<◌, ◌&&◌, ◌++◌, not, bytes_eq, codes, length, IfOk, OnOk};
-ghost use Rattle.mc_model.specs.Text.{fields, is_empty};
-ghost use Rattle.mc_model.specs.DeckGrammar.{is_end};
+ghost use Rattle.mc_model_machine.specs.Text.{fields, is_empty};
+ghost use Rattle.mc_model_play.specs.DeckGrammar.{is_end};
 ghost use Rattle.mc_asm.specs.Passes.{numbered_lines};
 ghost use Rattle.mc_lab.specs.Expectations.{begins_with, behind_field, expectation_at, first_field, expectations, stays_inside};
 

@@ -2,7 +2,7 @@
 
 // Worked rows: what decks tell of their expectations.
 ghost use Rattle.std.specs.Prelude.{◌≡◌, ◌++◌, [], codes, Ok, Err};
-ghost use Rattle.mc_model.specs.declared.deck.DeckCause.TheVariants.{BadLine};
+ghost use Rattle.mc_model_play.specs.declared.deck.DeckCause.TheVariants.{BadLine};
 ghost use Rattle.mc_lab.specs.Computed.{expected};
 ghost use Rattle.mc_lab.specs.Expectations.{DeckFault, NoAnswer};
 

@@ -1,7 +1,7 @@
 // Expectations compared with results, and what is told of them.
 ghost use Rattle.std.specs.Prelude.{◌≡◌, codes, decimal, IfOk};
 ghost use Rattle.mc_text.specs.Texts.{sunk_in, Puts};
-ghost use Rattle.mc_lab.specs.Patterns.{holds};
+ghost use Rattle.mc_model_play.specs.Patterns.{holds};
 ghost use Rattle.mc_lab.specs.Expectations.{count_text, failed_line, told_of};
 ghost use Rattle.mc_lab.specs.Judged.{done_of, expectation_of};
 

@@ -1,6 +1,6 @@
 // Patterns against texts.
 ghost use Rattle.std.specs.Prelude.{◌≡◌, ◌<◌, ◌||◌, ◌==◌, ◌∷◌, [], length, IfSome, MatchOption};
-ghost use Rattle.mc_lab.specs.Patterns.{holds, is_any, matches, some_rest, without_blanks};
+ghost use Rattle.mc_model_play.specs.Patterns.{holds, is_any, matches, some_rest, without_blanks};
 ghost use Rattle.mc_lab.specs.Walks.{WalkEnds, WalkIs};
 
 use mc_text::is_blank;

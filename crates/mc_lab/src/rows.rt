@@ -2,7 +2,7 @@
 
 // Worked rows: what patterns hold of.
 ghost use Rattle.std.specs.Prelude.{◌≡◌, [], codes, true, false};
-ghost use Rattle.mc_lab.specs.Patterns.{holds, matches};
+ghost use Rattle.mc_model_play.specs.Patterns.{holds, matches};
 
 /// A pattern without signs matches itself and nothing else; case counts.
 pub fn plain()

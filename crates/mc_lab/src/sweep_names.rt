@@ -1,6 +1,6 @@
 // The names that a deck speaks of.
 ghost use Rattle.std.specs.Prelude.{◌≡◌, [], ◌∷◌, IfOk, MatchOption};
-ghost use Rattle.mc_model.specs.Bytes.{has_name};
+ghost use Rattle.mc_model_device.specs.Bytes.{has_name};
 ghost use Rattle.mc_deck.specs.Lines.{line_of};
 ghost use Rattle.mc_lab.specs.Sweeps.{mentioned, names_from, with_names};
 

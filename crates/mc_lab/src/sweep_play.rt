@@ -1,11 +1,11 @@
 // The laboratory's device, and the plays on it.
 ghost use Rattle.std.specs.Prelude.{◌≡◌, ◌≤◌, ◌<◌, ℕ, List, length, map, take, true, IfOk};
-ghost use Rattle.mc_model.specs.Play.{State};
-ghost use Rattle.mc_model.specs.DeckGrammar.{DeckLine};
+ghost use Rattle.mc_model_play.specs.Play.{State};
+ghost use Rattle.mc_model_play.specs.DeckGrammar.{DeckLine};
 ghost use Rattle.mc_deck.specs.Lines.{line_of, GoodLine};
 ghost use Rattle.mc_script.specs.Players.{device_of, statics_in, IsPlaying, IsUnfused};
 ghost use Rattle.mc_lab.specs.Sweeps.{played};
-ghost use Rattle.mc_model.specs.Device.{blank_words, device_words};
+ghost use Rattle.mc_model_device.specs.Device.{blank_words, device_words};
 ghost use Rattle.mc_lab.specs.SweepBodies.{account_value, held_value, hit_in, told_in, CanCut, AccountFits};
 ghost use Rattle.mc_lab.specs.SweepBodies.{IsFewBehind, IsPlace};
 ghost use Rattle.mc_lab.specs.declared.sweep_trial.Behind.TheVariants as behind;

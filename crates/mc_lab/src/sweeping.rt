@@ -1,6 +1,6 @@
 // Sweeps of a deck.
 ghost use Rattle.std.specs.Prelude.{◌≡◌, ◌+◌, ◌≤◌, ◌<◌, length, take, true, false, IfOk, IfSome, MatchOption, OnOk};
-ghost use Rattle.mc_model.specs.Play.{armed_in, is_card_line};
+ghost use Rattle.mc_model_play.specs.Play.{armed_in, is_card_line};
 ghost use Rattle.mc_deck.specs.Lines.{line_of};
 ghost use Rattle.mc_text.specs.Texts.{sunk_in, Puts};
 ghost use Rattle.mc_lab.specs.Judged.{done_of};

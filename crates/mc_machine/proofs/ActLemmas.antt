@@ -1,18 +1,18 @@
 -- A turn by what its instruction did, and by what followed it.
 use Rattle.std.proofs.Common.{◌≡◌, ◌≢◌, ℕ, zero, suc, ◌+◌, ◌-◌, Bool, false, List, [], ◌∷◌, length, Option, Some, None, Result, Ok, Err, refl, sym, ap, subst, ◌∙◌, arith}
-use Rattle.mc_model.specs.declared.instruction.Ins.{Ins}
-use Rattle.mc_model.specs.declared.instruction.DecodeFault.{DecodeFault}
-use Rattle.mc_model.specs.declared.machine.Abend.{Abend}
-use Rattle.mc_model.specs.declared.device.Stop.{Stop}
-use Rattle.mc_model.specs.Orders.{Answer, InOrder}
-use Rattle.mc_model.specs.Items.{BankItem}
-use Rattle.mc_model.specs.Bytes.{lookup}
-use Rattle.mc_model.specs.Card.{App}
-use Rattle.mc_model.specs.Code.{decoded}
-use Rattle.mc_model.specs.Frame.{Frame, Effect, session_of}
-use Rattle.mc_model.specs.Primitives.{Around, Then, Goes, Exits, Delegates}
-use Rattle.mc_model.specs.Row.{RowEnd, Abends, Does, row}
-use Rattle.mc_model.specs.Chain.{Chain, Turn, Outcome, Reply, Abended, Follows, Continues, Ends, code_in, around, first_frame, chain_session, write_of, words_of_write, pair_of, settled, follows, abends_at, done_turn, row_turn, stepped, fetched, acted, turn_of}
+use Rattle.mc_model_machine.specs.declared.instruction.Ins.{Ins}
+use Rattle.mc_model_machine.specs.declared.instruction.DecodeFault.{DecodeFault}
+use Rattle.mc_model_machine.specs.declared.machine.Abend.{Abend}
+use Rattle.mc_model_device.specs.declared.device.Stop.{Stop}
+use Rattle.mc_model_device.specs.Orders.{Answer, InOrder}
+use Rattle.mc_model_card.specs.Items.{BankItem}
+use Rattle.mc_model_device.specs.Bytes.{lookup}
+use Rattle.mc_model_device.specs.Card.{App}
+use Rattle.mc_model_machine.specs.Code.{decoded}
+use Rattle.mc_model_machine.specs.Frame.{Frame, Effect, session_of}
+use Rattle.mc_model_machine.specs.Primitives.{Around, Then, Goes, Exits, Delegates}
+use Rattle.mc_model_machine.specs.Row.{RowEnd, Abends, Does, row}
+use Rattle.mc_model_machine.specs.Chain.{Chain, Turn, Outcome, Reply, Abended, Follows, Continues, Ends, code_in, around, first_frame, chain_session, write_of, words_of_write, pair_of, settled, follows, abends_at, done_turn, row_turn, stepped, fetched, acted, turn_of}
 use Rattle.mc_bank.specs.Bank.{BankState, app_of}
 use Rattle.mc_segs.specs.declared.ends.Halt.{Halt}
 use Rattle.mc_segs.specs.declared.ends.Halt.TheVariants as halt

@@ -1,14 +1,14 @@
 -- A row does the same to frames that read the same, whichever pieces their pending bytes come from.
 use Rattle.std.proofs.Common.{◌≡◌, ℕ, List, Option, Some, None, refl, sym, ap, subst, ◌∙◌}
 use Rattle.std.specs.Prelude.{◌+◌, ◌*◌, IfSome, slice_index}
-use Rattle.mc_model.specs.declared.instruction.Ins.{Ins}
-use Rattle.mc_model.specs.declared.machine.Abend.{Abend}
-use Rattle.mc_model.specs.Pieces.{laid_pieces, touched, pending_at, HoldPieces}
-use Rattle.mc_model.specs.Frame.{Frame}
-use Rattle.mc_model.specs.Primitives.{Around, Done}
-use Rattle.mc_model.specs.Row.{RowEnd, Abends, Does, causes, effect, first_cause, judged, row}
-use Rattle.mc_model.specs.Orders.{Answer}
-use Rattle.mc_model.specs.Items.{BankItem}
+use Rattle.mc_model_machine.specs.declared.instruction.Ins.{Ins}
+use Rattle.mc_model_machine.specs.declared.machine.Abend.{Abend}
+use Rattle.mc_model_device.specs.Pieces.{laid_pieces, touched, pending_at, HoldPieces}
+use Rattle.mc_model_machine.specs.Frame.{Frame}
+use Rattle.mc_model_machine.specs.Primitives.{Around, Done}
+use Rattle.mc_model_machine.specs.Row.{RowEnd, Abends, Does, causes, effect, first_cause, judged, row}
+use Rattle.mc_model_device.specs.Orders.{Answer}
+use Rattle.mc_model_card.specs.Items.{BankItem}
 use Rattle.mc_segs.specs.HeldFrames.{Seen, seen}
 use Rattle.mc_segs.specs.Ends.{IsOneCommit, changed_bytes}
 use Rattle.mc_machine.specs.Alike.{seen_end, seen_change, IsGuarded, SameDone, SameRowEnd}

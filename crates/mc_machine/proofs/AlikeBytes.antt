@@ -1,11 +1,11 @@
 -- Frames that differ in the pieces that their pending bytes come from: what they read, and the limit of pending words.
 use Rattle.std.proofs.Common.{◌≡◌, ℕ, Bool, true, false, cond, List, [], ◌∷◌, ◌++◌, length, take, drop, Option, Some, None, refl, sym, ap, ◌∙◌}
 use Rattle.std.specs.Prelude.{nat_lt, ◌==◌}
-use Rattle.mc_model.specs.Bytes.{zeros}
-use Rattle.mc_model.specs.Pieces.{laid_pieces, touched, with_touched}
-use Rattle.mc_model.specs.Frame.{Frame, Place, Static, Dynamic, Public, where_is, bytes_in, bytes_at, passes_limit, too_many}
+use Rattle.mc_model_device.specs.Bytes.{zeros}
+use Rattle.mc_model_device.specs.Pieces.{laid_pieces, touched, with_touched}
+use Rattle.mc_model_machine.specs.Frame.{Frame, Place, Static, Dynamic, Public, where_is, bytes_in, bytes_at, passes_limit, too_many}
 use Rattle.mc_segs.specs.HeldFrames.{no_pieces}
-use Rattle.mc_model.proofs.ListLemmas.{laid-append, touched-append}
+use Rattle.mc_model_device.proofs.ListLemmas.{laid-append, touched-append}
 
 -- pieces that lay the same bytes over a segment, and touch the same words
 pub record SamePieces (fixed : List ℕ) (ps qs : List (ℕ × List ℕ)) : Type 0 where

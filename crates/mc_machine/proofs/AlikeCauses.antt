@@ -1,14 +1,14 @@
 -- Frames that differ in the pieces that their pending bytes come from: a row abends from the same causes.
 use Rattle.std.proofs.Common.{◌≡◌, ℕ, ◌+◌, ◌*◌, Bool, true, false, cond, List, [], ◌∷◌, Option, Some, None, refl, ap}
 use Rattle.std.specs.Prelude.{ℤ, ◌==◌, ◌&&◌, slice_index, length}
-use Rattle.mc_model.specs.declared.instruction.Ins.{Ins}
-use Rattle.mc_model.specs.declared.instruction.Ins.TheVariants as ins
-use Rattle.mc_model.specs.declared.machine.Abend.{Abend}
-use Rattle.mc_model.specs.declared.machine.Abend.TheVariants.{A02, A03, A04, A05, A06, A08, A0A}
-use Rattle.mc_model.specs.Bytes.{num}
-use Rattle.mc_model.specs.Frame.{Frame, address_at, is_outside, no_access, is_under, is_over, popped, top}
-use Rattle.mc_model.specs.Primitives.{Around, Primitive, CheckCase, LoadCcr, StoreCcr, Lookup, MemoryCompare, MemoryCopy, DelegateTo, DelegatorAid, Digest, CompareFixed, CopyFixed, SetProtection, Encipher, Decipher, Sign, BitByte, ShiftLeft, ShiftRight, BitWord, Cipher, primitive, prim_causes, later_causes, told_causes, cipher_causes, named, has_bad_argument, is_denied, block_len}
-use Rattle.mc_model.specs.Row.{causes, holds, no_place, known, operand, on_stack, writes, immediate_writes, pair_writes}
+use Rattle.mc_model_machine.specs.declared.instruction.Ins.{Ins}
+use Rattle.mc_model_machine.specs.declared.instruction.Ins.TheVariants as ins
+use Rattle.mc_model_machine.specs.declared.machine.Abend.{Abend}
+use Rattle.mc_model_machine.specs.declared.machine.Abend.TheVariants.{A02, A03, A04, A05, A06, A08, A0A}
+use Rattle.mc_model_device.specs.Bytes.{num}
+use Rattle.mc_model_machine.specs.Frame.{Frame, address_at, is_outside, no_access, is_under, is_over, popped, top}
+use Rattle.mc_model_machine.specs.Primitives.{Around, Primitive, CheckCase, LoadCcr, StoreCcr, Lookup, MemoryCompare, MemoryCopy, DelegateTo, DelegatorAid, Digest, CompareFixed, CopyFixed, SetProtection, Encipher, Decipher, Sign, BitByte, ShiftLeft, ShiftRight, BitWord, Cipher, primitive, prim_causes, later_causes, told_causes, cipher_causes, named, has_bad_argument, is_denied, block_len}
+use Rattle.mc_model_machine.specs.Row.{causes, holds, no_place, known, operand, on_stack, writes, immediate_writes, pair_writes}
 use Rattle.mc_machine.proofs.AlikeBytes.{SamePieces, with_pieces, bytes_same, too_many_same}
 
 abbrev pub Pieces : Type 0

@@ -1,15 +1,15 @@
 -- Frames that differ in the pieces that their pending bytes come from: a row has the same effect.
 use Rattle.std.proofs.Common.{◌≡◌, ℕ, ◌+◌, ◌*◌, Bool, true, false, cond, List, [], ◌∷◌, ◌++◌, length, Option, Some, None, refl, sym, ap, ◌∙◌}
 use Rattle.std.specs.Prelude.{◌==◌, ◌||◌, slice_index, nat_le, position}
-use Rattle.mc_model.specs.declared.instruction.Ins.{Ins}
-use Rattle.mc_model.specs.declared.instruction.Ins.TheVariants as ins
-use Rattle.mc_model.specs.Bytes.{num, zeros, splice, bytes2}
-use Rattle.mc_model.specs.Blocks.{Worked, is_zero}
-use Rattle.mc_model.specs.Modes.{ecb}
-use Rattle.mc_model.specs.Pieces.{laid_pieces, touched}
-use Rattle.mc_model.specs.Frame.{Frame, Effect, Place, Static, Dynamic, Public, where_is, static_written, written_in, written, bytes_at, address_at, pushed, popped, stacked, top, flagged, entered, come_back, committed, protect}
-use Rattle.mc_model.specs.Primitives.{Around, going, framed, effect_flagged, Primitive, CheckCase, LoadCcr, StoreCcr, Lookup, MemoryCompare, MemoryCopy, DelegateTo, DelegatorAid, Digest, CompareFixed, CopyFixed, SetProtection, Encipher, Decipher, Sign, BitByte, ShiftLeft, ShiftRight, BitWord, Cipher, primitive, prim_done, prim_effect, named, count_at, block_len, key_len, enciphered, deciphered, looked_up, delegator_told, cipher_done}
-use Rattle.mc_model.specs.Row.{effect, exiting, known, on_stack, indexed, holds, gone, called, target, place_of, value_of, becomes, becomes_bits}
+use Rattle.mc_model_machine.specs.declared.instruction.Ins.{Ins}
+use Rattle.mc_model_machine.specs.declared.instruction.Ins.TheVariants as ins
+use Rattle.mc_model_device.specs.Bytes.{num, zeros, splice, bytes2}
+use Rattle.mc_model_machine.specs.Blocks.{Worked, is_zero}
+use Rattle.mc_model_machine.specs.Modes.{ecb}
+use Rattle.mc_model_device.specs.Pieces.{laid_pieces, touched}
+use Rattle.mc_model_machine.specs.Frame.{Frame, Effect, Place, Static, Dynamic, Public, where_is, static_written, written_in, written, bytes_at, address_at, pushed, popped, stacked, top, flagged, entered, come_back, committed, protect}
+use Rattle.mc_model_machine.specs.Primitives.{Around, going, framed, effect_flagged, Primitive, CheckCase, LoadCcr, StoreCcr, Lookup, MemoryCompare, MemoryCopy, DelegateTo, DelegatorAid, Digest, CompareFixed, CopyFixed, SetProtection, Encipher, Decipher, Sign, BitByte, ShiftLeft, ShiftRight, BitWord, Cipher, primitive, prim_done, prim_effect, named, count_at, block_len, key_len, enciphered, deciphered, looked_up, delegator_told, cipher_done}
+use Rattle.mc_model_machine.specs.Row.{effect, exiting, known, on_stack, indexed, holds, gone, called, target, place_of, value_of, becomes, becomes_bits}
 use Rattle.mc_segs.specs.HeldFrames.{Seen, seen, no_pieces}
 use Rattle.mc_machine.specs.Alike.{seen_change, IsGuarded, SameEffect, SameDone}
 use Rattle.mc_machine.proofs.AlikeBytes.{SamePieces, with_pieces, same_pushed, bytes_same}

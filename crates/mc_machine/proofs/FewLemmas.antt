@@ -2,22 +2,22 @@
 use Rattle.std.proofs.Common.{◌≡◌, ℕ, ◌≤◌, Bool, true, false, cond, List, [], ◌∷◌, length, Option, Some, None, Result, Ok, Err, refl, sym, ap, subst, ◌∙◌, inl, inr, arith}
 use Rattle.std.specs.Prelude.{⊤, bytes_eq, IfSome}
 use Rattle.std.specs.List.{AllByRecursion}
-use Rattle.mc_model.specs.declared.instruction.Ins.{Ins}
-use Rattle.mc_model.specs.declared.instruction.Ins.TheVariants as ins
-use Rattle.mc_model.specs.declared.machine.Abend.{Abend}
-use Rattle.mc_model.specs.declared.device.Stop.{Stop}
-use Rattle.mc_model.specs.Orders.{Answer, InOrder}
-use Rattle.mc_model.specs.Items.{BankItem}
-use Rattle.mc_model.specs.Bytes.{lookup}
-use Rattle.mc_model.specs.Card.{App}
-use Rattle.mc_model.specs.Code.{Shaped}
-use Rattle.mc_model.specs.Frame.{Frame}
-use Rattle.mc_model.specs.Primitives.{Around}
-use Rattle.mc_model.specs.Row.{RowEnd, Abends, Does, causes, effect, first_cause, judged, row}
-use Rattle.mc_model.specs.Chain.{Chain, Write, abends_at, delegator_in, around, write_of, row_turn, stepped}
-use Rattle.mc_family.specs.FewWords.{words_in, most_words, EndsWithin, IsToldName}
-use Rattle.mc_family.proofs.MapLemmas.{same_name}
-use Rattle.mc_family.proofs.RowWords.{row-words, told-any, most-is}
+use Rattle.mc_model_machine.specs.declared.instruction.Ins.{Ins}
+use Rattle.mc_model_machine.specs.declared.instruction.Ins.TheVariants as ins
+use Rattle.mc_model_machine.specs.declared.machine.Abend.{Abend}
+use Rattle.mc_model_device.specs.declared.device.Stop.{Stop}
+use Rattle.mc_model_device.specs.Orders.{Answer, InOrder}
+use Rattle.mc_model_card.specs.Items.{BankItem}
+use Rattle.mc_model_device.specs.Bytes.{lookup}
+use Rattle.mc_model_device.specs.Card.{App}
+use Rattle.mc_model_machine.specs.Code.{Shaped}
+use Rattle.mc_model_machine.specs.Frame.{Frame}
+use Rattle.mc_model_machine.specs.Primitives.{Around}
+use Rattle.mc_model_machine.specs.Row.{RowEnd, Abends, Does, causes, effect, first_cause, judged, row}
+use Rattle.mc_model_machine.specs.Chain.{Chain, Write, abends_at, delegator_in, around, write_of, row_turn, stepped}
+use Rattle.mc_machine_laws.specs.FewWords.{words_in, most_words, EndsWithin, IsToldName}
+use Rattle.mc_machine_laws.proofs.MapLemmas.{same_name}
+use Rattle.mc_machine_laws.proofs.RowWords.{row-words, told-any, most-is}
 use Rattle.mc_bank.specs.Bank.{BankState, IsApplication, AreApps}
 use Rattle.mc_segs.specs.HeldFrames.{Held}
 use Rattle.mc_machine.specs.Chains.{Chained, ReadAll, RunsAs, ChainWrote}

@@ -5,11 +5,11 @@ use Rattle.std.specs.List.{AllByRecursion}
 use Rattle.std.proofs.lemmas.Bool.Decides.{nat_tests}
 use Rattle.mc_bank.specs.Bank.{BankState, app_of, name_or, sizes_of}
 use Rattle.mc_bank.specs.NameLaws.{other_way}
-use Rattle.mc_model.specs.declared.card.Sizes.{Sizes}
-use Rattle.mc_model.specs.Bytes.{lookup, zeros}
-use Rattle.mc_model.specs.Card.{App}
-use Rattle.mc_model.specs.Frame.{Frame, with_sw}
-use Rattle.mc_model.specs.Chain.{Chain, is_active, depth_of, called, called_app, entered_app}
+use Rattle.mc_model_card.specs.declared.card.Sizes.{Sizes}
+use Rattle.mc_model_device.specs.Bytes.{lookup, zeros}
+use Rattle.mc_model_device.specs.Card.{App}
+use Rattle.mc_model_machine.specs.Frame.{Frame, with_sw}
+use Rattle.mc_model_machine.specs.Chain.{Chain, is_active, depth_of, called, called_app, entered_app}
 use Rattle.mc_segs.specs.HeldFrames.{new_held}
 use Rattle.mc_machine.specs.Chains.{Chained, RunsAs}
 use Rattle.mc_machine.specs.Turns.{has_frame}

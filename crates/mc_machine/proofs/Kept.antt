@@ -2,16 +2,16 @@
 use Rattle.std.proofs.Common.{◌≡◌, ℕ, ◌+◌, ◌-◌, ◌≤◌, Bool, true, false, cond, List, [], ◌∷◌, length, Option, Some, None, refl, ap, subst, ◌∙◌, arith}
 use Rattle.std.specs.Prelude.{◌==◌, ◌&&◌, ◌||◌, nat_le, slice_index}
 use Rattle.std.proofs.lemmas.Bool.Decides.{nat_tests}
-use Rattle.mc_model.specs.declared.instruction.Ins.{Ins}
-use Rattle.mc_model.specs.declared.instruction.Ins.TheVariants as ins
-use Rattle.mc_model.specs.declared.machine.Abend.{Abend}
-use Rattle.mc_model.specs.Bytes.{bytes2}
-use Rattle.mc_model.specs.Pieces.{laid_pieces}
-use Rattle.mc_model.specs.Frame.{Frame, static_bytes, committed, Effect, Place, Static, Dynamic, Public, where_is, public_base, public_end, static_written, written_in, written, popped, flagged, protect, with_sw, with_la}
-use Rattle.mc_model.specs.Primitives.{Around, Done, framed, effect_flagged, Primitive, CheckCase, LoadCcr, StoreCcr, Lookup, MemoryCompare, MemoryCopy, DelegateTo, DelegatorAid, Digest, CompareFixed, CopyFixed, SetProtection, Encipher, Decipher, Sign, BitByte, ShiftLeft, ShiftRight, BitWord, primitive, prim_done, prim_effect, looked_up, delegator_told}
-use Rattle.mc_model.specs.Row.{effect, holds, gone, called, target, causes, first_cause, judged, row, RowEnd, Does}
+use Rattle.mc_model_machine.specs.declared.instruction.Ins.{Ins}
+use Rattle.mc_model_machine.specs.declared.instruction.Ins.TheVariants as ins
+use Rattle.mc_model_machine.specs.declared.machine.Abend.{Abend}
+use Rattle.mc_model_device.specs.Bytes.{bytes2}
+use Rattle.mc_model_device.specs.Pieces.{laid_pieces}
+use Rattle.mc_model_machine.specs.Frame.{Frame, static_bytes, committed, Effect, Place, Static, Dynamic, Public, where_is, public_base, public_end, static_written, written_in, written, popped, flagged, protect, with_sw, with_la}
+use Rattle.mc_model_machine.specs.Primitives.{Around, Done, framed, effect_flagged, Primitive, CheckCase, LoadCcr, StoreCcr, Lookup, MemoryCompare, MemoryCopy, DelegateTo, DelegatorAid, Digest, CompareFixed, CopyFixed, SetProtection, Encipher, Decipher, Sign, BitByte, ShiftLeft, ShiftRight, BitWord, primitive, prim_done, prim_effect, looked_up, delegator_told}
+use Rattle.mc_model_machine.specs.Row.{effect, holds, gone, called, target, causes, first_cause, judged, row, RowEnd, Does}
 use Rattle.mc_segs.specs.Ends.{changed_bytes}
-use Rattle.mc_model.proofs.ListLemmas.{length-splice}
+use Rattle.mc_model_device.proofs.ListLemmas.{length-splice}
 use Rattle.mc_machine.specs.Alike.{IsGuarded, KeepsEffect, KeepsRow}
 
 -- what a frame has of its application

@@ -1,15 +1,15 @@
 -- A turn of an application that nobody waits for, by what its instruction did.
 use Rattle.std.proofs.Common.{◌≡◌, ◌≢◌, ℕ, ◌-◌, Bool, true, false, cond, List, [], ◌∷◌, Option, Some, None, Result, Ok, Err, refl, sym, ap, subst, ◌∙◌}
 use Rattle.std.specs.Prelude.{nat_lt, option_map, IsSome}
-use Rattle.mc_model.specs.declared.instruction.Ins.{Ins}
-use Rattle.mc_model.specs.declared.machine.Abend.{Abend}
-use Rattle.mc_model.specs.declared.machine.Abend.TheVariants.{A09}
-use Rattle.mc_model.specs.Orders.{Answer}
-use Rattle.mc_model.specs.Items.{BankItem}
-use Rattle.mc_model.specs.Frame.{Frame, la_of}
-use Rattle.mc_model.specs.Primitives.{Then, Exits}
-use Rattle.mc_model.specs.Row.{RowEnd, Abends, Does}
-use Rattle.mc_model.specs.Chain.{Chain, Turn, Abended, Follows, Ends as Ended, Acted, stepped, row_turn, settled, follows, exited, last_exit, reply_of}
+use Rattle.mc_model_machine.specs.declared.instruction.Ins.{Ins}
+use Rattle.mc_model_machine.specs.declared.machine.Abend.{Abend}
+use Rattle.mc_model_machine.specs.declared.machine.Abend.TheVariants.{A09}
+use Rattle.mc_model_device.specs.Orders.{Answer}
+use Rattle.mc_model_card.specs.Items.{BankItem}
+use Rattle.mc_model_machine.specs.Frame.{Frame, la_of}
+use Rattle.mc_model_machine.specs.Primitives.{Then, Exits}
+use Rattle.mc_model_machine.specs.Row.{RowEnd, Abends, Does}
+use Rattle.mc_model_machine.specs.Chain.{Chain, Turn, Abended, Follows, Ends as Ended, Acted, stepped, row_turn, settled, follows, exited, last_exit, reply_of}
 use Rattle.mc_bank.specs.Bank.{BankState}
 use Rattle.mc_segs.specs.declared.ends.Next.TheVariants as go
 use Rattle.mc_segs.specs.declared.ends.Next.{Next}

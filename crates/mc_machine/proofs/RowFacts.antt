@@ -1,11 +1,11 @@
 -- An exit keeps its frame's session bytes; an instruction that is not PRIM is one of the rows.
 use Rattle.std.proofs.Common.{◌≡◌, ◌≢◌, ℕ, List, Option, Some, None, refl}
-use Rattle.mc_model.specs.declared.instruction.Ins.{Ins}
-use Rattle.mc_model.specs.declared.instruction.Ins.TheVariants as ins
-use Rattle.mc_model.specs.declared.machine.Abend.{Abend}
-use Rattle.mc_model.specs.Frame.{Frame, session_of}
-use Rattle.mc_model.specs.Primitives.{Around, Done, Exits, Primitive, CheckCase, LoadCcr, StoreCcr, Lookup, MemoryCompare, MemoryCopy, DelegateTo, DelegatorAid, Digest, CompareFixed, CopyFixed, SetProtection, Encipher, Decipher, Sign, BitByte, ShiftLeft, ShiftRight, BitWord, primitive, prim_done, prim_effect}
-use Rattle.mc_model.specs.Row.{effect, causes, first_cause, judged, row, RowEnd, Abends, Does}
+use Rattle.mc_model_machine.specs.declared.instruction.Ins.{Ins}
+use Rattle.mc_model_machine.specs.declared.instruction.Ins.TheVariants as ins
+use Rattle.mc_model_machine.specs.declared.machine.Abend.{Abend}
+use Rattle.mc_model_machine.specs.Frame.{Frame, session_of}
+use Rattle.mc_model_machine.specs.Primitives.{Around, Done, Exits, Primitive, CheckCase, LoadCcr, StoreCcr, Lookup, MemoryCompare, MemoryCopy, DelegateTo, DelegatorAid, Digest, CompareFixed, CopyFixed, SetProtection, Encipher, Decipher, Sign, BitByte, ShiftLeft, ShiftRight, BitWord, primitive, prim_done, prim_effect}
+use Rattle.mc_model_machine.specs.Row.{effect, causes, first_cause, judged, row, RowEnd, Abends, Does}
 use Rattle.mc_rows.specs.Families.{IsNoPrimitive}
 
 -- an instruction that exits keeps its frame's session bytes

@@ -1,19 +1,19 @@
 -- A run by its turns: what is left to run leads where the whole leads.
 use Rattle.std.proofs.Common.{◌≡◌, ℕ, zero, suc, ◌+◌, ◌-◌, ◌≤◌, ◌<◌, ◌≢◌, false, List, [], ◌∷◌, take, Option, Some, None, Result, Ok, Err, arith, refl, sym, ap, subst, ◌∙◌}
 use Rattle.std.specs.Prelude.{option_map, IfOk, OnOk, OnErr}
-use Rattle.mc_model.specs.declared.instruction.Ins.{Ins}
-use Rattle.mc_model.specs.declared.instruction.DecodeFault.{DecodeFault}
-use Rattle.mc_model.specs.declared.instruction.DecodeFault.TheVariants.{Undefined, Past}
-use Rattle.mc_model.specs.declared.machine.Abend.TheVariants.{A07}
-use Rattle.mc_model.specs.declared.device.Stop.{Stop}
-use Rattle.mc_model.specs.Orders.{Answer, InOrder, answer_of}
-use Rattle.mc_model.proofs.OrdersLemmas.{InOrder-append, InOrder-stopped}
-use Rattle.mc_model.specs.Items.{BankItem}
-use Rattle.mc_model.specs.Code.{decoded}
-use Rattle.mc_model.specs.Bytes.{lookup}
-use Rattle.mc_model.specs.Frame.{Frame, session_of}
-use Rattle.mc_model.specs.Row.{RowEnd, Abends, Does, row}
-use Rattle.mc_model.specs.Chain.{Chain, Outcome, Abended, Acted, Ran, Follows, Continues, Ends, around, code_in, stepped, first_frame, chain_session, row_turn, fetched, acted, spent, turn_of, end_of, ends_with, goes_on, ran_on, ran, called}
+use Rattle.mc_model_machine.specs.declared.instruction.Ins.{Ins}
+use Rattle.mc_model_machine.specs.declared.instruction.DecodeFault.{DecodeFault}
+use Rattle.mc_model_machine.specs.declared.instruction.DecodeFault.TheVariants.{Undefined, Past}
+use Rattle.mc_model_machine.specs.declared.machine.Abend.TheVariants.{A07}
+use Rattle.mc_model_device.specs.declared.device.Stop.{Stop}
+use Rattle.mc_model_device.specs.Orders.{Answer, InOrder, answer_of}
+use Rattle.mc_model_device.proofs.OrdersLemmas.{InOrder-append, InOrder-stopped}
+use Rattle.mc_model_card.specs.Items.{BankItem}
+use Rattle.mc_model_machine.specs.Code.{decoded}
+use Rattle.mc_model_device.specs.Bytes.{lookup}
+use Rattle.mc_model_machine.specs.Frame.{Frame, session_of}
+use Rattle.mc_model_machine.specs.Row.{RowEnd, Abends, Does, row}
+use Rattle.mc_model_machine.specs.Chain.{Chain, Outcome, Abended, Acted, Ran, Follows, Continues, Ends, around, code_in, stepped, first_frame, chain_session, row_turn, fetched, acted, spent, turn_of, end_of, ends_with, goes_on, ran_on, ran, called}
 use Rattle.mc_bank.specs.Bank.{BankState}
 use Rattle.mc_segs.specs.HeldFrames.{Held, Seen}
 use Rattle.mc_machine.specs.declared.outcome.End.{End}

@@ -3,23 +3,22 @@ use Rattle.std.proofs.Common.{◌≡◌, ℕ, zero, suc, ◌-◌, Bool, true, fa
 use Rattle.std.specs.Prelude.{unwrap_or, bytes_eq, ◌||◌, nat_lt, nat_le}
 use Rattle.std.specs.List.{AllByRecursion}
 use Rattle.std.proofs.lemmas.List.{length-append, length-take, length-replicate}
-use Rattle.mc_model.specs.declared.instruction.Ins.{Ins}
-use Rattle.mc_model.specs.declared.instruction.DecodeFault.{DecodeFault}
-use Rattle.mc_model.specs.declared.instruction.DecodeFault.TheVariants.{Undefined, Past}
-use Rattle.mc_model.specs.Bytes.{lookup, insert, zeros}
-use Rattle.mc_model.specs.Pieces.{touched}
-use Rattle.mc_model.specs.Card.{App}
-use Rattle.mc_model.specs.Code.{decoded}
-use Rattle.mc_model.specs.Frame.{Frame, Effect, new_frame, la_of}
-use Rattle.mc_model.specs.Primitives.{Then, Goes, Exits, Delegates}
-use Rattle.mc_model.specs.Row.{RowEnd, Abends, Does, row}
-use Rattle.mc_model.specs.Chain.{Chain, Write, Acted, Follows, Continues, Ends, code_in, around, first_frame, chain_session, with_pieces, changed_app, map_changed, write_of, settled, called, called_app, is_active, depth_of, exited, follows, row_turn, stepped, fetched, acted, turn_of}
-use Rattle.mc_model.specs.Items.{done}
-use Rattle.mc_model.specs.Play.{write_items}
+use Rattle.mc_model_machine.specs.declared.instruction.Ins.{Ins}
+use Rattle.mc_model_machine.specs.declared.instruction.DecodeFault.{DecodeFault}
+use Rattle.mc_model_machine.specs.declared.instruction.DecodeFault.TheVariants.{Undefined, Past}
+use Rattle.mc_model_device.specs.Bytes.{lookup, insert, zeros}
+use Rattle.mc_model_device.specs.Pieces.{touched}
+use Rattle.mc_model_device.specs.Card.{App}
+use Rattle.mc_model_machine.specs.Code.{decoded}
+use Rattle.mc_model_machine.specs.Frame.{Frame, Effect, new_frame, la_of}
+use Rattle.mc_model_machine.specs.Primitives.{Then, Goes, Exits, Delegates}
+use Rattle.mc_model_machine.specs.Row.{RowEnd, Abends, Does, row}
+use Rattle.mc_model_machine.specs.Chain.{Chain, Write, Acted, Follows, Continues, Ends, code_in, around, first_frame, chain_session, with_pieces, changed_app, map_changed, write_of, settled, called, called_app, is_active, depth_of, exited, follows, row_turn, stepped, fetched, acted, turn_of}
+use Rattle.mc_model_card.specs.Items.{done, write_items}
 use Rattle.mc_bank.specs.Bank.{no_app, app_of}
 use Rattle.mc_bank.specs.NameLaws.{same_name, lookup-inserted, lookup-beside}
 use Rattle.mc_machine.specs.Sound.{IsSoundFrame, IsSoundChain}
-use Rattle.mc_family.specs.FewWords.{PiecesWithin}
+use Rattle.mc_machine_laws.specs.FewWords.{PiecesWithin}
 use Rattle.mc_machine.proofs.SoundRows.{ChangesWithin, KeepsPartsOf, RowKeeps, row_keeps, length-pieces}
 
 -- ---- applications whose sizes stay

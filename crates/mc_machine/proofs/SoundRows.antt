@@ -3,16 +3,16 @@
 use Rattle.std.proofs.Common.{◌≡◌, ℕ, ◌+◌, ◌-◌, ◌≤◌, Bool, true, false, cond, List, [], ◌∷◌, ◌++◌, length, Option, Some, None, refl, sym, ap, subst, ◌∙◌, arith}
 use Rattle.std.specs.Prelude.{◌==◌, ◌||◌, nat_le, slice_index}
 use Rattle.std.proofs.lemmas.Bool.Decides.{nat_tests}
-use Rattle.mc_model.specs.declared.instruction.Ins.{Ins}
-use Rattle.mc_model.specs.declared.instruction.Ins.TheVariants as ins
-use Rattle.mc_model.specs.declared.machine.Abend.{Abend}
-use Rattle.mc_model.specs.Bytes.{bytes2, splice}
-use Rattle.mc_model.specs.Pieces.{laid_pieces}
-use Rattle.mc_model.specs.Frame.{Frame, static_bytes, committed, Effect, Place, Static, Dynamic, Public, where_is, dynamic_base, static_written, written_in, written, pushed, popped, top, topped, flagged, protect, come_back}
-use Rattle.mc_model.specs.Primitives.{Around, Done, framed, effect_flagged, Primitive, CheckCase, LoadCcr, StoreCcr, Lookup, MemoryCompare, MemoryCopy, DelegateTo, DelegatorAid, Digest, CompareFixed, CopyFixed, SetProtection, Encipher, Decipher, Sign, BitByte, ShiftLeft, ShiftRight, BitWord, primitive, prim_done, prim_effect, looked_up, delegator_told}
-use Rattle.mc_model.specs.Row.{effect, holds, gone, called, target, causes, first_cause, judged, row, RowEnd, Abends, Does}
-use Rattle.mc_model.proofs.ListLemmas.{length-splice, splice-longer as longer}
-use Rattle.mc_family.specs.FewWords.{PiecesWithin}
+use Rattle.mc_model_machine.specs.declared.instruction.Ins.{Ins}
+use Rattle.mc_model_machine.specs.declared.instruction.Ins.TheVariants as ins
+use Rattle.mc_model_machine.specs.declared.machine.Abend.{Abend}
+use Rattle.mc_model_device.specs.Bytes.{bytes2, splice}
+use Rattle.mc_model_device.specs.Pieces.{laid_pieces}
+use Rattle.mc_model_machine.specs.Frame.{Frame, static_bytes, committed, Effect, Place, Static, Dynamic, Public, where_is, dynamic_base, static_written, written_in, written, pushed, popped, top, topped, flagged, protect, come_back}
+use Rattle.mc_model_machine.specs.Primitives.{Around, Done, framed, effect_flagged, Primitive, CheckCase, LoadCcr, StoreCcr, Lookup, MemoryCompare, MemoryCopy, DelegateTo, DelegatorAid, Digest, CompareFixed, CopyFixed, SetProtection, Encipher, Decipher, Sign, BitByte, ShiftLeft, ShiftRight, BitWord, primitive, prim_done, prim_effect, looked_up, delegator_told}
+use Rattle.mc_model_machine.specs.Row.{effect, holds, gone, called, target, causes, first_cause, judged, row, RowEnd, Abends, Does}
+use Rattle.mc_model_device.proofs.ListLemmas.{length-splice, splice-longer as longer}
+use Rattle.mc_machine_laws.specs.FewWords.{PiecesWithin}
 
 -- ---- lists
 

@@ -1,16 +1,15 @@
 -- A run by its turns: that its writes hold in their applications, and how many session bytes it leaves.
 use Rattle.std.proofs.Common.{◌≡◌, ℕ, zero, suc, List, [], ◌∷◌, ◌++◌, length, Some, Result, Ok, Err, refl, ap, subst, ◌∙◌}
-use Rattle.mc_model.specs.declared.instruction.Ins.{Ins}
-use Rattle.mc_model.specs.declared.instruction.DecodeFault.{DecodeFault}
-use Rattle.mc_model.specs.declared.instruction.DecodeFault.TheVariants.{Undefined, Past}
-use Rattle.mc_model.specs.Code.{decoded}
-use Rattle.mc_model.specs.Bytes.{lookup}
-use Rattle.mc_model.specs.Row.{RowEnd, Abends, Does, row}
-use Rattle.mc_model.specs.Card.{App}
-use Rattle.mc_model.specs.Apdu.{ApduParts}
-use Rattle.mc_model.specs.Items.{done}
-use Rattle.mc_model.specs.Play.{write_items}
-use Rattle.mc_model.specs.Chain.{Chain, Write, Acted, Ran, Follows, Continues, Ends, around, code_in, stepped, chain_session, row_turn, fetched, acted, turn_of, end_of, map_changed, ran_on, ran, start}
+use Rattle.mc_model_machine.specs.declared.instruction.Ins.{Ins}
+use Rattle.mc_model_machine.specs.declared.instruction.DecodeFault.{DecodeFault}
+use Rattle.mc_model_machine.specs.declared.instruction.DecodeFault.TheVariants.{Undefined, Past}
+use Rattle.mc_model_machine.specs.Code.{decoded}
+use Rattle.mc_model_device.specs.Bytes.{lookup}
+use Rattle.mc_model_machine.specs.Row.{RowEnd, Abends, Does, row}
+use Rattle.mc_model_device.specs.Card.{App}
+use Rattle.mc_model_machine.specs.Apdu.{ApduParts}
+use Rattle.mc_model_card.specs.Items.{done, write_items}
+use Rattle.mc_model_machine.specs.Chain.{Chain, Write, Acted, Ran, Follows, Continues, Ends, around, code_in, stepped, chain_session, row_turn, fetched, acted, turn_of, end_of, map_changed, ran_on, ran, start}
 use Rattle.mc_bank.specs.Bank.{app_of}
 use Rattle.mc_machine.specs.Sound.{IsSoundChain}
 use Rattle.mc_machine.proofs.SoundChains.{AreSound, FollowsSound, TurnSound, SameLengths, sizes_done, first_in, new_sound, session_size, turn_sound}

@@ -3,13 +3,13 @@ use Rattle.std.proofs.Common.{◌≡◌, ℕ, false, List, [], ◌∷◌, ◌≤
 use Rattle.std.specs.Prelude.{bytes_eq, unwrap_or}
 use Rattle.std.proofs.lemmas.List.{length-map}
 use Rattle.std.specs.List.{AllByRecursion}
-use Rattle.mc_model.specs.Orders.{Answer, InOrder}
-use Rattle.mc_model.specs.Items.{BankItem, Commit}
-use Rattle.mc_model.specs.Pieces.{laid_pieces, laid_words, touched, HoldPieces}
-use Rattle.mc_model.specs.Bytes.{lookup, insert}
-use Rattle.mc_model.specs.Card.{App}
-use Rattle.mc_model.specs.Frame.{Frame, Effect}
-use Rattle.mc_model.specs.Chain.{Chain, changed_app, map_changed, write_of, settled}
+use Rattle.mc_model_device.specs.Orders.{Answer, InOrder}
+use Rattle.mc_model_card.specs.Items.{BankItem, Commit}
+use Rattle.mc_model_device.specs.Pieces.{laid_pieces, laid_words, touched, HoldPieces}
+use Rattle.mc_model_device.specs.Bytes.{lookup, insert}
+use Rattle.mc_model_device.specs.Card.{App}
+use Rattle.mc_model_machine.specs.Frame.{Frame, Effect}
+use Rattle.mc_model_machine.specs.Chain.{Chain, changed_app, map_changed, write_of, settled}
 use Rattle.mc_bank.specs.Bank.{BankState, app_of, name_or, no_app, with_words, committed, Changes}
 use Rattle.mc_bank.specs.NameLaws.{lookup-inserted, lookup-beside}
 use Rattle.mc_segs.specs.HeldFrames.{Held, Seen, app_under}

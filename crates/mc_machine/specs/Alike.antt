@@ -1,10 +1,10 @@
 -- What a row sees of a frame: its pending bytes, and not the pieces that they come from.
 use Rattle.std.specs.Prelude.{◌≡◌, ℕ, true, false, List, length, option_map, Option}
-use Rattle.mc_model.specs.declared.machine.Abend.{Abend}
-use Rattle.mc_model.specs.Pieces.{laid_pieces, touched}
-use Rattle.mc_model.specs.Frame.{Frame, Effect}
-use Rattle.mc_model.specs.Primitives.{Then, Done}
-use Rattle.mc_model.specs.Row.{RowEnd, Abends, Does}
+use Rattle.mc_model_machine.specs.declared.machine.Abend.{Abend}
+use Rattle.mc_model_device.specs.Pieces.{laid_pieces, touched}
+use Rattle.mc_model_machine.specs.Frame.{Frame, Effect}
+use Rattle.mc_model_machine.specs.Primitives.{Then, Done}
+use Rattle.mc_model_machine.specs.Row.{RowEnd, Abends, Does}
 use Rattle.mc_segs.specs.HeldFrames.{Seen, seen, no_pieces}
 use Rattle.mc_segs.specs.Ends.{changed_bytes}
 

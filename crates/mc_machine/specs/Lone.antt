@@ -1,13 +1,13 @@
 -- An application that nobody waits for: its chain, what its turns leave, and the end of a run.
 use Rattle.std.specs.Prelude.{◌≡◌, ℕ, ◌+◌, ◌-◌, ◌≤◌, false, List, [], option_map, Option, Some, None, Result, Ok, Err}
-use Rattle.mc_model.specs.declared.device.Stop.{Stop}
-use Rattle.mc_model.specs.declared.instruction.Ins.{Ins}
-use Rattle.mc_model.specs.Orders.{Answer, InOrder}
-use Rattle.mc_model.specs.Items.{BankItem}
-use Rattle.mc_model.specs.Bytes.{lookup}
-use Rattle.mc_model.specs.Chain.{Chain, Acted, Continues, Ran, called}
-use Rattle.mc_model.specs.Chain as model
-use Rattle.mc_model.specs.Primitives.{Around}
+use Rattle.mc_model_device.specs.declared.device.Stop.{Stop}
+use Rattle.mc_model_machine.specs.declared.instruction.Ins.{Ins}
+use Rattle.mc_model_device.specs.Orders.{Answer, InOrder}
+use Rattle.mc_model_card.specs.Items.{BankItem}
+use Rattle.mc_model_device.specs.Bytes.{lookup}
+use Rattle.mc_model_machine.specs.Chain.{Chain, Acted, Continues, Ran, called}
+use Rattle.mc_model_machine.specs.Chain as model
+use Rattle.mc_model_machine.specs.Primitives.{Around}
 use Rattle.mc_bank.specs.Bank.{BankState}
 use Rattle.mc_segs.specs.HeldFrames.{Held}
 use Rattle.mc_segs.specs.declared.ends.Halt.{Halt}

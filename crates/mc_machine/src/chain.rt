@@ -1,6 +1,6 @@
 // A chain of frames: its beginning, its end, and what a frame asks of the others.
 ghost use Rattle.std.specs.Prelude.{◌≡◌, ◌≤◌, length, false, IsSome};
-ghost use Rattle.mc_model.specs.Chain.{start};
+ghost use Rattle.mc_model_machine.specs.Chain.{start};
 ghost use Rattle.mc_apdu.specs.Command.{parts_of};
 ghost use Rattle.mc_bank.specs.Bank.{app_of, name_or};
 ghost use Rattle.mc_machine.specs.Chains.{FrameReadsAs, RunsAs, first_of, session_in};

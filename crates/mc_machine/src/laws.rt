@@ -1,8 +1,8 @@
 ghost use Rattle.std.specs.Prelude.{◌≡◌, ℕ, List};
-ghost use Rattle.mc_model.specs.declared.instruction.Ins.{Ins};
-ghost use Rattle.mc_model.specs.Frame.{Frame, new_frame};
-ghost use Rattle.mc_model.specs.Primitives.{Around};
-ghost use Rattle.mc_model.specs.Row.{row};
+ghost use Rattle.mc_model_machine.specs.declared.instruction.Ins.{Ins};
+ghost use Rattle.mc_model_machine.specs.Frame.{Frame, new_frame};
+ghost use Rattle.mc_model_machine.specs.Primitives.{Around};
+ghost use Rattle.mc_model_machine.specs.Row.{row};
 ghost use Rattle.mc_segs.specs.HeldFrames.{seen};
 ghost use Rattle.mc_machine.specs.Alike.{seen_end, IsGuarded, KeepsRow};
 

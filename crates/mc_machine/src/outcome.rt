@@ -1,6 +1,6 @@
 // How turns and chains end.
 ghost use Rattle.std.specs.Prelude.{◌≡◌, ◌≤◌, ℕ, min, take, Some, None};
-ghost use Rattle.mc_model.specs.Frame.{la_of, sw_of};
+ghost use Rattle.mc_model_machine.specs.Frame.{la_of, sw_of};
 ghost use Rattle.mc_machine.specs.Turns.{end_value, last_end, outcome_by, outcome_value, EndFits};
 
 use crate::chain::Chain;

@@ -1,9 +1,9 @@
 // A command to an application, from its first turn to its end.
 ghost use Rattle.std.specs.Prelude.{◌≡◌, ◌+◌, ◌≤◌, length, false, IsSome, IfOk, OnOk, OnErr};
 ghost use Rattle.std.specs.List.{AllByRecursion};
-ghost use Rattle.mc_model.specs.Orders.{InOrder, answer_of};
-ghost use Rattle.mc_model.specs.Bytes.{lookup};
-ghost use Rattle.mc_model.specs.Chain.{Chain as ModelChain, called, ran};
+ghost use Rattle.mc_model_device.specs.Orders.{InOrder, answer_of};
+ghost use Rattle.mc_model_device.specs.Bytes.{lookup};
+ghost use Rattle.mc_model_machine.specs.Chain.{Chain as ModelChain, called, ran};
 ghost use Rattle.mc_bank.specs.Bank.{app_of};
 ghost use Rattle.mc_machine.specs.Chains.{FitsChain, RunsAs, ChainWrote, ran_of};
 ghost use Rattle.mc_machine.specs.Lone.{lone_chain, RanDone};

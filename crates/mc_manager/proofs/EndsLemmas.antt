@@ -3,18 +3,18 @@ use Rattle.std.proofs.Common.{◌≡◌, ◌≢◌, ℕ, ◌+◌, ◌≤◌, Boo
 use Rattle.std.specs.Prelude.{map, option_map, IsSome, is_some, is_none, Result, nat_lt, not, cond, ◌==◌, bytes_eq, unwrap_or, IfOk, ◌&&◌}
 use Rattle.std.specs.Option.{ForSome}
 use Rattle.std.proofs.lemmas.Bool.Decides.{nat_tests}
-use Rattle.mc_model.specs.declared.card.Part.{Part}
-use Rattle.mc_model.specs.declared.card.Part.TheVariants as part
-use Rattle.mc_model.specs.declared.card.Sizes.{Sizes}
-use Rattle.mc_model.specs.declared.unit.AidFault.{AidFault}
-use Rattle.mc_model.specs.declared.device.Stop.{Stop}
-use Rattle.mc_model.specs.Orders.{Answer, answer_of, InOrder}
-use Rattle.mc_model.specs.Bytes.{zeros, lookup, insert, remove}
-use Rattle.mc_model.specs.Apdu.{ApduParts}
-use Rattle.mc_model.specs.Card.{App}
-use Rattle.mc_model.specs.Items.{Site, BankItem, Piece, Remove}
-use Rattle.mc_model.specs.Manager.{Open, Seat, Accepted, Managed, first_status, answered, select_body, select_done, select, p1p2, is_empty, got_of, size_of, with_got, word_parts, load_refusals, load_done, load_part, create_refusals, create_done, create_items, create, dir_in, is_selected, delete_refusals, delete_done, delete, open_load, Declines, WrongClass, ToSelect, ToManager, ToApplication, manage}
-use Rattle.mc_model.specs.Units.{name_of}
+use Rattle.mc_model_card.specs.declared.card.Part.{Part}
+use Rattle.mc_model_card.specs.declared.card.Part.TheVariants as part
+use Rattle.mc_model_card.specs.declared.card.Sizes.{Sizes}
+use Rattle.mc_model_card.specs.declared.unit.AidFault.{AidFault}
+use Rattle.mc_model_device.specs.declared.device.Stop.{Stop}
+use Rattle.mc_model_device.specs.Orders.{Answer, answer_of, InOrder}
+use Rattle.mc_model_device.specs.Bytes.{zeros, lookup, insert, remove}
+use Rattle.mc_model_machine.specs.Apdu.{ApduParts}
+use Rattle.mc_model_device.specs.Card.{App}
+use Rattle.mc_model_card.specs.Items.{Site, BankItem, Piece, Remove}
+use Rattle.mc_model_card.specs.Manager.{Open, Seat, Accepted, Managed, first_status, answered, select_body, select_done, select, p1p2, is_empty, got_of, size_of, with_got, word_parts, load_refusals, load_done, load_part, create_refusals, create_done, create_items, create, dir_in, is_selected, delete_refusals, delete_done, delete, open_load, Declines, WrongClass, ToSelect, ToManager, ToApplication, manage}
+use Rattle.mc_model_card.specs.Units.{name_of}
 use Rattle.mc_apdu.specs.declared.reply.Reply.{Reply}
 use Rattle.mc_bank.specs.Bank.{part_len, no_app, app_of, name_or, entered, Changes}
 use Rattle.mc_bank.specs.NameLaws.{name_is_itself}

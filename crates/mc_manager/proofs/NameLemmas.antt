@@ -2,8 +2,8 @@
 use Rattle.std.proofs.Common.{◌≡◌, ℕ, List, [], ◌∷◌, None, refl, subst, arith}
 use Rattle.std.specs.List.{AllByRecursion}
 use Rattle.mc_base.specs.Name.{IsName}
-use Rattle.mc_model.specs.Bytes.{lookup}
-use Rattle.mc_model.specs.Card.{App}
+use Rattle.mc_model_device.specs.Bytes.{lookup}
+use Rattle.mc_model_device.specs.Card.{App}
 use Rattle.mc_bank.specs.Bank.{IsApplication, AreApps}
 use Rattle.mc_bank.specs.NameLaws.{same_name}
 

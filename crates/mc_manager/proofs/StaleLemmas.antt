@@ -1,16 +1,16 @@
 -- What a command adds to the applications: nothing, or the application of the open load.
 use Rattle.std.proofs.Common.{◌≡◌, ℕ, Bool, true, false, List, [], ◌∷◌, Option, Some, None, Ok, Err, refl, sym, ap, subst, ◌∙◌, inl, inr, arith}
 use Rattle.std.specs.Prelude.{◌⊎◌, cond, ◌==◌, ◌&&◌, bytes_eq, Result}
-use Rattle.mc_model.specs.declared.card.Part.{Part}
-use Rattle.mc_model.specs.declared.card.Part.TheVariants as part
-use Rattle.mc_model.specs.declared.card.Sizes.{Sizes}
-use Rattle.mc_model.specs.declared.unit.AidFault.{AidFault}
-use Rattle.mc_model.specs.Orders.{Answer}
-use Rattle.mc_model.specs.Bytes.{lookup, insert, remove}
-use Rattle.mc_model.specs.Apdu.{ApduParts}
-use Rattle.mc_model.specs.Card.{App}
-use Rattle.mc_model.specs.Manager.{Selected, Open, Seat, Accepted, Managed, Declines, first_status, answered, WrongClass, ToSelect, ToManager, ToApplication, select_refusals, select_done, select, open_refusals, open_done, open_load, load_refusals, load_done, load_part, create_refusals, create_done, create, dir_in, fresh, delete_refusals, delete_done, delete, manage}
-use Rattle.mc_model.specs.Units.{name_of}
+use Rattle.mc_model_card.specs.declared.card.Part.{Part}
+use Rattle.mc_model_card.specs.declared.card.Part.TheVariants as part
+use Rattle.mc_model_card.specs.declared.card.Sizes.{Sizes}
+use Rattle.mc_model_card.specs.declared.unit.AidFault.{AidFault}
+use Rattle.mc_model_device.specs.Orders.{Answer}
+use Rattle.mc_model_device.specs.Bytes.{lookup, insert, remove}
+use Rattle.mc_model_machine.specs.Apdu.{ApduParts}
+use Rattle.mc_model_device.specs.Card.{App}
+use Rattle.mc_model_card.specs.Manager.{Selected, Open, Seat, Accepted, Managed, Declines, first_status, answered, WrongClass, ToSelect, ToManager, ToApplication, select_refusals, select_done, select, open_refusals, open_done, open_load, load_refusals, load_done, load_part, create_refusals, create_done, create, dir_in, fresh, delete_refusals, delete_done, delete, manage}
+use Rattle.mc_model_card.specs.Units.{name_of}
 use Rattle.mc_bank.specs.Bank.{BankState, Changes}
 use Rattle.mc_bank.specs.NameLaws.{same_name, lookup-inserted, lookup-beside}
 use Rattle.mc_manager.specs.ManagerState.{BankView, ManagerState, seat_of, load_of}

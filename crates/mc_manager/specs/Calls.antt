@@ -1,10 +1,10 @@
 -- When each command can be done, and what of the bank it takes.
 use Rattle.std.specs.Prelude.{◌≡◌, ℕ, Bool, true, false, not, ◌==◌, List, [], ◌∷◌, bytes_eq, is_none, unwrap_or, option_map, Option, Some, None, Ok}
-use Rattle.mc_model.specs.Apdu.{ApduParts}
-use Rattle.mc_model.specs.Bytes.{lookup}
-use Rattle.mc_model.specs.Card.{App}
-use Rattle.mc_model.specs.Manager.{p1p2, is_empty, sizes_in, first_status, select_refusals, open_refusals, create_refusals}
-use Rattle.mc_model.specs.Units.{name_of}
+use Rattle.mc_model_machine.specs.Apdu.{ApduParts}
+use Rattle.mc_model_device.specs.Bytes.{lookup}
+use Rattle.mc_model_device.specs.Card.{App}
+use Rattle.mc_model_card.specs.Manager.{p1p2, is_empty, sizes_in, first_status, select_refusals, open_refusals, create_refusals}
+use Rattle.mc_model_card.specs.Units.{name_of}
 use Rattle.mc_manager.specs.declared.selection.Selection.{Selection}
 use Rattle.mc_manager.specs.ManagerState.{BankView, Loaded, open_of, FitsLoad, NamedBy}
 use Rattle.mc_manager.specs.Load.{empty_load, is_full}

@@ -1,11 +1,11 @@
 -- What a command is due by the routing and the manager's table, and how it is answered.
 -- Status words are those of ISO/IEC 7816-4.
 use Rattle.std.specs.Prelude.{◌≡◌, ◌⊎◌, ℕ, Bool, cond, ◌&&◌, ◌==◌, List, [], option_map, Option, Some, None}
-use Rattle.mc_model.specs.Apdu.{ApduParts}
-use Rattle.mc_model.specs.Bytes.{zeros, lookup}
-use Rattle.mc_model.specs.Card.{App}
-use Rattle.mc_model.specs.Items.{Change, changed, BankItem}
-use Rattle.mc_model.specs.Manager.{Selected, Seat, Route, WrongLength, WrongClass, ToSelect, ToManager, ToApplication, routed, Managed, Declines, Accepts, Accepted, Open, fresh, select, manage}
+use Rattle.mc_model_machine.specs.Apdu.{ApduParts}
+use Rattle.mc_model_device.specs.Bytes.{zeros, lookup}
+use Rattle.mc_model_device.specs.Card.{App}
+use Rattle.mc_model_card.specs.Items.{Change, changed, BankItem}
+use Rattle.mc_model_card.specs.Manager.{Selected, Seat, Route, WrongLength, WrongClass, ToSelect, ToManager, ToApplication, routed, Managed, Declines, Accepts, Accepted, Open, fresh, select, manage}
 use Rattle.mc_apdu.specs.declared.reply.Reply.{Reply}
 use Rattle.mc_bank.specs.Bank.{app_of}
 use Rattle.mc_manager.specs.declared.selection.Selection.{Selection}

@@ -1,8 +1,8 @@
 -- How a command ends over a bank.
 use Rattle.std.specs.Prelude.{◌≡◌, ℕ, false, List, Result, IfOk, OnOk}
-use Rattle.mc_model.specs.declared.device.Stop.{Stop}
-use Rattle.mc_model.specs.Orders.{Answer, answer_of, InOrder}
-use Rattle.mc_model.specs.Items.{BankItem}
+use Rattle.mc_model_device.specs.declared.device.Stop.{Stop}
+use Rattle.mc_model_device.specs.Orders.{Answer, answer_of, InOrder}
+use Rattle.mc_model_card.specs.Items.{BankItem}
 use Rattle.mc_bank.specs.Bank.{Changes}
 use Rattle.mc_manager.specs.declared.routed.Routed.{Routed}
 use Rattle.mc_manager.specs.ManagerState.{BankView, ManagerState, ManagerFits}

@@ -1,13 +1,13 @@
 -- What the manager holds, the definition's seat that it stands for over a bank, and when it fits the bank.
 use Rattle.std.specs.Prelude.{◌≡◌, ℕ, ◌≤◌, List, length, take, option_map, Option, Some, IsSome}
 use Rattle.std.specs.Option.{ForSome}
-use Rattle.mc_model.specs.declared.card.Part.{Part}
-use Rattle.mc_model.specs.declared.card.Part.TheVariants.{Code, Data, Dir, Fci}
-use Rattle.mc_model.specs.declared.card.Sizes.{Sizes}
-use Rattle.mc_model.specs.Bytes.{lookup}
-use Rattle.mc_model.specs.Card.{App}
-use Rattle.mc_model.specs.Items.{Site}
-use Rattle.mc_model.specs.Manager.{Selected, Open, Seat}
+use Rattle.mc_model_card.specs.declared.card.Part.{Part}
+use Rattle.mc_model_card.specs.declared.card.Part.TheVariants.{Code, Data, Dir, Fci}
+use Rattle.mc_model_card.specs.declared.card.Sizes.{Sizes}
+use Rattle.mc_model_device.specs.Bytes.{lookup}
+use Rattle.mc_model_device.specs.Card.{App}
+use Rattle.mc_model_card.specs.Items.{Site}
+use Rattle.mc_model_card.specs.Manager.{Selected, Open, Seat}
 use Rattle.mc_bank.specs.Bank.{BankState, part_len, IsGoodSite, HasParts}
 use Rattle.mc_manager.specs.declared.selection.Selection.{Selection}
 

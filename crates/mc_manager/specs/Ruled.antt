@@ -1,6 +1,6 @@
 -- A ruling of the manager with the reply that stands beside it, as the answer of a command.
 use Rattle.std.specs.Prelude.{Result, Ok, Err}
-use Rattle.mc_model.specs.declared.device.Stop.{Stop}
+use Rattle.mc_model_device.specs.declared.device.Stop.{Stop}
 use Rattle.mc_apdu.specs.declared.reply.Reply.{Reply}
 use Rattle.mc_manager.specs.declared.routed.Routed.{Routed}
 use Rattle.mc_manager.specs.declared.routed.Routed.TheVariants as routed

@@ -1,5 +1,5 @@
 ghost use Rattle.std.specs.Prelude.{◌≡◌, ◌+◌, ◌≤◌, ◌==◌, cond, ℕ, List, false, Ok, None};
-ghost use Rattle.mc_model.specs.Manager.{select, open_load, load_part, create, delete, manage};
+ghost use Rattle.mc_model_card.specs.Manager.{select, open_load, load_part, create, delete, manage};
 ghost use Rattle.mc_apdu.specs.Command.{parts_of};
 ghost use Rattle.mc_manager.specs.ManagerState.{BankView, view_of, selected_of, seat_of, load_of, ManagerFits};
 ghost use Rattle.mc_manager.specs.CommandDue.{due, due_application, due_select, due_manager, CommandLeaves, most_ticks};
@@ -120,7 +120,7 @@ impl Manager {
     }
 
     // A command of class BE by its INS.
-    #[tactic(auto, unfolding(mc_model::specs::Manager::manage))]
+    #[tactic(auto, unfolding(mc_model_card::specs::Manager::manage))]
     fn manage<B: Bank, L: Ledger>(
         &mut self,
         bank: &mut B,

@@ -1,6 +1,6 @@
 -- The tape of a device: what it tells, and when it tells no longer.
 use Rattle.std.specs.Prelude.{◌≤◌, ℕ, Bool, true, false, nat_le, List, [], ◌∷◌, ◌++◌, length, map, vec_capacity, Option, Some, None}
-use Rattle.mc_model.specs.Device.{Entry}
+use Rattle.mc_model_device.specs.Device.{Entry}
 use Rattle.mc_nvm.specs.declared.tape.Entry.{Entry as Written}
 use Rattle.mc_nvm.specs.declared.tape.Tape.TheInside.{Inside as TapeInside}
 

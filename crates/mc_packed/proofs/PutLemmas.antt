@@ -1,7 +1,7 @@
 -- One step through lists of pairs, target words and values.
 use Rattle.std.proofs.Common.{◌≡◌, ℕ, suc, ◌+◌, ◌-◌, ◌*◌, ◌<◌, List, [], ◌∷◌, length, take, drop, get_or, sym, ◌∙◌, ap, arith, drop-drop}
-use Rattle.mc_model.specs.Stopped.{target_words, values_2, four_targets}
-use Rattle.mc_model.proofs.JournalLemmas.{pair-step}
+use Rattle.mc_model_device.specs.Stopped.{target_words, values_2, four_targets}
+use Rattle.mc_model_device.proofs.JournalLemmas.{pair-step}
 
 pub value-step : (list : List (ℕ × List ℕ)) (i : ℕ) → i < length list → values_2 i (drop i list) ≡ (19 + i, (get_or list i (0, [])).1) ∷ values_2 (i + 1) (drop (i + 1) list)
 value-step list i lt = ap (λ (l : List (ℕ × List ℕ)). values_2 i l) (pair-step list i lt)

@@ -1,7 +1,7 @@
 ghost use Rattle.std.specs.Prelude.{◌≡◌, ◌≤◌, true, false, length};
-ghost use Rattle.mc_model.specs.Device.{Makes};
-ghost use Rattle.mc_model.specs.Image.{Two, is_open};
-ghost use Rattle.mc_model.specs.Stopped.{IsAtomic, writes, WriteEnds};
+ghost use Rattle.mc_model_device.specs.Device.{Makes};
+ghost use Rattle.mc_model_device.specs.Image.{Two, is_open};
+ghost use Rattle.mc_model_device.specs.Stopped.{IsAtomic, writes, WriteEnds};
 
 use crate::put::put_entries;
 use mc_base::{Stop, Word};

@@ -1,7 +1,7 @@
 -- Addresses that lie in segments, and a stack whose top is replaced.
 use Rattle.std.proofs.Common.{◌≡◌, ℕ, ◌+◌, ◌≤◌, ◌<◌, Bool, true, false, ◌||◌, List, length, refl, arith}
-use Rattle.mc_model.specs.Primitives.{Cipher, Des, TripleDes, Aes, is_message}
-use Rattle.mc_model.specs.Frame.{Frame, is_outside, is_under, pushed, popped, topped}
+use Rattle.mc_model_machine.specs.Primitives.{Cipher, Des, TripleDes, Aes, is_message}
+use Rattle.mc_model_machine.specs.Frame.{Frame, is_outside, is_under, pushed, popped, topped}
 
 -- a byte in a segment is not the last that an address can name
 pub inside_low : (f : Frame) (a : ℕ) → is_outside f a 1 ≡ false → length f.fixed ≤ 4096 → f.dt ≤ 0x8200 → a + 1 < 65536

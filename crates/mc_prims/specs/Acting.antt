@@ -1,13 +1,13 @@
 -- How primitives act, and how the calls that they share end.
 use Rattle.std.specs.Prelude.{◌≡◌, ℕ, ◌+◌, ◌≤◌, Bool, true, false, List, [], ◌∷◌, length, ◌||◌, Option, None, Result, Ok, Err}
-use Rattle.mc_model.specs.declared.machine.Abend.{Abend}
-use Rattle.mc_model.specs.declared.machine.Abend.TheVariants.{A03, A04, A06}
-use Rattle.mc_model.specs.Orders.{Answer}
-use Rattle.mc_model.specs.Items.{BankItem}
-use Rattle.mc_model.specs.Blocks.{sub_blocks}
-use Rattle.mc_model.specs.Frame.{Frame, is_under, popped, top, is_outside, bytes_at}
-use Rattle.mc_model.specs.Primitives.{Around, Primitive, Done, going, compared, in_range, count_at, later_causes, prim_effect}
-use Rattle.mc_model.specs.Row.{first_cause, judged}
+use Rattle.mc_model_machine.specs.declared.machine.Abend.{Abend}
+use Rattle.mc_model_machine.specs.declared.machine.Abend.TheVariants.{A03, A04, A06}
+use Rattle.mc_model_device.specs.Orders.{Answer}
+use Rattle.mc_model_card.specs.Items.{BankItem}
+use Rattle.mc_model_machine.specs.Blocks.{sub_blocks}
+use Rattle.mc_model_machine.specs.Frame.{Frame, is_under, popped, top, is_outside, bytes_at}
+use Rattle.mc_model_machine.specs.Primitives.{Around, Primitive, Done, going, compared, in_range, count_at, later_causes, prim_effect}
+use Rattle.mc_model_machine.specs.Row.{first_cause, judged}
 use Rattle.mc_bank.specs.Bank.{BankState}
 use Rattle.mc_segs.specs.HeldFrames.{Held}
 use Rattle.mc_segs.specs.Ends.{Scene, before, EndActs}

@@ -1,8 +1,8 @@
 // The bytes that primitives read from segments.
 ghost use Rattle.std.specs.Prelude.{◌≡◌, ◌%◌, ◌≤◌, ◌<◌, ◌∷◌, false, length};
-ghost use Rattle.mc_model.specs.Modes.{ecb};
-ghost use Rattle.mc_model.specs.Frame.{is_outside};
-ghost use Rattle.mc_model.specs.Primitives as model;
+ghost use Rattle.mc_model_machine.specs.Modes.{ecb};
+ghost use Rattle.mc_model_machine.specs.Frame.{is_outside};
+ghost use Rattle.mc_model_machine.specs.Primitives as model;
 ghost use Rattle.mc_segs.specs.HeldFrames.{FitsBank, shown};
 ghost use Rattle.mc_segs.specs.Ends.{IfDue};
 ghost use Rattle.mc_prims.specs.Acting.{IsLength, ReadsBytes, ReadsCount};
@@ -11,7 +11,7 @@ ghost use Rattle.mc_prims.specs.Table.{cipher_of, turned};
 use crate::ciphers::Way;
 use crate::table::Cipher;
 use mc_bank::Bank;
-use mc_model::Abend;
+use mc_model_machine::Abend;
 use mc_segs::{Frame, Public, load};
 use std::marker::Model;
 

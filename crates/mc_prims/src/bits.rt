@@ -1,9 +1,9 @@
 // The top of the stack under a mask, and shifted.
 ghost use Rattle.std.specs.Prelude.{◌≡◌, ◌≤◌, ◌<◌, ◌*◌, ◌==◌, cond, [], ◌∷◌, false, slice_index, length};
-ghost use Rattle.mc_model.specs.declared.machine.Abend.TheVariants.{A04};
-ghost use Rattle.mc_model.specs.Blocks.{and_blocks, is_zero};
-ghost use Rattle.mc_model.specs.Frame.{is_under, top};
-ghost use Rattle.mc_model.specs.Primitives as model;
+ghost use Rattle.mc_model_machine.specs.declared.machine.Abend.TheVariants.{A04};
+ghost use Rattle.mc_model_machine.specs.Blocks.{and_blocks, is_zero};
+ghost use Rattle.mc_model_machine.specs.Frame.{is_under, top};
+ghost use Rattle.mc_model_machine.specs.Primitives as model;
 ghost use Rattle.mc_segs.specs.HeldFrames.{FitsBank, shown};
 ghost use Rattle.mc_segs.specs.Ends.{scene};
 ghost use Rattle.mc_prims.specs.Acting.{CausesAct, PopsInto};

@@ -1,7 +1,7 @@
 // Messages through ciphers.
 ghost use Rattle.std.specs.Prelude.{◌≡◌, ◌%◌, ◌<◌, length, [], ◌∷◌, false, not};
-ghost use Rattle.mc_model.specs.Modes.{ecb};
-ghost use Rattle.mc_model.specs.Primitives as model;
+ghost use Rattle.mc_model_machine.specs.Modes.{ecb};
+ghost use Rattle.mc_model_machine.specs.Primitives as model;
 ghost use Rattle.mc_prims.specs.Table.{cipher_of, turned};
 
 use crate::table::Cipher;

@@ -1,7 +1,7 @@
 // A primitive by its pair of set and number.
 ghost use Rattle.std.specs.Prelude.{◌≡◌, ◌≤◌, false, length};
-ghost use Rattle.mc_model.specs.declared.instruction.Ins.TheVariants.{Prim};
-ghost use Rattle.mc_model.specs.Primitives as model;
+ghost use Rattle.mc_model_machine.specs.declared.instruction.Ins.TheVariants.{Prim};
+ghost use Rattle.mc_model_machine.specs.Primitives as model;
 ghost use Rattle.mc_segs.specs.HeldFrames.{FitsBank, shown};
 ghost use Rattle.mc_segs.specs.Ends.{RowActs, scene};
 ghost use Rattle.mc_prims.specs.Acting.{PrimActs};
@@ -16,7 +16,7 @@ use crate::registers::{check_case, load_flags, set_protection, store_flags};
 use crate::table::Primitive;
 use mc_bank::Bank;
 use mc_base::Aid;
-use mc_model::Abend;
+use mc_model_machine::Abend;
 use mc_segs::{Frame, Halt, Next, Public};
 
 /// What a primitive knows besides its frame: the case of the chain's command, 1 to 4, and the name of the application
@@ -32,7 +32,7 @@ pub struct Around {
 /// frame's application denies the primitive, and then by the primitive's other causes, the first that holds. An abend
 /// writes no byte. A `Stop` is the bank's, which stopped in the static change. The ciphers are DES and two-key triple DES
 /// (FIPS 46-3) and AES-128 (FIPS 197), by ECB or as the last block of CBC (FIPS 81), and the digest is SHA-1 (FIPS 180-4).
-#[tactic(auto, unfolding(mc_model::specs::Row::row, mc_model::specs::Row::causes, mc_model::specs::Row::effect))]
+#[tactic(auto, unfolding(mc_model_machine::specs::Row::row, mc_model_machine::specs::Row::causes, mc_model_machine::specs::Row::effect))]
 pub fn prim<B: Bank>(
     set: u8,
     number: u8,
@@ -61,7 +61,7 @@ pub fn prim<B: Bank>(
 }
 
 // Does a primitive whose argument bytes are good and which is not denied.
-#[tactic(auto, unfolding(mc_model::specs::Primitives::later_causes, mc_model::specs::Primitives::prim_effect))]
+#[tactic(auto, unfolding(mc_model_machine::specs::Primitives::later_causes, mc_model_machine::specs::Primitives::prim_effect))]
 fn run<B: Bank>(
     primitive: Primitive,
     args: &[u8; 3],

@@ -1,8 +1,8 @@
 // Bytes copied, compared, digested and looked up.
 ghost use Rattle.std.specs.Prelude.{◌≡◌, ◌+◌, ◌==◌, ◌≤◌, [], ◌∷◌, false, length, position, Ok};
-ghost use Rattle.mc_model.specs.Frame.{flagged, pushed};
-ghost use Rattle.mc_model.specs.Primitives as model;
-ghost use Rattle.mc_model.specs.Primitives.{Lookup, MemoryCompare, MemoryCopy, CompareFixed, CopyFixed, Digest};
+ghost use Rattle.mc_model_machine.specs.Frame.{flagged, pushed};
+ghost use Rattle.mc_model_machine.specs.Primitives as model;
+ghost use Rattle.mc_model_machine.specs.Primitives.{Lookup, MemoryCompare, MemoryCopy, CompareFixed, CopyFixed, Digest};
 ghost use Rattle.mc_segs.specs.HeldFrames.{FitsBank, shown};
 ghost use Rattle.mc_segs.specs.Ends.{scene};
 ghost use Rattle.mc_segs.specs.declared.ends.Next.TheVariants.{Go};
@@ -16,7 +16,7 @@ use mc_segs::{Frame, Halt, Next, Public, push, store};
 use sha1::Sha1;
 
 /// Memory Copy: length, to and from are on the stack.
-#[tactic(auto, unfolding(mc_model::specs::Primitives::later_causes, mc_model::specs::Primitives::prim_effect))]
+#[tactic(auto, unfolding(mc_model_machine::specs::Primitives::later_causes, mc_model_machine::specs::Primitives::prim_effect))]
 pub fn copy_memory<B: Bank>(
     frame: &mut Frame,
     public: &mut Public,
@@ -35,7 +35,7 @@ pub fn copy_memory<B: Bank>(
 }
 
 /// Memory Copy Fixed Length: to and from are on the stack.
-#[tactic(auto, unfolding(mc_model::specs::Primitives::later_causes, mc_model::specs::Primitives::prim_effect))]
+#[tactic(auto, unfolding(mc_model_machine::specs::Primitives::later_causes, mc_model_machine::specs::Primitives::prim_effect))]
 pub fn copy_fixed<B: Bank>(
     args: &[u8; 3],
     frame: &mut Frame,
@@ -55,7 +55,7 @@ pub fn copy_fixed<B: Bank>(
 }
 
 /// Memory Compare: length, first and second are on the stack.
-#[tactic(auto, unfolding(mc_model::specs::Primitives::later_causes, mc_model::specs::Primitives::prim_effect))]
+#[tactic(auto, unfolding(mc_model_machine::specs::Primitives::later_causes, mc_model_machine::specs::Primitives::prim_effect))]
 pub fn compare_memory<B: Bank>(
     frame: &mut Frame,
     public: &mut Public,
@@ -72,7 +72,7 @@ pub fn compare_memory<B: Bank>(
 }
 
 /// Memory Compare Fixed Length: first and second are on the stack.
-#[tactic(auto, unfolding(mc_model::specs::Primitives::later_causes, mc_model::specs::Primitives::prim_effect))]
+#[tactic(auto, unfolding(mc_model_machine::specs::Primitives::later_causes, mc_model_machine::specs::Primitives::prim_effect))]
 pub fn compare_fixed<B: Bank>(
     args: &[u8; 3],
     frame: &mut Frame,
@@ -113,7 +113,7 @@ fn compare_bytes<B: Bank>(
 }
 
 /// SHA-1 (FIPS 180-4): length, from and to are on the stack.
-#[tactic(auto, unfolding(mc_model::specs::Primitives::later_causes, mc_model::specs::Primitives::prim_effect))]
+#[tactic(auto, unfolding(mc_model_machine::specs::Primitives::later_causes, mc_model_machine::specs::Primitives::prim_effect))]
 pub fn digest<B: Bank>(frame: &mut Frame, public: &mut Public, bank: &mut B) -> Result<Next, Halt>
     requires going { (B.state bank.old).stopped ≡ false }
     requires fits { FitsBank (B.state bank.old) (B.named bank.old) frame.old }
@@ -131,7 +131,7 @@ pub fn digest<B: Bank>(frame: &mut Frame, public: &mut Public, bank: &mut B) -> 
 
 /// Lookup: a byte and an address are on the stack. At the address are a count and the bytes among which the byte is
 /// looked up.
-#[tactic(auto, unfolding(mc_model::specs::Primitives::later_causes, mc_model::specs::Primitives::prim_effect))]
+#[tactic(auto, unfolding(mc_model_machine::specs::Primitives::later_causes, mc_model_machine::specs::Primitives::prim_effect))]
 pub fn look_up<B: Bank>(frame: &mut Frame, public: &mut Public, bank: &mut B) -> Result<Next, Halt>
     requires going { (B.state bank.old).stopped ≡ false }
     requires fits { FitsBank (B.state bank.old) (B.named bank.old) frame.old }

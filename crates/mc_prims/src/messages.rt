@@ -1,6 +1,6 @@
 // Messages enciphered, deciphered and signed.
 ghost use Rattle.std.specs.Prelude.{◌≡◌, [], ◌∷◌, false, true, get_or, slice_index};
-ghost use Rattle.mc_model.specs.Primitives as model;
+ghost use Rattle.mc_model_machine.specs.Primitives as model;
 ghost use Rattle.mc_segs.specs.HeldFrames.{FitsBank, shown};
 ghost use Rattle.mc_segs.specs.Ends.{scene};
 ghost use Rattle.mc_prims.specs.Acting.{alone, CausesAct, PrimActs};
@@ -41,7 +41,7 @@ pub fn turn_message<B: Bank>(
 }
 
 /// Signs a message: the addresses of the start block, the message, the signature and the key are on the stack.
-#[tactic(auto, using(crate::proofs::FrameLemmas::or_last, crate::proofs::FrameLemmas::message_some), unfolding(mc_model::specs::Primitives::later_causes, mc_model::specs::Primitives::prim_effect))]
+#[tactic(auto, using(crate::proofs::FrameLemmas::or_last, crate::proofs::FrameLemmas::message_some), unfolding(mc_model_machine::specs::Primitives::later_causes, mc_model_machine::specs::Primitives::prim_effect))]
 pub fn sign_message<B: Bank>(
     cipher: Cipher,
     args: &[u8; 3],

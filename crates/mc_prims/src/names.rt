@@ -1,7 +1,7 @@
 // The names of applications that delegate and are delegated to.
 ghost use Rattle.std.specs.Prelude.{◌≡◌, ◌≤◌, [], ◌∷◌, false, length};
-ghost use Rattle.mc_model.specs.Primitives as model;
-ghost use Rattle.mc_model.specs.Primitives.{DelegateTo, DelegatorAid};
+ghost use Rattle.mc_model_machine.specs.Primitives as model;
+ghost use Rattle.mc_model_machine.specs.Primitives.{DelegateTo, DelegatorAid};
 ghost use Rattle.mc_segs.specs.HeldFrames.{FitsBank};
 ghost use Rattle.mc_segs.specs.Ends.{scene};
 ghost use Rattle.mc_prims.specs.Acting.{alone, PrimActs};
@@ -10,11 +10,11 @@ use crate::access::{Block, read_count};
 use crate::stack::pop_word;
 use mc_bank::Bank;
 use mc_base::Aid;
-use mc_model::Abend;
+use mc_model_machine::Abend;
 use mc_segs::{Frame, Halt, Next, Public, store};
 
 /// Delegate: an address is on the stack, and at the address a length and a name.
-#[tactic(auto, unfolding(mc_model::specs::Primitives::later_causes, mc_model::specs::Primitives::prim_effect))]
+#[tactic(auto, unfolding(mc_model_machine::specs::Primitives::later_causes, mc_model_machine::specs::Primitives::prim_effect))]
 pub fn delegate<B: Bank>(frame: &mut Frame, public: &mut Public, bank: &mut B) -> Result<Next, Halt>
     requires going { (B.state bank.old).stopped ≡ false }
     requires fits { FitsBank (B.state bank.old) (B.named bank.old) frame.old }
@@ -35,7 +35,7 @@ pub fn delegate<B: Bank>(frame: &mut Frame, public: &mut Public, bank: &mut B) -
 }
 
 /// Get Delegator AID: an address is on the stack. Without a delegator the address is not tested.
-#[tactic(auto, unfolding(mc_model::specs::Primitives::later_causes, mc_model::specs::Primitives::prim_effect))]
+#[tactic(auto, unfolding(mc_model_machine::specs::Primitives::later_causes, mc_model_machine::specs::Primitives::prim_effect))]
 pub fn tell_delegator<B: Bank>(
     delegator: Option<Aid>,
     frame: &mut Frame,

@@ -1,19 +1,19 @@
 // The command's case, the flags as a byte, and the protection of static bytes. Each primitive is lent what every primitive
 // is lent, so that its contract is that of its row.
 ghost use Rattle.std.specs.Prelude.{◌≡◌, [], ◌∷◌, false};
-ghost use Rattle.mc_model.specs.Primitives as model;
-ghost use Rattle.mc_model.specs.Primitives.{CheckCase, LoadCcr, StoreCcr, SetProtection};
+ghost use Rattle.mc_model_machine.specs.Primitives as model;
+ghost use Rattle.mc_model_machine.specs.Primitives.{CheckCase, LoadCcr, StoreCcr, SetProtection};
 ghost use Rattle.mc_segs.specs.HeldFrames.{FitsBank};
 ghost use Rattle.mc_segs.specs.Ends.{scene};
 ghost use Rattle.mc_prims.specs.Acting.{alone, PrimActs};
 
 use crate::stack::pop_byte;
 use mc_bank::Bank;
-use mc_model::Abend;
+use mc_model_machine::Abend;
 use mc_segs::{Frame, Halt, Next, Public, protect, push};
 
 /// Check Case: a case, 1 to 4, is on the stack.
-#[tactic(auto, unfolding(mc_model::specs::Primitives::later_causes, mc_model::specs::Primitives::prim_effect))]
+#[tactic(auto, unfolding(mc_model_machine::specs::Primitives::later_causes, mc_model_machine::specs::Primitives::prim_effect))]
 pub fn check_case<B: Bank>(
     case: u8,
     frame: &mut Frame,
@@ -35,7 +35,7 @@ pub fn check_case<B: Bank>(
 }
 
 /// Load CCR: pushes the flags, C as 02 and Z as 01.
-#[tactic(auto, unfolding(mc_model::specs::Primitives::later_causes, mc_model::specs::Primitives::prim_effect))]
+#[tactic(auto, unfolding(mc_model_machine::specs::Primitives::later_causes, mc_model_machine::specs::Primitives::prim_effect))]
 pub fn load_flags<B: Bank>(
     frame: &mut Frame,
     public: &mut Public,
@@ -51,7 +51,7 @@ pub fn load_flags<B: Bank>(
 }
 
 /// Store CCR: pops the flags, as Load CCR pushes them.
-#[tactic(auto, unfolding(mc_model::specs::Primitives::later_causes, mc_model::specs::Primitives::prim_effect))]
+#[tactic(auto, unfolding(mc_model_machine::specs::Primitives::later_causes, mc_model_machine::specs::Primitives::prim_effect))]
 pub fn store_flags<B: Bank>(
     frame: &mut Frame,
     public: &mut Public,
@@ -68,7 +68,7 @@ pub fn store_flags<B: Bank>(
 }
 
 /// Set Transaction Protection.
-#[tactic(auto, unfolding(mc_model::specs::Primitives::later_causes, mc_model::specs::Primitives::prim_effect))]
+#[tactic(auto, unfolding(mc_model_machine::specs::Primitives::later_causes, mc_model_machine::specs::Primitives::prim_effect))]
 pub fn set_protection<B: Bank>(
     args: &[u8; 3],
     frame: &mut Frame,

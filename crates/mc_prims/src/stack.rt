@@ -1,11 +1,11 @@
 // The values that primitives take from the stack.
 ghost use Rattle.std.specs.Prelude.{◌≡◌, length, get_or, take, drop, slice_index};
-ghost use Rattle.mc_model.specs.Bytes.{num};
-ghost use Rattle.mc_model.specs.Frame.{stacked, top};
-ghost use Rattle.mc_model.specs.Primitives.{named};
+ghost use Rattle.mc_model_device.specs.Bytes.{num};
+ghost use Rattle.mc_model_machine.specs.Frame.{stacked, top};
+ghost use Rattle.mc_model_machine.specs.Primitives.{named};
 ghost use Rattle.mc_prims.specs.Acting.{Pops, PopsInto};
 
-use mc_model::Abend;
+use mc_model_machine::Abend;
 use mc_segs::{Frame, pop};
 
 /// Pops bytes, which have room on the stack again.

@@ -1,9 +1,9 @@
 -- The answer of one frame, and of the frames behind it.
 use Rattle.std.proofs.Common.{◌≡◌, ℕ, ◌<◌, List, [], ◌∷◌, ◌++◌, length, Option, Some, None, refl, arith, sym, ◌∙◌, ap, subst, append_assoc, append-nil}
 use Rattle.std.specs.Prelude.{option_map}
-use Rattle.mc_model.specs.Device.{DeviceState}
-use Rattle.mc_model.specs.Card.{App}
-use Rattle.mc_model.specs.Play.{static_of}
+use Rattle.mc_model_device.specs.Device.{DeviceState}
+use Rattle.mc_model_device.specs.Card.{App}
+use Rattle.mc_model_play.specs.Play.{static_of}
 use Rattle.mc_base.specs.Streams.{Grew}
 use Rattle.mc_base.proofs.StreamsLemmas.{Grew-append}
 use Rattle.mc_text.specs.Texts.{Sunk, Puts}

@@ -1,9 +1,9 @@
 -- The loop over the frames of an input.
 use Rattle.std.proofs.Common.{◌≡◌, ℕ, ◌+◌, ◌≤◌, Bool, false, List, [], ◌∷◌, ◌++◌, length, Option, None, Result, Ok, Err, refl, arith, sym, ap, subst, inl, inr, append_assoc, append-nil, length-append}
 use Rattle.std.specs.List.{AllByRecursion}
-use Rattle.mc_model.specs.Counts.{Rose, last_count}
-use Rattle.mc_model.specs.Device.{DeviceState, BenchState}
-use Rattle.mc_model.specs.Play.{State, LineResult}
+use Rattle.mc_model_device.specs.Counts.{Rose, last_count}
+use Rattle.mc_model_device.specs.Device.{DeviceState, BenchState}
+use Rattle.mc_model_play.specs.Play.{State, LineResult}
 use Rattle.mc_base.specs.Streams.{Took}
 use Rattle.mc_base.specs.declared.refusals.WriteFault.{WriteFault}
 use Rattle.mc_base.proofs.StreamsLemmas.{Took-append, Took-none, Grew-none, Rose-later}

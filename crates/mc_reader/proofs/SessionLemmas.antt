@@ -3,14 +3,14 @@ use Rattle.std.proofs.Common.{◌≡◌, ℕ, suc, Bool, true, false, cond, List
 use Rattle.std.specs.Prelude.{◌&&◌, ◌==◌, nat_le, IfOk, IfSome}
 use Rattle.std.specs.List.{AllByRecursion}
 use Rattle.std.proofs.lemmas.List.{drop_at}
-use Rattle.mc_model.specs.Bytes.{AreBytes, num}
-use Rattle.mc_model.specs.Device.{DeviceState, BenchState, IsImage}
-use Rattle.mc_model.specs.DeckGrammar.{DeckLine}
-use Rattle.mc_model.specs.DeckGrammar as line
-use Rattle.mc_model.specs.Laws.{HoldsOf}
-use Rattle.mc_model.specs.Play.{State, WornAt, Step, plays, start, step, first_worn, last_state}
-use Rattle.mc_model.specs.ReadyAgain.{IsLine, AreLines}
-use Rattle.mc_model.proofs.ImageLemmas.{all-append}
+use Rattle.mc_model_device.specs.Bytes.{AreBytes, num}
+use Rattle.mc_model_device.specs.Device.{DeviceState, BenchState, IsImage}
+use Rattle.mc_model_play.specs.DeckGrammar.{DeckLine}
+use Rattle.mc_model_play.specs.DeckGrammar as line
+use Rattle.mc_model_play.specs.Laws.{HoldsOf}
+use Rattle.mc_model_play.specs.Play.{State, WornAt, Step, plays, start, step, first_worn, last_state}
+use Rattle.mc_model_play.specs.ReadyAgain.{IsLine, AreLines}
+use Rattle.mc_model_device.proofs.ImageLemmas.{all-append}
 use Rattle.mc_family.proofs.DeckBytes.{played_bytes}
 use Rattle.mc_family.proofs.PlayLaw.{play_law}
 use Rattle.mc_script.specs.Plays.{Bench, LeadsTo}

@@ -1,11 +1,11 @@
 -- What the frames of a session are answered, by the steps of the play.
 -- ISO/IEC 7816-3 (the ATR); ISO/IEC 7816-4 (status bytes).
 use Rattle.std.specs.Prelude.{ℕ, Bool, false, List, [], ◌∷◌, ◌++◌, length, drop, Option, Some, None}
-use Rattle.mc_model.specs.Bytes.{bytes2}
-use Rattle.mc_model.specs.Chain.{Outcome, Reply, Abended}
-use Rattle.mc_model.specs.DeckGrammar.{DeckLine}
-use Rattle.mc_model.specs.Play.{LineResult, WornStop, Answered, Step}
-use Rattle.mc_model.specs.Transcript.{abend_code}
+use Rattle.mc_model_device.specs.Bytes.{bytes2}
+use Rattle.mc_model_machine.specs.Chain.{Outcome, Reply, Abended}
+use Rattle.mc_model_play.specs.DeckGrammar.{DeckLine}
+use Rattle.mc_model_play.specs.Play.{LineResult, WornStop, Answered, Step}
+use Rattle.mc_model_machine.specs.Words.{abend_code}
 use Rattle.mc_reader.specs.Meanings.{Meaning, PowerOn, PowerOff, WantsAtr, Nothing, Orders, Refused, ToCard, Unheard, meaning, power_after}
 use Rattle.mc_reader.specs.Lines.{line_in}
 

@@ -1,9 +1,9 @@
 -- What a frame of the host means: a control byte of the virtual reader, a command to the reader itself, or a command to the card.
 -- vpcd's control bytes; ISO/IEC 7816-3, by which no card has the class FF; PC/SC, which keeps it for readers; this project's commands.
 use Rattle.std.specs.Prelude.{ℕ, Bool, true, false, cond, ◌&&◌, ◌==◌, nat_le, List, [], ◌∷◌, length, take, drop, Result, Ok, Err}
-use Rattle.mc_model.specs.Bytes.{num}
-use Rattle.mc_model.specs.DeckGrammar.{DeckLine}
-use Rattle.mc_model.specs.DeckGrammar as line
+use Rattle.mc_model_device.specs.Bytes.{num}
+use Rattle.mc_model_play.specs.DeckGrammar.{DeckLine}
+use Rattle.mc_model_play.specs.DeckGrammar as line
 
 -- power on or a reset; power off; the ATR is wanted; nothing; a command to the reader for this line, and one that is refused with this
 -- status; a command to the card, and one where the card has no power

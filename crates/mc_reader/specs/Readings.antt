@@ -1,6 +1,6 @@
 -- What a read of one frame takes of a source.
 use Rattle.std.specs.Prelude.{◌≡◌, ℕ, ◌<◌, ◌≤◌, List, [], length, take, Option, Some, None, Result, Ok, Err}
-use Rattle.mc_model.specs.Counts.{Rose}
+use Rattle.mc_model_device.specs.Counts.{Rose}
 use Rattle.mc_base.specs.Streams.{Took, AtEnd}
 use Rattle.mc_reader.specs.Frames.{framed, first_frame}
 use Rattle.mc_reader.specs.declared.reading.FrameFault.{FrameFault}

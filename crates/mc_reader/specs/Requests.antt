@@ -1,7 +1,7 @@
 -- What a frame asks for as the code has it, and what it stands for.
 use Rattle.std.specs.Prelude.{◌≡◌, ℕ, ◌<◌, length, Result, Ok, Err}
-use Rattle.mc_model.specs.DeckGrammar.{DeckLine}
-use Rattle.mc_model.specs.DeckGrammar as line
+use Rattle.mc_model_play.specs.DeckGrammar.{DeckLine}
+use Rattle.mc_model_play.specs.DeckGrammar as line
 use Rattle.mc_deck.specs.Lines.{GoodLine}
 use Rattle.mc_reader.specs.Meanings as meaning
 use Rattle.mc_reader.specs.Meanings.{Meaning, wrong_length, wrong_instruction, wrong_parameters, wrong_value}

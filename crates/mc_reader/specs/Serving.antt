@@ -1,10 +1,10 @@
 -- What the parts of a session do: one frame, and frames that are served from a state of a play on.
 use Rattle.std.specs.Prelude.{◌≡◌, ℕ, ◌+◌, ◌≤◌, Bool, false, List, Option, Some, None, Result}
 use Rattle.std.specs.List.{AllByRecursion}
-use Rattle.mc_model.specs.Bytes.{AreBytes}
-use Rattle.mc_model.specs.Device.{DeviceState, BenchState}
-use Rattle.mc_model.specs.DeckGrammar.{DeckLine}
-use Rattle.mc_model.specs.Play.{State, WornAt, LineResult, step, plays}
+use Rattle.mc_model_device.specs.Bytes.{AreBytes}
+use Rattle.mc_model_device.specs.Device.{DeviceState, BenchState}
+use Rattle.mc_model_play.specs.DeckGrammar.{DeckLine}
+use Rattle.mc_model_play.specs.Play.{State, WornAt, LineResult, step, plays}
 use Rattle.mc_base.specs.Streams.{Took}
 use Rattle.mc_base.specs.declared.refusals.WriteFault.{WriteFault}
 use Rattle.mc_text.specs.Texts.{Sunk, Puts}

@@ -1,10 +1,10 @@
 -- A session: a deck is played, and then the frames of a host are served. It is one play of the deck's lines and of those of the frames.
 use Rattle.std.specs.Prelude.{◌≡◌, ◌⊎◌, ℕ, ◌+◌, ◌<◌, ◌≤◌, false, List, [], ◌∷◌, ◌++◌, length, Option, Some, Result, Ok, Err}
-use Rattle.mc_model.specs.Counts.{last_count, Rose}
-use Rattle.mc_model.specs.DeckGrammar.{DeckLine}
-use Rattle.mc_model.specs.Play.{WornAt, Step, plays, start}
-use Rattle.mc_model.specs.Laws.{HoldsOf}
-use Rattle.mc_model.specs.ReadyAgain.{AllFitJournal, ReadyAgain}
+use Rattle.mc_model_device.specs.Counts.{last_count, Rose}
+use Rattle.mc_model_play.specs.DeckGrammar.{DeckLine}
+use Rattle.mc_model_play.specs.Play.{WornAt, Step, plays, start}
+use Rattle.mc_model_play.specs.Laws.{HoldsOf}
+use Rattle.mc_model_play.specs.ReadyAgain.{AllFitJournal, ReadyAgain}
 use Rattle.mc_base.specs.Streams.{Took, AtEnd, Grew}
 use Rattle.mc_text.specs.Texts.{Sunk}
 use Rattle.mc_script.specs.Plays.{Bench, Played}

@@ -1,6 +1,6 @@
 // The answers of frames.
 ghost use Rattle.std.specs.Prelude.{◌≡◌, ◌≤◌, ◌++◌, length};
-ghost use Rattle.mc_model.specs.Bytes.{bytes2};
+ghost use Rattle.mc_model_device.specs.Bytes.{bytes2};
 ghost use Rattle.mc_text.specs.Texts.{sunk_in, Puts};
 ghost use Rattle.mc_reader.specs.Frames.{framed};
 ghost use Rattle.mc_reader.specs.Requests.{meaning_of};

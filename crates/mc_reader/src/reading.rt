@@ -1,6 +1,6 @@
 // Frames taken from a source, and no byte more.
 ghost use Rattle.std.specs.Prelude.{◌≡◌, ◌<◌, ◌≤◌, length, take, IfOk, OnErr};
-ghost use Rattle.mc_model.specs.Counts.{Rose};
+ghost use Rattle.mc_model_device.specs.Counts.{Rose};
 ghost use Rattle.mc_base.specs.Streams.{Took, AtEnd};
 ghost use Rattle.mc_reader.specs.Readings.{TookLess, ReadsFrame};
 

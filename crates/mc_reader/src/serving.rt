@@ -1,7 +1,7 @@
 // A session: a deck is played, and then the frames of a host are served.
 ghost use Rattle.std.specs.Prelude.{◌≡◌, ℕ, length};
-ghost use Rattle.mc_model.specs.Bytes.{AreBytes};
-ghost use Rattle.mc_model.specs.Play.{State};
+ghost use Rattle.mc_model_device.specs.Bytes.{AreBytes};
+ghost use Rattle.mc_model_play.specs.Play.{State};
 ghost use Rattle.mc_text.specs.Texts.{sunk_in};
 ghost use Rattle.mc_script.specs.Players.{device_of, IsPlayerAt, IsPlaying, IsUnfused};
 ghost use Rattle.mc_script.specs.Lines.{bench_of};

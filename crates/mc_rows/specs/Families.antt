@@ -1,6 +1,6 @@
 -- The families into which the rows are sorted.
-use Rattle.mc_model.specs.declared.instruction.Ins.{Ins}
-use Rattle.mc_model.specs.declared.instruction.Ins.TheVariants.{Nop, Setsw, Setla, Setswla, Exit, Exitsw, Exitla, Exitswla, Branch, Jump, Call, Ret, Reti, Reto, Retio, Pushz, Pushb, Pushw, Popn, Popb, Popw, Loada, Index, Setb, Cmpb, Addb, Subb, Setw, Cmpw, Addw, Subw, Prim}
+use Rattle.mc_model_machine.specs.declared.instruction.Ins.{Ins}
+use Rattle.mc_model_machine.specs.declared.instruction.Ins.TheVariants.{Nop, Setsw, Setla, Setswla, Exit, Exitsw, Exitla, Exitswla, Branch, Jump, Call, Ret, Reti, Reto, Retio, Pushz, Pushb, Pushw, Popn, Popb, Popw, Loada, Index, Setb, Cmpb, Addb, Subb, Setw, Cmpw, Addw, Subw, Prim}
 
 -- every row but those of primitives
 abbrev pub IsNoPrimitive : Ins → Type 0

@@ -1,6 +1,6 @@
 // Rows of a block of n bytes at a place.
 ghost use Rattle.std.specs.Prelude.{◌≡◌, ◌≤◌, false, length};
-ghost use Rattle.mc_model.specs.declared.instruction.Ins.TheVariants.{Clearn, Testn};
+ghost use Rattle.mc_model_machine.specs.declared.instruction.Ins.TheVariants.{Clearn, Testn};
 ghost use Rattle.mc_segs.specs.HeldFrames.{FitsBank, shown};
 ghost use Rattle.mc_segs.specs.Ends.{scene, EndActs, RowActs};
 ghost use Rattle.mc_rows.specs.Rows.{alone, change_end, changed_end, most_unary, onward};
@@ -65,7 +65,7 @@ fn change_in<B: Bank>(
 }
 
 /// CLEARN: the bytes at the operand's place become zero.
-#[tactic(auto, unfolding(mc_model::specs::Row::row, mc_model::specs::Row::causes, mc_model::specs::Row::effect))]
+#[tactic(auto, unfolding(mc_model_machine::specs::Row::row, mc_model_machine::specs::Row::causes, mc_model_machine::specs::Row::effect))]
 pub fn clear_block<B: Bank>(
     tag: u8,
     off: i16,
@@ -89,7 +89,7 @@ pub fn clear_block<B: Bank>(
 }
 
 /// TESTN: whether the operand is zero.
-#[tactic(auto, unfolding(mc_model::specs::Row::row, mc_model::specs::Row::causes, mc_model::specs::Row::effect))]
+#[tactic(auto, unfolding(mc_model_machine::specs::Row::row, mc_model_machine::specs::Row::causes, mc_model_machine::specs::Row::effect))]
 pub fn test_block<B: Bank>(
     tag: u8,
     off: i16,

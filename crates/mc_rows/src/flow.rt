@@ -1,8 +1,8 @@
 // Rows that go to another place of the code, and calls and returns.
 ghost use Rattle.std.specs.Prelude.{◌≡◌, ◌&&◌, ◌==◌, OnOk, OnErr, Some};
-ghost use Rattle.mc_model.specs.declared.instruction.Ins.TheVariants.{Branch, Jump, Call, Retio};
-ghost use Rattle.mc_model.specs.Frame.{is_under, moved};
-ghost use Rattle.mc_model.specs.Row.{holds, no_place, target, without_target};
+ghost use Rattle.mc_model_machine.specs.declared.instruction.Ins.TheVariants.{Branch, Jump, Call, Retio};
+ghost use Rattle.mc_model_machine.specs.Frame.{is_under, moved};
+ghost use Rattle.mc_model_machine.specs.Row.{holds, no_place, target, without_target};
 ghost use Rattle.mc_segs.specs.Ends.{GivesOrAbends, IfDue};
 ghost use Rattle.mc_rows.specs.Rows.{Led};
 ghost use Rattle.mc_rows.specs.FrameRows.{FrameActs};
@@ -11,7 +11,7 @@ use crate::bytes::number;
 use mc_segs::{Abend, Frame, come_back, enter, pop, return_address};
 
 /// BRANCH: where the condition holds, to a place relative to the next instruction.
-#[tactic(auto, unfolding(mc_model::specs::Row::row, mc_model::specs::Row::causes, mc_model::specs::Row::effect))]
+#[tactic(auto, unfolding(mc_model_machine::specs::Row::row, mc_model_machine::specs::Row::causes, mc_model_machine::specs::Row::effect))]
 pub fn branch(cond: u8, d: i8, frame: &mut Frame) -> Result<(), Abend>
     ensures { FrameActs (Branch cond d) frame.old frame.new result }
 {
@@ -24,7 +24,7 @@ pub fn branch(cond: u8, d: i8, frame: &mut Frame) -> Result<(), Abend>
 }
 
 /// JUMP: where the condition holds, to an address, which condition 0 pops.
-#[tactic(auto, unfolding(mc_model::specs::Row::row, mc_model::specs::Row::causes, mc_model::specs::Row::effect))]
+#[tactic(auto, unfolding(mc_model_machine::specs::Row::row, mc_model_machine::specs::Row::causes, mc_model_machine::specs::Row::effect))]
 pub fn jump(cond: u8, to: u16, frame: &mut Frame) -> Result<(), Abend>
     ensures { FrameActs (Jump cond to) frame.old frame.new result }
 {
@@ -37,7 +37,7 @@ pub fn jump(cond: u8, to: u16, frame: &mut Frame) -> Result<(), Abend>
 }
 
 /// CALL: the same, with LB and the next place on the stack.
-#[tactic(auto, unfolding(mc_model::specs::Row::row, mc_model::specs::Row::causes, mc_model::specs::Row::effect))]
+#[tactic(auto, unfolding(mc_model_machine::specs::Row::row, mc_model_machine::specs::Row::causes, mc_model_machine::specs::Row::effect))]
 pub fn call(cond: u8, to: u16, frame: &mut Frame) -> Result<(), Abend>
     ensures { FrameActs (Call cond to) frame.old frame.new result }
 {
@@ -50,7 +50,7 @@ pub fn call(cond: u8, to: u16, frame: &mut Frame) -> Result<(), Abend>
 }
 
 /// RETIO, and with no bytes RET, RETI and RETO: the call is left, its top `o` bytes stay, and the `i` bytes below it go.
-#[tactic(auto, unfolding(mc_model::specs::Row::row, mc_model::specs::Row::causes, mc_model::specs::Row::effect))]
+#[tactic(auto, unfolding(mc_model_machine::specs::Row::row, mc_model_machine::specs::Row::causes, mc_model_machine::specs::Row::effect))]
 pub fn return_with(i: u8, o: u8, frame: &mut Frame) -> Result<(), Abend>
     ensures { FrameActs (Retio i o) frame.old frame.new result }
 {

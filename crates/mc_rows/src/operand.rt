@@ -1,8 +1,8 @@
 // Where the operands of a row lie.
 ghost use Rattle.std.specs.Prelude.{◌≡◌, ◌+◌, ◌*◌, ◌≤◌, ◌==◌, ◌&&◌, OnOk, length, false};
-ghost use Rattle.mc_model.specs.Bytes.{num};
-ghost use Rattle.mc_model.specs.Frame.{address_at, in_two_bytes, is_outside, is_under, popped};
-ghost use Rattle.mc_model.specs.Row.{indexed, on_stack, operand};
+ghost use Rattle.mc_model_device.specs.Bytes.{num};
+ghost use Rattle.mc_model_machine.specs.Frame.{address_at, in_two_bytes, is_outside, is_under, popped};
+ghost use Rattle.mc_model_machine.specs.Row.{indexed, on_stack, operand};
 ghost use Rattle.mc_segs.specs.HeldFrames.{FitsBank, shown};
 ghost use Rattle.mc_segs.specs.Ends.{addressed, GivesOrAbends, IfDue};
 ghost use Rattle.mc_rows.specs.Rows.{FirstRead, OperandPlaced};

@@ -2,7 +2,7 @@
 ghost use Rattle.mc_rows.specs.FrameRows.{PublicActs};
 ghost use Rattle.mc_rows.specs.Families.{IsRegisterRow};
 
-use mc_model::Ins;
+use mc_model_machine::Ins;
 use mc_segs::Public;
 
 /// What comes after an instruction that was done and is not PRIM: the next one, or the frame's exit.
@@ -13,7 +13,7 @@ pub enum Flow {
 }
 
 /// NOP, SETSW, SETLA and SETSWLA, and the exits after each of them.
-#[tactic(auto, unfolding(mc_model::specs::Row::row, mc_model::specs::Row::causes, mc_model::specs::Row::effect))]
+#[tactic(auto, unfolding(mc_model_machine::specs::Row::row, mc_model_machine::specs::Row::causes, mc_model_machine::specs::Row::effect))]
 #[inline(always)]
 pub fn registers(ins: &Ins, public: &mut Public) -> Flow
     requires { IsRegisterRow ins.now }

@@ -1,6 +1,6 @@
 // One instruction: its row, by families.
 ghost use Rattle.std.specs.Prelude.{◌≡◌, false};
-ghost use Rattle.mc_model.specs.Code.{Shaped};
+ghost use Rattle.mc_model_machine.specs.Code.{Shaped};
 ghost use Rattle.mc_segs.specs.HeldFrames.{FitsBank};
 ghost use Rattle.mc_segs.specs.Ends.{scene, RowActs};
 ghost use Rattle.mc_rows.specs.Rows.{alone, flowing, onward};
@@ -19,13 +19,13 @@ use crate::transfers::{
 };
 use mc_bank::Bank;
 use mc_base::bytes_of;
-use mc_model::Ins;
+use mc_model_machine::Ins;
 use mc_segs::{Abend, Frame, Halt, Public};
 
 /// Does one instruction that is not PRIM and whose fields are in their ranges; the frame's code address is already the
 /// place behind it. What comes next; an abend exactly by the first cause of its row, and then no byte at an address
 /// changes; a stop of the bank where one hits the change of static bytes.
-#[tactic(auto, unfolding(mc_model::specs::Row::row, mc_model::specs::Row::causes, mc_model::specs::Row::effect))]
+#[tactic(auto, unfolding(mc_model_machine::specs::Row::row, mc_model_machine::specs::Row::causes, mc_model_machine::specs::Row::effect))]
 #[inline(always)]
 pub fn step<B: Bank>(
     ins: &Ins,
@@ -75,7 +75,7 @@ pub fn step<B: Bank>(
 }
 
 // The rows that look at their frame alone.
-#[tactic(auto, unfolding(mc_model::specs::Row::row, mc_model::specs::Row::causes, mc_model::specs::Row::effect))]
+#[tactic(auto, unfolding(mc_model_machine::specs::Row::row, mc_model_machine::specs::Row::causes, mc_model_machine::specs::Row::effect))]
 #[inline(always)]
 fn step_frame(ins: &Ins, frame: &mut Frame) -> Result<(), Abend>
     requires shaped { Shaped ins.now }
@@ -103,7 +103,7 @@ fn step_frame(ins: &Ins, frame: &mut Frame) -> Result<(), Abend>
 }
 
 // The rows that read or write an operand with an address tag: those of blocks of n bytes, and then those of an immediate.
-#[tactic(auto, unfolding(mc_model::specs::Row::row, mc_model::specs::Row::causes, mc_model::specs::Row::effect))]
+#[tactic(auto, unfolding(mc_model_machine::specs::Row::row, mc_model_machine::specs::Row::causes, mc_model_machine::specs::Row::effect))]
 #[inline(always)]
 fn step_operand<B: Bank>(
     ins: &Ins,
@@ -139,7 +139,7 @@ fn step_operand<B: Bank>(
 }
 
 // The rows of a byte or a word at a place against an immediate.
-#[tactic(auto, unfolding(mc_model::specs::Row::row, mc_model::specs::Row::causes, mc_model::specs::Row::effect))]
+#[tactic(auto, unfolding(mc_model_machine::specs::Row::row, mc_model_machine::specs::Row::causes, mc_model_machine::specs::Row::effect))]
 #[inline(always)]
 fn step_immediate<B: Bank>(
     ins: &Ins,

@@ -1,6 +1,6 @@
 // Rows that move bytes between the stack and an address.
 ghost use Rattle.std.specs.Prelude.{◌≡◌, ◌≤◌, false};
-ghost use Rattle.mc_model.specs.declared.instruction.Ins.TheVariants.{Load, Store, Loadi, Storei, Loada, Index};
+ghost use Rattle.mc_model_machine.specs.declared.instruction.Ins.TheVariants.{Load, Store, Loadi, Storei, Loada, Index};
 ghost use Rattle.mc_segs.specs.HeldFrames.{FitsBank, shown};
 ghost use Rattle.mc_segs.specs.Ends.{scene, RowActs};
 ghost use Rattle.mc_rows.specs.Rows.{alone, AddressUnder, onward};
@@ -13,7 +13,7 @@ use mc_base::bytes_of;
 use mc_segs::{Abend, Frame, Halt, Public, load, pop, push, store};
 
 /// LOAD: the n bytes of the operand are pushed.
-#[tactic(auto, unfolding(mc_model::specs::Row::row, mc_model::specs::Row::causes, mc_model::specs::Row::effect))]
+#[tactic(auto, unfolding(mc_model_machine::specs::Row::row, mc_model_machine::specs::Row::causes, mc_model_machine::specs::Row::effect))]
 pub fn load_block<B: Bank>(
     tag: u8,
     off: i16,
@@ -38,7 +38,7 @@ pub fn load_block<B: Bank>(
 }
 
 /// STORE: n bytes are popped, and written to the operand's place.
-#[tactic(auto, unfolding(mc_model::specs::Row::row, mc_model::specs::Row::causes, mc_model::specs::Row::effect))]
+#[tactic(auto, unfolding(mc_model_machine::specs::Row::row, mc_model_machine::specs::Row::causes, mc_model_machine::specs::Row::effect))]
 pub fn store_block<B: Bank>(
     tag: u8,
     off: i16,
@@ -65,7 +65,7 @@ pub fn store_block<B: Bank>(
 }
 
 /// LOADI: the operand is the address of n bytes that are pushed.
-#[tactic(auto, unfolding(mc_model::specs::Row::row, mc_model::specs::Row::causes, mc_model::specs::Row::effect))]
+#[tactic(auto, unfolding(mc_model_machine::specs::Row::row, mc_model_machine::specs::Row::causes, mc_model_machine::specs::Row::effect))]
 pub fn load_indirect<B: Bank>(
     tag: u8,
     off: i16,
@@ -91,7 +91,7 @@ pub fn load_indirect<B: Bank>(
 }
 
 /// STOREI: n bytes are popped, and written to the address that the operand was before.
-#[tactic(auto, unfolding(mc_model::specs::Row::row, mc_model::specs::Row::causes, mc_model::specs::Row::effect))]
+#[tactic(auto, unfolding(mc_model_machine::specs::Row::row, mc_model_machine::specs::Row::causes, mc_model_machine::specs::Row::effect))]
 pub fn store_indirect<B: Bank>(
     tag: u8,
     off: i16,
@@ -116,7 +116,7 @@ pub fn store_indirect<B: Bank>(
 }
 
 /// LOADA: the operand's address is pushed, with tag 0 that of the top of the stack.
-#[tactic(auto, unfolding(mc_model::specs::Row::row, mc_model::specs::Row::causes, mc_model::specs::Row::effect))]
+#[tactic(auto, unfolding(mc_model_machine::specs::Row::row, mc_model_machine::specs::Row::causes, mc_model_machine::specs::Row::effect))]
 pub fn load_address(tag: u8, off: i16, frame: &mut Frame) -> Result<(), Abend>
     requires { tag ≤ 7 }
     ensures { FrameActs (Loada tag off) frame.old frame.new result }
@@ -126,7 +126,7 @@ pub fn load_address(tag: u8, off: i16, frame: &mut Frame) -> Result<(), Abend>
 }
 
 /// INDEX: the address of an element of a table is pushed; its number is popped, and with tag 0 the table's address too.
-#[tactic(auto, unfolding(mc_model::specs::Row::row, mc_model::specs::Row::causes, mc_model::specs::Row::effect))]
+#[tactic(auto, unfolding(mc_model_machine::specs::Row::row, mc_model_machine::specs::Row::causes, mc_model_machine::specs::Row::effect))]
 pub fn index(tag: u8, off: i16, size: u8, frame: &mut Frame) -> Result<(), Abend>
     requires { tag ≤ 7 }
     ensures { FrameActs (Index tag off size) frame.old frame.new result }

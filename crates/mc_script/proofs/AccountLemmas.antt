@@ -2,15 +2,16 @@
 use Rattle.std.proofs.Common.{◌≡◌, ℕ, zero, suc, ◌+◌, ◌≤◌, List, [], ◌∷◌, length, Option, Some, None, refl, ◌∙◌, ap, subst, arith}
 use Rattle.std.specs.Prelude.{slice_set}
 use Rattle.std.specs.List.{AllByRecursion}
-use Rattle.mc_model.specs.declared.card.Cause.{Cause}
-use Rattle.mc_model.specs.declared.device.Stop.{Stop}
-use Rattle.mc_model.specs.Image.{owed}
-use Rattle.mc_model.specs.Device.{done_entries, torn_entries}
-use Rattle.mc_model.specs.DeckGrammar.{DeckLine}
-use Rattle.mc_model.specs.Card.{Card, means}
-use Rattle.mc_model.specs.Layout.{fault}
-use Rattle.mc_model.specs.Stopped.{torn}
-use Rattle.mc_model.specs.Play.{Base, OnCard, AtFault, base_of, owing, Warm, State, Hot, StandsForState, StandsForBase, StandsAtEach, stopped}
+use Rattle.mc_model_device.specs.declared.cause.Cause.{Cause}
+use Rattle.mc_model_device.specs.declared.device.Stop.{Stop}
+use Rattle.mc_model_device.specs.Image.{owed}
+use Rattle.mc_model_device.specs.Device.{done_entries, torn_entries}
+use Rattle.mc_model_play.specs.DeckGrammar.{DeckLine}
+use Rattle.mc_model_device.specs.Card.{Card, means}
+use Rattle.mc_model_device.specs.Layout.{fault}
+use Rattle.mc_model_device.specs.Stopped.{torn}
+use Rattle.mc_model_device.specs.PowerUp.{Base, OnCard, AtFault, base_of, owing}
+use Rattle.mc_model_play.specs.Play.{Warm, State, Hot, StandsForState, StandsForBase, StandsAtEach, stopped}
 use Rattle.mc_store.specs.Power.{found, HoldsBase}
 
 -- ---- words that stand for a state

@@ -3,12 +3,12 @@ use Rattle.std.proofs.Common.{◌≡◌, ℕ, zero, suc, ◌+◌, ◌-◌, ◌<�
 use Rattle.std.specs.Prelude.{slice_index_or, slice_set}
 use Rattle.std.specs.List.{AllByRecursion}
 use Rattle.std.proofs.lemmas.List.{get_or-set_same, length-take-le}
-use Rattle.mc_model.specs.declared.device.Stop.{Stop}
-use Rattle.mc_model.specs.declared.device.Stop.TheVariants.{Off, Worn}
-use Rattle.mc_model.specs.Orders.{Answer}
-use Rattle.mc_model.specs.Device.{Entry, Grows, DeviceState, BenchState, counted, falling, due, NextWriteEnds, Counts, Burns, BenchWrote, Wrote, WriteDone, WriteCut, WriteWorn, Makes, GrowsBy, done_entries, torn_entries, next_count}
-use Rattle.mc_model.specs.Stopped.{torn}
-use Rattle.mc_model.proofs.DeviceLemmas.{DoneAll, makes-done}
+use Rattle.mc_model_device.specs.declared.device.Stop.{Stop}
+use Rattle.mc_model_device.specs.declared.device.Stop.TheVariants.{Off, Worn}
+use Rattle.mc_model_device.specs.Orders.{Answer}
+use Rattle.mc_model_device.specs.Device.{Entry, Grows, DeviceState, BenchState, counted, falling, due, NextWriteEnds, Counts, Burns, BenchWrote, Wrote, WriteDone, WriteCut, WriteWorn, Makes, GrowsBy, done_entries, torn_entries, next_count}
+use Rattle.mc_model_device.specs.Stopped.{torn}
+use Rattle.mc_model_device.proofs.DeviceLemmas.{DoneAll, makes-done}
 use Rattle.mc_script.specs.Runs.{StoppedAtWrite}
 use Rattle.mc_script.proofs.EntryLemmas.{stopped_entry, torn-behind, entries-behind}
 use Rattle.mc_script.proofs.AccountLemmas.{SizesTo}

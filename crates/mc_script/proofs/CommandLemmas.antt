@@ -1,16 +1,17 @@
 -- Commands on a card: answered, run and told, and one behind the other.
 use Rattle.std.proofs.Common.{◌≡◌, ℕ, suc, true, false, List, [], ◌∷◌, ◌++◌, Option, Some, None, Result, Ok, Err, refl, sym, ap, subst, ◌∙◌}
 use Rattle.std.specs.Prelude.{option_map, OnOk, IsSome}
-use Rattle.mc_model.specs.declared.device.Stop.{Stop}
-use Rattle.mc_model.specs.Orders.{Answer, answer_of}
-use Rattle.mc_model.specs.Device.{DeviceState, Wrote}
-use Rattle.mc_model.specs.Apdu.{ApduParts}
-use Rattle.mc_model.specs.Card as model
-use Rattle.mc_model.specs.Card.{means}
-use Rattle.mc_model.specs.Chain.{Chain, Turn, Ran as ModelRan, turn_of, ran, run, start}
-use Rattle.mc_model.specs.Manager.{Selected, Seat, Managed, Declines, Accepts, Route, WrongLength, WrongClass, ToSelect, ToManager, ToApplication, route, select, manage, room_on}
-use Rattle.mc_model.specs.Play.{Command, command, managed, passed, by_route, ran_command, write_items}
-use Rattle.mc_model.specs.TraceText.{before_stop}
+use Rattle.mc_model_device.specs.declared.device.Stop.{Stop}
+use Rattle.mc_model_device.specs.Orders.{Answer, answer_of}
+use Rattle.mc_model_device.specs.Device.{DeviceState, Wrote}
+use Rattle.mc_model_machine.specs.Apdu.{ApduParts}
+use Rattle.mc_model_device.specs.Card as model
+use Rattle.mc_model_device.specs.Card.{means}
+use Rattle.mc_model_machine.specs.Chain.{Chain, Turn, Ran as ModelRan, turn_of, ran, run, start}
+use Rattle.mc_model_card.specs.Manager.{Selected, Seat, Managed, Declines, Accepts, Route, WrongLength, WrongClass, ToSelect, ToManager, ToApplication, route, select, manage, room_on}
+use Rattle.mc_model_card.specs.Commands.{Command, command, managed, passed, by_route, ran_command}
+use Rattle.mc_model_card.specs.Items.{write_items}
+use Rattle.mc_model_play.specs.TraceText.{before_stop}
 use Rattle.mc_machine.specs.declared.outcome.Outcome.{Outcome}
 use Rattle.mc_machine.specs.declared.outcome.Turn.{Turn as CodeTurn}
 use Rattle.mc_machine.specs.Turns.{turn_value}

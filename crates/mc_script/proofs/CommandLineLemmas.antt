@@ -1,19 +1,21 @@
 -- A line of commands to a card that runs: its writes were all made, or one of them stopped.
 use Rattle.std.proofs.Common.{◌≡◌, ℕ, ◌+◌, ◌<◌, ◌≤◌, true, List, length, Option, Some, None, Ok, Err, refl, sym, ◌∙◌, ap, subst, arith}
-use Rattle.mc_model.specs.declared.device.Stop.{Stop}
-use Rattle.mc_model.specs.declared.device.Stop.TheVariants.{Worn}
-use Rattle.mc_model.specs.Orders.{Answer as Ended}
-use Rattle.mc_model.specs.Device.{DeviceState, BenchState, Wrote, BenchWrote}
-use Rattle.mc_model.specs.Image.{owed}
-use Rattle.mc_model.specs.Stopped.{torn}
-use Rattle.mc_model.specs.Card.{means}
-use Rattle.mc_model.specs.Card as model
-use Rattle.mc_model.specs.Layout.{fault}
-use Rattle.mc_model.specs.Manager.{Seat}
-use Rattle.mc_model.specs.Items.{Item, StopAt, moves, card_done, at_stop}
-use Rattle.mc_model.specs.Chain.{Turn}
-use Rattle.mc_model.specs.Play as play
-use Rattle.mc_model.specs.Play.{Live, Running, Base, OnCard, Warm, State, Cold, Hot, Answered, WornAt, Step, step, line_command, card_line, command_step, line_after, stopped_line, result_of_stop, hit_of, worn_entry, moves_of, StandsForState, stopped}
+use Rattle.mc_model_device.specs.declared.device.Stop.{Stop}
+use Rattle.mc_model_device.specs.declared.device.Stop.TheVariants.{Worn}
+use Rattle.mc_model_device.specs.Orders.{Answer as Ended}
+use Rattle.mc_model_device.specs.Device.{DeviceState, BenchState, Wrote, BenchWrote}
+use Rattle.mc_model_device.specs.Image.{owed}
+use Rattle.mc_model_device.specs.Stopped.{torn}
+use Rattle.mc_model_device.specs.Card.{means}
+use Rattle.mc_model_device.specs.Card as model
+use Rattle.mc_model_device.specs.Layout.{fault}
+use Rattle.mc_model_card.specs.Manager.{Seat}
+use Rattle.mc_model_card.specs.Items.{Item, StopAt, moves, card_done, at_stop}
+use Rattle.mc_model_machine.specs.Chain.{Turn}
+use Rattle.mc_model_card.specs.Commands as command
+use Rattle.mc_model_play.specs.Play as play
+use Rattle.mc_model_play.specs.Play.{Live, Running, Warm, State, Cold, Hot, Answered, WornAt, Step, step, line_command, card_line, command_step, line_after, stopped_line, result_of_stop, hit_of, worn_entry, moves_of, StandsForState, stopped}
+use Rattle.mc_model_device.specs.PowerUp.{Base, OnCard}
 use Rattle.mc_machine.specs.declared.outcome.Outcome.{Outcome}
 use Rattle.mc_card.specs.declared.card.Card.{Card}
 use Rattle.mc_card.specs.ItemWrites.{StopsAtEach, IsCardAfter}
@@ -48,7 +50,7 @@ module _ {N R : Type 0} (state : N → DeviceState) (bench : N → BenchState) (
     (burns : (d : N) (at : ℕ) (w : List ℕ) (a : Ended) (e : N) → (state d).on ≡ true → wrote d at w a e → BenchWrote (state d) (bench d) at a (state e) (bench e))
     (fits : (d : N) (at : ℕ) (w : List ℕ) (a : Ended) (e : N) → wrote d at w a e → (at < length (state d).words) × (length w ≡ 8)) (told : R → List Turn → R → Type 0) where
   -- what a line asks of a card in a play
-  asked : Card N → Warm → CardLine → play.Command
+  asked : Card N → Warm → CardLine → command.Command
   asked c w cmd = line_command (card_in state c) (seat_in state c) w.budget (deck_line_of cmd)
 
   -- the step of the line

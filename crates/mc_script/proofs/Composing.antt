@@ -1,10 +1,10 @@
 -- Plays of lines put together, for those who play decks line by line: what a play led to, one more line, and the whole play with its laws.
 use Rattle.std.proofs.Common.{◌≡◌, ℕ, List, [], ◌∷◌, ◌++◌, length, Option, refl, arith, sym, ap, subst, ◌∙◌, append_assoc, append-nil, length-append}
-use Rattle.mc_model.specs.Device.{DeviceState, BenchState}
-use Rattle.mc_model.specs.Chain.{Turn}
-use Rattle.mc_model.specs.DeckGrammar.{DeckLine}
-use Rattle.mc_model.specs.Laws.{HoldsOf}
-use Rattle.mc_model.specs.Play.{State, WornAt, Step, step, plays, start, last_state, StandsForState}
+use Rattle.mc_model_device.specs.Device.{DeviceState, BenchState}
+use Rattle.mc_model_machine.specs.Chain.{Turn}
+use Rattle.mc_model_play.specs.DeckGrammar.{DeckLine}
+use Rattle.mc_model_play.specs.Laws.{HoldsOf}
+use Rattle.mc_model_play.specs.Play.{State, WornAt, Step, step, plays, start, last_state, StandsForState}
 use Rattle.mc_family.proofs.PlayLaw.{play_law}
 use Rattle.mc_script.specs.declared.answer.Answer.{Answer}
 use Rattle.mc_script.specs.declared.player.Player.{Player}

@@ -2,12 +2,12 @@
 use Rattle.std.proofs.Common.{◌≡◌, ℕ, zero, suc, ◌+◌, ◌≤◌, true, false, arith, List, [], ◌∷◌, ◌++◌, length, drop, Option, Some, None, Result, Ok, Err, refl, sym, ap, subst, ◌∙◌}
 use Rattle.std.specs.Prelude.{option_map, slice_get, is_err}
 use Rattle.std.proofs.Math.ListN.{drop_of_length-le}
-use Rattle.mc_model.specs.Device.{DeviceState, BenchState}
-use Rattle.mc_model.specs.Chain.{Turn}
-use Rattle.mc_model.specs.DeckGrammar.{DeckLine}
-use Rattle.mc_model.specs.Play.{State, WornAt, Step, step}
-use Rattle.mc_model.specs.Transcript.{line_text}
-use Rattle.mc_model.specs.TraceText.{shown_turns}
+use Rattle.mc_model_device.specs.Device.{DeviceState, BenchState}
+use Rattle.mc_model_machine.specs.Chain.{Turn}
+use Rattle.mc_model_play.specs.DeckGrammar.{DeckLine}
+use Rattle.mc_model_play.specs.Play.{State, WornAt, Step, step}
+use Rattle.mc_model_play.specs.Transcript.{line_text}
+use Rattle.mc_model_play.specs.TraceText.{shown_turns}
 use Rattle.mc_base.specs.declared.refusals.WriteFault.{WriteFault}
 use Rattle.mc_text.specs.Texts.{Sunk, Puts}
 use Rattle.mc_script.specs.declared.answer.Answer.{Answer}
@@ -16,7 +16,7 @@ use Rattle.mc_script.specs.Players.{answer_value, IsPlayerAt}
 use Rattle.mc_script.specs.Lines.{bench_of, Lined, LineDone}
 use Rattle.mc_script.specs.Writers.{ended, text_by}
 use Rattle.mc_script.specs.Plays.{Bench, PlaysFrom}
-use Rattle.mc_model.proofs.PlayLemmas.{step_is}
+use Rattle.mc_model_play.proofs.PlayLemmas.{step_is}
 use Rattle.mc_script.proofs.PlayLemmas.{from_on, from_cut, from_none}
 use Rattle.mc_script.proofs.LineLemmas.{player_stands}
 

@@ -1,11 +1,11 @@
 -- The entries that a list of writes leaves on a tape, and the words that they make.
 use Rattle.std.proofs.Common.{◌≡◌, ℕ, zero, suc, ◌+◌, ◌<◌, List, [], ◌∷◌, ◌++◌, length, take, Some, None, refl, ◌∙◌, ap, arith}
 use Rattle.std.specs.Prelude.{slice_index_or, slice_set}
-use Rattle.mc_model.specs.declared.device.Stop.{Stop}
-use Rattle.mc_model.specs.Device.{Entry, done_entries, torn_entries}
-use Rattle.mc_model.specs.Image.{laid}
-use Rattle.mc_model.specs.Stopped.{torn}
-use Rattle.mc_model.specs.Play.{EndsAs, worn_in, worn_entry, laid_entries}
+use Rattle.mc_model_device.specs.declared.device.Stop.{Stop}
+use Rattle.mc_model_device.specs.Device.{Entry, done_entries, torn_entries}
+use Rattle.mc_model_device.specs.Image.{laid}
+use Rattle.mc_model_device.specs.Stopped.{torn}
+use Rattle.mc_model_play.specs.Play.{EndsAs, worn_in, worn_entry, laid_entries}
 
 -- ---- a list that stopped behind n writes
 

@@ -1,8 +1,8 @@
 -- How writes spend a fuse, and what the fuses of a bench make of the next write.
 use Rattle.std.proofs.Common.{◌≡◌, ℕ, zero, suc, ◌+◌, ◌<◌, ◌≤◌, Bool, true, false, List, Option, Some, None, Ok, Err, refl, ◌∙◌, ap, arith}
 use Rattle.std.specs.Prelude.{slice_set}
-use Rattle.mc_model.specs.declared.device.Stop.TheVariants.{Off, Worn}
-use Rattle.mc_model.specs.Device.{DeviceState, Fuse, nearer, counted, fill_at, falling, due, NextWriteEnds}
+use Rattle.mc_model_device.specs.declared.device.Stop.TheVariants.{Off, Worn}
+use Rattle.mc_model_device.specs.Device.{DeviceState, Fuse, nearer, counted, fill_at, falling, due, NextWriteEnds}
 
 -- a fuse after so many writes
 abbrev pub after_writes : ℕ → Option Fuse → Option Fuse

@@ -1,9 +1,10 @@
 -- From the first power line on no word is poked.
 use Rattle.std.proofs.Common.{◌≡◌, ◌⊎◌, ℕ, false, List, [], ◌∷◌, drop, Option, refl, arith, inl, inr}
-use Rattle.mc_model.specs.DeckGrammar.{DeckLine}
-use Rattle.mc_model.specs.DeckGrammar as line
-use Rattle.mc_model.specs.Play.{Live, Running, Unpowered, Muted, Base, OnCard, AtFault, Warm, State, Cold, Hot, WornAt, Step, step, plays, card_line, first_worn}
-use Rattle.mc_model.specs.ReadyAgain.{is_cold}
+use Rattle.mc_model_play.specs.DeckGrammar.{DeckLine}
+use Rattle.mc_model_play.specs.DeckGrammar as line
+use Rattle.mc_model_play.specs.Play.{Live, Running, Unpowered, Muted, Warm, State, Cold, Hot, WornAt, Step, step, plays, card_line, first_worn}
+use Rattle.mc_model_device.specs.PowerUp.{Base, OnCard, AtFault}
+use Rattle.mc_model_play.specs.ReadyAgain.{is_cold}
 use Rattle.mc_script.specs.Counting.{line_powers, line_pokes, total}
 
 -- a line pokes no word, and the play behind it has begun

@@ -1,11 +1,11 @@
 -- The laws of plays, of decks that were played.
 use Rattle.std.proofs.Common.{◌≡◌, ℕ, List, [], ◌∷◌, ◌++◌, Result, subst}
 use Rattle.std.specs.List.{AllByRecursion}
-use Rattle.mc_model.specs.Device.{IsImage}
-use Rattle.mc_model.specs.DeckGrammar.{DeckLine}
-use Rattle.mc_model.specs.Laws.{HoldsOf}
-use Rattle.mc_model.specs.Play.{Step, start, plays}
-use Rattle.mc_model.specs.ReadyAgain.{IsLine, AreLines}
+use Rattle.mc_model_device.specs.Device.{IsImage}
+use Rattle.mc_model_play.specs.DeckGrammar.{DeckLine}
+use Rattle.mc_model_play.specs.Laws.{HoldsOf}
+use Rattle.mc_model_play.specs.Play.{Step, start, plays}
+use Rattle.mc_model_play.specs.ReadyAgain.{IsLine, AreLines}
 use Rattle.mc_family.proofs.DeckBytes.{played_bytes}
 use Rattle.mc_family.proofs.PlayLaw.{play_law}
 use Rattle.mc_base.specs.declared.refusals.WriteFault.{WriteFault}

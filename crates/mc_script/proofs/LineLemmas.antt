@@ -1,18 +1,18 @@
 -- One line of a player as one line of a play.
 use Rattle.std.specs.Prelude.{option_map}
 use Rattle.std.proofs.Common.{◌≡◌, ℕ, List, Option, Some, None, refl, sym, subst, ◌∙◌, ap}
-use Rattle.mc_model.specs.declared.card.Cause.{Cause}
-use Rattle.mc_model.specs.Device.{DeviceState, BenchState}
-use Rattle.mc_model.specs.Card.{means}
-use Rattle.mc_model.specs.Layout.{fault}
-use Rattle.mc_model.specs.Play.{Base, OnCard, AtFault, Warm, State, Cold, Hot, StandsForState, StandsForBase, base_of, owing, static_of, Static}
+use Rattle.mc_model_device.specs.declared.cause.Cause.{Cause}
+use Rattle.mc_model_device.specs.Device.{DeviceState, BenchState}
+use Rattle.mc_model_device.specs.Card.{means, App}
+use Rattle.mc_model_device.specs.Layout.{fault}
+use Rattle.mc_model_device.specs.PowerUp.{Base, OnCard, AtFault, base_of, owing}
+use Rattle.mc_model_play.specs.Play.{Warm, State, Cold, Hot, StandsForState, StandsForBase, static_of, Static}
 use Rattle.mc_store.specs.Power.{HoldsBase}
 use Rattle.mc_script.specs.declared.player.Player.{Player}
 use Rattle.mc_card.specs.Parts.{card_in, IsReadyCard}
 use Rattle.mc_script.specs.declared.player.Power.{Power}
 use Rattle.mc_script.specs.declared.player.Power.TheVariants as power
-use Rattle.mc_model.specs.Bytes.{lookup}
-use Rattle.mc_model.specs.Card.{App}
+use Rattle.mc_model_device.specs.Bytes.{lookup}
 use Rattle.mc_card.specs.declared.card.Card.{Card}
 use Rattle.mc_script.specs.declared.answer.Answer.TheVariants as answer
 use Rattle.mc_script.specs.Players.{answer_value, device_of, dump_value, statics_by, statics_in, LiveIs, IsPlayerAt}

@@ -4,8 +4,8 @@ use Rattle.std.proofs.lemmas.Bool.Decides.{nat_tests, leb_tells}
 use Rattle.std.proofs.lemmas.List.{take_all}
 use Rattle.std.proofs.Math.ListN.{drop_of_length-le}
 use Rattle.std.proofs.Math.Seq.{drop-length}
-use Rattle.mc_model.specs.Bytes.{bytes2}
-use Rattle.mc_model.specs.Play.{piece_commands}
+use Rattle.mc_model_device.specs.Bytes.{bytes2}
+use Rattle.mc_model_play.specs.Play.{piece_commands}
 
 -- nothing is sent of nothing
 pub pieces_none : (n ins at : ℕ) → piece_commands n ins at [] ≡ []

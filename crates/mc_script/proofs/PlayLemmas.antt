@@ -1,11 +1,12 @@
 -- A play of one line and a play of the lines behind it are one play.
 use Rattle.std.proofs.Common.{◌≡◌, ◌⊎◌, ℕ, zero, suc, ◌+◌, List, [], ◌∷◌, ◌++◌, Option, Some, None, Result, Ok, Err, refl, arith, sym, ap, subst, ◌∙◌, append_assoc, inl, inr}
 use Rattle.std.proofs.lemmas.List.{append-nil}
-use Rattle.mc_model.specs.Device.{DeviceState, BenchState, Entry, next_count}
-use Rattle.mc_model.specs.DeckGrammar.{DeckLine}
-use Rattle.mc_model.specs.DeckGrammar as line
-use Rattle.mc_model.specs.Play.{Armed, Live, Running, Unpowered, Muted, Base, OnCard, AtFault, Warm, State, Cold, Hot, WornAt, Step, plays, step, card_line, armed_in, last_state, StandsForState, moves_of, steady_at, steady_worn, tape_worn}
-use Rattle.mc_model.proofs.PlayLemmas.{step_is}
+use Rattle.mc_model_device.specs.Device.{DeviceState, BenchState, Entry, next_count}
+use Rattle.mc_model_play.specs.DeckGrammar.{DeckLine}
+use Rattle.mc_model_play.specs.DeckGrammar as line
+use Rattle.mc_model_play.specs.Play.{Armed, Live, Running, Unpowered, Muted, Warm, State, Cold, Hot, WornAt, Step, plays, step, card_line, armed_in, last_state, StandsForState, moves_of, steady_at, steady_worn, tape_worn}
+use Rattle.mc_model_device.specs.PowerUp.{Base, OnCard, AtFault}
+use Rattle.mc_model_play.proofs.PlayLemmas.{step_is}
 use Rattle.mc_base.specs.Streams.{Grew}
 use Rattle.mc_base.specs.declared.refusals.WriteFault.{WriteFault}
 use Rattle.mc_base.proofs.StreamsLemmas.{Grew-append, Grew-none, Rose-later}

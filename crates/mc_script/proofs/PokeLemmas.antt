@@ -3,8 +3,8 @@ use Rattle.std.proofs.Common.{◌≡◌, ℕ, zero, suc, ◌+◌, ◌<◌, List,
 use Rattle.std.specs.Prelude.{slice_set, slice_index_or}
 use Rattle.std.specs.List.{AllByRecursion}
 use Rattle.std.proofs.lemmas.List.{length-set}
-use Rattle.mc_model.specs.Device.{DeviceState, BenchState, poked_once, poked_times}
-use Rattle.mc_model.specs.Image.{laid}
+use Rattle.mc_model_device.specs.Device.{DeviceState, BenchState, poked_once, poked_times}
+use Rattle.mc_model_device.specs.Image.{laid}
 use Rattle.mc_script.specs.Counting.{raised, when_poked}
 
 -- ---- what a bench keeps of pokes

@@ -2,22 +2,23 @@
 use Rattle.std.proofs.Common.{◌≡◌, ◌≢◌, ℕ, ◌+◌, ◌-◌, ◌<◌, ◌≤◌, Bool, true, false, cond, List, [], length, Option, Some, None, Ok, refl, sym, ◌∙◌, ap, subst, arith}
 use Rattle.std.specs.Prelude.{nat_le}
 use Rattle.std.proofs.lemmas.Bool.{leb-true, leb-false}
-use Rattle.mc_model.specs.declared.card.Cause.{Cause}
-use Rattle.mc_model.specs.declared.device.Stop.{Stop}
-use Rattle.mc_model.specs.declared.device.Stop.TheVariants.{Off, Worn}
-use Rattle.mc_model.specs.Orders.{Answer as Ended}
-use Rattle.mc_model.specs.Device.{DeviceState, BenchState, Wrote, BenchWrote, IsImage, Makes}
-use Rattle.mc_model.specs.DeckGrammar as line
-use Rattle.mc_model.specs.Image.{Journal, One, Which, Both, Only, Neither, which, owed, look_at, debt}
-use Rattle.mc_model.specs.Stopped.{torn, stands, owes, remains}
-use Rattle.mc_model.specs.Card.{Card as CardValue, means}
-use Rattle.mc_model.specs.Layout.{fault}
-use Rattle.mc_model.specs.Items.{StopAt}
-use Rattle.mc_model.specs.Manager.{empty_seat}
-use Rattle.mc_model.specs.Given.{budget_in}
-use Rattle.mc_model.specs.TraceText.{shown_turns}
-use Rattle.mc_model.specs.Play as play
-use Rattle.mc_model.specs.Play.{Unarmed, Live, Running, Base, OnCard, AtFault, Warm, State, Cold, Hot, Ready, WornAt, Step, step, warmed, owing, base_of, migrated, migration, power_moves, power_result, power_live, power_after, power_says, power_step, stopped_power, live_after, result_of_stop, hit_of, worn_entry, moves_of, armed_in, StandsForState, stopped}
+use Rattle.mc_model_device.specs.declared.cause.Cause.{Cause}
+use Rattle.mc_model_device.specs.declared.device.Stop.{Stop}
+use Rattle.mc_model_device.specs.declared.device.Stop.TheVariants.{Off, Worn}
+use Rattle.mc_model_device.specs.Orders.{Answer as Ended}
+use Rattle.mc_model_device.specs.Device.{DeviceState, BenchState, Wrote, BenchWrote, IsImage, Makes}
+use Rattle.mc_model_play.specs.DeckGrammar as line
+use Rattle.mc_model_device.specs.Image.{Journal, One, Which, Both, Only, Neither, which, owed, look_at, debt}
+use Rattle.mc_model_device.specs.Stopped.{torn, stands, owes, remains}
+use Rattle.mc_model_device.specs.Card.{Card as CardValue, means}
+use Rattle.mc_model_device.specs.Layout.{fault}
+use Rattle.mc_model_card.specs.Items.{StopAt}
+use Rattle.mc_model_card.specs.Manager.{empty_seat}
+use Rattle.mc_model_play.specs.Given.{budget_in}
+use Rattle.mc_model_play.specs.TraceText.{shown_turns}
+use Rattle.mc_model_play.specs.Play as play
+use Rattle.mc_model_play.specs.Play.{Unarmed, Live, Running, Warm, State, Cold, Hot, Ready, WornAt, Step, step, warmed, power_moves, power_result, power_live, power_after, power_says, power_step, stopped_power, live_after, result_of_stop, hit_of, worn_entry, moves_of, armed_in, StandsForState, stopped}
+use Rattle.mc_model_device.specs.PowerUp.{Base, OnCard, AtFault, owing, base_of, migrated, migration}
 use Rattle.mc_store.specs.Power.{found, power_writes, power_count, HoldsBase, IsPowered, IsUnusable, IsHalted}
 use Rattle.mc_store.proofs.PowerLemmas.{count_writes, power_halted}
 use Rattle.mc_card.specs.declared.card.Card.{Card}

@@ -1,9 +1,9 @@
 -- A power line as it is called: power, the armed stop, the power-up, and the fuses taken away.
 use Rattle.std.proofs.Common.{◌≡◌, ℕ, ◌<◌, true, List, length, Some, None, Result, Ok, Err, IfOk, sym, ◌∙◌, ap, subst}
-use Rattle.mc_model.specs.Orders.{Answer as Ended}
-use Rattle.mc_model.specs.Device.{DeviceState, BenchState, Wrote, BenchWrote, IsImage, Makes, next_count}
-use Rattle.mc_model.specs.Manager.{empty_seat}
-use Rattle.mc_model.specs.DeckGrammar as line
+use Rattle.mc_model_device.specs.Orders.{Answer as Ended}
+use Rattle.mc_model_device.specs.Device.{DeviceState, BenchState, Wrote, BenchWrote, IsImage, Makes, next_count}
+use Rattle.mc_model_card.specs.Manager.{empty_seat}
+use Rattle.mc_model_play.specs.DeckGrammar as line
 use Rattle.mc_store.specs.Power.{power_writes, power_answer, failed, IsPowered, PowersUp}
 use Rattle.mc_store.specs.declared.power.Up.{Up}
 use Rattle.mc_store.specs.declared.power.Up.TheVariants as up

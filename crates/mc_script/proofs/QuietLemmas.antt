@@ -1,13 +1,14 @@
 -- Lines that make no device write.
 use Rattle.std.proofs.Common.{◌≡◌, ℕ, ◌≤◌, false, List, [], Option, Some, None, refl, sym, ◌∙◌, ap, subst, arith, append-nil}
 use Rattle.std.specs.Prelude.{option_map, length}
-use Rattle.mc_model.specs.Device.{DeviceState, BenchState, Entry, GrowsBy}
-use Rattle.mc_model.specs.DeckGrammar.{DeckLine}
-use Rattle.mc_model.specs.DeckGrammar as line
-use Rattle.mc_model.specs.Items.{moves}
-use Rattle.mc_model.specs.Play as play
-use Rattle.mc_model.specs.Play.{WornAt, Unarmed, ArmedCut, ArmedFail, Live, Running, Unpowered, Muted, Base, LineResult, NoCard, Silenced, Warm, State, Cold, Hot, Step, step, quiet, card_line, dumped, static_of, is_card_line, armed_in, moves_of, steady_at, words_left}
-use Rattle.mc_model.specs.TraceText.{shown_turns}
+use Rattle.mc_model_device.specs.Device.{DeviceState, BenchState, Entry, GrowsBy}
+use Rattle.mc_model_play.specs.DeckGrammar.{DeckLine}
+use Rattle.mc_model_play.specs.DeckGrammar as line
+use Rattle.mc_model_card.specs.Items.{moves}
+use Rattle.mc_model_play.specs.Play as play
+use Rattle.mc_model_play.specs.Play.{WornAt, Unarmed, ArmedCut, ArmedFail, Live, Running, Unpowered, Muted, LineResult, NoCard, Silenced, Warm, State, Cold, Hot, Step, step, quiet, card_line, dumped, static_of, is_card_line, armed_in, moves_of, steady_at, words_left}
+use Rattle.mc_model_device.specs.PowerUp.{Base}
+use Rattle.mc_model_play.specs.TraceText.{shown_turns}
 use Rattle.mc_card.specs.declared.card.Card.{Card}
 use Rattle.mc_card.specs.Parts.{seat_in}
 use Rattle.mc_script.specs.declared.answer.Answer.{Answer}

@@ -3,20 +3,20 @@ use Rattle.std.proofs.Common.{◌≡◌, ℕ, zero, suc, ◌+◌, ◌-◌, ◌�
 use Rattle.std.specs.Prelude.{option_map, IfOk, OnOk}
 use Rattle.std.proofs.lemmas.List.{append-nil, map-append}
 use Rattle.std.proofs.lemmas.Bool.{cases_lt}
-use Rattle.mc_model.specs.declared.device.Stop.{Stop}
-use Rattle.mc_model.specs.declared.machine.Abend.TheVariants.{A07}
-use Rattle.mc_model.specs.Orders.{Answer, answer_of}
-use Rattle.mc_model.specs.Image.{Two}
-use Rattle.mc_model.specs.Device.{DeviceState, Wrote, Makes}
-use Rattle.mc_model.specs.Stopped.{torn}
-use Rattle.mc_model.specs.Card.{Card}
-use Rattle.mc_model.specs.Items.{Item, Atomic, Fixed, Stopped, moves, card_done, at_stop}
-use Rattle.mc_model.specs.Chain.{Chain, Turn, Write, Acted, Ran, Follows, Continues, Ends, Abended, Outcome as ModelOutcome, spent, acted, turn_of, end_of, chain_session, ends_with, goes_on, ran_on, ran}
-use Rattle.mc_model.specs.Play.{OnCard, write_items}
-use Rattle.mc_model.specs.TraceText.{before_stop}
-use Rattle.mc_model.proofs.OrdersLemmas.{InOrder-append}
-use Rattle.mc_model.proofs.DeviceLemmas.{DoneAll, makes-done}
-use Rattle.mc_model.proofs.StoppedLemmas.{torn-within, torn-past}
+use Rattle.mc_model_device.specs.declared.device.Stop.{Stop}
+use Rattle.mc_model_machine.specs.declared.machine.Abend.TheVariants.{A07}
+use Rattle.mc_model_device.specs.Orders.{Answer, answer_of}
+use Rattle.mc_model_device.specs.Image.{Two}
+use Rattle.mc_model_device.specs.Device.{DeviceState, Wrote, Makes}
+use Rattle.mc_model_device.specs.Stopped.{torn}
+use Rattle.mc_model_device.specs.Card.{Card}
+use Rattle.mc_model_card.specs.Items.{Item, Atomic, Fixed, Stopped, moves, card_done, at_stop, write_items}
+use Rattle.mc_model_machine.specs.Chain.{Chain, Turn, Write, Acted, Ran, Follows, Continues, Ends, Abended, Outcome as ModelOutcome, spent, acted, turn_of, end_of, chain_session, ends_with, goes_on, ran_on, ran}
+use Rattle.mc_model_device.specs.PowerUp.{OnCard}
+use Rattle.mc_model_play.specs.TraceText.{before_stop}
+use Rattle.mc_model_device.proofs.OrdersLemmas.{InOrder-append}
+use Rattle.mc_model_device.proofs.DeviceLemmas.{DoneAll, makes-done}
+use Rattle.mc_model_device.proofs.StoppedLemmas.{torn-within, torn-past}
 use Rattle.mc_store.specs.Power.{HoldsBase}
 use Rattle.mc_machine.specs.declared.outcome.Outcome.{Outcome}
 use Rattle.mc_machine.specs.declared.outcome.Turn.{Turn as CodeTurn}

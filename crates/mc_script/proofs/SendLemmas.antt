@@ -2,18 +2,19 @@
 use Rattle.std.proofs.Common.{◌≡◌, ℕ, zero, suc, ◌+◌, Bool, true, false, cond, ◌==◌, List, [], ◌∷◌, ◌++◌, length, take, drop, Option, Some, None, Result, Ok, Err, refl, arith, sym, ap, subst, ◌∙◌}
 use Rattle.std.specs.Prelude.{option_map}
 use Rattle.std.specs.List.{AllByRecursion}
-use Rattle.mc_model.specs.declared.device.Stop.{Stop}
-use Rattle.mc_model.specs.Orders.{Answer, answer_of}
-use Rattle.mc_model.specs.Device.{DeviceState, Wrote, Makes}
-use Rattle.mc_model.specs.Bytes.{bytes2}
-use Rattle.mc_model.specs.Apdu.{ApduParts, apdu_read, rest_read, Rest}
-use Rattle.mc_model.specs.Units.{UnitParts}
-use Rattle.mc_model.specs.Card as model
-use Rattle.mc_model.specs.Items.{card_done}
-use Rattle.mc_model.specs.Chain.{Turn}
-use Rattle.mc_model.specs.Manager.{Seat, route, routed}
-use Rattle.mc_model.specs.Play.{Command, command, refused, status, is_done, with_items, sent_on, send, piece_commands, section_commands, load_commands}
-use Rattle.mc_model.specs.TraceText.{before_stop}
+use Rattle.mc_model_device.specs.declared.device.Stop.{Stop}
+use Rattle.mc_model_device.specs.Orders.{Answer, answer_of}
+use Rattle.mc_model_device.specs.Device.{DeviceState, Wrote, Makes}
+use Rattle.mc_model_device.specs.Bytes.{bytes2}
+use Rattle.mc_model_machine.specs.Apdu.{ApduParts, apdu_read, rest_read, Rest}
+use Rattle.mc_model_card.specs.Units.{UnitParts}
+use Rattle.mc_model_device.specs.Card as model
+use Rattle.mc_model_card.specs.Items.{card_done}
+use Rattle.mc_model_machine.specs.Chain.{Turn}
+use Rattle.mc_model_card.specs.Manager.{Seat, route, routed}
+use Rattle.mc_model_card.specs.Commands.{Command, command, refused, status}
+use Rattle.mc_model_play.specs.Play.{is_done, with_items, sent_on, send, piece_commands, section_commands, load_commands}
+use Rattle.mc_model_play.specs.TraceText.{before_stop}
 use Rattle.mc_machine.specs.declared.outcome.Outcome.{Outcome}
 use Rattle.mc_machine.specs.Turns.{outcome_value}
 use Rattle.mc_card.specs.declared.card.Card.{Card}

@@ -1,12 +1,13 @@
 -- The entries of a line at the front of a tape, and what a told tape says of a line and of the lines behind it.
 use Rattle.std.proofs.Common.{◌≡◌, ℕ, zero, suc, ◌+◌, ◌≤◌, Bool, true, false, cond, nat_le, List, [], ◌∷◌, ◌++◌, length, Option, Some, None, refl, arith, sym, ap, subst, ◌∙◌, append_assoc}
 use Rattle.std.proofs.lemmas.Bool.Decides.{nat_tests}
-use Rattle.mc_model.specs.declared.device.Stop.{Stop}
-use Rattle.mc_model.specs.Device.{Entry, GrowsBy}
-use Rattle.mc_model.specs.Items.{StopAt, moves}
-use Rattle.mc_model.specs.DeckGrammar.{DeckLine}
-use Rattle.mc_model.specs.DeckGrammar as line
-use Rattle.mc_model.specs.Play.{Armed, Unarmed, ArmedCut, ArmedFail, Live, Running, Unpowered, Muted, Base, OnCard, AtFault, Warm, State, Cold, Hot, WornAt, Step, step, power_part, hit_of, moves_with, power_moves, warmed, line_command, card_line, moves_of, MayHit, tape_worn, Accounts, AccountsForLine, words_left, chunk, with_entry, ends_tape, worn_in, EndsAs, kind_of}
+use Rattle.mc_model_device.specs.declared.device.Stop.{Stop}
+use Rattle.mc_model_device.specs.Device.{Entry, GrowsBy}
+use Rattle.mc_model_card.specs.Items.{StopAt, moves}
+use Rattle.mc_model_play.specs.DeckGrammar.{DeckLine}
+use Rattle.mc_model_play.specs.DeckGrammar as line
+use Rattle.mc_model_play.specs.Play.{Armed, Unarmed, ArmedCut, ArmedFail, Live, Running, Unpowered, Muted, Warm, State, Cold, Hot, WornAt, Step, step, power_part, hit_of, moves_with, power_moves, warmed, line_command, card_line, moves_of, MayHit, tape_worn, Accounts, AccountsForLine, words_left, chunk, with_entry, ends_tape, worn_in, EndsAs, kind_of}
+use Rattle.mc_model_device.specs.PowerUp.{Base, OnCard, AtFault}
 use Rattle.mc_script.specs.Plays.{TapeTells, TapeIs}
 
 -- ---- how many entries a line has

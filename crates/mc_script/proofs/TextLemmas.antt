@@ -1,12 +1,14 @@
 -- The text of static bytes.
 use Rattle.std.proofs.Common.{◌≡◌, ◌≢◌, ℕ, zero, suc, ◌+◌, ◌≤◌, Option, Some, None, false, List, [], ◌∷◌, ◌++◌, length, take, drop, codes, refl, sym, ap, ◌∙◌, append_assoc, arith}
 use Rattle.mc_text.proofs.TextLemmas.{hex_text_split}
-use Rattle.mc_model.specs.Generator.{is_reply, is_abend, is_cut, is_off, is_ready}
-use Rattle.mc_model.specs.declared.card.Cause.{Cause}
-use Rattle.mc_model.specs.declared.card.Cause.TheVariants.{BadJournal, NoRoot, BadBlock, BadRecord, BadChain}
-use Rattle.mc_model.specs.Card.{App}
-use Rattle.mc_model.specs.Play.{static_of}
-use Rattle.mc_model.specs.Transcript.{cause_text, hex_text, static_text}
+use Rattle.mc_model_play.specs.Generator.{is_reply, is_abend, is_cut, is_off, is_ready}
+use Rattle.mc_model_device.specs.declared.cause.Cause.{Cause}
+use Rattle.mc_model_device.specs.declared.cause.Cause.TheVariants.{BadJournal, NoRoot, BadBlock, BadRecord, BadChain}
+use Rattle.mc_model_device.specs.Card.{App}
+use Rattle.mc_model_play.specs.Play.{static_of}
+use Rattle.mc_model_device.specs.Words.{cause_text}
+use Rattle.mc_model_machine.specs.Listing.{hex_text}
+use Rattle.mc_model_play.specs.Transcript.{static_text}
 
 -- the text of static bytes, where there are some
 pub static_some : (bs : List ℕ) → length bs ≢ 0 → codes "static " ++ hex_text bs ≡ static_text bs

@@ -1,18 +1,18 @@
 -- A line whose device writes were tried under an armed stop: they were all made, or one of them stopped.
 use Rattle.std.proofs.Common.{◌≡◌, ℕ, zero, suc, ◌+◌, ◌<◌, ◌≤◌, true, List, length, Option, Some, None, Ok, refl, sym, ◌∙◌, ap, subst, arith}
 use Rattle.std.specs.List.{AllByRecursion}
-use Rattle.mc_model.specs.declared.device.Stop.{Stop}
-use Rattle.mc_model.specs.declared.device.Stop.TheVariants.{Off, Worn}
-use Rattle.mc_model.specs.Orders.{Answer as Ended}
-use Rattle.mc_model.specs.Device.{DeviceState, BenchState, Entry, Wrote, BenchWrote, Makes, GrowsBy, done_entries, torn_entries, next_count}
-use Rattle.mc_model.specs.DeckGrammar.{DeckLine}
-use Rattle.mc_model.specs.Image.{laid}
-use Rattle.mc_model.specs.Stopped.{torn}
-use Rattle.mc_model.specs.Items.{Item, StopAt}
-use Rattle.mc_model.specs.Chain.{Turn}
-use Rattle.mc_model.specs.Play as play
-use Rattle.mc_model.specs.Play.{Unarmed, LineResult, State, Hot, Warm, Step, is_card_line, armed_in, moves_of, worn_entry, MayHit, EndsAs, worn_in, StandsAtEach}
-use Rattle.mc_model.proofs.DeviceLemmas.{DoneAll, makes-done}
+use Rattle.mc_model_device.specs.declared.device.Stop.{Stop}
+use Rattle.mc_model_device.specs.declared.device.Stop.TheVariants.{Off, Worn}
+use Rattle.mc_model_device.specs.Orders.{Answer as Ended}
+use Rattle.mc_model_device.specs.Device.{DeviceState, BenchState, Entry, Wrote, BenchWrote, Makes, GrowsBy, done_entries, torn_entries, next_count}
+use Rattle.mc_model_play.specs.DeckGrammar.{DeckLine}
+use Rattle.mc_model_device.specs.Image.{laid}
+use Rattle.mc_model_device.specs.Stopped.{torn}
+use Rattle.mc_model_card.specs.Items.{Item, StopAt}
+use Rattle.mc_model_machine.specs.Chain.{Turn}
+use Rattle.mc_model_play.specs.Play as play
+use Rattle.mc_model_play.specs.Play.{Unarmed, LineResult, State, Hot, Warm, Step, is_card_line, armed_in, moves_of, worn_entry, MayHit, EndsAs, worn_in, StandsAtEach}
+use Rattle.mc_model_device.proofs.DeviceLemmas.{DoneAll, makes-done}
 use Rattle.mc_script.specs.declared.answer.Answer.{Answer}
 use Rattle.mc_script.specs.declared.armed.Armed.{Armed}
 use Rattle.mc_script.specs.declared.player.Player.{Player}

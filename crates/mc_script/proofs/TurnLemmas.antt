@@ -1,19 +1,18 @@
 -- The turns of a run and their atomic writes.
 use Rattle.std.proofs.Common.{◌≡◌, ℕ, zero, suc, ◌+◌, ◌-◌, ◌≤◌, List, [], ◌∷◌, ◌++◌, length, Option, Some, None, Result, Ok, Err, refl, arith, ap, ◌∙◌}
 use Rattle.std.proofs.lemmas.Bool.{le-leb, lt-leb}
-use Rattle.mc_model.specs.declared.instruction.Ins.{Ins}
-use Rattle.mc_model.specs.declared.instruction.DecodeFault.{DecodeFault}
-use Rattle.mc_model.specs.declared.instruction.DecodeFault.TheVariants.{Undefined, Past}
-use Rattle.mc_model.specs.Bytes.{lookup}
-use Rattle.mc_model.specs.Code.{decoded}
-use Rattle.mc_model.specs.Pieces.{touched}
-use Rattle.mc_model.specs.Row.{RowEnd, Abends, Does, row}
-use Rattle.mc_model.specs.Image.{Two}
-use Rattle.mc_model.specs.Stopped.{cost}
-use Rattle.mc_model.specs.Items.{moves}
-use Rattle.mc_model.specs.Chain.{Chain, Turn, Acted, Continues, write_of, words_of_write, code_in, around, stepped, row_turn, fetched, acted, turn_of, end_of}
-use Rattle.mc_model.specs.Play.{write_items}
-use Rattle.mc_model.specs.TraceText.{before_stop}
+use Rattle.mc_model_machine.specs.declared.instruction.Ins.{Ins}
+use Rattle.mc_model_machine.specs.declared.instruction.DecodeFault.{DecodeFault}
+use Rattle.mc_model_machine.specs.declared.instruction.DecodeFault.TheVariants.{Undefined, Past}
+use Rattle.mc_model_device.specs.Bytes.{lookup}
+use Rattle.mc_model_machine.specs.Code.{decoded}
+use Rattle.mc_model_device.specs.Pieces.{touched}
+use Rattle.mc_model_machine.specs.Row.{RowEnd, Abends, Does, row}
+use Rattle.mc_model_device.specs.Image.{Two}
+use Rattle.mc_model_device.specs.Stopped.{cost}
+use Rattle.mc_model_card.specs.Items.{moves, write_items}
+use Rattle.mc_model_machine.specs.Chain.{Chain, Turn, Acted, Continues, write_of, words_of_write, code_in, around, stepped, row_turn, fetched, acted, turn_of, end_of}
+use Rattle.mc_model_play.specs.TraceText.{before_stop}
 
 -- the device writes of a turn
 abbrev pub turn_moves : Option ℕ → ℕ

@@ -1,9 +1,9 @@
 -- An armed stop handed to a bench.
 use Rattle.std.specs.Prelude.{Some}
-use Rattle.mc_model.specs.declared.device.Stop.{Stop}
-use Rattle.mc_model.specs.declared.device.Stop.TheVariants.{Off, Worn}
-use Rattle.mc_model.specs.Bytes.{zeros}
-use Rattle.mc_model.specs.Device.{BenchState, next_count}
+use Rattle.mc_model_device.specs.declared.device.Stop.{Stop}
+use Rattle.mc_model_device.specs.declared.device.Stop.TheVariants.{Off, Worn}
+use Rattle.mc_model_device.specs.Bytes.{zeros}
+use Rattle.mc_model_device.specs.Device.{BenchState, next_count}
 use Rattle.mc_store.specs.declared.power.Up.{Up}
 use Rattle.mc_store.specs.declared.power.Up.TheVariants as up
 use Rattle.mc_script.specs.Players.{cut_place}

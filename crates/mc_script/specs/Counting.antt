@@ -1,12 +1,12 @@
 -- How often a play calls its bench, and how its counts of stops rise.
 use Rattle.std.specs.Prelude.{◌≡◌, ℕ, zero, suc, ◌+◌, ◌≤◌, cond, nat_lt, List, [], ◌∷◌, length, Option, Some, None}
-use Rattle.mc_model.specs.declared.device.Stop.{Stop}
-use Rattle.mc_model.specs.declared.device.Stop.TheVariants as stop
-use Rattle.mc_model.specs.Device.{DeviceState, BenchState, next_count}
-use Rattle.mc_model.specs.Items.{StopAt}
-use Rattle.mc_model.specs.Play.{Armed, Unarmed, ArmedCut, ArmedFail, State, Cold, Step, armed_in}
-use Rattle.mc_model.specs.DeckGrammar.{DeckLine}
-use Rattle.mc_model.specs.DeckGrammar as line
+use Rattle.mc_model_device.specs.declared.device.Stop.{Stop}
+use Rattle.mc_model_device.specs.declared.device.Stop.TheVariants as stop
+use Rattle.mc_model_device.specs.Device.{DeviceState, BenchState, next_count}
+use Rattle.mc_model_card.specs.Items.{StopAt}
+use Rattle.mc_model_play.specs.Play.{Armed, Unarmed, ArmedCut, ArmedFail, State, Cold, Step, armed_in}
+use Rattle.mc_model_play.specs.DeckGrammar.{DeckLine}
+use Rattle.mc_model_play.specs.DeckGrammar as line
 
 -- a count that rose so often; at its last value it stays
 abbrev pub raised : ℕ → ℕ → ℕ

@@ -1,10 +1,10 @@
 -- What one line of a deck does to a player and its device, and what a whole deck does.
 use Rattle.std.specs.Prelude.{◌≡◌, ℕ, cond, nat_lt, List, [], length, slice_set, Option, option_map}
-use Rattle.mc_model.specs.Device.{DeviceState, BenchState, poked_times}
-use Rattle.mc_model.specs.Chain.{Turn}
-use Rattle.mc_model.specs.DeckGrammar.{DeckLine}
-use Rattle.mc_model.specs.Play.{State, WornAt, Step, step, formatted}
-use Rattle.mc_model.specs.TraceText.{shown_turns}
+use Rattle.mc_model_device.specs.Device.{DeviceState, BenchState, poked_times}
+use Rattle.mc_model_machine.specs.Chain.{Turn}
+use Rattle.mc_model_play.specs.DeckGrammar.{DeckLine}
+use Rattle.mc_model_play.specs.Play.{State, WornAt, Step, step, formatted}
+use Rattle.mc_model_play.specs.TraceText.{shown_turns}
 use Rattle.mc_script.specs.declared.answer.Answer.{Answer}
 use Rattle.mc_script.specs.declared.player.Player.{Player}
 use Rattle.mc_script.specs.Players.{answer_value, device_of, IsPlayerAt}

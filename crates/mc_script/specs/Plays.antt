@@ -1,13 +1,13 @@
 -- A deck played on a device from the words that it holds: its text, the words and counts that it leaves, and the worn stops that account for all of it.
 use Rattle.std.specs.Prelude.{◌≡◌, ℕ, ◌<◌, true, false, List, [], ◌∷◌, ◌++◌, length, Option, Some, None, Result, Ok, Err}
-use Rattle.mc_model.specs.Counts.{Rose}
-use Rattle.mc_model.specs.Device.{DeviceState, BenchState, Entry, GrowsBy}
-use Rattle.mc_model.specs.DeckGrammar.{DeckLine}
-use Rattle.mc_model.specs.Play.{State, WornAt, Step, armed_in, plays, start, last_state, Possible, StandsForState, steady_worn, tape_worn, Accounts, MayHit, moves_of, steady_at, worn_in, words_left, AccountsForLine}
-use Rattle.mc_model.specs.Laws.{HoldsOf}
-use Rattle.mc_model.specs.ReadyAgain.{AllFitJournal, ReadyAgain}
-pub use Rattle.mc_model.specs.Transcript.{plain_text, texts}
-pub use Rattle.mc_model.specs.TraceText.{traced_text}
+use Rattle.mc_model_device.specs.Counts.{Rose}
+use Rattle.mc_model_device.specs.Device.{DeviceState, BenchState, Entry, GrowsBy}
+use Rattle.mc_model_play.specs.DeckGrammar.{DeckLine}
+use Rattle.mc_model_play.specs.Play.{State, WornAt, Step, armed_in, plays, start, last_state, Possible, StandsForState, steady_worn, tape_worn, Accounts, MayHit, moves_of, steady_at, worn_in, words_left, AccountsForLine}
+use Rattle.mc_model_play.specs.Laws.{HoldsOf}
+use Rattle.mc_model_play.specs.ReadyAgain.{AllFitJournal, ReadyAgain}
+pub use Rattle.mc_model_play.specs.Transcript.{plain_text, texts}
+pub use Rattle.mc_model_play.specs.TraceText.{traced_text}
 use Rattle.mc_base.specs.Streams.{Grew}
 use Rattle.mc_base.specs.declared.refusals.WriteFault.{WriteFault}
 use Rattle.mc_script.specs.Counting.{LineCounts, PlayCounts}

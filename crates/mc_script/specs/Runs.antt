@@ -1,11 +1,11 @@
 -- What a command did on a card, where its writes stopped, and what was told of its turns.
 use Rattle.std.specs.Prelude.{ℕ, ◌-◌, ◌≤◌, List, [], length, take, slice_index_or, Result, Ok, Err}
-use Rattle.mc_model.specs.declared.device.Stop.{Stop}
-use Rattle.mc_model.specs.Orders.{Answer}
-use Rattle.mc_model.specs.Device.{DeviceState, Makes}
-use Rattle.mc_model.specs.Chain.{Turn}
-use Rattle.mc_model.specs.Play.{Command}
-use Rattle.mc_model.specs.TraceText.{before_stop}
+use Rattle.mc_model_device.specs.declared.device.Stop.{Stop}
+use Rattle.mc_model_device.specs.Orders.{Answer}
+use Rattle.mc_model_device.specs.Device.{DeviceState, Makes}
+use Rattle.mc_model_machine.specs.Chain.{Turn}
+use Rattle.mc_model_card.specs.Commands.{Command}
+use Rattle.mc_model_play.specs.TraceText.{before_stop}
 use Rattle.mc_machine.specs.declared.outcome.Outcome.{Outcome}
 use Rattle.mc_card.specs.declared.card.Card.{Card}
 use Rattle.mc_card.specs.Parts.{device_in}

@@ -1,10 +1,11 @@
 -- What is written of a play, line by line, and how it ended.
 use Rattle.std.specs.Prelude.{◌≡◌, ℕ, List, [], ◌++◌, Option, Some, None, Result, Ok, Err, refl}
 use Rattle.std.proofs.Common.{◌∙◌, subst}
-use Rattle.mc_model.specs.Chain.{Turn}
-use Rattle.mc_model.specs.Play.{Step}
-use Rattle.mc_model.specs.Transcript.{line_text}
-use Rattle.mc_model.specs.TraceText.{shown_turns, turn_lines}
+use Rattle.mc_model_machine.specs.Chain.{Turn}
+use Rattle.mc_model_play.specs.Play.{Step}
+use Rattle.mc_model_play.specs.Transcript.{line_text}
+use Rattle.mc_model_play.specs.TraceText.{shown_turns}
+use Rattle.mc_model_machine.specs.TurnText.{turn_lines}
 use Rattle.mc_base.specs.declared.refusals.WriteFault.{WriteFault}
 use Rattle.mc_text.specs.Texts.{sunk_in}
 use Rattle.mc_text.specs.Logs.{Logged}

@@ -1,6 +1,6 @@
 // All lines of a deck, of which nothing is told.
 ghost use Rattle.std.specs.Prelude.{◌≡◌};
-ghost use Rattle.mc_model.specs.Play.{State};
+ghost use Rattle.mc_model_play.specs.Play.{State};
 ghost use Rattle.mc_script.specs.Players.{device_of, IsPlayerAt, IsPlaying};
 ghost use Rattle.mc_script.specs.Lines.{DeckPlayed};
 

@@ -1,10 +1,11 @@
 // The commands of a load, one behind the other.
 ghost use Rattle.std.specs.List.{AllByRecursion};
 ghost use Rattle.std.specs.Prelude.{◌≡◌, ◌+◌, ◌++◌, ◌∷◌, [], ◌≤◌, length, IfSome, IfNone};
-ghost use Rattle.mc_model.specs.Limits.{most_code};
-ghost use Rattle.mc_model.specs.Bytes.{bytes2};
-ghost use Rattle.mc_model.specs.Units.{FitsUnit};
-ghost use Rattle.mc_model.specs.Play.{is_done, load_commands, section_commands, send, status};
+ghost use Rattle.mc_model_device.specs.Limits.{most_code};
+ghost use Rattle.mc_model_device.specs.Bytes.{bytes2};
+ghost use Rattle.mc_model_card.specs.Units.{FitsUnit};
+ghost use Rattle.mc_model_play.specs.Play.{is_done, load_commands, section_commands, send};
+ghost use Rattle.mc_model_card.specs.Commands.{status};
 ghost use Rattle.mc_unit.specs.Parts.{parts_of};
 ghost use Rattle.mc_machine.specs.Turns.{outcome_value};
 ghost use Rattle.mc_card.specs.Parts.{device_in, card_in, seat_in, IsReadyCard};
@@ -148,7 +149,7 @@ struct Section<'a> {
 impl<'a> Model for Section<'a> {
     ghost use Rattle.std.specs.List.{AllByRecursion};
     ghost use Rattle.std.specs.Prelude.{◌+◌, ◌≤◌, length, List, ℕ};
-    ghost use Rattle.mc_model.specs.Limits.{most_code};
+    ghost use Rattle.mc_model_device.specs.Limits.{most_code};
 
     ghost Value = { List (List ℕ) };
 

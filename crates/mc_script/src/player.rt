@@ -1,5 +1,5 @@
 ghost use Rattle.std.specs.Prelude.{◌≡◌};
-ghost use Rattle.mc_model.specs.Play.{start};
+ghost use Rattle.mc_model_play.specs.Play.{start};
 ghost use Rattle.mc_script.specs.Players.{device_of, IsPlayerAt, IsUnfused};
 
 use crate::armed::Armed;

@@ -1,13 +1,13 @@
 // Whole decks.
 ghost use Rattle.std.specs.Prelude.{◌≡◌, None};
 ghost use Rattle.std.specs.List.{AllByRecursion};
-ghost use Rattle.mc_model.specs.Device.{IsImage};
-ghost use Rattle.mc_model.specs.Play.{start};
-ghost use Rattle.mc_model.specs.ReadyAgain.{IsLine};
+ghost use Rattle.mc_model_device.specs.Device.{IsImage};
+ghost use Rattle.mc_model_play.specs.Play.{start};
+ghost use Rattle.mc_model_play.specs.ReadyAgain.{IsLine};
 ghost use Rattle.mc_script.specs.Players.{IsUnfused};
 ghost use Rattle.mc_text.specs.Texts.{sunk_in};
 ghost use Rattle.mc_script.specs.Writers.{ended, text_by, turns_text};
-ghost use Rattle.mc_model.specs.Generator.{summary};
+ghost use Rattle.mc_model_play.specs.Generator.{summary};
 ghost use Rattle.mc_script.specs.Sums.{DumpsLast};
 ghost use Rattle.mc_script.specs.Plays.{plain_text, traced_text, PlaysFrom, PlaysDeck, SumsDeck};
 

@@ -1,6 +1,6 @@
 // Who runs the commands of a play, and what is told of their turns.
 ghost use Rattle.std.specs.Prelude.{◌≡◌, ◌≤◌, ◌++◌, List, []};
-ghost use Rattle.mc_model.specs.Chain.{Turn as ModelTurn};
+ghost use Rattle.mc_model_machine.specs.Chain.{Turn as ModelTurn};
 ghost use Rattle.mc_card.specs.Parts.{device_in, due, IsReadyCard};
 ghost use Rattle.mc_script.specs.Runs.{RanAndTold};
 ghost use Rattle.mc_card.specs.Ends.{put_in};

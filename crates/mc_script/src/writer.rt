@@ -1,8 +1,8 @@
 // What is written of a play, line by line.
 ghost use Rattle.std.specs.Prelude.{◌≡◌, ◌≤◌, ◌++◌, ◌∷◌, [], ℕ, List, Option, None, IfSome, option_map};
-ghost use Rattle.mc_model.specs.Chain.{Turn as ModelTurn};
-ghost use Rattle.mc_model.specs.Code.{Shaped};
-ghost use Rattle.mc_model.specs.Transcript.{line_text};
+ghost use Rattle.mc_model_machine.specs.Chain.{Turn as ModelTurn};
+ghost use Rattle.mc_model_machine.specs.Code.{Shaped};
+ghost use Rattle.mc_model_play.specs.Transcript.{line_text};
 ghost use Rattle.mc_machine.specs.Turns.{turn_value};
 ghost use Rattle.mc_card.specs.Parts.{device_in, due, IsReadyCard};
 ghost use Rattle.mc_card.specs.Ends.{put_in};

@@ -3,12 +3,12 @@ use Rattle.std.proofs.Common.{◌≡◌, ℕ, ◌+◌, ◌-◌, ◌≤◌, ◌<�
 use Rattle.std.specs.Prelude.{nat_le, nat_eq, slice_get, unwrap_or}
 use Rattle.std.proofs.lemmas.Bool.{cases_lt, le-leb, ne_eqb}
 use Rattle.std.proofs.lemmas.List.{length-take, length-drop, get_or-take, get_or-drop, ext_get_or, length-replicate}
-use Rattle.mc_model.specs.Bytes.{splice}
-use Rattle.mc_model.specs.Pieces.{covered, laid_pieces, word_pieces}
-use Rattle.mc_model.specs.Frame.{Frame, Place, where_is, bytes_at, bytes_in}
+use Rattle.mc_model_device.specs.Bytes.{splice}
+use Rattle.mc_model_device.specs.Pieces.{covered, laid_pieces, word_pieces}
+use Rattle.mc_model_machine.specs.Frame.{Frame, Place, where_is, bytes_at, bytes_in}
 use Rattle.mc_bank.specs.Bank.{BankState}
 use Rattle.mc_trans.proofs.Overlay.{length-laid, splice_before, splice_in, splice_behind, get_some, get_none, lt-leb}
-use Rattle.mc_model.proofs.ListLemmas.{length-splice}
+use Rattle.mc_model_device.proofs.ListLemmas.{length-splice}
 use Rattle.mc_segs.specs.Overlaid.{IsOverlaid}
 use Rattle.mc_segs.specs.HeldFrames.{Held, FitsBank, shown, pieces_of, ArePendingIn}
 use Rattle.mc_segs.specs.Inside.{frame_value, KeepsInside}

@@ -5,7 +5,7 @@ use Rattle.std.specs.List.{AllByRecursion}
 use Rattle.std.proofs.lemmas.Bool.{cases_lt}
 use Rattle.std.proofs.lemmas.Bool.Decides.{nat_tests}
 use Rattle.std.proofs.lemmas.List.{length-take}
-use Rattle.mc_model.specs.Pieces.{covered, laid_pieces, word_pieces, with_number, with_words, with_touched, touched, numbers, pending_at, Ascend, HoldPieces, LieIn}
+use Rattle.mc_model_device.specs.Pieces.{covered, laid_pieces, word_pieces, with_number, with_words, with_touched, touched, numbers, pending_at, Ascend, HoldPieces, LieIn}
 use Rattle.mc_trans.proofs.Overlay.{LieIn_begin, laid_covered, lt-leb}
 use Rattle.mc_trans.proofs.Touched.{covered_word}
 use Rattle.mc_trans.proofs.Putting.{with_number_twice}

@@ -2,15 +2,15 @@
 use Rattle.std.proofs.Common.{◌≡◌, ℕ, zero, suc, ◌+◌, ◌-◌, ◌/◌, ◌%◌, ◌≤◌, ◌<◌, Bool, true, false, List, [], ◌∷◌, ◌++◌, length, Option, Some, None, Ok, Err, refl, sym, ap, subst, ◌∙◌, arith}
 use Rattle.std.specs.Prelude.{nat_lt, nat_eq, unwrap_or, IsSome, OnOk}
 use Rattle.std.proofs.lemmas.List.{length-replicate}
-use Rattle.mc_model.specs.Orders.{Answer, InOrder}
-use Rattle.mc_model.specs.Items.{BankItem, Commit}
-use Rattle.mc_model.specs.Bytes.{lookup, insert, zeros}
-use Rattle.mc_model.specs.Card.{App}
-use Rattle.mc_model.specs.Pieces.{laid_pieces, touched, not_pending, HoldPieces, LieIn}
-use Rattle.mc_model.specs.Frame.{Frame, Static, static_bytes, static_written, passes_limit, committed as changes_of}
+use Rattle.mc_model_device.specs.Orders.{Answer, InOrder}
+use Rattle.mc_model_card.specs.Items.{BankItem, Commit}
+use Rattle.mc_model_device.specs.Bytes.{lookup, insert, zeros}
+use Rattle.mc_model_device.specs.Card.{App}
+use Rattle.mc_model_device.specs.Pieces.{laid_pieces, touched, not_pending, HoldPieces, LieIn}
+use Rattle.mc_model_machine.specs.Frame.{Frame, Static, static_bytes, static_written, passes_limit, committed as changes_of}
 use Rattle.mc_bank.specs.Bank.{BankState, app_of, name_or, no_app, with_words, committed, Changes}
 use Rattle.mc_bank.specs.NameLaws.{lookup-inserted}
-use Rattle.mc_model.proofs.ImageLemmas.{all-append}
+use Rattle.mc_model_device.proofs.ImageLemmas.{all-append}
 use Rattle.mc_trans.proofs.Overlay.{length-laid}
 use Rattle.mc_trans.proofs.Holding.{words_laid, none_held}
 use Rattle.mc_trans.proofs.Counting.{words_counted}

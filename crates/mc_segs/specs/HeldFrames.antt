@@ -1,11 +1,11 @@
 -- A frame as the code holds it, the frame that it is on a bank, and when it fits that bank.
 use Rattle.std.specs.Prelude.{◌≡◌, ℕ, ◌-◌, ◌*◌, ◌<◌, ◌≤◌, Bool, true, false, List, [], ◌∷◌, length, take, map, Option, IsSome}
 use Rattle.std.specs.List.{AllByRecursion}
-use Rattle.mc_model.specs.declared.card.Sizes.{Sizes}
-use Rattle.mc_model.specs.Bytes.{lookup, zeros}
-use Rattle.mc_model.specs.Card.{App}
-use Rattle.mc_model.specs.Pieces.{touched, ArePending}
-use Rattle.mc_model.specs.Frame.{Frame, static_bytes, floor, dynamic_end, new_frame}
+use Rattle.mc_model_card.specs.declared.card.Sizes.{Sizes}
+use Rattle.mc_model_device.specs.Bytes.{lookup, zeros}
+use Rattle.mc_model_device.specs.Card.{App}
+use Rattle.mc_model_device.specs.Pieces.{touched, ArePending}
+use Rattle.mc_model_machine.specs.Frame.{Frame, static_bytes, floor, dynamic_end, new_frame}
 use Rattle.mc_bank.specs.Bank.{BankState, app_of, name_or}
 
 -- A frame without what stands on the bank: the slot of its application, and a frame without a name, whose static segment has its length

@@ -1,6 +1,6 @@
 -- What the fields of a frame stand for.
 use Rattle.std.specs.Prelude.{[]}
-use Rattle.mc_model.specs.Bytes.{zeros}
+use Rattle.mc_model_device.specs.Bytes.{zeros}
 use Rattle.mc_segs.specs.HeldFrames.{Held, pieces_of, ArePendingIn, KeepsFrame}
 use Rattle.mc_segs.specs.declared.frame.Frame.TheInside.{Inside}
 

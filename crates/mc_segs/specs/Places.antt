@@ -1,6 +1,6 @@
 -- Places of the code as places of the definitions.
-use Rattle.mc_model.specs.Frame.{Place}
-use Rattle.mc_model.specs.Frame as model
+use Rattle.mc_model_machine.specs.Frame.{Place}
+use Rattle.mc_model_machine.specs.Frame as model
 use Rattle.mc_segs.specs.declared.access.Place.{Place as CodePlace}
 use Rattle.mc_segs.specs.declared.access.Place.TheVariants as place
 

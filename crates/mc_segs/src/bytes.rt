@@ -1,6 +1,6 @@
 // Pieces of bytes in arrays.
 ghost use Rattle.std.specs.Prelude.{◌≡◌, ◌+◌, ◌≤◌, ◌<◌, length, take, drop, ◌++◌};
-ghost use Rattle.mc_model.specs.Bytes.{be2, bytes2, splice};
+ghost use Rattle.mc_model_device.specs.Bytes.{be2, bytes2, splice};
 
 /// Copies bytes from a place on.
 #[inline(always)]

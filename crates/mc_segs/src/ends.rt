@@ -1,5 +1,5 @@
 use mc_base::{Aid, Stop};
-use mc_model::Abend;
+use mc_model_machine::Abend;
 
 /// What comes after an instruction that was done: the next one, the frame's exit, or another application by its name.
 #[derive(Clone, Copy, Debug, PartialEq, Eq)]

@@ -1,5 +1,5 @@
 ghost use Rattle.std.specs.Prelude.{◌≡◌, ◌≢◌, ◌-◌, ◌+◌, ◌≤◌, ◌<◌, length, true, false, OnOk, OnErr};
-ghost use Rattle.mc_model.specs.Frame.{flagged, floor, session_of};
+ghost use Rattle.mc_model_machine.specs.Frame.{flagged, floor, session_of};
 ghost use Rattle.mc_segs.specs.HeldFrames.{new_held};
 
 use crate::bytes::write;

@@ -14,7 +14,7 @@ mod stack;
 pub use access::{load, resolve, store};
 pub use ends::{Halt, Next};
 pub use frame::Frame;
-pub use mc_model::Abend;
+pub use mc_model_machine::Abend;
 pub use protection::protect;
 pub use public::Public;
 pub use session::Session;

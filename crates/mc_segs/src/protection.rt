@@ -1,7 +1,7 @@
 // Static writes: at once, or kept as pending words until a commit.
 ghost use Rattle.std.specs.Prelude.{◌≡◌, ℕ, ◌+◌, ◌*◌, ◌/◌, ◌≤◌, ◌<◌, length, slice_index, true, false, [], Some, None, IsSome, OnOk, OnErr, ◌==◌, ◌||◌};
-ghost use Rattle.mc_model.specs.Frame as model;
-ghost use Rattle.mc_model.specs.Pieces.{not_pending, pending_at, put_word};
+ghost use Rattle.mc_model_machine.specs.Frame as model;
+ghost use Rattle.mc_model_device.specs.Pieces.{not_pending, pending_at, put_word};
 ghost use Rattle.mc_bank.specs.Bank.{app_of};
 ghost use Rattle.mc_segs.specs.HeldFrames.{FitsBank, shown, ArePendingIn};
 ghost use Rattle.mc_segs.specs.Puts.{words_under, IsWordOf, PutsPiece, PutsBytes};
@@ -12,7 +12,7 @@ use crate::bytes::write;
 use crate::frame::Frame;
 use mc_bank::{Bank, Slot};
 use mc_base::{Stop, Word};
-use mc_model::Abend;
+use mc_model_machine::Abend;
 use mc_trans::Pending;
 
 /// Sets the protection of static writes: mode 0 drops the pending words and ends it, 1 commits them and ends it, 2 drops

@@ -1,11 +1,11 @@
 -- What a commit and a deletion do to a store as a bank.
 use Rattle.std.proofs.Common.{◌≡◌, ◌≢◌, ℕ, Bool, true, false, not, List, Option, Some, Ok, Err, refl, sym, ◌∙◌, ap, inl, inr}
 use Rattle.std.specs.Prelude.{◌⊎◌, IsSome, unwrap_or}
-use Rattle.mc_model.specs.Orders.{Answer}
-use Rattle.mc_model.specs.Bytes.{lookup, insert}
-use Rattle.mc_model.specs.Device.{DeviceState, IsSized, Wrote}
-use Rattle.mc_model.specs.Card.{App, means}
-use Rattle.mc_model.specs.Items.{BankItem, Commit, Remove}
+use Rattle.mc_model_device.specs.Orders.{Answer}
+use Rattle.mc_model_device.specs.Bytes.{lookup, insert}
+use Rattle.mc_model_device.specs.Device.{DeviceState, IsSized, Wrote}
+use Rattle.mc_model_device.specs.Card.{App, means}
+use Rattle.mc_model_card.specs.Items.{BankItem, Commit, Remove}
 use Rattle.mc_bank.specs.Bank.{no_app, app_of, sizes_of, with_words, committed, item_done}
 use Rattle.mc_bank.specs.Slots.{slot_place, name_of_slot}
 use Rattle.mc_bank.specs.SlotLaws.{commit_sized, slot_stays}

@@ -1,11 +1,11 @@
 -- A store is ready for the last item of a creation after those before it.
 use Rattle.std.proofs.Common.{◌≡◌, ℕ, ◌-◌, ◌≤◌, true, List, [], ◌∷◌, length, map, None, Ok, sym, ◌∙◌, ap, subst}
 use Rattle.std.specs.List.{AllByRecursion}
-use Rattle.mc_model.specs.Orders.{Answer, InOrder}
-use Rattle.mc_model.specs.Bytes.{zeros, lookup}
-use Rattle.mc_model.specs.Device.{DeviceState, IsSized, Wrote}
-use Rattle.mc_model.specs.Card.{Card, means}
-use Rattle.mc_model.specs.Items.{Site, Blank, Note}
+use Rattle.mc_model_device.specs.Orders.{Answer, InOrder}
+use Rattle.mc_model_device.specs.Bytes.{zeros, lookup}
+use Rattle.mc_model_device.specs.Device.{DeviceState, IsSized, Wrote}
+use Rattle.mc_model_device.specs.Card.{Card, means}
+use Rattle.mc_model_card.specs.Items.{Site, Blank, Note}
 use Rattle.mc_base.specs.Name.{IsName}
 use Rattle.mc_store.specs.declared.store.Store.{Store}
 use Rattle.mc_store.specs.Store.{is_going, IsGoodIn, IsReadySite}

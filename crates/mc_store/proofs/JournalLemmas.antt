@@ -2,16 +2,16 @@
 use Rattle.std.proofs.Common.{◌≡◌, ◌≢◌, ℕ, ◌+◌, ◌≤◌, Bool, true, false, List, [], ◌∷◌, length, Option, Some, None, refl, sym, ◌∙◌, ap, subst, arith, inl, inr}
 use Rattle.std.specs.Prelude.{bytes_eq, Result, Ok, Err, ◌⊎◌}
 use Rattle.std.specs.List.{AllByRecursion}
-use Rattle.mc_model.specs.declared.card.Cause.{Cause}
-use Rattle.mc_model.specs.Image.{Journal, One, Two, opening, shut, gate, is_open, Only, which, which_of, Look, Refused, Closed, Pending, look_j, look_at, look, laid, After, Words, after, after_j, owed_j, replayed, debt, opened, within, count, aimed, headed, targets}
-use Rattle.mc_model.specs.Stopped.{InJournal, replay, remains, torn, Resumes}
-use Rattle.mc_model.specs.Card.{Card, card_of, means, word, words_after}
-use Rattle.mc_model.specs.Layout.{words_fault, fault, fault_of}
-use Rattle.mc_model.specs.Play.{Base, OnCard, AtFault, base_of}
-use Rattle.mc_model.proofs.ImageLemmas.{all-append, length-laid, laid-other}
-use Rattle.mc_model.proofs.LookLemmas.{GoodPending, good-pending}
-use Rattle.mc_model.proofs.StoppedLemmas.{torn-other, shut-closed, targets-outside, closed-look}
-use Rattle.mc_model.proofs.RecoveryLemmas.{resume, resumed, look-one, look-two}
+use Rattle.mc_model_device.specs.declared.cause.Cause.{Cause}
+use Rattle.mc_model_device.specs.Image.{Journal, One, Two, opening, shut, gate, is_open, Only, which, which_of, Look, Refused, Closed, Pending, look_j, look_at, look, laid, After, Words, after, after_j, owed_j, replayed, debt, opened, within, count, aimed, headed, targets}
+use Rattle.mc_model_device.specs.Stopped.{InJournal, replay, remains, torn, Resumes}
+use Rattle.mc_model_device.specs.Card.{Card, card_of, means, word, words_after}
+use Rattle.mc_model_device.specs.Layout.{words_fault, fault, fault_of}
+use Rattle.mc_model_device.specs.PowerUp.{Base, OnCard, AtFault, base_of}
+use Rattle.mc_model_device.proofs.ImageLemmas.{all-append, length-laid, laid-other}
+use Rattle.mc_model_device.proofs.LookLemmas.{GoodPending, good-pending}
+use Rattle.mc_model_device.proofs.StoppedLemmas.{torn-other, shut-closed, targets-outside, closed-look}
+use Rattle.mc_model_device.proofs.RecoveryLemmas.{resume, resumed, look-one, look-two}
 use Rattle.mc_store.specs.Power.{found, HoldsBase}
 use Rattle.mc_store.proofs.HeapLemmas.{SameHeap, same_drop, same_fault, same_card}
 

@@ -4,14 +4,14 @@ use Rattle.std.specs.Prelude.{bytes_eq, ◌⊎◌, ◌==◌, slice_index, slice_
 use Rattle.std.specs.List.{AllByRecursion}
 use Rattle.std.proofs.lemmas.List.{get_or-set_same, get_or-set_other, length-set}
 use Rattle.std.proofs.lemmas.Bool.{eqb-true}
-use Rattle.mc_model.specs.declared.card.Cause.TheVariants.{NoRoot, BadBlock, BadRecord, BadChain}
-use Rattle.mc_model.specs.Bytes.{be2, or_else}
-use Rattle.mc_model.specs.Image.{One, Two, opening, is_open, Closed, look, laid}
-use Rattle.mc_model.specs.Stopped.{InJournal, writes, stands, owes, torn, stood, IsAtomic, SameOutside, LeavesOwing, LaidWhole}
-use Rattle.mc_model.specs.Card.{App, Block, card_of, word, blocks, heap_start}
-use Rattle.mc_model.specs.Layout.{words_fault, root, no_root, bad_block, bad_record, bad_link, bad_chain, first_hole, by_cause}
-use Rattle.mc_model.proofs.ImageLemmas.{laid-other}
-use Rattle.mc_model.proofs.StoppedLemmas.{torn-other, shut-closed, tear, done}
+use Rattle.mc_model_device.specs.declared.cause.Cause.TheVariants.{NoRoot, BadBlock, BadRecord, BadChain}
+use Rattle.mc_model_device.specs.Bytes.{be2, or_else}
+use Rattle.mc_model_device.specs.Image.{One, Two, opening, is_open, Closed, look, laid}
+use Rattle.mc_model_device.specs.Stopped.{InJournal, writes, stands, owes, torn, stood, IsAtomic, SameOutside, LeavesOwing, LaidWhole}
+use Rattle.mc_model_device.specs.Card.{App, Block, card_of, word, blocks, heap_start}
+use Rattle.mc_model_device.specs.Layout.{words_fault, root, no_root, bad_block, bad_record, bad_link, bad_chain, first_hole, by_cause}
+use Rattle.mc_model_device.proofs.ImageLemmas.{laid-other}
+use Rattle.mc_model_device.proofs.StoppedLemmas.{torn-other, shut-closed, tear, done}
 use Rattle.mc_blocks.proofs.Bridge.{Faultless, faultless}
 use Rattle.mc_store.specs.Power.{new_root, HoldsBase}
 use Rattle.mc_store.proofs.HeapLemmas.{SameHeap, root_test, same_drop, all_blocks, all_apps, bad_blocks, bad_records}

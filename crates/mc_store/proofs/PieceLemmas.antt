@@ -5,9 +5,9 @@ use Rattle.std.proofs.lemmas.List.{length-set, get_or-set_same, get_or-set_other
 use Rattle.std.proofs.lemmas.List.Edits.{paste_none}
 use Rattle.std.proofs.lemmas.Bool.{cases_lt}
 use Rattle.std.proofs.Math.Seq.{take-append-add, drop-append-add}
-use Rattle.mc_model.specs.Bytes.{up, splice}
-use Rattle.mc_model.specs.Device.{IsSized}
-use Rattle.mc_model.specs.Card.{word, cells, section}
+use Rattle.mc_model_device.specs.Bytes.{up, splice}
+use Rattle.mc_model_device.specs.Device.{IsSized}
+use Rattle.mc_model_device.specs.Card.{word, cells, section}
 use Rattle.mc_bank.proofs.LeftLemmas.{front_piece, splice-splice}
 use Rattle.mc_store.specs.Store.{IsInWord}
 use Rattle.mc_blocks.proofs.Sections.{cells-more, cells-append, length-cells, same-cells}

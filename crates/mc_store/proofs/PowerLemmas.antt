@@ -2,17 +2,17 @@
 use Rattle.std.proofs.Common.{◌≡◌, ℕ, ◌+◌, ◌-◌, ◌≤◌, Bool, true, false, List, [], ◌++◌, length, Option, Some, None, refl, sym, ◌∙◌, ap, subst, arith, cond, inl, inr, length-append}
 use Rattle.std.specs.Prelude.{◌⊎◌, ◌==◌}
 use Rattle.std.proofs.lemmas.Bool.{eqb-true, eq-eqb, ne_eqb}
-use Rattle.mc_model.specs.declared.card.Cause.{Cause}
-use Rattle.mc_model.specs.Orders.{Answer}
-use Rattle.mc_model.specs.Device.{DeviceState, IsSized, Wrote, Makes}
-use Rattle.mc_model.specs.Image.{Journal, One, which, Look, Refused, Closed, Pending, look, laid, Words, After, after, replayed, owed, debt}
-use Rattle.mc_model.specs.Stopped.{writes, replay, owed_writes, torn, stood, stands, owes, remains}
-use Rattle.mc_model.specs.Card.{Card, card_of, means, words_after}
-use Rattle.mc_model.specs.Layout.{words_fault, fault, fault_of}
-use Rattle.mc_model.specs.Play.{Base, OnCard, AtFault, base_of, migration, migrated, owing}
-use Rattle.mc_model.proofs.ImageLemmas.{length-laid, laid-append}
-use Rattle.mc_model.proofs.StoppedLemmas.{torn-within, torn-past}
-use Rattle.mc_model.proofs.DeviceLemmas.{DoneAll, StoppedAt, makes-done, makes-stopped}
+use Rattle.mc_model_device.specs.declared.cause.Cause.{Cause}
+use Rattle.mc_model_device.specs.Orders.{Answer}
+use Rattle.mc_model_device.specs.Device.{DeviceState, IsSized, Wrote, Makes}
+use Rattle.mc_model_device.specs.Image.{Journal, One, which, Look, Refused, Closed, Pending, look, laid, Words, After, after, replayed, owed, debt}
+use Rattle.mc_model_device.specs.Stopped.{writes, replay, owed_writes, torn, stood, stands, owes, remains}
+use Rattle.mc_model_device.specs.Card.{Card, card_of, means, words_after}
+use Rattle.mc_model_device.specs.Layout.{words_fault, fault, fault_of}
+use Rattle.mc_model_device.specs.PowerUp.{Base, OnCard, AtFault, base_of, migration, migrated, owing}
+use Rattle.mc_model_device.proofs.ImageLemmas.{length-laid, laid-append}
+use Rattle.mc_model_device.proofs.StoppedLemmas.{torn-within, torn-past}
+use Rattle.mc_model_device.proofs.DeviceLemmas.{DoneAll, StoppedAt, makes-done, makes-stopped}
 use Rattle.mc_store.specs.Store.{settled}
 use Rattle.mc_store.specs.Power.{found, new_root, migrating, power_writes, power_count, HoldsBase, IsHalted, Powered, Runs, Halts, Fails, PowersUp, power_answer, PowerFollows}
 use Rattle.mc_store.specs.GoingLaws.{is_going_of, closed_settled, closed_means}

@@ -3,9 +3,9 @@ use Rattle.std.proofs.Common.{◌≡◌, ℕ, ◌+◌, ◌≤◌, Bool, true, fa
 use Rattle.std.specs.Prelude.{nat_le, ◌==◌, slice_index, bytes_eq, ◌-◌}
 use Rattle.std.proofs.lemmas.Bool.{and_parts, leb-true, eqb-true, false_from_ne_true}
 use Rattle.std.proofs.lemmas.List.{take-take, take-append-le}
-use Rattle.mc_model.specs.Bytes.{be2, up, zeros}
-use Rattle.mc_model.specs.Card.{word, needed_of, record_at, name_in, name_at}
-use Rattle.mc_model.specs.Layout.{is_record}
+use Rattle.mc_model_device.specs.Bytes.{be2, up, zeros}
+use Rattle.mc_model_device.specs.Card.{word, needed_of, record_at, name_in, name_at}
+use Rattle.mc_model_device.specs.Layout.{is_record}
 use Rattle.mc_bank.specs.NameLaws.{same_name, name_is_itself}
 use Rattle.mc_blocks.proofs.Records.{record_is as record_bytes_are}
 use Rattle.mc_store.specs.Slots.{IsUsedBlock}

@@ -1,16 +1,16 @@
 -- The steps of a power-up, one after another: the replay, the check, the migration.
 use Rattle.std.proofs.Common.{◌≡◌, ℕ, ◌+◌, ◌≤◌, true, List, [], ◌∷◌, ◌++◌, length, Option, None, Ok, Err, refl, sym, ◌∙◌, ap, subst, cond, append-nil}
 use Rattle.std.specs.Prelude.{Result, IfOk, ◌==◌, slice_set}
-use Rattle.mc_model.specs.declared.card.Cause.{Cause}
-use Rattle.mc_model.specs.Orders.{Answer}
-use Rattle.mc_model.specs.Device.{DeviceState, Wrote, Makes}
-use Rattle.mc_model.specs.Image.{Journal, One, Look, Refused, Closed, Pending, look, look_j, owed, debt, replayed}
-use Rattle.mc_model.specs.Stopped.{writes, owed_writes, Recovered, LookAllows, RecoverEnds}
-use Rattle.mc_model.specs.Card.{Card, means, word, words_after}
-use Rattle.mc_model.specs.Layout.{words_fault, fault, fault_of}
-use Rattle.mc_model.specs.Play.{Base, base_of, migration}
-use Rattle.mc_model.proofs.OrdersLemmas.{InOrder-append, InOrder-stopped}
-use Rattle.mc_model.proofs.DeviceLemmas.{DoneAll, makes-done}
+use Rattle.mc_model_device.specs.declared.cause.Cause.{Cause}
+use Rattle.mc_model_device.specs.Orders.{Answer}
+use Rattle.mc_model_device.specs.Device.{DeviceState, Wrote, Makes}
+use Rattle.mc_model_device.specs.Image.{Journal, One, Look, Refused, Closed, Pending, look, look_j, owed, debt, replayed}
+use Rattle.mc_model_device.specs.Stopped.{writes, owed_writes, Recovered, LookAllows, RecoverEnds}
+use Rattle.mc_model_device.specs.Card.{Card, means, word, words_after}
+use Rattle.mc_model_device.specs.Layout.{words_fault, fault, fault_of}
+use Rattle.mc_model_device.specs.PowerUp.{Base, base_of, migration}
+use Rattle.mc_model_device.proofs.OrdersLemmas.{InOrder-append, InOrder-stopped}
+use Rattle.mc_model_device.proofs.DeviceLemmas.{DoneAll, makes-done}
 use Rattle.mc_store.specs.declared.power.Up.{Up}
 use Rattle.mc_store.specs.declared.power.Up.TheVariants as up
 use Rattle.mc_store.specs.Store.{settled}

@@ -4,15 +4,15 @@ use Rattle.std.specs.Prelude.{slice_set, ◌⊎◌}
 use Rattle.std.proofs.lemmas.Bool.{cases_lt}
 use Rattle.std.proofs.lemmas.List.{length-take-le, take-take, take-append-le, get_or-set_other, length-set, take_all, drop_all}
 use Rattle.std.proofs.lemmas.List.Edits.{paste_none}
-use Rattle.mc_model.specs.declared.card.Part.{Part}
-use Rattle.mc_model.specs.declared.card.Part.TheVariants.{Code, Data, Dir, Fci}
-use Rattle.mc_model.specs.declared.card.Sizes.{Sizes}
-use Rattle.mc_model.specs.Bytes.{up, down, splice}
-use Rattle.mc_model.specs.Pieces.{laid_pieces}
-use Rattle.mc_model.specs.Manager.{in_words, word_parts}
-use Rattle.mc_model.specs.Device.{IsSized}
-use Rattle.mc_model.specs.Card.{word, section}
-use Rattle.mc_model.specs.Items.{Site}
+use Rattle.mc_model_card.specs.declared.card.Part.{Part}
+use Rattle.mc_model_card.specs.declared.card.Part.TheVariants.{Code, Data, Dir, Fci}
+use Rattle.mc_model_card.specs.declared.card.Sizes.{Sizes}
+use Rattle.mc_model_device.specs.Bytes.{up, down, splice}
+use Rattle.mc_model_device.specs.Pieces.{laid_pieces}
+use Rattle.mc_model_card.specs.Manager.{in_words, word_parts}
+use Rattle.mc_model_device.specs.Device.{IsSized}
+use Rattle.mc_model_device.specs.Card.{word, section}
+use Rattle.mc_model_card.specs.Items.{Site}
 use Rattle.mc_bank.specs.Bank.{FitsLimits, part_len}
 use Rattle.mc_bank.proofs.LeftLemmas.{length-spliced}
 use Rattle.mc_store.specs.Store.{needed_by, part_from, part_in, piece_write, IsInWord}

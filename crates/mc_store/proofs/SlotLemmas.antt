@@ -3,13 +3,13 @@ use Rattle.std.proofs.Common.{◌≡◌, ℕ, ◌+◌, ◌≤◌, Bool, true, fa
 use Rattle.std.specs.Prelude.{◌==◌, slice_index, bytes_eq, IsSome, is_some, unwrap_or}
 use Rattle.std.specs.List.{AllByRecursion}
 use Rattle.std.proofs.lemmas.Bool.{eqb-true, eq-eqb}
-use Rattle.mc_model.specs.declared.card.Sizes.{Sizes}
-use Rattle.mc_model.specs.Bytes.{be2, up, lookup, insert, name_before}
-use Rattle.mc_model.specs.Image.{look, Closed}
-use Rattle.mc_model.specs.Device.{DeviceState, IsSized}
-use Rattle.mc_model.specs.Card.{App, Card, Block, blocks, record_at, name_at, app_at, apps_of, card_of, needed_of}
-use Rattle.mc_model.specs.Layout.{words_fault}
-use Rattle.mc_model.proofs.ImageLemmas.{all-map}
+use Rattle.mc_model_card.specs.declared.card.Sizes.{Sizes}
+use Rattle.mc_model_device.specs.Bytes.{be2, up, lookup, insert, name_before}
+use Rattle.mc_model_device.specs.Image.{look, Closed}
+use Rattle.mc_model_device.specs.Device.{DeviceState, IsSized}
+use Rattle.mc_model_device.specs.Card.{App, Card, Block, blocks, record_at, name_at, app_at, apps_of, card_of, needed_of}
+use Rattle.mc_model_device.specs.Layout.{words_fault}
+use Rattle.mc_model_device.proofs.ImageLemmas.{all-map}
 use Rattle.mc_base.specs.Name.{IsName}
 use Rattle.mc_bank.specs.Bank.{app_of, no_app, sizes_of, FitsLimits, IsApplication, AscendByName, AreApps}
 use Rattle.mc_bank.specs.NameLaws.{same_name, name_is_itself, not_after, lookup-inserted, lookup-beside, each-inserted, ascend-inserted}

@@ -2,17 +2,17 @@
 use Rattle.std.proofs.Common.{◌≡◌, ℕ, ◌+◌, ◌<◌, ◌≤◌, Bool, true, false, List, [], ◌∷◌, length, Option, Some, None, refl, sym, ◌∙◌, ap, subst, arith, cond, inl, inr}
 use Rattle.std.specs.Prelude.{◌⊎◌, bytes_eq, slice_set, unwrap_or}
 use Rattle.std.proofs.lemmas.List.{length-map}
-use Rattle.mc_model.specs.Bytes.{up, lookup, insert}
-use Rattle.mc_model.specs.Device.{IsSized}
-use Rattle.mc_model.specs.Image.{One, Two, opening, look, Closed, laid, debt}
-use Rattle.mc_model.specs.Stopped.{writes, cost, stands, owes, torn, stood, IsAtomic, InJournal, LeavesOwing}
-use Rattle.mc_model.specs.Card.{App, Card, card_of, means}
-use Rattle.mc_model.specs.Layout.{words_fault, gaps, step_of, IsWellLaid}
-use Rattle.mc_model.specs.Play.{Base, OnCard}
-use Rattle.mc_model.specs.Items.{Site, BankItem, Piece, Blank, Note, Commit, Enter, Remove}
-use Rattle.mc_model.proofs.ImageLemmas.{length-laid}
-use Rattle.mc_model.proofs.CallLemmas.{length-writes}
-use Rattle.mc_model.proofs.StoppedLemmas.{torn-other, tear}
+use Rattle.mc_model_device.specs.Bytes.{up, lookup, insert}
+use Rattle.mc_model_device.specs.Device.{IsSized}
+use Rattle.mc_model_device.specs.Image.{One, Two, opening, look, Closed, laid, debt}
+use Rattle.mc_model_device.specs.Stopped.{writes, cost, stands, owes, torn, stood, IsAtomic, InJournal, LeavesOwing}
+use Rattle.mc_model_device.specs.Card.{App, Card, card_of, means}
+use Rattle.mc_model_device.specs.Layout.{words_fault, gaps, step_of, IsWellLaid}
+use Rattle.mc_model_device.specs.PowerUp.{Base, OnCard}
+use Rattle.mc_model_card.specs.Items.{Site, BankItem, Piece, Blank, Note, Commit, Enter, Remove}
+use Rattle.mc_model_device.proofs.ImageLemmas.{length-laid}
+use Rattle.mc_model_device.proofs.CallLemmas.{length-writes}
+use Rattle.mc_model_device.proofs.StoppedLemmas.{torn-other, tear}
 use Rattle.mc_bank.specs.Bank.{no_app, app_of, CanCommit, with_words}
 use Rattle.mc_blocks.specs.Plans.{has_room}
 use Rattle.mc_store.specs.Store.{needed_by, static_writes, card_with, card_without, item_writes, IsGoodIn, Allows}

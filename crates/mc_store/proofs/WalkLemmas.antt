@@ -3,10 +3,10 @@ use Rattle.std.proofs.Common.{◌≡◌, ℕ, ◌+◌, ◌<◌, ◌≤◌, Bool,
 use Rattle.std.specs.Prelude.{◌==◌, slice_index, bytes_eq, MatchBool}
 use Rattle.std.specs.List.{AllByRecursion}
 use Rattle.std.proofs.lemmas.Bool.{le-leb}
-use Rattle.mc_model.specs.Bytes.{be2, has_name}
-use Rattle.mc_model.specs.Device.{IsSized}
-use Rattle.mc_model.specs.Card.{Block, word, header, blocks, record_at, name_at, used_tag}
-use Rattle.mc_model.specs.Layout.{is_record, words_fault}
+use Rattle.mc_model_device.specs.Bytes.{be2, has_name}
+use Rattle.mc_model_device.specs.Device.{IsSized}
+use Rattle.mc_model_device.specs.Card.{Block, word, header, blocks, record_at, name_at, used_tag}
+use Rattle.mc_model_device.specs.Layout.{is_record, words_fault}
 use Rattle.mc_blocks.specs.Blocks.{fitting, blocks_at}
 use Rattle.mc_blocks.proofs.Steps.{HeaderIs, header-is, blocks_step, blocks_all}
 use Rattle.mc_blocks.proofs.Tiles.{Tiled, HeadersRead}

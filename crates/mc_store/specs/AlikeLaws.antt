@@ -1,10 +1,10 @@
 -- Words that are the same in word 0 and in the heap hold the same card, whatever stands in their journals.
 use Rattle.std.proofs.Common.{◌≡◌, ℕ, ◌+◌, ◌≤◌, Bool, true, false, List, [], ◌∷◌, length, Option, Some, None, Result, Ok, Err, refl, sym, ◌∙◌, ap, arith}
-use Rattle.mc_model.specs.Device.{IsSized}
-use Rattle.mc_model.specs.Image.{Journal, One, Two, is_open, count, targets, Look, Refused, Closed, Pending, which_of, look, look_at, look_j, headed, aimed, opened, After, Words, after, replayed}
-use Rattle.mc_model.specs.Stopped.{InJournal, SameOutside}
-use Rattle.mc_model.specs.Card.{Block, word, blocks, card_of, means, words_after}
-use Rattle.mc_model.specs.Layout.{words_fault, fault, fault_of}
+use Rattle.mc_model_device.specs.Device.{IsSized}
+use Rattle.mc_model_device.specs.Image.{Journal, One, Two, is_open, count, targets, Look, Refused, Closed, Pending, which_of, look, look_at, look_j, headed, aimed, opened, After, Words, after, replayed}
+use Rattle.mc_model_device.specs.Stopped.{InJournal, SameOutside}
+use Rattle.mc_model_device.specs.Card.{Block, word, blocks, card_of, means, words_after}
+use Rattle.mc_model_device.specs.Layout.{words_fault, fault, fault_of}
 use Rattle.mc_blocks.specs.Blocks.{WordsAgree}
 use Rattle.mc_blocks.proofs.Tiles.{Tiled}
 use Rattle.mc_blocks.proofs.Bridge.{WellLaid, laid}

@@ -2,17 +2,17 @@
 use Rattle.std.proofs.Common.{◌≡◌, ◌≢◌, ◌⊎◌, ℕ, ◌≤◌, Bool, true, false, List, [], ◌∷◌, length, Ok, Err, ◌∙◌, ap, inl, inr, arith}
 use Rattle.std.specs.Prelude.{bytes_eq}
 use Rattle.std.specs.List.{AllByRecursion}
-use Rattle.mc_model.specs.Orders.{Answer}
-use Rattle.mc_model.specs.Device.{DeviceState, IsSized, Wrote, Makes, Ended}
-use Rattle.mc_model.specs.Image.{One, Two, opening, shut, gate, is_open, laid, Look, Closed, look, after, replayed, Words}
-use Rattle.mc_model.specs.Stopped.{numbered, entries, replay, writes, IsAtomic, stands, stood, SameOutside, WriteStands, WriteTorn}
-use Rattle.mc_model.specs.Card.{word}
-use Rattle.mc_model.proofs.ImageLemmas.{all-append, all-map, laid-other}
-use Rattle.mc_model.proofs.DeviceLemmas.{StoppedAt, makes-stopped}
-use Rattle.mc_model.proofs.GeometryLemmas.{InEntries, Geometry, geometry, targets-within}
-use Rattle.mc_model.proofs.StoppedLemmas.{torn-other, shut-closed, targets-outside}
-use Rattle.mc_model.proofs.RecoveryLemmas.{look-two}
-use Rattle.mc_model.proofs.CallLemmas.{write-ends}
+use Rattle.mc_model_device.specs.Orders.{Answer}
+use Rattle.mc_model_device.specs.Device.{DeviceState, IsSized, Wrote, Makes, Ended}
+use Rattle.mc_model_device.specs.Image.{One, Two, opening, shut, gate, is_open, laid, Look, Closed, look, after, replayed, Words}
+use Rattle.mc_model_device.specs.Stopped.{numbered, entries, replay, writes, IsAtomic, stands, stood, SameOutside, WriteStands, WriteTorn}
+use Rattle.mc_model_device.specs.Card.{word}
+use Rattle.mc_model_device.proofs.ImageLemmas.{all-append, all-map, laid-other}
+use Rattle.mc_model_device.proofs.DeviceLemmas.{StoppedAt, makes-stopped}
+use Rattle.mc_model_device.proofs.GeometryLemmas.{InEntries, Geometry, geometry, targets-within}
+use Rattle.mc_model_device.proofs.StoppedLemmas.{torn-other, shut-closed, targets-outside}
+use Rattle.mc_model_device.proofs.RecoveryLemmas.{look-two}
+use Rattle.mc_model_device.proofs.CallLemmas.{write-ends}
 use Rattle.mc_store.specs.AlikeLaws.{HeapsAlike, alike-outside, Gates, gates, shut-look, SettlesAlike}
 
 -- ---- the gate of journal 1

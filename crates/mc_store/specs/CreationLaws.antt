@@ -3,15 +3,15 @@ use Rattle.std.proofs.Common.{◌≡◌, ◌≢◌, ℕ, ◌+◌, ◌-◌, ◌<�
 use Rattle.std.specs.Prelude.{◌==◌, nat_le, nat_lt, slice_index}
 use Rattle.std.specs.List.{AllByRecursion}
 use Rattle.std.proofs.lemmas.Bool.{leb-true, and_parts, ne_eqb}
-use Rattle.mc_model.specs.declared.card.Sizes.{Sizes}
-use Rattle.mc_model.specs.Bytes.{up, zeros, be2, lookup, insert}
-use Rattle.mc_model.specs.Device.{IsSized}
-use Rattle.mc_model.specs.Image.{look, Closed, within, ascend, laid}
-use Rattle.mc_model.specs.Stopped.{IsAtomic}
-use Rattle.mc_model.specs.Card.{App, Block, word, needed, needed_of, section, record_at, name_at, app_of, app_at, blocks, means}
-use Rattle.mc_model.specs.Layout.{gaps, spans, put_at, step_of, used_header, hole_header, IsWellLaid}
-use Rattle.mc_model.specs.Items.{Site}
-use Rattle.mc_model.proofs.ImageLemmas.{laid-other, length-laid}
+use Rattle.mc_model_card.specs.declared.card.Sizes.{Sizes}
+use Rattle.mc_model_device.specs.Bytes.{up, zeros, be2, lookup, insert}
+use Rattle.mc_model_device.specs.Device.{IsSized}
+use Rattle.mc_model_device.specs.Image.{look, Closed, within, ascend, laid}
+use Rattle.mc_model_device.specs.Stopped.{IsAtomic}
+use Rattle.mc_model_device.specs.Card.{App, Block, word, needed, needed_of, section, record_at, name_at, app_of, app_at, blocks, means}
+use Rattle.mc_model_device.specs.Layout.{gaps, spans, put_at, step_of, used_header, hole_header, IsWellLaid}
+use Rattle.mc_model_card.specs.Items.{Site}
+use Rattle.mc_model_device.proofs.ImageLemmas.{laid-other, length-laid}
 use Rattle.mc_bank.specs.Bank.{FitsLimits, entered}
 use Rattle.mc_blocks.specs.Chains.{SpansAbove}
 use Rattle.mc_blocks.specs.Blocks.{used_spans, hole_spans}

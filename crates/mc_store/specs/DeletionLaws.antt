@@ -1,11 +1,11 @@
 -- What the atomic write of a deletion makes of a card: the application is gone.
 use Rattle.std.proofs.Common.{◌≡◌, ℕ, suc, ◌≤◌, true, false, List, [], ◌∷◌, length, Some, refl, sym, ◌∙◌, ap, subst}
-use Rattle.mc_model.specs.Bytes.{lookup, insert, remove}
-use Rattle.mc_model.specs.Device.{IsSized}
-use Rattle.mc_model.specs.Image.{look, Closed, laid}
-use Rattle.mc_model.specs.Stopped.{IsAtomic}
-use Rattle.mc_model.specs.Card.{App, Card, Block, name_at, app_at, apps_of, blocks, means}
-use Rattle.mc_model.specs.Layout.{spans, step_of, IsWellLaid}
+use Rattle.mc_model_device.specs.Bytes.{lookup, insert, remove}
+use Rattle.mc_model_device.specs.Device.{IsSized}
+use Rattle.mc_model_device.specs.Image.{look, Closed, laid}
+use Rattle.mc_model_device.specs.Stopped.{IsAtomic}
+use Rattle.mc_model_device.specs.Card.{App, Card, Block, name_at, app_at, apps_of, blocks, means}
+use Rattle.mc_model_device.specs.Layout.{spans, step_of, IsWellLaid}
 use Rattle.mc_bank.specs.NameLaws.{remove-inserted, length-inserted}
 use Rattle.mc_blocks.specs.Plans.{plan, without, has_span}
 use Rattle.mc_blocks.proofs.Maps.{spans-remove}

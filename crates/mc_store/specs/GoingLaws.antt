@@ -2,11 +2,11 @@
 use Rattle.std.specs.Prelude.{◌≡◌, ℕ, Bool, true, false, ◌&&◌, cond, ◌==◌, List, [], length, Option, Some, None, is_none}
 use Rattle.std.proofs.Common.{refl, sym, ◌∙◌, ap}
 use Rattle.std.proofs.lemmas.Bool.{and_parts, eqb-true, eq-eqb}
-use Rattle.mc_model.specs.declared.card.Cause.{Cause}
-use Rattle.mc_model.specs.Image.{Look, Refused, Closed, Pending, look, replayed}
-use Rattle.mc_model.specs.Device.{DeviceState}
-use Rattle.mc_model.specs.Card.{Card, card_of, means, words_after}
-use Rattle.mc_model.specs.Layout.{words_fault, fault, fault_of}
+use Rattle.mc_model_device.specs.declared.cause.Cause.{Cause}
+use Rattle.mc_model_device.specs.Image.{Look, Refused, Closed, Pending, look, replayed}
+use Rattle.mc_model_device.specs.Device.{DeviceState}
+use Rattle.mc_model_device.specs.Card.{Card, card_of, means, words_after}
+use Rattle.mc_model_device.specs.Layout.{words_fault, fault, fault_of}
 use Rattle.mc_store.specs.Store.{is_closed, settled, apps_in, is_going}
 
 -- power is on, no journal is open, the words are a card of layout 2 with so many applications

@@ -3,16 +3,16 @@ use Rattle.std.proofs.Common.{◌≡◌, ◌⊎◌, ℕ, ◌+◌, ◌<◌, ◌�
 use Rattle.std.specs.Prelude.{◌==◌, nat_le, nat_lt}
 use Rattle.std.specs.List.{AllByRecursion}
 use Rattle.std.proofs.lemmas.Bool.{leb-true, eqb-true, ltb-true, eq-eqb, or_cases, and_parts, and_from, or_left, or_right}
-use Rattle.mc_model.specs.Image.{within, laid}
-use Rattle.mc_model.specs.Stopped.{IsAtomic}
-use Rattle.mc_model.specs.Card.{Card, word, means}
-use Rattle.mc_model.specs.Layout.{layout, spans, step_of, first_fitting}
-use Rattle.mc_model.proofs.ImageLemmas.{HoldsWords, all-map, laid-other, laid-holds, length-laid, holds-point}
-use Rattle.mc_model.proofs.GeometryLemmas.{targets-within}
+use Rattle.mc_model_device.specs.Image.{within, laid}
+use Rattle.mc_model_device.specs.Stopped.{IsAtomic}
+use Rattle.mc_model_device.specs.Card.{Card, word, means}
+use Rattle.mc_model_device.specs.Layout.{layout, spans, step_of, first_fitting}
+use Rattle.mc_model_device.proofs.ImageLemmas.{HoldsWords, all-map, laid-other, laid-holds, length-laid, holds-point}
+use Rattle.mc_model_device.proofs.GeometryLemmas.{targets-within}
 use Rattle.mc_blocks.specs.Plans.{changes, layout_of, plan, has_room}
 use Rattle.mc_blocks.proofs.Heads.{layout-spans}
 use Rattle.mc_blocks.specs.Outcomes.{Planned}
-use Rattle.mc_model.proofs.StoppedLemmas.{ascends-list, within-below as below}
+use Rattle.mc_model_device.proofs.StoppedLemmas.{ascends-list, within-below as below}
 use Rattle.mc_store.specs.AlikeLaws.{HeapsAlike}
 
 -- ---- targets

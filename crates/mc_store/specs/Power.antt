@@ -1,15 +1,15 @@
 -- What a power-up does: the writes that it owes, then the migration of a card of layout 1, and what a stop leaves.
 use Rattle.std.specs.Prelude.{◌≡◌, ◌≢◌, ℕ, ◌+◌, ◌-◌, ◌<◌, ◌≤◌, true, cond, ◌==◌, List, [], ◌∷◌, ◌++◌, length, slice_set, Some, None, Result, Ok, Err}
-use Rattle.mc_model.specs.declared.card.Cause.{Cause}
-use Rattle.mc_model.specs.declared.card.Cause.TheVariants.{BadJournal}
-use Rattle.mc_model.specs.declared.device.Stop.{Stop}
-use Rattle.mc_model.specs.Orders.{Answer}
-use Rattle.mc_model.specs.Image.{Journal, One, look, which, owed, Only, Closed, Refused}
-use Rattle.mc_model.specs.Device.{DeviceState, Ended, GrowsBy, done_entries, torn_entries}
-use Rattle.mc_model.specs.Stopped.{writes, owed_writes, torn, stands, owes, remains}
-use Rattle.mc_model.specs.Card.{word, means}
-use Rattle.mc_model.specs.Layout.{fault}
-use Rattle.mc_model.specs.Play.{Base, OnCard, AtFault, base_of, migration, migrated, owing}
+use Rattle.mc_model_device.specs.declared.cause.Cause.{Cause}
+use Rattle.mc_model_device.specs.declared.cause.Cause.TheVariants.{BadJournal}
+use Rattle.mc_model_device.specs.declared.device.Stop.{Stop}
+use Rattle.mc_model_device.specs.Orders.{Answer}
+use Rattle.mc_model_device.specs.Image.{Journal, One, look, which, owed, Only, Closed, Refused}
+use Rattle.mc_model_device.specs.Device.{DeviceState, Ended, GrowsBy, done_entries, torn_entries}
+use Rattle.mc_model_device.specs.Stopped.{writes, owed_writes, torn, stands, owes, remains}
+use Rattle.mc_model_device.specs.Card.{word, means}
+use Rattle.mc_model_device.specs.Layout.{fault}
+use Rattle.mc_model_device.specs.PowerUp.{Base, OnCard, AtFault, base_of, migration, migrated, owing}
 use Rattle.mc_store.specs.Store.{settled, is_going}
 use Rattle.mc_store.specs.declared.store.Store.{Store}
 use Rattle.mc_store.specs.declared.power.Ready.{Ready}

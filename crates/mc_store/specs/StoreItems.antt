@@ -2,12 +2,12 @@
 use Rattle.std.proofs.Common.{◌≡◌, ℕ, Bool, true, false, List, [], ◌∷◌, length, map, Some, Ok, Err, cond, refl, sym, ◌∙◌, ap, subst, inl, inr}
 use Rattle.std.specs.Prelude.{◌==◌, bytes_eq, IsSome}
 use Rattle.std.proofs.lemmas.Bool.{eqb-true}
-use Rattle.mc_model.specs.Orders.{Answer, InOrder}
-use Rattle.mc_model.specs.Bytes.{lookup}
-use Rattle.mc_model.specs.Device.{DeviceState, IsSized}
-use Rattle.mc_model.specs.Card.{App, means}
-use Rattle.mc_model.specs.Items.{Site, BankItem, Blank}
-use Rattle.mc_model.specs.Manager.{word_parts}
+use Rattle.mc_model_device.specs.Orders.{Answer, InOrder}
+use Rattle.mc_model_device.specs.Bytes.{lookup}
+use Rattle.mc_model_device.specs.Device.{DeviceState, IsSized}
+use Rattle.mc_model_device.specs.Card.{App, means}
+use Rattle.mc_model_card.specs.Items.{Site, BankItem, Blank}
+use Rattle.mc_model_card.specs.Manager.{word_parts}
 use Rattle.mc_bank.specs.NameLaws.{name_is_itself}
 use Rattle.mc_blocks.proofs.Maps.{OneAt}
 use Rattle.mc_blocks.proofs.Applications.{found-application}

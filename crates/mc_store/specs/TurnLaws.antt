@@ -1,18 +1,18 @@
 -- What an item of a store leaves of its words, done or stopped at any write.
 use Rattle.std.proofs.Common.{◌≡◌, ◌⊎◌, ℕ, suc, ◌+◌, ◌-◌, ◌<◌, true, List, [], ◌∷◌, length, Option, Some, None, Ok, Err, refl, sym, ◌∙◌, ap, subst, inl, inr, arith}
 use Rattle.std.specs.Prelude.{IsSome, unwrap_or}
-use Rattle.mc_model.specs.declared.card.Part.{Part}
-use Rattle.mc_model.specs.declared.card.Part.TheVariants.{Code, Data, Dir, Fci}
-use Rattle.mc_model.specs.declared.card.Sizes.{Sizes}
-use Rattle.mc_model.specs.declared.device.Stop.{Stop}
-use Rattle.mc_model.specs.Orders.{Answer}
-use Rattle.mc_model.specs.Bytes.{down, lookup, insert, remove}
-use Rattle.mc_model.specs.Image.{look, Closed, Two, laid}
-use Rattle.mc_model.specs.Device.{DeviceState, IsSized, Wrote, Makes, Ended}
-use Rattle.mc_model.specs.Stopped.{writes, IsAtomic}
-use Rattle.mc_model.specs.Card.{App, Card, card_of, means}
-use Rattle.mc_model.specs.Layout.{gaps, step_of, words_fault, fault, IsWellLaid}
-use Rattle.mc_model.specs.Items.{Site, BankItem, Piece, Blank, Note, Commit, Enter, Remove}
+use Rattle.mc_model_card.specs.declared.card.Part.{Part}
+use Rattle.mc_model_card.specs.declared.card.Part.TheVariants.{Code, Data, Dir, Fci}
+use Rattle.mc_model_card.specs.declared.card.Sizes.{Sizes}
+use Rattle.mc_model_device.specs.declared.device.Stop.{Stop}
+use Rattle.mc_model_device.specs.Orders.{Answer}
+use Rattle.mc_model_device.specs.Bytes.{down, lookup, insert, remove}
+use Rattle.mc_model_device.specs.Image.{look, Closed, Two, laid}
+use Rattle.mc_model_device.specs.Device.{DeviceState, IsSized, Wrote, Makes, Ended}
+use Rattle.mc_model_device.specs.Stopped.{writes, IsAtomic}
+use Rattle.mc_model_device.specs.Card.{App, Card, card_of, means}
+use Rattle.mc_model_device.specs.Layout.{gaps, step_of, words_fault, fault, IsWellLaid}
+use Rattle.mc_model_card.specs.Items.{Site, BankItem, Piece, Blank, Note, Commit, Enter, Remove}
 use Rattle.mc_bank.specs.Bank.{FitsLimits, CanCommit, part_len, no_app, app_of, with_words, entered, committed, item_done}
 use Rattle.mc_bank.specs.NameLaws.{length-inserted}
 use Rattle.mc_blocks.specs.Plans.{has_room}

@@ -1,9 +1,9 @@
 // The used blocks of a card and their records, read by their places.
 ghost use Rattle.std.specs.Prelude.{◌≡◌, ◌+◌, ◌<◌, ◌≤◌, ◌&&◌, ◌==◌, None, IfSome, is_some, option_map, length, take, slice_index, bytes_eq, true};
-ghost use Rattle.mc_model.specs.Bytes.{be2};
-ghost use Rattle.mc_model.specs.Device.{IsImage};
-ghost use Rattle.mc_model.specs.Card.{word, blocks, used_tag, record_at, name_at, name_in};
-ghost use Rattle.mc_model.specs.Layout.{words_fault};
+ghost use Rattle.mc_model_device.specs.Bytes.{be2};
+ghost use Rattle.mc_model_device.specs.Device.{IsImage};
+ghost use Rattle.mc_model_device.specs.Card.{word, blocks, used_tag, record_at, name_at, name_in};
+ghost use Rattle.mc_model_device.specs.Layout.{words_fault};
 ghost use Rattle.mc_bank.specs.Slots.{slot_place, slot_sizes};
 ghost use Rattle.mc_store.specs.Slots.{first_named, record_sizes, IsUsedBlock};
 

@@ -1,11 +1,11 @@
 ghost use Rattle.std.specs.Prelude.{◌≡◌, ◌≤◌, ℕ, List, length, Some, None};
-ghost use Rattle.mc_model.specs.declared.card.Cause.{Cause};
-ghost use Rattle.mc_model.specs.Image.{One, Closed, look, laid};
-ghost use Rattle.mc_model.specs.Device.{IsSized};
-ghost use Rattle.mc_model.specs.Stopped.{torn};
-ghost use Rattle.mc_model.specs.Layout.{fault, words_fault};
-ghost use Rattle.mc_model.specs.Items.{BankItem};
-ghost use Rattle.mc_model.specs.Play.{migrated};
+ghost use Rattle.mc_model_device.specs.declared.cause.Cause.{Cause};
+ghost use Rattle.mc_model_device.specs.Image.{One, Closed, look, laid};
+ghost use Rattle.mc_model_device.specs.Device.{IsSized};
+ghost use Rattle.mc_model_device.specs.Stopped.{torn};
+ghost use Rattle.mc_model_device.specs.Layout.{fault, words_fault};
+ghost use Rattle.mc_model_card.specs.Items.{BankItem};
+ghost use Rattle.mc_model_device.specs.PowerUp.{migrated};
 ghost use Rattle.mc_store.specs.Store.{settled, item_writes, Allows};
 ghost use Rattle.mc_store.specs.Power.{found, power_writes, power_count, HoldsBase, IsHalted};
 ghost use Rattle.mc_store.specs.Stops.{IsStoppedAt};

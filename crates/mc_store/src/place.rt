@@ -1,6 +1,6 @@
 // Where the sections of a block lie, and how many words it takes.
 ghost use Rattle.std.specs.Prelude.{◌≡◌, ◌≤◌, ◌+◌};
-ghost use Rattle.mc_model.specs.Bytes.{up};
+ghost use Rattle.mc_model_device.specs.Bytes.{up};
 ghost use Rattle.mc_bank.specs.Bank.{FitsLimits};
 ghost use Rattle.mc_store.specs.Store.{needed_by, part_from};
 

@@ -1,9 +1,9 @@
 // The search for room for a load.
 ghost use Rattle.std.specs.Prelude.{◌≡◌, ◌+◌, ◌≤◌, ◌-◌, false, nat_le};
-ghost use Rattle.mc_model.specs.Image.{Closed, look};
-ghost use Rattle.mc_model.specs.Card.{means};
-ghost use Rattle.mc_model.specs.Layout.{gaps, IsWellLaid};
-ghost use Rattle.mc_model.specs.Device.{IsImage};
+ghost use Rattle.mc_model_device.specs.Image.{Closed, look};
+ghost use Rattle.mc_model_device.specs.Card.{means};
+ghost use Rattle.mc_model_device.specs.Layout.{gaps, IsWellLaid};
+ghost use Rattle.mc_model_device.specs.Device.{IsImage};
 ghost use Rattle.mc_bank.specs.Bank.{FitsLimits, opened};
 ghost use Rattle.mc_blocks.specs.Chains.{looked_at};
 ghost use Rattle.mc_store.specs.Store.{store_state, store_room, needed_by, search_steps};

@@ -1,5 +1,5 @@
 ghost use Rattle.std.specs.Prelude.{◌≡◌, true, length};
-ghost use Rattle.mc_model.specs.Device.{Makes, IsImage};
+ghost use Rattle.mc_model_device.specs.Device.{Makes, IsImage};
 ghost use Rattle.std.specs.Borrow.{Lends, sem};
 ghost use Rattle.mc_store.specs.Power.{power_writes, power_answer, powered, restarted, device_of, device_after, over, PowersUp};
 ghost use Rattle.mc_store.specs.contracts.store.Store.{the_row};

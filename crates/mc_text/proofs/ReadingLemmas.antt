@@ -2,7 +2,7 @@
 use Rattle.std.proofs.Common.{◌≡◌, ℕ, suc, ◌+◌, ◌*◌, ◌-◌, ◌<◌, ◌≤◌, Bool, true, false, cond, List, [], ◌∷◌, ◌++◌, length, take, drop, get_or, drop-cons, add-one, Option, Some, None, arith, refl, sym, ap, subst, ◌∙◌}
 use Rattle.std.specs.Prelude.{map, nat_le, nat_lt, option_map, position, slice_index, ◌==◌}
 use Rattle.std.specs.List.{position_or_len}
-use Rattle.mc_model.specs.Text.{before_trimmed, cut_or_joined, cut_or_kept, digits_onto, every, first_cut, is_blank, is_digit, lines, no_last_empty, pieces, trim_end, without_returns}
+use Rattle.mc_model_machine.specs.Text.{before_trimmed, cut_or_joined, cut_or_kept, digits_onto, every, first_cut, is_blank, is_digit, lines, no_last_empty, pieces, trim_end, without_returns}
 use Rattle.mc_text.specs.Reading.{capped, decimal_behind, cut_at, without_return, line_cut, next_line}
 
 -- ---- numbers

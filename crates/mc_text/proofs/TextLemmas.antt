@@ -1,7 +1,7 @@
 -- How texts that are written one behind the other compose.
 use Rattle.std.proofs.Common.{◌≡◌, ℕ, List, [], ◌∷◌, ◌++◌, length, take, drop, Result, Ok, Err, IsErr, refl, arith, sym, ap, subst, ◌∙◌, append_assoc, length-append}
 use Rattle.std.proofs.lemmas.List.{take-append-drop}
-use Rattle.mc_model.specs.Transcript.{hex_text}
+use Rattle.mc_model_machine.specs.Listing.{hex_text}
 use Rattle.mc_base.proofs.StreamsLemmas.{Grew-append, Grew-none, Rose-later}
 use Rattle.mc_base.specs.declared.refusals.WriteFault.{WriteFault}
 use Rattle.mc_text.specs.Texts.{Sunk, Writes, Fails, Puts}

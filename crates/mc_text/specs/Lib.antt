@@ -1,5 +1,5 @@
-pub use Rattle.mc_model.specs.Text
-pub use Rattle.mc_model.specs.TraceText
+pub use Rattle.mc_model_machine.specs.Text
+pub use Rattle.mc_model_machine.specs.TurnText
 pub use Rattle.mc_base.specs.Streams
 pub mod Texts
 pub mod Logs

@@ -1,7 +1,7 @@
 -- A log of turns, line by line, which writes no more once its sink failed.
 use Rattle.std.specs.Prelude.{◌≡◌, List, Option, Some, None}
-use Rattle.mc_model.specs.Chain.{Turn}
-use Rattle.mc_model.specs.TraceText.{turn_lines}
+use Rattle.mc_model_machine.specs.Chain.{Turn}
+use Rattle.mc_model_machine.specs.TurnText.{turn_lines}
 use Rattle.mc_base.specs.declared.refusals.WriteFault.{WriteFault}
 use Rattle.mc_text.specs.Texts.{Sunk, Writes, Fails}
 

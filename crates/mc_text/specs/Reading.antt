@@ -1,6 +1,6 @@
 -- Texts that are read: a number in the range that is kept, and a text that is cut at the first character that cuts.
 use Rattle.std.specs.Prelude.{ℕ, suc, ◌-◌, cond, nat_le, ◌==◌, List, [], map, length, take, drop, slice_index, Option, Some, None}
-use Rattle.mc_model.specs.Text.{every, is_digit, digits_onto, first_cut, is_empty}
+use Rattle.mc_model_machine.specs.Text.{every, is_digit, digits_onto, first_cut, is_empty}
 
 -- a number, or 4,294,967,296 in the place of a greater one
 abbrev pub capped : ℕ → ℕ

@@ -1,6 +1,6 @@
 -- A text written to a sink: whole, or a front of it where the sink failed.
 use Rattle.std.specs.Prelude.{ℕ, ◌≤◌, List, Option, Result, Ok, Err}
-use Rattle.mc_model.specs.Counts.{Rose}
+use Rattle.mc_model_device.specs.Counts.{Rose}
 use Rattle.mc_base.specs.Streams.{Grew, GrewByPart}
 use Rattle.mc_base.specs.declared.refusals.WriteFault.{WriteFault}
 

@@ -1,7 +1,6 @@
 // Words, numbers and bytes.
 ghost use Rattle.std.specs.Prelude.{◌≡◌, ◌<◌, ◌≤◌, ◌++◌, length, decimal};
-ghost use Rattle.mc_model.specs.Listing.{hex_digit};
-ghost use Rattle.mc_model.specs.Transcript.{hex_text};
+ghost use Rattle.mc_model_machine.specs.Listing.{hex_digit, hex_text};
 ghost use Rattle.mc_text.specs.Texts.{sunk_in, Puts};
 
 use arrayvec::ArrayVec;

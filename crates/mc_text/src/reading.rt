@@ -1,6 +1,6 @@
 // Texts that are read: characters, numbers, cuts, lines, and blanks that fall.
 ghost use Rattle.std.specs.Prelude.{◌≡◌, ◌+◌, ◌*◌, ◌<◌, ◌≤◌, ◌==◌, length, position, option_map, IfSome};
-ghost use Rattle.mc_model.specs.Text.{decimal_number, every, first_cut, hex_value, is_blank, is_digit, is_name_character, trim, trim_front, trim_end};
+ghost use Rattle.mc_model_machine.specs.Text.{decimal_number, every, first_cut, hex_value, is_blank, is_digit, is_name_character, trim, trim_front, trim_end};
 ghost use Rattle.mc_text.specs.Reading.{capped, cut_at, next_line, without_return};
 
 /// Whether a character is a space or a tab.

@@ -3,8 +3,8 @@ use Rattle.std.proofs.Common.{◌≡◌, ℕ, zero, suc, ◌+◌, ◌-◌, ◌/�
 use Rattle.std.specs.Prelude.{nat_eq, is_none}
 use Rattle.std.proofs.lemmas.Bool.{cases_lt, ne_eqb}
 use Rattle.std.proofs.lemmas.Bool.Decides.{nat_tests}
-use Rattle.mc_model.specs.Pieces.{touched, numbers, pending_at, not_pending, with_number, with_words, Ascend, HoldPieces}
-use Rattle.mc_model.proofs.ListLemmas.{touched-append}
+use Rattle.mc_model_device.specs.Pieces.{touched, numbers, pending_at, not_pending, with_number, with_words, Ascend, HoldPieces}
+use Rattle.mc_model_device.proofs.ListLemmas.{touched-append}
 use Rattle.mc_trans.proofs.Touched.{mem, mem_number}
 use Rattle.mc_trans.proofs.Putting.{with_number_twice}
 

@@ -6,9 +6,9 @@ use Rattle.std.proofs.lemmas.Bool.{cases_lt, le-leb}
 use Rattle.std.proofs.lemmas.Bool.Decides.{nat_tests}
 use Rattle.std.proofs.lemmas.List.{get_or_append_left, get_or-append_right, get_or-take, get_or-drop, length-append, length-take, length-drop, drop-drop, take_at}
 use Rattle.std.proofs.Math.Seq.{drop-append-add}
-use Rattle.mc_model.specs.Bytes.{splice, or_else}
-use Rattle.mc_model.specs.Pieces.{covered, laid_pieces, LieIn}
-use Rattle.mc_model.proofs.ListLemmas.{length-splice}
+use Rattle.mc_model_device.specs.Bytes.{splice, or_else}
+use Rattle.mc_model_device.specs.Pieces.{covered, laid_pieces, LieIn}
+use Rattle.mc_model_device.proofs.ListLemmas.{length-splice}
 
 -- ---- one piece
 

@@ -3,9 +3,9 @@ use Rattle.std.proofs.Common.{◌≡◌, ◌≢◌, ℕ, ◌+◌, ◌-◌, ◌*�
 use Rattle.std.specs.Prelude.{nat_eq, IfSome}
 use Rattle.std.proofs.lemmas.Bool.{cases_lt}
 use Rattle.std.proofs.lemmas.Bool.Decides.{nat_tests, eqb_tells}
-use Rattle.mc_model.specs.Bytes.{splice}
-use Rattle.mc_model.specs.Pieces.{laid_pieces, touched, numbers, pending_at, put_word, with_number, with_words, HoldPieces, LieIn}
-use Rattle.mc_model.proofs.ListLemmas.{length-splice, laid-append, touched-append}
+use Rattle.mc_model_device.specs.Bytes.{splice}
+use Rattle.mc_model_device.specs.Pieces.{laid_pieces, touched, numbers, pending_at, put_word, with_number, with_words, HoldPieces, LieIn}
+use Rattle.mc_model_device.proofs.ListLemmas.{length-splice, laid-append, touched-append}
 use Rattle.mc_trans.proofs.Overlay.{length-laid, splice_before, splice_in, splice_behind, splice-append}
 use Rattle.mc_trans.proofs.Words.{put_pending}
 

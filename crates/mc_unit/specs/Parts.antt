@@ -1,5 +1,5 @@
 -- What the crate's structs are, without where their bytes lie.
-use Rattle.mc_model.specs.Units.{Object, UnitParts}
+use Rattle.mc_model_card.specs.Units.{Object, UnitParts}
 use Rattle.mc_unit.specs.declared.name.Object.{Object as Lent}
 use Rattle.mc_unit.specs.declared.unit.Unit.{Unit as LoadUnit}
 

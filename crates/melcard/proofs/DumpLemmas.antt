@@ -1,10 +1,10 @@
 -- Behind the first dump line of a generated deck there are only dump lines.
 use Rattle.std.proofs.Common.{◌≡◌, ◌==◌, ◌%◌, ℕ, zero, suc, Bool, true, false, cond, List, [], ◌∷◌, ◌++◌, refl, sym, subst, ◌∙◌, true≢false, nat_lt}
 use Rattle.std.specs.List.{AllByRecursion}
-use Rattle.mc_model.specs.Bytes.{bytes}
-use Rattle.mc_model.specs.Text.{numbered}
-use Rattle.mc_model.specs.DeckGrammar.{DeckLine, Power, Load, Select, Delete, Apdu}
-use Rattle.mc_model.specs.Generator.{closing, command, counter_aid, cut_line, draw, generated, is_dump, line_of, next, opening, purse, purse_aid, purse_line, relay_aid, turns}
+use Rattle.mc_model_device.specs.Bytes.{bytes}
+use Rattle.mc_model_machine.specs.Text.{numbered}
+use Rattle.mc_model_play.specs.DeckGrammar.{DeckLine, Power, Load, Select, Delete, Apdu}
+use Rattle.mc_model_play.specs.Generator.{closing, command, counter_aid, cut_line, draw, generated, is_dump, line_of, next, opening, purse, purse_aid, purse_line, relay_aid, turns}
 use Rattle.mc_script.specs.Sums.{DumpsLast}
 
 -- ---- the turns have no dump line

@@ -1,7 +1,7 @@
 -- What a job says at the status that it ended with.
 use Rattle.std.proofs.Common.{◌≡◌, ℕ, Option, Some, None, Result, Ok, Err, IfErr, IfOk, refl, sym, subst, ◌∙◌}
-use Rattle.mc_model.specs.Device.{BenchState, DeviceState}
-use Rattle.mc_model.specs.Generator.{generated}
+use Rattle.mc_model_device.specs.Device.{BenchState, DeviceState}
+use Rattle.mc_model_play.specs.Generator.{generated}
 use Rattle.mc_base.specs.declared.refusals.WriteFault.{WriteFault as Fault}
 use Rattle.mc_base.specs.declared.sink.Sink as sink
 use Rattle.mc_base.specs.declared.source.Source as source

@@ -1,11 +1,11 @@
 -- What the code has of listed code and of rejected input, and what it stands for.
 use Rattle.std.specs.Prelude.{◌≡◌, ℕ, not, List, [], ◌∷◌, ◌++◌, filter, ok_or, option_map, Result, Ok, Err, ⊤}
-use Rattle.mc_model.specs.Text
-use Rattle.mc_model.specs.Text.{CodeFault, ◌>>=◌, hex_values, is_blank, ok_as}
+use Rattle.mc_model_machine.specs.Text
+use Rattle.mc_model_machine.specs.Text.{CodeFault, ◌>>=◌, hex_values, is_blank, ok_as}
 use Rattle.mc_filter.specs.Inputs.{Rejects}
 use Rattle.melcard.specs.declared.code.CodeRefusal.{CodeRefusal}
 use Rattle.mc_filter.specs.declared.rejection.Rejection.{Rejection}
-use Rattle.mc_model.specs.DeckGrammar.{DeckLine}
+use Rattle.mc_model_play.specs.DeckGrammar.{DeckLine}
 use Rattle.melcard.specs.Verdicts.{JobVerdict, Refusal, AreVerdicts}
 use Rattle.melcard.specs.declared.code.CodeRefusal.TheVariants.{BadHex, TooLarge, NoMemory}
 

@@ -1,7 +1,7 @@
 -- What the parts of a job do, and why a job is not done.
 use Rattle.std.specs.Prelude.{ℕ, List}
-use Rattle.mc_model.specs.Counts.{Rose}
-use Rattle.mc_model.specs.DeckGrammar.{DeckLine}
+use Rattle.mc_model_device.specs.Counts.{Rose}
+use Rattle.mc_model_play.specs.DeckGrammar.{DeckLine}
 use Rattle.melcard.specs.declared.job.Job.{Job}
 use Rattle.melcard.specs.declared.job.Job.TheVariants as job
 use Rattle.melcard.specs.declared.job.Telling.{Telling}

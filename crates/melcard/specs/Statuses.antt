@@ -1,10 +1,10 @@
 -- What the top call says of the outside at each of its statuses.
 use Rattle.std.specs.Prelude.{◌≡◌, ℕ, List, Option, Some, None, Result, Ok, Err, ⊤}
-use Rattle.mc_model.specs.Device.{DeviceState, BenchState}
-use Rattle.mc_model.specs.DeckGrammar.{DeckLine}
-use Rattle.mc_model.specs.Generator.{generated, summary}
-use Rattle.mc_model.specs.Play as play
-use Rattle.mc_model.specs.Play.{Step}
+use Rattle.mc_model_device.specs.Device.{DeviceState, BenchState}
+use Rattle.mc_model_play.specs.DeckGrammar.{DeckLine}
+use Rattle.mc_model_play.specs.Generator.{generated, summary}
+use Rattle.mc_model_play.specs.Play as play
+use Rattle.mc_model_play.specs.Play.{Step}
 use Rattle.mc_base.specs.declared.refusals.WriteFault.{WriteFault as Fault}
 use Rattle.mc_base.specs.declared.sink.Sink as sink
 use Rattle.mc_base.specs.declared.source.Source as source

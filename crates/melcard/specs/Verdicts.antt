@@ -1,15 +1,14 @@
 -- What the input of a job stands for: the whole text that is due, the one line that refuses it, or a deck that is played.
 use Rattle.std.specs.Prelude.{◌≡◌, ℕ, List, [], ◌∷◌, ◌++◌, codes, decimal, Result, Ok, Err}
-use Rattle.mc_model.specs.Assembly.{assembled}
-use Rattle.mc_model.specs.DeckGrammar.{DeckLine, deck_read}
-use Rattle.mc_model.specs.DeckGrammar as line
-use Rattle.mc_model.specs.Listing.{listed}
-use Rattle.mc_model.specs.Text.{CodeFault, BadHex, TooLarge, code_text_read}
-use Rattle.mc_model.specs.Transcript.{hex_text}
-use Rattle.mc_model.specs.Words.{asm_word, check_word, decode_word}
-use Rattle.mc_model.specs.declared.assembler.AsmCause.{AsmCause}
-use Rattle.mc_model.specs.declared.deck.DeckCause.{DeckCause}
-use Rattle.mc_model.specs.declared.instruction.DecodeFault.{DecodeFault}
+use Rattle.mc_model_machine.specs.Assembly.{assembled}
+use Rattle.mc_model_play.specs.DeckGrammar.{DeckLine, deck_read}
+use Rattle.mc_model_play.specs.DeckGrammar as line
+use Rattle.mc_model_machine.specs.Listing.{listed, hex_text}
+use Rattle.mc_model_machine.specs.Text.{CodeFault, BadHex, TooLarge, code_text_read}
+use Rattle.mc_model_machine.specs.Words.{asm_word, check_word, decode_word}
+use Rattle.mc_model_machine.specs.declared.assembler.AsmCause.{AsmCause}
+use Rattle.mc_model_play.specs.declared.deck.DeckCause.{DeckCause}
+use Rattle.mc_model_machine.specs.declared.instruction.DecodeFault.{DecodeFault}
 use Rattle.mc_check.specs.declared.verdict.Verdict.{Verdict as CodeVerdict}
 use Rattle.mc_check.specs.declared.verdict.Verdict.TheVariants.{Accept, Refuse}
 use Rattle.mc_check.specs.Verdicts.{IsVerdictOf, KeepsTo}

@@ -1,6 +1,6 @@
 // Lines that are written.
 ghost use Rattle.std.specs.Prelude.{◌≡◌, ◌++◌, codes, IfOk};
-ghost use Rattle.mc_model.specs.Transcript.{hex_text};
+ghost use Rattle.mc_model_machine.specs.Listing.{hex_text};
 
 use mc_base::NoMemory;
 use std::alloc::Global;

@@ -1,6 +1,6 @@
 -- What the parts of a job do, and why a job is not done.
 use Rattle.std.specs.Prelude.{◌≡◌, ℕ, List, Result, Ok, Err}
-use Rattle.mc_model.specs.Counts.{Rose}
+use Rattle.mc_model_device.specs.Counts.{Rose}
 use Rattle.mc_lab.specs.Expectations.{Trial, TrialFault}
 use Rattle.mc_filter.specs.Inputs.{TookLimited}
 use Rattle.mc_filter.specs.Outside.{IsRead, Outside}

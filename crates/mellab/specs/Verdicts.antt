@@ -1,8 +1,8 @@
 -- What the input of a job stands for: the text that is due, and whether all is well, or the one line that refuses it.
 use Rattle.std.specs.Prelude.{ℕ, Bool, true, ◌==◌, List, codes, Result, Ok, Err}
-use Rattle.mc_model.specs.Device.{blank_words, device_words}
-use Rattle.mc_model.specs.DeckGrammar.{DeckLine, deck_read}
-use Rattle.mc_model.specs.declared.deck.DeckCause.{DeckCause}
+use Rattle.mc_model_device.specs.Device.{blank_words, device_words}
+use Rattle.mc_model_play.specs.DeckGrammar.{DeckLine, deck_read}
+use Rattle.mc_model_play.specs.declared.deck.DeckCause.{DeckCause}
 use Rattle.mc_lab.specs.Expectations.{Trial, TrialFault, DeckFault, NoAnswer, trial_read, steady_steps, expect_text, count_failed}
 use Rattle.mc_lab.specs.Sweeps.{sweep_text}
 use Rattle.mc_filter.specs.Lines.{at_line, deck_line}

@@ -1,6 +1,6 @@
 // The top call: a job over a source and a sink.
 ghost use Rattle.std.specs.Prelude.{◌≡◌, ◌≤◌, ◌^◌, ◌<◌, length, Ok, Some, IfErr, IfOk, IfSome};
-ghost use Rattle.mc_model.specs.DeckGrammar.{deck_read};
+ghost use Rattle.mc_model_play.specs.DeckGrammar.{deck_read};
 ghost use Rattle.mc_text.specs.Texts.{sunk_in};
 ghost use Rattle.mc_lab.specs.Expectations.{trial_read};
 ghost use Rattle.mc_lab.specs.Trials.{trial_value, IsRising};

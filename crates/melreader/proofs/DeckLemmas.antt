@@ -1,7 +1,7 @@
 -- The deck that a source has, and that of a blank card.
 use Rattle.std.proofs.Common.{◌≡◌, ◌≤◌, ℕ, List, Option, Some, None, codes, Result, Ok, Err, IfOk, IfErr, refl, ap, sym, subst, ◌∙◌, inl, inr, length, arith}
-use Rattle.mc_model.specs.DeckGrammar.{DeckLine, deck_lines, deck_read}
-use Rattle.mc_model.specs.declared.deck.DeckCause.{DeckCause}
+use Rattle.mc_model_play.specs.DeckGrammar.{DeckLine, deck_lines, deck_read}
+use Rattle.mc_model_play.specs.declared.deck.DeckCause.{DeckCause}
 use Rattle.mc_filter.specs.Inputs.{refused_deck, ReadWhole, Rejects, RejectsRead, TookLimited}
 use Rattle.mc_filter.specs.declared.rejection.Rejection.{Rejection}
 use Rattle.mc_filter.specs.declared.rejection.Rejection.TheVariants as rejection

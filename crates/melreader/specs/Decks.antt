@@ -2,9 +2,9 @@
 use Rattle.std.specs.Prelude.{◌≡◌, ◌⊎◌, ℕ, List, [], ◌∷◌, Option, Some, None, Result, Ok, Err, ⊤}
 use Rattle.std.proofs.Common.{inl, inr}
 use Rattle.std.specs.Borrow.{MutBor}
-use Rattle.mc_model.specs.Counts.{Rose}
-use Rattle.mc_model.specs.DeckGrammar.{DeckLine, Format, deck_read}
-use Rattle.mc_model.specs.declared.deck.DeckCause.{DeckCause}
+use Rattle.mc_model_device.specs.Counts.{Rose}
+use Rattle.mc_model_play.specs.DeckGrammar.{DeckLine, Format, deck_read}
+use Rattle.mc_model_play.specs.declared.deck.DeckCause.{DeckCause}
 use Rattle.mc_base.specs.declared.source.Source as source
 use Rattle.mc_filter.specs.Inputs.{TookLimited}
 use Rattle.mc_filter.specs.Lines.{deck_line}

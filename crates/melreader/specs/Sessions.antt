@@ -1,9 +1,9 @@
 -- What the top call says of the outside at each of its statuses.
 use Rattle.std.specs.Prelude.{◌≡◌, ◌⊎◌, ℕ, ◌++◌, List, codes, decimal, Option, Result, Ok, Err}
-use Rattle.mc_model.specs.DeckGrammar.{DeckLine}
+use Rattle.mc_model_play.specs.DeckGrammar.{DeckLine}
 use Rattle.mc_base.specs.declared.sink.Sink as sink
 use Rattle.mc_base.specs.declared.source.Source as source
-use Rattle.mc_model.specs.Device.{DeviceState, BenchState}
+use Rattle.mc_model_device.specs.Device.{DeviceState, BenchState}
 use Rattle.mc_text.specs.Texts.{Sunk, sunk_in}
 use Rattle.mc_reader.specs.Sessions.{AroundSession, Serves}
 use Rattle.mc_reader.specs.declared.serve_error.ServeError.{ServeError}

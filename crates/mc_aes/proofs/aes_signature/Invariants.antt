@@ -1,6 +1,6 @@
 use Rattle.std.proofs.Common.{◌≡◌, ◌-◌, ◌*◌, ◌/◌, length, drop}
-use Rattle.mc_model.specs.Modes.{chained, blocks_of}
-use Rattle.mc_model.specs.Aes.{aes_encipher, aes_signature}
+use Rattle.mc_model_machine.specs.Modes.{chained, blocks_of}
+use Rattle.mc_model_machine.specs.Aes.{aes_encipher, aes_signature}
 use Rattle.mc_aes.specs.State.{state_bytes}
 use Rattle.mc_aes.proofs.aes_signature.Given as goal
 

@@ -1,7 +1,7 @@
 use Rattle.std.proofs.Common.{◌≡◌, ◌-◌, ◌*◌, ◌/◌, length, drop}
 use Rattle.std.specs.Int.{w64, to_be_bytes}
-use Rattle.mc_model.specs.Modes.{chained, blocks_of}
-use Rattle.mc_model.specs.Des.{tdes_encipher, tdes_signature}
+use Rattle.mc_model_machine.specs.Modes.{chained, blocks_of}
+use Rattle.mc_model_machine.specs.Des.{tdes_encipher, tdes_signature}
 use Rattle.mc_des.proofs.tdes_signature.Given as goal
 
 abbrev pub invariant-loop-i : goal.invariant-loop-i

@@ -1,5 +1,5 @@
 use Rattle.std.proofs.Common.{◌≡◌, ap, ◌∙◌}
-use Rattle.mc_model.specs.Aes.{sub}
+use Rattle.mc_model_machine.specs.Aes.{sub}
 use Rattle.mc_aes.proofs.StateLemmas.{word-xor-of}
 use Rattle.mc_aes.proofs.rounds.last_column.Goals as goal
 

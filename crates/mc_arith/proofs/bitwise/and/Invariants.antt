@@ -1,6 +1,6 @@
 -- what is done, before the result on what is left, is the result on the whole
 use Rattle.std.proofs.Common.{◌≡◌, ◌++◌, take, drop}
-use Rattle.mc_model.specs.Blocks.{and_blocks}
+use Rattle.mc_model_machine.specs.Blocks.{and_blocks}
 use Rattle.mc_arith.proofs.bitwise.and.Given as goal
 
 abbrev pub invariant-loop-i : goal.invariant-loop-i

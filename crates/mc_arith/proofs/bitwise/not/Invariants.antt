@@ -1,6 +1,6 @@
 -- what is done, before the result on what is left, is the result on the whole
 use Rattle.std.proofs.Common.{◌≡◌, ◌++◌, take, drop}
-use Rattle.mc_model.specs.Blocks.{not_block}
+use Rattle.mc_model_machine.specs.Blocks.{not_block}
 use Rattle.mc_arith.proofs.bitwise.not.Given as goal
 
 abbrev pub invariant-loop-b : goal.invariant-loop-b

@@ -1,6 +1,6 @@
 -- the block is the number 0 exactly where what is left of it is
 use Rattle.std.proofs.Common.{◌≡◌, drop}
-use Rattle.mc_model.specs.Blocks.{is_zero}
+use Rattle.mc_model_machine.specs.Blocks.{is_zero}
 use Rattle.mc_arith.proofs.flags.zero.Given as goal
 
 abbrev pub invariant-loop-b : goal.invariant-loop-b

@@ -1,7 +1,7 @@
 -- the block is shifted by the bits so far, and the last bit that left is known
 use Rattle.std.proofs.Common.{◌≡◌, ◌-◌, ◌*◌, ◌%◌, ◌^◌, ◌<◌, length}
-use Rattle.mc_model.specs.Bytes.{num, AreBytes}
-use Rattle.mc_model.specs.Blocks.{bit}
+use Rattle.mc_model_device.specs.Bytes.{num, AreBytes}
+use Rattle.mc_model_machine.specs.Blocks.{bit}
 use Rattle.mc_arith.proofs.shifts.shift_left.Given as goal
 
 abbrev pub invariant-loop-step : goal.invariant-loop-step

@@ -1,6 +1,6 @@
 -- the blocks differ as what is left of them
 use Rattle.std.proofs.Common.{◌≡◌, ◌+◌, drop}
-use Rattle.mc_model.specs.Bytes.{num}
+use Rattle.mc_model_device.specs.Bytes.{num}
 use Rattle.mc_arith.proofs.subtraction.compare.Given as goal
 
 abbrev pub invariant-loop-i : goal.invariant-loop-i

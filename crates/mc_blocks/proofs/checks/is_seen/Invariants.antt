@@ -1,6 +1,6 @@
 use Rattle.std.proofs.Common.{◌≡◌, drop, map}
-use Rattle.mc_model.specs.Bytes.{has_name}
-use Rattle.mc_model.specs.Card.{name_in}
+use Rattle.mc_model_device.specs.Bytes.{has_name}
+use Rattle.mc_model_device.specs.Card.{name_in}
 use Rattle.mc_blocks.proofs.checks.is_seen.Given as goal
 
 -- the records that are left decide

@@ -1,8 +1,8 @@
 use Rattle.std.proofs.Common.{length, ap, sym, ◌∙◌}
-use Rattle.mc_model.specs.Card.{Card}
-use Rattle.mc_model.specs.Layout.{gaps}
+use Rattle.mc_model_device.specs.Card.{Card}
+use Rattle.mc_model_device.specs.Layout.{gaps}
 use Rattle.mc_blocks.proofs.Bridge.{WellLaid, laid, means-closed}
-use Rattle.mc_model.specs.Device.{sized}
+use Rattle.mc_model_device.specs.Device.{sized}
 use Rattle.mc_blocks.proofs.image.walk.Goals as goal
 
 pub returns-in-None-clause-used : goal.returns-in-None-clause-used

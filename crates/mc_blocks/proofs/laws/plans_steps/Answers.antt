@@ -1,6 +1,6 @@
 use Rattle.std.proofs.Common.{◌≡◌, ℕ, List, refl, ap, ◌∙◌}
-use Rattle.mc_model.specs.Card.{Card}
-use Rattle.mc_model.specs.Layout.{spans, layout, step_of}
+use Rattle.mc_model_device.specs.Card.{Card}
+use Rattle.mc_model_device.specs.Layout.{spans, layout, step_of}
 use Rattle.mc_blocks.specs.Plans.{changes, layout_of}
 use Rattle.mc_blocks.proofs.Heads.{layout-spans}
 use Rattle.mc_blocks.proofs.laws.plans_steps.Goals as goal

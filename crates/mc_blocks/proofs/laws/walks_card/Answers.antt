@@ -1,6 +1,6 @@
 use Rattle.std.proofs.Common.{length, ap, ◌∙◌}
-use Rattle.mc_model.specs.Card.{Card}
-use Rattle.mc_model.specs.Layout.{spans, gaps}
+use Rattle.mc_model_device.specs.Card.{Card}
+use Rattle.mc_model_device.specs.Layout.{spans, gaps}
 use Rattle.mc_blocks.proofs.Bridge.{well-laid, means-closed}
 use Rattle.mc_blocks.proofs.laws.walks_card.Goals as goal
 

@@ -1,9 +1,9 @@
 use Rattle.std.proofs.Common.{sym, ◌∙◌}
-use Rattle.mc_model.specs.Card.{means}
-use Rattle.mc_model.specs.Layout.{gaps}
+use Rattle.mc_model_device.specs.Card.{means}
+use Rattle.mc_model_device.specs.Layout.{gaps}
 use Rattle.mc_nvm.specs.Probe.{probed}
 use Rattle.mc_blocks.proofs.Search.{search-begins, search-on, search-found, search-ends}
-use Rattle.mc_model.specs.Device.{sized}
+use Rattle.mc_model_device.specs.Device.{sized}
 use Rattle.mc_blocks.proofs.room.first_fit.Goals as goal
 
 pub loop-place-init : goal.loop-place-init

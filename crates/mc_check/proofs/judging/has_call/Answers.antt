@@ -1,6 +1,6 @@
 use Rattle.std.proofs.Common.{◌≡◌, ℕ, false, sym, ◌∙◌}
 use borrow.Author.Count.{below_more}
-use Rattle.mc_model.specs.Code.{decoded}
+use Rattle.mc_model_machine.specs.Code.{decoded}
 use Rattle.mc_check.specs.Judging.{HasFactAt, calls_at}
 use Rattle.mc_check.proofs.TableReads.{some-kept, none-kept}
 use Rattle.mc_check.proofs.judging.has_call.Goals as goal

@@ -1,7 +1,7 @@
 use Rattle.std.proofs.Common.{◌≡◌, ◌+◌, arith, ℕ, List, Bor, [], false, Ok, sym, ap, subst, ◌∙◌}
 use Rattle.std.specs.Prelude.{option_map}
-use Rattle.mc_model.specs.Text.{lines, numbered}
-use Rattle.mc_model.specs.DeckGrammar.{Context, Mode, Between, deck_lines, deck_read}
+use Rattle.mc_model_machine.specs.Text.{lines, numbered}
+use Rattle.mc_model_play.specs.DeckGrammar.{Context, Mode, Between, deck_lines, deck_read}
 use Rattle.mc_family.proofs.DeckBytes.{read_lines_law}
 use Rattle.mc_deck.specs.Readers.{lines_of, mode_of}
 use Rattle.mc_deck.proofs.TurnLemmas.{left_lines, first_stands, first_lines, line_read, line_refused, lines_done, ended_none, ended_some, still_few}

@@ -1,6 +1,6 @@
 use Rattle.std.proofs.Common.{◌≡◌, ◌≤◌, ◌+◌, length, false, []}
-use Rattle.mc_model.specs.Text.{lines, numbered}
-use Rattle.mc_model.specs.DeckGrammar.{Context, Between, deck_lines}
+use Rattle.mc_model_machine.specs.Text.{lines, numbered}
+use Rattle.mc_model_play.specs.DeckGrammar.{Context, Between, deck_lines}
 use Rattle.mc_deck.specs.Readers.{lines_of, mode_of, StandsForContext}
 use Rattle.mc_deck.proofs.TurnLemmas.{left_lines}
 use Rattle.mc_deck.proofs.reading.read_deck.Given as goal

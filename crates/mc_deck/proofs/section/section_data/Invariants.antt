@@ -1,6 +1,6 @@
 use Rattle.std.proofs.Common.{◌≡◌, ◌++◌, drop}
-use Rattle.mc_model.specs.Text.{ok_as}
-use Rattle.mc_model.specs.DeckGrammar.{section_data}
+use Rattle.mc_model_machine.specs.Text.{ok_as}
+use Rattle.mc_model_play.specs.DeckGrammar.{section_data}
 use Rattle.mc_asm.specs.Passes.{numbered_lines}
 use Rattle.mc_deck.proofs.section.section_data.Given as goal
 

@@ -1,4 +1,4 @@
-use Rattle.mc_model.proofs.ImageLemmas.{laid-append}
+use Rattle.mc_model_device.proofs.ImageLemmas.{laid-append}
 use Rattle.mc_family.proofs.definitions.pairs_compose.Goals as goal
 
 pub returns : goal.returns

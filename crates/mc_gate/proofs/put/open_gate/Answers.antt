@@ -1,7 +1,7 @@
 use Rattle.std.proofs.Common.{[], ◌∷◌, ℕ, List, Ok, subst}
-use Rattle.mc_model.specs.Image.{opening, gate}
-use Rattle.mc_model.specs.Stopped.{numbered}
-use Rattle.mc_model.proofs.LoopLemmas.{then, one, one-done}
+use Rattle.mc_model_device.specs.Image.{opening, gate}
+use Rattle.mc_model_device.specs.Stopped.{numbered}
+use Rattle.mc_model_device.proofs.LoopLemmas.{then, one, one-done}
 use Rattle.mc_gate.specs.Journals.{journal_of}
 use Rattle.mc_gate.proofs.put.open_gate.Goals as goal
 

@@ -1,8 +1,8 @@
 use Rattle.std.proofs.Common.{refl}
-use Rattle.mc_model.specs.Image.{look_j}
-use Rattle.mc_model.specs.Stopped.{owed_writes, outcome_answer}
-use Rattle.mc_model.proofs.CallLemmas.{recover-ends}
-use Rattle.mc_model.proofs.LoopLemmas.{makes-same}
+use Rattle.mc_model_device.specs.Image.{look_j}
+use Rattle.mc_model_device.specs.Stopped.{owed_writes, outcome_answer}
+use Rattle.mc_model_device.proofs.CallLemmas.{recover-ends}
+use Rattle.mc_model_device.proofs.LoopLemmas.{makes-same}
 use Rattle.mc_gate.specs.Journals.{journal_of}
 use Rattle.mc_gate.specs.Recovery.{outcome_of}
 use Rattle.mc_gate.proofs.recovery.finish.Goals as goal

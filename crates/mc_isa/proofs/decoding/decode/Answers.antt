@@ -1,9 +1,9 @@
 -- What stands at the place follows from the computed answer, since the code consists of bytes.
 use Rattle.std.proofs.Common.{arith, ◌≡◌, ℕ, ◌+◌, ◌-◌, ◌≤◌, sym, ◌∙◌, subst, length, take, drop, get_or, length-take, Result, Ok}
 use Rattle.std.proofs.lemmas.Grind.{common_steps}
-use Rattle.mc_model.specs.Code.{decoded, form, DecodesTo}
-use Rattle.mc_model.specs.declared.instruction.DecodeFault.{DecodeFault}
-use Rattle.mc_model.specs.declared.instruction.Ins.{Ins}
+use Rattle.mc_model_machine.specs.Code.{decoded, form, DecodesTo}
+use Rattle.mc_model_machine.specs.declared.instruction.DecodeFault.{DecodeFault}
+use Rattle.mc_model_machine.specs.declared.instruction.Ins.{Ins}
 use Rattle.mc_isa.proofs.PlaceLemmas.{all_bytes, decoded_stands}
 use Rattle.mc_isa.proofs.ReadingLemmas.{made_of_inside}
 use Rattle.mc_isa.proofs.decoding.decode.Goals as goal

@@ -1,7 +1,7 @@
 -- what the line has with the arguments that are left is what it is to have, and there is room for them
 use Rattle.std.proofs.Common.{◌≡◌, ◌+◌, ◌*◌, ◌≤◌, ◌++◌, drop}
 use Rattle.arrayvec.specs.ArrayVec.{array_vec_len}
-use Rattle.mc_model.specs.Listing.{arguments_text}
+use Rattle.mc_model_machine.specs.Listing.{arguments_text}
 use Rattle.mc_isa.proofs.listing.put_arguments.Given as goal
 
 abbrev pub invariant-loop-b : goal.invariant-loop-b

@@ -1,6 +1,6 @@
 use Rattle.std.proofs.Common.{refl}
 use Rattle.std.specs.Fmt.{digits}
-use Rattle.mc_model.specs.Listing.{listed}
+use Rattle.mc_model_machine.specs.Listing.{listed}
 use Rattle.mc_isa.proofs.worked.listings.Goals as goal
 
 pub returns : goal.returns

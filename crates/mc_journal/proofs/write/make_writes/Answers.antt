@@ -1,8 +1,8 @@
 use Rattle.std.proofs.Common.{◌≡◌, ℕ, List, true, length, subst, sym, ◌∙◌}
 use Rattle.std.specs.List.{AllByRecursion}
 use Rattle.std.proofs.lemmas.Result.{err_from_is_err_and}
-use Rattle.mc_model.specs.Image.{One, within}
-use Rattle.mc_model.proofs.GeometryLemmas.{targets-within}
+use Rattle.mc_model_device.specs.Image.{One, within}
+use Rattle.mc_model_device.proofs.GeometryLemmas.{targets-within}
 use Rattle.mc_gate.proofs.WriteLemmas.{stops-in-entries, stops-at-gate, replays}
 use Rattle.mc_journal.proofs.write.make_writes.Goals as goal
 

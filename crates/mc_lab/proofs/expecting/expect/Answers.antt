@@ -1,11 +1,11 @@
 use Rattle.std.proofs.Common.{◌≡◌, ◌+◌, ◌≤◌, ◌∷◌, [], ◌∙◌, ap, sym, arith, zero-add, rules, ℕ, List, Ok, Bool, drop, length, slice_index_or}
-use Rattle.mc_model.specs.Play.{start}
+use Rattle.mc_model_play.specs.Play.{start}
 use Rattle.mc_asm.specs.declared.line.NumberedLine.{NumberedLine}
 use Rattle.mc_asm.specs.Passes.{numbered_lines}
 use Rattle.mc_asm.proofs.PassLemmas.{no_line}
 use Rattle.mc_text.specs.Texts.{sunk_in}
 use Rattle.mc_text.proofs.TextLemmas.{puts_as}
-use Rattle.mc_lab.specs.Patterns.{holds}
+use Rattle.mc_model_play.specs.Patterns.{holds}
 use Rattle.mc_lab.specs.Rising.{last_of}
 use Rattle.mc_lab.specs.Expectations.{is_met, result_above, steady_steps, step_text}
 use Rattle.mc_lab.specs.Judged.{done_of, expectation_of}

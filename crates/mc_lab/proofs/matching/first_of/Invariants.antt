@@ -1,5 +1,5 @@
 use Rattle.std.proofs.Common.{◌≡◌, ◌≤◌, length}
-use Rattle.mc_lab.specs.Patterns.{without_blanks}
+use Rattle.mc_model_play.specs.Patterns.{without_blanks}
 use Rattle.mc_lab.proofs.matching.first_of.Given as goal
 
 -- what is left has the same characters

@@ -1,5 +1,5 @@
 use Rattle.std.proofs.Common.{sym, ◌∙◌}
-use Rattle.mc_lab.specs.Patterns.{matches, without_blanks}
+use Rattle.mc_model_play.specs.Patterns.{matches, without_blanks}
 use Rattle.mc_lab.proofs.MatchingLemmas.{some_rest-first}
 use Rattle.mc_lab.proofs.matching.matches_some_rest.Goals as goal
 

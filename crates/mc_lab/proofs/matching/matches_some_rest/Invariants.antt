@@ -1,5 +1,5 @@
 use Rattle.std.proofs.Common.{◌≡◌, ◌+◌, length, ℕ}
-use Rattle.mc_lab.specs.Patterns.{matches, some_rest, without_blanks}
+use Rattle.mc_model_play.specs.Patterns.{matches, some_rest, without_blanks}
 use Rattle.mc_lab.proofs.matching.matches_some_rest.Given as goal
 
 -- what is left is found where the whole is

@@ -1,5 +1,5 @@
 use Rattle.std.proofs.Common.{arith}
-use Rattle.mc_lab.specs.Patterns.{without_blanks}
+use Rattle.mc_model_play.specs.Patterns.{without_blanks}
 use Rattle.mc_lab.proofs.MatchingLemmas.{walked-star, walked-short, walked-apart, walked-step, walked-end}
 use Rattle.mc_lab.proofs.matching.walk_to_star.Goals as goal
 

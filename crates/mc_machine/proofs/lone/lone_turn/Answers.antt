@@ -1,16 +1,16 @@
 -- Each end of a turn is that of the definitions.
 use Rattle.std.proofs.Common.{◌≡◌, ℕ, ◌+◌, Some, None, Result, Ok, Err, refl, sym, ap, subst, ◌∙◌, arith}
-use Rattle.mc_model.specs.declared.instruction.DecodeFault.{DecodeFault}
-use Rattle.mc_model.specs.declared.instruction.DecodeFault.TheVariants.{Undefined, Past}
-use Rattle.mc_model.specs.declared.machine.Abend.TheVariants.{A01, A02}
-use Rattle.mc_model.specs.Items.{Commit}
-use Rattle.mc_model.specs.Code.{decoded}
-use Rattle.mc_model.specs.Primitives.{Around}
-use Rattle.mc_model.specs.Row.{row}
-use Rattle.mc_model.specs.Chain.{Acted, abends_at, around, stepped, row_turn, turn_of}
+use Rattle.mc_model_machine.specs.declared.instruction.DecodeFault.{DecodeFault}
+use Rattle.mc_model_machine.specs.declared.instruction.DecodeFault.TheVariants.{Undefined, Past}
+use Rattle.mc_model_machine.specs.declared.machine.Abend.TheVariants.{A01, A02}
+use Rattle.mc_model_card.specs.Items.{Commit}
+use Rattle.mc_model_machine.specs.Code.{decoded}
+use Rattle.mc_model_machine.specs.Primitives.{Around}
+use Rattle.mc_model_machine.specs.Row.{row}
+use Rattle.mc_model_machine.specs.Chain.{Acted, abends_at, around, stepped, row_turn, turn_of}
 use Rattle.mc_segs.specs.HeldFrames.{Held, shown, app_under}
 use Rattle.mc_segs.specs.Ends.{RowActs, scene}
-use Rattle.mc_model.specs.declared.device.Stop.{Stop}
+use Rattle.mc_model_device.specs.declared.device.Stop.{Stop}
 use Rattle.mc_machine.specs.Turns.{advanced, told_of}
 use Rattle.mc_machine.specs.Lone.{lone_chain, LoneDone}
 use Rattle.mc_machine.specs.declared.lone.Lone.{Lone}

@@ -1,6 +1,6 @@
 use Rattle.std.proofs.Common.{◌-◌, ◌*◌, ℕ, take, drop, length, ap, sym, ◌∙◌, arith, length-append}
-use Rattle.mc_model.specs.Bytes.{up}
-use Rattle.mc_model.specs.Image.{Two, targets, four, ascend, all_zero}
+use Rattle.mc_model_device.specs.Bytes.{up}
+use Rattle.mc_model_device.specs.Image.{Two, targets, four, ascend, all_zero}
 use Rattle.mc_packed.proofs.LookLemmas.{targets-on, targets-bad, targets-end, bad-first, bad-second}
 use Rattle.mc_packed.proofs.look.read_targets.Goals as goal
 

@@ -1,7 +1,7 @@
-use Rattle.mc_model.specs.Image.{Two}
-use Rattle.mc_model.specs.Stopped.{writes}
-use Rattle.mc_model.proofs.CallLemmas.{write-ends}
-use Rattle.mc_model.proofs.LoopLemmas.{makes-same}
+use Rattle.mc_model_device.specs.Image.{Two}
+use Rattle.mc_model_device.specs.Stopped.{writes}
+use Rattle.mc_model_device.proofs.CallLemmas.{write-ends}
+use Rattle.mc_model_device.proofs.LoopLemmas.{makes-same}
 use Rattle.mc_packed.proofs.write.write_words.Goals as goal
 
 pub returns-clause-ends : goal.returns-clause-ends

@@ -1,5 +1,5 @@
 use Rattle.std.proofs.Common.{subst, sym, List, ℕ}
-use Rattle.mc_model.specs.Play.{send, line_command}
+use Rattle.mc_model_play.specs.Play.{send, line_command}
 use Rattle.mc_card.specs.Parts.{card_in, seat_in}
 use Rattle.mc_card.specs.Ends.{put_in}
 use Rattle.mc_script.specs.declared.commands.CardLine.{CardLine}

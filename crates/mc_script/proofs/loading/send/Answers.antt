@@ -1,6 +1,6 @@
 use Rattle.std.proofs.Common.{◌≡◌, ℕ, List, ◌∷◌, true, false, ap, subst, sym, ◌∙◌, rules}
 use Rattle.std.proofs.lemmas.Result.{err_from_is_err_and}
-use Rattle.mc_model.specs.Play.{is_done}
+use Rattle.mc_model_play.specs.Play.{is_done}
 use Rattle.mc_machine.specs.Turns.{outcome_value}
 use Rattle.mc_script.proofs.SendLemmas.{Sends, sends_on, sends_end, sends_stop, sends_none}
 use Rattle.mc_script.proofs.loading.send.Goals as goal

@@ -1,5 +1,5 @@
 use Rattle.std.proofs.Common.{◌≡◌, None, drop}
-use Rattle.mc_model.specs.Play.{start}
+use Rattle.mc_model_play.specs.Play.{start}
 use Rattle.mc_script.specs.Players.{device_of}
 use Rattle.mc_text.specs.Texts.{sunk_in}
 use Rattle.mc_script.specs.Writers.{text_by, turns_text}

@@ -1,5 +1,5 @@
 use Rattle.std.proofs.Common.{◌++◌, ap, codes, decimal, sym, ◌∙◌, append_assoc}
-use Rattle.mc_model.specs.Transcript.{shown}
+use Rattle.mc_model_play.specs.Transcript.{shown}
 use Rattle.mc_script.specs.Players.{answer_value}
 use Rattle.mc_script.proofs.text.add_result.Goals as goal
 

@@ -1,5 +1,5 @@
 use Rattle.std.proofs.Common.{List, ℕ, length, take, drop, Some, sym, ap, ◌∙◌}
-use Rattle.mc_model.specs.Frame as model
+use Rattle.mc_model_machine.specs.Frame as model
 use Rattle.mc_segs.specs.HeldFrames.{Held, shown}
 use Rattle.mc_segs.proofs.AccessLemmas.{bytes_read, no_bytes, some_bytes}
 use Rattle.mc_segs.proofs.access.load.Goals as goal

@@ -1,12 +1,12 @@
 use Rattle.std.proofs.Common.{◌≡◌, true, ℕ, Ok, ap, sym, subst, ◌∙◌, arith}
 use Rattle.std.proofs.lemmas.Result.{err_from_is_err_and}
-use Rattle.mc_model.specs.declared.card.Sizes.{Sizes}
-use Rattle.mc_model.specs.Card.{means}
-use Rattle.mc_model.specs.Layout.{gaps}
+use Rattle.mc_model_card.specs.declared.card.Sizes.{Sizes}
+use Rattle.mc_model_device.specs.Card.{means}
+use Rattle.mc_model_device.specs.Layout.{gaps}
 use Rattle.mc_blocks.specs.Plans.{has_room}
 use Rattle.mc_store.specs.Store.{needed_by}
 use Rattle.mc_store.proofs.CreateLemmas.{enter-is, enter-did}
-use Rattle.mc_model.specs.Device.{sized}
+use Rattle.mc_model_device.specs.Device.{sized}
 use Rattle.mc_store.proofs.creation.enter.Goals as goal
 
 pub take_plan-plan-requires-clause-closed : goal.take_plan-plan-requires-clause-closed

@@ -1,10 +1,10 @@
 use Rattle.std.proofs.Common.{◌+◌, ◌/◌, ◌<◌, ℕ, length, sym, subst, ap, ◌∙◌, arith}
-use Rattle.mc_model.specs.declared.card.Sizes.{Sizes}
-use Rattle.mc_model.specs.declared.card.Part.TheVariants.{Data}
+use Rattle.mc_model_card.specs.declared.card.Sizes.{Sizes}
+use Rattle.mc_model_card.specs.declared.card.Part.TheVariants.{Data}
 use Rattle.mc_store.specs.Store.{part_from}
 use Rattle.mc_store.proofs.FillLemmas.{power-on}
 use Rattle.mc_store.proofs.CreateLemmas.{blank-word, blank-did, blank-going, blank-good, zeros-front}
-use Rattle.mc_model.specs.Device.{sized}
+use Rattle.mc_model_device.specs.Device.{sized}
 use Rattle.mc_store.proofs.creation.put_zeros.Goals as goal
 
 pub write_part-requires-clause-power : goal.write_part-requires-clause-power

@@ -1,8 +1,8 @@
 use Rattle.std.proofs.Common.{◌+◌, ◌/◌, ◌<◌, ℕ, length, sym, subst, ap, ◌∙◌}
-use Rattle.mc_model.specs.declared.card.Sizes.{Sizes}
+use Rattle.mc_model_card.specs.declared.card.Sizes.{Sizes}
 use Rattle.mc_store.specs.Store.{part_from}
 use Rattle.mc_store.proofs.FillLemmas.{site-word, power-on, piece-did, piece-going, piece-good}
-use Rattle.mc_model.specs.Device.{sized}
+use Rattle.mc_model_device.specs.Device.{sized}
 use Rattle.mc_store.proofs.filling.put_part.Goals as goal
 
 pub write_part-requires-clause-power : goal.write_part-requires-clause-power

@@ -1,5 +1,5 @@
 use Rattle.std.proofs.Common.{◌≡◌, ◌*◌, ◌++◌, length, drop}
-use Rattle.mc_model.specs.Transcript.{hex_text}
+use Rattle.mc_model_machine.specs.Listing.{hex_text}
 use Rattle.mc_text.proofs.pieces.hex_of.Given as goal
 
 -- the digits so far and those of what is left are those of all, and there is room for them

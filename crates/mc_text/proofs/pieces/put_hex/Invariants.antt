@@ -1,5 +1,5 @@
 use Rattle.std.proofs.Common.{length, Result}
-use Rattle.mc_model.specs.Transcript.{hex_text}
+use Rattle.mc_model_machine.specs.Listing.{hex_text}
 use Rattle.mc_base.specs.declared.refusals.WriteFault.{WriteFault}
 use Rattle.mc_text.specs.Texts.{Sunk, sunk_in, Puts}
 use Rattle.mc_text.proofs.pieces.put_hex.Given as goal

@@ -1,5 +1,5 @@
 use Rattle.std.proofs.Common.{◌≡◌, drop}
-use Rattle.mc_model.specs.Text.{every, is_name_character}
+use Rattle.mc_model_machine.specs.Text.{every, is_name_character}
 use Rattle.mc_text.proofs.reading.has_name_characters.Given as goal
 
 -- what is left passes where the whole passes

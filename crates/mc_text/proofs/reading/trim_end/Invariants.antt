@@ -1,5 +1,5 @@
 use Rattle.std.proofs.Common.{◌≡◌, length}
-use Rattle.mc_model.specs.Text.{trim_end}
+use Rattle.mc_model_machine.specs.Text.{trim_end}
 use Rattle.mc_text.proofs.reading.trim_end.Given as goal
 
 -- what is left trims to what the whole trims to

@@ -1,5 +1,5 @@
 use Rattle.std.proofs.Common.{◌≡◌, ◌≤◌, ◌+◌, ◌++◌, [], length}
-use Rattle.mc_model.specs.Text.{ok_as, lines, numbered}
+use Rattle.mc_model_machine.specs.Text.{ok_as, lines, numbered}
 use Rattle.melcard.specs.Judging.{text_digits}
 use Rattle.melcard.proofs.code.digits_of.Given as goal
 

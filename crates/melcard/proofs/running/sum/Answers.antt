@@ -1,6 +1,6 @@
 use Rattle.std.proofs.Common.{ℕ, List, subst}
-use Rattle.mc_model.specs.DeckGrammar.{DeckLine}
-use Rattle.mc_model.specs.Generator.{generated, summary}
+use Rattle.mc_model_play.specs.DeckGrammar.{DeckLine}
+use Rattle.mc_model_play.specs.Generator.{generated, summary}
 use Rattle.mc_script.specs.Plays.{SumsDeck}
 use Rattle.mc_text.specs.Texts.{sunk_in}
 use Rattle.mc_check.proofs.CheckedPlays.{checked_plays_law}

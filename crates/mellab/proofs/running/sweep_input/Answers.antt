@@ -1,6 +1,6 @@
 use Rattle.std.proofs.Common.{◌∙◌, ap, refl, sym, subst, Ok, Err}
 use Rattle.mc_base.specs.declared.refusals.WriteFault.{WriteFault as Fault}
-use Rattle.mc_model.specs.DeckGrammar.{deck_read}
+use Rattle.mc_model_play.specs.DeckGrammar.{deck_read}
 use Rattle.mc_lab.specs.Sweeps.{sweep_text}
 use Rattle.mc_lab.specs.SweepEnds.{TellsSweep}
 use Rattle.mc_lab.specs.declared.sweeping.SweepFault.{SweepFault}

@@ -1,5 +1,5 @@
 use Rattle.std.proofs.Common.{◌+◌, ◌≤◌, length, ◌∙◌, sym, ap, subst, take, drop}
-use Rattle.mc_model.specs.Card.{App}
+use Rattle.mc_model_device.specs.Card.{App}
 use Rattle.mc_card.proofs.StaticLemmas.{slot-app, not-there, none-there}
 use Rattle.mc_card.proofs.card.Card.static_of.Goals as goal
 

@@ -1,5 +1,5 @@
 use Rattle.std.proofs.Common.{Some, None, ap}
-use Rattle.mc_model.specs.DeckGrammar as line
+use Rattle.mc_model_play.specs.DeckGrammar as line
 use Rattle.mc_unit.specs.Parts.{parts_of}
 use Rattle.mc_deck.specs.Lines.{line_of}
 use Rattle.mc_script.specs.declared.answer.Answer.TheVariants as answer

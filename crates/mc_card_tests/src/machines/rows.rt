@@ -1,0 +1,169 @@
+// Rows of a table: applications, commands to the first of them, and what is due.
+ghost use Rattle.std.specs.Prelude.{◌≡◌, ◌<◌};
+
+use crate::machines::card::{Fault, Unit, command, load, static_bytes};
+use mc_apdu::Reply;
+use mc_bank::MemBank;
+use mc_base::{Aid, Steps};
+use mc_machine::Outcome;
+use mc_segs::Abend;
+use std::alloc::Global;
+use std::sync::ledger::{Blank, Ledger};
+
+/// An application, its bytes in hexadecimal.
+#[derive(Clone, Copy, Debug)]
+pub struct App<'a> {
+    pub name: &'a str,
+    pub code: &'a str,
+    pub data: &'a str,
+    pub fixed: u16,
+    pub deny: u16,
+}
+
+/// What a command answers: the data of its reply and the status in hexadecimal, or an abend.
+#[derive(Clone, Copy, Debug)]
+pub enum Answer<'a> {
+    Reply(&'a str),
+    Abend(Abend),
+}
+
+/// The applications, a command in hexadecimal and its answer, one after the other under a budget, and the static bytes of
+/// the first application after the last one.
+#[derive(Clone, Copy, Debug)]
+pub struct Row<'a> {
+    pub apps: &'a [App<'a>],
+    pub budget: u32,
+    pub commands: &'a [(&'a str, Answer<'a>)],
+    pub left: &'a str,
+}
+
+/// The number of the first command of a row that answers something else, or how many there are where other static bytes
+/// are left; `None` where all is as it is due.
+pub fn wrong_at<L: Ledger>(
+    alloc: Global,
+    blank: Blank,
+    row: &Row<'_>,
+) -> Result<Option<usize>, Fault>
+    requires name { blank.name ≡ L.name }
+    requires parts { blank.parts ≡ L.parts }
+    requires some { 0 < blank.parts }
+{
+    let mut steps = Steps::<L>::new(blank);
+    let Ok(mut bank) = MemBank::new(alloc) else {
+        return Err(Fault::NoMemory);
+    };
+    let [first, ..] = row.apps else {
+        return Err(Fault::Absent);
+    };
+    load_all(alloc, &mut bank, row.apps, &mut steps)?;
+    let name = name_of(alloc, first.name)?;
+    if let Some(at) = wrong_command(alloc, &mut bank, &name, row, &mut steps)? {
+        return Ok(Some(at));
+    }
+    let left = bytes_of(alloc, row.left)?;
+    if static_bytes(alloc, &bank, &name)?.as_slice() != left.as_slice() {
+        return Ok(Some(row.commands.len()));
+    }
+    Ok(None)
+}
+
+fn load_all<L: Ledger>(
+    alloc: Global,
+    bank: &mut MemBank,
+    apps: &[App<'_>],
+    steps: &mut Steps<L>,
+) -> Result<(), Fault> {
+    for app in apps {
+        let name = name_of(alloc, app.name)?;
+        let code = bytes_of(alloc, app.code)?;
+        let data = bytes_of(alloc, app.data)?;
+        let unit = Unit {
+            code: code.as_slice(),
+            data: data.as_slice(),
+            fixed: app.fixed,
+            deny: app.deny,
+        };
+        load(bank, &name, &unit, steps)?;
+    }
+    Ok(())
+}
+
+fn wrong_command<L: Ledger>(
+    alloc: Global,
+    bank: &mut MemBank,
+    name: &Aid,
+    row: &Row<'_>,
+    steps: &mut Steps<L>,
+) -> Result<Option<usize>, Fault> {
+    for (at, (text, answer)) in row.commands.iter().enumerate() {
+        let bytes = bytes_of(alloc, text)?;
+        let outcome = command(bank, name, bytes.as_slice(), row.budget, steps)?;
+        if !is_answer(alloc, &outcome, answer)? {
+            return Ok(Some(at));
+        }
+    }
+    Ok(None)
+}
+
+fn is_answer(alloc: Global, outcome: &Outcome, answer: &Answer<'_>) -> Result<bool, Fault> {
+    match (outcome, answer) {
+        (Outcome::Reply(reply), Answer::Reply(text)) => {
+            Ok(is_reply(reply, bytes_of(alloc, text)?.as_slice()))
+        }
+        (Outcome::Abend(abend), Answer::Abend(due)) => Ok(abend == due),
+        _ => Ok(false),
+    }
+}
+
+fn is_reply(reply: &Reply, bytes: &[u8]) -> bool {
+    let [body @ .., high, low] = bytes else {
+        return false;
+    };
+    reply.body.as_slice() == body && reply.sw == *high as u16 * 256 + *low as u16
+}
+
+fn bytes_of(alloc: Global, text: &str) -> Result<Vec<u8>, Fault> {
+    match hex::decode(alloc, text) {
+        Ok(bytes) => Ok(bytes),
+        Err(_) => Err(Fault::NotHexadecimal),
+    }
+}
+
+fn name_of(alloc: Global, text: &str) -> Result<Aid, Fault> {
+    let bytes = bytes_of(alloc, text)?;
+    match Aid::new(bytes.as_slice()) {
+        Some(name) => Ok(name),
+        None => Err(Fault::NoName),
+    }
+}
+
+/// How a command to a single application without data ends, under a budget, and the static bytes that it leaves.
+pub fn lone<L: Ledger>(
+    alloc: Global,
+    blank: Blank,
+    code: &[u8],
+    fixed: u16,
+    bytes: &[u8],
+    budget: u32,
+) -> Result<(Outcome, Vec<u8>), Fault>
+    requires name { blank.name ≡ L.name }
+    requires parts { blank.parts ≡ L.parts }
+    requires some { 0 < blank.parts }
+{
+    let mut steps = Steps::<L>::new(blank);
+    let Ok(mut bank) = MemBank::new(alloc) else {
+        return Err(Fault::NoMemory);
+    };
+    let Some(name) = Aid::new(&[0xA0, 0, 0, 0, 1]) else {
+        return Err(Fault::NoName);
+    };
+    let unit = Unit {
+        code,
+        data: &[],
+        fixed,
+        deny: 0,
+    };
+    load(&mut bank, &name, &unit, &mut steps)?;
+    let outcome = command(&mut bank, &name, bytes, budget, &mut steps)?;
+    Ok((outcome, static_bytes(alloc, &bank, &name)?))
+}

@@ -1,0 +1,11 @@
+pub mod MapLemmas
+pub mod AscendingMaps
+pub mod RowNames
+pub mod TouchedWords
+pub mod BlockLengths
+pub mod RowSizes
+pub mod RowWords
+pub mod AppSizes
+pub mod RunSizes
+pub mod FewRuns
+pub mod FewHeaders

@@ -1,0 +1,74 @@
+-- How many words of static bytes one instruction changes, and how many device writes that makes.
+use Rattle.std.specs.Prelude.{◌≡◌, ℕ, ◌+◌, ◌≤◌, List, length, IfSome, Option, Some, None, ⊤}
+use Rattle.std.specs.List.{AllByRecursion}
+use Rattle.mc_model_machine.specs.declared.instruction.Ins.{Ins}
+use Rattle.mc_model_machine.specs.declared.instruction.Ins.TheVariants as ins
+use Rattle.mc_model_device.specs.Image.{One, Two}
+use Rattle.mc_model_device.specs.Stopped.{cost}
+use Rattle.mc_model_machine.specs.Code.{Shaped}
+use Rattle.mc_model_device.specs.Pieces.{touched}
+use Rattle.mc_model_machine.specs.Frame.{Frame}
+use Rattle.mc_model_machine.specs.Primitives.{Around, Exits, Done, Primitive, SetProtection, primitive}
+use Rattle.mc_model_machine.specs.Row.{RowEnd, Abends, Does, row}
+use Rattle.mc_model_device.specs.Limits.{most_static}
+
+-- pieces that lie in a list of this length
+abbrev pub PiecesWithin : ℕ → List (ℕ × List ℕ) → Type 0
+PiecesWithin n ps = AllByRecursion (λ p. p.0 + length p.1 ≤ n) ps
+
+-- a frame within the limits: its pending pieces lie in its static bytes and touch at most 64 words
+pub record HoldsFew (f : Frame) : Type 0 where
+  pub fixed : length f.fixed ≤ most_static
+  pub inside : PiecesWithin (length f.fixed) f.pieces
+  pub few : length (touched f.pieces) ≤ 64
+
+-- the words that a change touches
+abbrev pub words_in : Option (List (ℕ × List ℕ)) → ℕ
+words_in None = 0
+words_in (Some ps) = length (touched ps)
+
+-- the most words that a primitive changes: the commit of what is pending 64, any other 33
+abbrev pub most_of : Option Primitive → ℕ
+most_of (Some SetProtection) = 64
+most_of _ = 33
+
+-- the most words that an instruction changes
+abbrev pub most_words : Ins → ℕ
+most_words (ins.Prim set number args) = most_of (primitive set number)
+most_words _ = 33
+
+-- what is done changes no more words, leaves a frame within the limits, and changes none where the frame exits
+pub record DoesFew (most : ℕ) (d : Done) : Type 0 where
+  pub words : words_in d.effect.changes ≤ most
+  pub frame : HoldsFew d.effect.frame
+  pub exit : d.next ≡ Exits → d.effect.changes ≡ None
+
+-- a row that is done changes no more words
+abbrev pub EndsWithin : ℕ → RowEnd → Type 0
+EndsWithin most (Abends a) = ⊤
+EndsWithin most (Does d) = words_in d.effect.changes ≤ most
+
+-- the name that an instruction may tell: a primitive tells that of the delegator, and it has at most 16 bytes
+abbrev pub IsToldName : Ins → Option (List ℕ) → Type 0
+IsToldName (ins.Prim set number args) delegator = IfSome delegator (λ n. length n ≤ 16)
+IsToldName _ delegator = ⊤
+
+-- a row that is done does
+abbrev pub EndsFew : ℕ → RowEnd → Type 0
+EndsFew most (Abends a) = ⊤
+EndsFew most (Does d) = DoesFew most d
+
+-- of each instruction that bytes spell, in a frame within the limits whose delegator has a name of at most 16 bytes
+abbrev pub FewWordsLaw : Type 0
+FewWordsLaw =
+    (i : Ins) (f : Frame) (public : List ℕ) (x : Around)
+    → Shaped i → IfSome x.delegator (λ n. length n ≤ 16) → HoldsFew f → EndsFew (most_words i) (row i f public x)
+
+-- the device writes of an item of so many words, in the journal in force and in journal 1
+pub record CostsAtMost (w now before : ℕ) : Type 0 where
+  pub two : cost Two w ≤ now
+  pub one : cost One w ≤ before
+
+-- 33 words cost at most 78 device writes, 102 in journal 1; 64 words cost at most 147, 195 in journal 1
+abbrev pub FewWritesLaw : Type 0
+FewWritesLaw = (w : ℕ) → (w ≤ 33 → CostsAtMost w 78 102) × (w ≤ 64 → CostsAtMost w 147 195)

@@ -1,0 +1,4 @@
+pub mod Limited
+pub mod FewWords
+pub mod FewRuns
+pub mod FewHeaders

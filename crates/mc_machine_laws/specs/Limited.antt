@@ -1,0 +1,14 @@
+-- Applications within the limits.
+use Rattle.std.specs.Prelude.{◌≡◌, ℕ, ◌≤◌, List, length, Option, Some, None}
+use Rattle.mc_model_device.specs.Bytes.{lookup}
+use Rattle.mc_model_device.specs.Card.{App}
+use Rattle.mc_model_device.specs.Limits.{most_static}
+
+-- the session bytes of an application, none where it is not there
+abbrev pub session_in : Option App → ℕ
+session_in None = 0
+session_in (Some a) = a.session
+
+-- each application keeps to the most static bytes
+abbrev pub AreLimited : List (List ℕ × App) → Type 0
+AreLimited map = (name : List ℕ) (a : App) → lookup map name ≡ Some a → length a.fixed ≤ most_static

@@ -1,4 +1,0 @@
-use Rattle.mc_machine_tests.proofs.table.ended.Given as goal
-
-abbrev pub ghosts-lone : goal.ghosts-lone
-ghosts-lone a = record { name = a.blank.name; parts = a.blank.parts }

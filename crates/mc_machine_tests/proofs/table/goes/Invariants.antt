@@ -1,4 +1,0 @@
-use Rattle.mc_machine_tests.proofs.table.goes.Given as goal
-
-abbrev pub ghosts-wrong_at : goal.ghosts-wrong_at
-ghosts-wrong_at a = record { name = a.blank.name; parts = a.blank.parts }

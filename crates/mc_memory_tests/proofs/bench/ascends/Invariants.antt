@@ -1,7 +1,0 @@
-use Rattle.std.proofs.Common.{◌≡◌, drop, map}
-use Rattle.mc_model.specs.Image.{ascend}
-use Rattle.mc_memory_tests.proofs.bench.ascends.Given as goal
-
--- the targets that are left decide
-abbrev pub invariant-loop-target : goal.invariant-loop-target
-invariant-loop-target l = record { test : ascend l.size 0 (map (λ p. p.0) l.list) ≡ ascend l.size l.least (map (λ p. p.0) (drop l.target-index l.list)) }

@@ -1,0 +1,72 @@
+-- One command of the terminal on a running card: its items, its outcome, and the session state after it.
+use Rattle.std.specs.Prelude.{ℕ, List, [], ◌∷◌, length, map, Option, Some, None}
+use Rattle.mc_model_machine.specs.Apdu.{ApduParts}
+use Rattle.mc_model_device.specs.Card.{Card}
+use Rattle.mc_model_device.specs.Layout.{step_of}
+use Rattle.mc_model_machine.specs.Chain.{Outcome, Reply, Turn, Ran, run}
+use Rattle.mc_model_card.specs.Items.{Change, Item, Plain, Atomic, changed, BankItem, Piece, Blank, Note, Commit, Enter, Remove, write_items}
+use Rattle.mc_model_card.specs.Manager.{Selected, Seat, Route, WrongLength, WrongClass, ToSelect, ToManager, ToApplication, route, Managed, Declines, Accepts, select, manage, room_on}
+
+-- what a command does where nothing stops it; `done` has it, where it is answered by 9000 alone
+pub record Command : Type 0 where
+  pub items : List Item
+  pub outcome : Outcome
+  pub seat : Seat
+  pub pairs : List (List ℕ × List ℕ)
+  pub turns : List Turn
+
+-- a reply that is a status alone
+abbrev pub status : ℕ → Outcome
+status sw = Reply [] sw
+
+-- a command that changes nothing
+abbrev pub refused : Seat → ℕ → Command
+refused seat sw = record { items = []; outcome = status sw; seat = seat; pairs = []; turns = [] }
+
+-- an item of the bank without its contents; `whole` is the creation or the deletion
+abbrev pub item_of : Item → BankItem → Item
+item_of whole (Enter s n) = whole
+item_of whole (Remove n) = whole
+item_of whole (Piece s p at b) = Plain
+item_of whole (Blank s at n) = Plain
+item_of whole (Note s n i) = Plain
+item_of whole (Commit n ws) = Plain
+
+-- a creation or deletion, as the atomic write of the header words that it changes
+abbrev pub atomic_of : Card → Option Change → Item
+atomic_of c None = Plain
+atomic_of c (Some ch) = Atomic (length (step_of c (record c { apps = changed ch c.apps }))) ch
+
+-- the manager's answer as a command
+abbrev pub managed : Card → Seat → Managed → Command
+managed c seat (Declines sw) = refused seat sw
+managed c seat (Accepts a) =
+    record { items = map (item_of (atomic_of c a.change)) a.items; outcome = Reply a.body 0x9000; seat = a.seat; pairs = []; turns = [] }
+
+-- a run as a command: the session bytes stay with the selection
+abbrev pub ran_command : Seat → List ℕ → Ran → Command
+ran_command seat n r =
+    record {
+      items = write_items r.writes;
+      outcome = r.outcome;
+      seat = record seat { selected = Some (record { name = n; session = r.session }) };
+      pairs = r.pairs;
+      turns = r.turns;
+    }
+
+-- a command for the selected application
+abbrev pub passed : Card → Seat → Option Selected → ApduParts → ℕ → Command
+passed c seat None a budget = refused seat 0x6985
+passed c seat (Some s) a budget = ran_command seat s.name (run c.apps s.name s.session a budget)
+
+-- a command by its route
+abbrev pub by_route : Card → Seat → ℕ → Route → Command
+by_route c seat budget WrongLength = refused seat 0x6700
+by_route c seat budget WrongClass = refused seat 0x6E00
+by_route c seat budget (ToSelect a) = managed c seat (select c.apps seat a)
+by_route c seat budget (ToManager a) = managed c seat (manage (room_on c) c.apps seat a)
+by_route c seat budget (ToApplication a) = passed c seat seat.selected a budget
+
+-- one command on a running card
+unfoldable pub command : Card → Seat → List ℕ → ℕ → Command
+command c seat bytes budget = by_route c seat budget (route bytes)

@@ -1,0 +1,5 @@
+pub mod Units
+pub mod Items
+pub mod Manager
+pub mod Commands
+pub mod Words

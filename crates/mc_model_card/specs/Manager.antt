@@ -1,0 +1,321 @@
+-- The commands of the card manager: select, load, create, delete; and how a command is routed to it or to an application.
+-- Headers, SELECT and status words are those of ISO/IEC 7816-4:2005 (5.1 and 7.1.1); the commands of class BE are this project's own.
+use Rattle.std.specs.Prelude.{ℕ, zero, suc, ◌+◌, ◌-◌, ◌*◌, ◌%◌, Bool, true, false, cond, not, ◌&&◌, ◌||◌, nat_lt, nat_le, ◌==◌, min, List, [], ◌∷◌, ◌++◌, length, take, drop, map, slice_index, bytes_eq, is_some, is_none, is_ok, unwrap_or, Option, Some, None, Result, Ok, Err}
+use Rattle.mc_model_card.specs.declared.card.Part.{Part}
+use Rattle.mc_model_card.specs.declared.card.Part.TheVariants as part
+use Rattle.mc_model_card.specs.declared.card.Sizes.{Sizes}
+use Rattle.mc_model_card.specs.declared.unit.AidFault.{AidFault}
+use Rattle.mc_model_device.specs.Limits.{most_code, most_static, most_session, most_record}
+use Rattle.mc_model_device.specs.Bytes.{be2, zeros, lookup}
+use Rattle.mc_model_machine.specs.Apdu.{ApduParts, apdu_read}
+use Rattle.mc_model_card.specs.Units.{name_of}
+use Rattle.mc_model_device.specs.Card.{App, Card, needed_of}
+use Rattle.mc_model_device.specs.Layout.{gaps, first_fitting}
+use Rattle.mc_model_card.specs.Items.{Change, Created, Deleted, Site, BankItem, Piece, Blank, Note, Enter, Remove}
+
+-- ---- state
+
+-- the selected application, and its session bytes
+pub record Selected : Type 0 where
+  pub name : List ℕ
+  pub session : List ℕ
+
+-- what each section of an open load has got
+pub record Got : Type 0 where
+  pub code : List ℕ
+  pub init : List ℕ
+  pub dir : List ℕ
+  pub fci : List ℕ
+
+-- an open load: its site, and what its sections have got
+pub record Open : Type 0 where
+  pub site : Site
+  pub got : Got
+
+-- the selection and the open load
+pub record Seat : Type 0 where
+  pub selected : Option Selected
+  pub load : Option Open
+
+-- nothing selected, and no load open
+abbrev pub empty_seat : Seat
+empty_seat = record { selected = None; load = None }
+
+-- ---- routing
+
+-- where a command goes
+pub data Route : Type 0 where
+  WrongLength : Route
+  WrongClass : Route
+  ToSelect : (apdu : ApduParts) → Route
+  ToManager : (apdu : ApduParts) → Route
+  ToApplication : (apdu : ApduParts) → Route
+
+-- the route of a command that was taken apart
+abbrev pub routed : Option ApduParts → Route
+routed None = WrongLength
+routed (Some a) =
+    cond (a.cla == 0xFF) WrongClass (
+    cond (a.cla == 0 && a.ins == 0xA4 && a.p1 == 4) (ToSelect a) (cond (a.cla == 0xBE) (ToManager a) (ToApplication a))
+    )
+
+-- the route of the bytes of a command
+abbrev pub route : List ℕ → Route
+route bytes = routed (apdu_read bytes)
+
+-- ---- answers
+
+-- a command that was done, with 9000: its data, the state after it, its items, and how they change the card
+pub record Accepted : Type 0 where
+  pub body : List ℕ
+  pub seat : Seat
+  pub items : List BankItem
+  pub change : Option Change
+
+-- how the manager answers
+pub data Managed : Type 0 where
+  Declines : (sw : ℕ) → Managed
+  Accepts : (done : Accepted) → Managed
+
+-- the first status whose condition holds
+abbrev pub first_status : List (ℕ × Bool) → Option ℕ
+first_status [] = None
+first_status (c ∷ cs) = cond c.1 (Some c.0) (first_status cs)
+
+-- a command by its first refusal
+abbrev pub answered : Option ℕ → Accepted → Managed
+answered (Some sw) a = Declines sw
+answered None a = Accepts a
+
+-- P1 and P2 as one number
+abbrev pub p1p2 : ApduParts → ℕ
+p1p2 a = 256 * a.p1 + a.p2
+
+-- no bytes
+abbrev pub is_empty : List ℕ → Bool
+is_empty [] = true
+is_empty (b ∷ bs) = false
+
+-- a command without items
+abbrev pub changes_nothing : List ℕ → Seat → Accepted
+changes_nothing body seat = record { body = body; seat = seat; items = []; change = None }
+
+-- ---- SELECT (00 A4 04): 6A86, 6700, 6A82
+
+-- why a SELECT is refused, in order
+abbrev pub select_refusals : List (List ℕ × App) → ApduParts → List (ℕ × Bool)
+select_refusals map a =
+    (0x6A86, not (a.p2 == 0 || a.p2 == 0x0C)) ∷ (0x6700, is_empty a.body) ∷ (0x6A82, is_none (lookup map a.body)) ∷ []
+
+-- with P2 00 the first bytes of the FCI, at most Le; with P2 0C none
+abbrev pub select_body : ApduParts → App → List ℕ
+select_body a app = cond (a.p2 == 0) (take (unwrap_or a.le 0) app.fci) []
+
+-- what a SELECT does
+abbrev pub select_done : Seat → ApduParts → Option App → Accepted
+select_done seat a None = changes_nothing [] seat
+select_done seat a (Some app) =
+    changes_nothing (select_body a app) (record seat { selected = Some (record { name = a.body; session = zeros app.session }) })
+
+-- SELECT
+abbrev pub select : List (List ℕ × App) → Seat → ApduParts → Managed
+select map seat a = answered (first_status (select_refusals map a)) (select_done seat a (lookup map a.body))
+
+-- ---- OPEN (BE 12): 6A86, 6700, 6A80, 6A84
+
+-- the six lengths of the data, and P1 P2 as access list
+abbrev pub sizes_in : ApduParts → Sizes
+sizes_in a =
+    record {
+      code = be2 a.body 0;
+      fixed = be2 a.body 2;
+      init = be2 a.body 4;
+      session = be2 a.body 6;
+      dir = be2 a.body 8;
+      fci = be2 a.body 10;
+      deny = p1p2 a;
+    }
+
+-- sizes within the limits of an application
+abbrev pub fits_limits : Sizes → Bool
+fits_limits s =
+    nat_le 1 s.code
+    && nat_le s.code most_code
+    && nat_le s.fixed most_static
+    && nat_le s.init s.fixed
+    && nat_le s.session most_session
+    && nat_le s.dir most_record
+    && nat_le s.fci most_record
+
+-- `room` says where a load of some sizes finds room, if it does
+abbrev pub open_refusals : (Sizes → Option ℕ) → List (List ℕ × App) → ApduParts → List (ℕ × Bool)
+open_refusals room map a =
+    (0x6A86, nat_lt 15 (p1p2 a)) ∷ (0x6700, not (length a.body == 12)) ∷ (0x6A80, not (fits_limits (sizes_in a)))
+    ∷ (0x6A84, nat_le 32 (length map) || is_none (room (sizes_in a))) ∷ []
+
+-- a load is open at the place that has room, and replaces an earlier one
+abbrev pub open_done : (Sizes → Option ℕ) → Seat → ApduParts → Accepted
+open_done room seat a =
+    changes_nothing [] (record seat {
+      load = Some (record { site = record { sizes = sizes_in a; place = unwrap_or (room (sizes_in a)) 0 }; got = record { code = []; init = []; dir = []; fci = [] } });
+    })
+
+-- OPEN
+abbrev pub open_load : (Sizes → Option ℕ) → List (List ℕ × App) → Seat → ApduParts → Managed
+open_load room map seat a = answered (first_status (open_refusals room map a)) (open_done room seat a)
+
+-- ---- LOAD (BE 24 code, BE 26 data, BE 20 DIR, BE 22 FCI): 6700, 6985, 6A80
+
+-- what a section has got
+abbrev pub got_of : Part → Got → List ℕ
+got_of part.Code g = g.code
+got_of part.Data g = g.init
+got_of part.Dir g = g.dir
+got_of part.Fci g = g.fci
+
+-- the size of a section
+abbrev pub size_of : Part → Sizes → ℕ
+size_of part.Code s = s.code
+size_of part.Data s = s.init
+size_of part.Dir s = s.dir
+size_of part.Fci s = s.fci
+
+-- a section has these bytes more
+abbrev pub with_got : Part → List ℕ → Got → Got
+with_got part.Code b g = record g { code = g.code ++ b }
+with_got part.Data b g = record g { init = g.init ++ b }
+with_got part.Dir b g = record g { dir = g.dir ++ b }
+with_got part.Fci b g = record g { fci = g.fci ++ b }
+
+-- the parts of some bytes at a place of a section that lie in one word each, in order
+abbrev pub in_words : ℕ → ℕ → List ℕ → List (ℕ × List ℕ)
+in_words zero at b = []
+in_words (suc n) at b =
+    let k = 8 - at % 8 in
+    cond (is_empty b) [] ((at, take k b) ∷ in_words n (at + k) (drop k b))
+
+-- the parts of a piece that lie in one word each
+abbrev pub word_parts : ℕ → List ℕ → List (ℕ × List ℕ)
+word_parts at b = in_words (length b) at b
+
+-- why a LOAD is refused, in order
+abbrev pub load_refusals : Option Open → Part → ApduParts → List (ℕ × Bool)
+load_refusals None p a = (0x6700, is_empty a.body) ∷ (0x6985, true) ∷ []
+load_refusals (Some o) p a =
+    let got = length (got_of p o.got) in
+    (0x6700, is_empty a.body) ∷ (0x6985, not (p1p2 a == got)) ∷ (0x6A80, nat_lt (size_of p o.site.sizes) (got + length a.body)) ∷ []
+
+-- what a LOAD does: one item for each word that its piece touches
+abbrev pub load_done : Seat → Option Open → Part → ApduParts → Accepted
+load_done seat None p a = changes_nothing [] seat
+load_done seat (Some o) p a =
+    record {
+      body = [];
+      seat = record seat { load = Some (record o { got = with_got p a.body o.got }) };
+      items = map (λ c. Piece o.site p c.0 c.1) (word_parts (length (got_of p o.got)) a.body);
+      change = None;
+    }
+
+-- LOAD for a section
+abbrev pub load_part : Part → Seat → ApduParts → Managed
+load_part p seat a = answered (first_status (load_refusals seat.load p a)) (load_done seat seat.load p a)
+
+-- ---- CREATE (BE 16): 6A86, 6700, 6985, 6A80, 6A89
+
+-- each section has got its bytes
+abbrev pub is_complete : Open → Bool
+is_complete o =
+    length o.got.code == o.site.sizes.code && length o.got.init == o.site.sizes.init
+    && length o.got.dir == o.site.sizes.dir && length o.got.fci == o.site.sizes.fci
+
+-- a load is open and complete
+abbrev pub can_create : Option Open → Bool
+can_create None = false
+can_create (Some o) = is_complete o
+
+-- the DIR record of an open load
+abbrev pub dir_in : Option Open → List ℕ
+dir_in None = []
+dir_in (Some o) = o.got.dir
+
+-- the name is on the card
+abbrev pub is_taken : List (List ℕ × App) → Result (List ℕ) AidFault → Bool
+is_taken map (Ok n) = is_some (lookup map n)
+is_taken map (Err e) = false
+
+-- why a CREATE is refused, in order
+abbrev pub create_refusals : List (List ℕ × App) → Option Open → ApduParts → List (ℕ × Bool)
+create_refusals map load a =
+    (0x6A86, not (p1p2 a == 0)) ∷ (0x6700, not (is_empty a.body)) ∷ (0x6985, not (can_create load))
+    ∷ (0x6A80, not (is_ok (name_of (dir_in load)))) ∷ (0x6A89, is_taken map (name_of (dir_in load))) ∷ []
+
+-- the application of a complete load: its static bytes are the data, and zeros behind them
+abbrev pub fresh : Open → App
+fresh o =
+    record {
+      code = o.got.code;
+      fixed = o.got.init ++ zeros (o.site.sizes.fixed - o.site.sizes.init);
+      session = o.site.sizes.session;
+      deny = o.site.sizes.deny;
+      dir = o.got.dir;
+      fci = o.got.fci;
+      place = o.site.place;
+    }
+
+-- zeros behind the data, a word at a time; the four words of the record; the creation
+abbrev pub create_items : Site → List ℕ → List BankItem
+create_items s n =
+    map (λ c. Blank s c.0 (length c.1)) (word_parts s.sizes.init (zeros (s.sizes.fixed - s.sizes.init)))
+    ++ Note s n 0 ∷ Note s n 1 ∷ Note s n 2 ∷ Note s n 3 ∷ Enter s n ∷ []
+
+-- what a CREATE does
+abbrev pub create_done : Seat → Option Open → Result (List ℕ) AidFault → Accepted
+create_done seat None n = changes_nothing [] seat
+create_done seat (Some o) (Err e) = changes_nothing [] seat
+create_done seat (Some o) (Ok n) =
+    record { body = []; seat = record seat { load = None }; items = create_items o.site n; change = Some (Created n (fresh o)) }
+
+-- CREATE
+abbrev pub create : List (List ℕ × App) → Seat → ApduParts → Managed
+create map seat a = answered (first_status (create_refusals map seat.load a)) (create_done seat seat.load (name_of (dir_in seat.load)))
+
+-- ---- DELETE (BE 18): 6A86, 6700, 6A82, 6985
+
+-- the name is selected
+abbrev pub is_selected : Option Selected → List ℕ → Bool
+is_selected None n = false
+is_selected (Some s) n = bytes_eq s.name n
+
+-- why a DELETE is refused, in order
+abbrev pub delete_refusals : List (List ℕ × App) → Seat → ApduParts → List (ℕ × Bool)
+delete_refusals map seat a =
+    (0x6A86, not (p1p2 a == 0)) ∷ (0x6700, is_empty a.body) ∷ (0x6A82, is_none (lookup map a.body)) ∷ (0x6985, is_selected seat.selected a.body) ∷ []
+
+-- what a DELETE does
+abbrev pub delete_done : Seat → ApduParts → Accepted
+delete_done seat a = record { body = []; seat = record seat { load = None }; items = Remove a.body ∷ []; change = Some (Deleted a.body) }
+
+-- DELETE
+abbrev pub delete : List (List ℕ × App) → Seat → ApduParts → Managed
+delete map seat a = answered (first_status (delete_refusals map seat a)) (delete_done seat a)
+
+-- ---- the table
+
+-- a command of class BE by its INS: 6D00 for any other
+unfoldable pub manage : (Sizes → Option ℕ) → List (List ℕ × App) → Seat → ApduParts → Managed
+manage room map seat a =
+    cond (a.ins == 0x12) (open_load room map seat a) (
+    cond (a.ins == 0x24) (load_part part.Code seat a) (
+    cond (a.ins == 0x26) (load_part part.Data seat a) (
+    cond (a.ins == 0x20) (load_part part.Dir seat a) (
+    cond (a.ins == 0x22) (load_part part.Fci seat a) (
+    cond (a.ins == 0x16) (create map seat a) (cond (a.ins == 0x18) (delete map seat a) (Declines 0x6D00))
+    )
+    )
+    )
+    )
+    )
+
+-- where a load finds room on a card of words: the first gap that is long enough
+abbrev pub room_on : Card → Sizes → Option ℕ
+room_on card s = first_fitting (needed_of s.code s.fixed s.dir s.fci) (gaps card)

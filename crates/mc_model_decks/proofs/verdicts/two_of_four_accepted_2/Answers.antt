@@ -1,7 +1,0 @@
-use Rattle.std.proofs.Common.{refl}
-use Rattle.mc_model_decks.specs.Verdicts.{verdicts}
-use Rattle.mc_model_decks.proofs.verdicts.two_of_four_accepted_2.Goals as goal
-
-pub returns : goal.returns
-unfolding verdicts
-returns c = refl

@@ -1,0 +1,13 @@
+pub mod OrdersLemmas
+pub mod ImageLemmas
+pub mod DeviceLemmas
+pub mod LookLemmas
+pub mod ImageBytes
+pub mod WrittenLemmas
+pub mod GeometryLemmas
+pub mod StoppedLemmas
+pub mod RecoveryLemmas
+pub mod CallLemmas
+pub mod LoopLemmas
+pub mod ListLemmas
+pub mod JournalLemmas

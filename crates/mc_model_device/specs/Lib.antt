@@ -1,0 +1,12 @@
+pub mod Limits
+pub mod Bytes
+pub mod Orders
+pub mod Counts
+pub mod Pieces
+pub mod Image
+pub mod Device
+pub mod Stopped
+pub mod Card
+pub mod Layout
+pub mod PowerUp
+pub mod Words

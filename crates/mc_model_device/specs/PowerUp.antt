@@ -1,0 +1,31 @@
+-- What a power-up finds in the words of a device, and how many writes it makes to bring a card of layout 1 to layout 2.
+use Rattle.std.specs.Prelude.{ℕ, cond, ◌==◌, List, Option, Some, None}
+use Rattle.mc_model_device.specs.declared.cause.Cause.{Cause}
+use Rattle.mc_model_device.specs.Image.{Journal, One, Which, Both, Only, Neither}
+use Rattle.mc_model_device.specs.Card.{Card, means}
+
+-- what the first power line found
+pub data Base : Type 0 where
+  OnCard : (card : Card) → Base
+  AtFault : (cause : Cause) (place : ℕ) → Base
+
+-- the device writes of a migration
+abbrev pub migration : Base → ℕ
+migration (OnCard c) = cond (c.layout == 1) 6 0
+migration (AtFault cause p) = 0
+
+-- a base whose card has layout 2
+abbrev pub migrated : Base → Base
+migrated (OnCard c) = OnCard (record c { layout = 2 })
+migrated (AtFault cause p) = AtFault cause p
+
+-- what the first power line finds
+abbrev pub base_of : Option (Cause × ℕ) → List (List ℕ) → Base
+base_of None m = OnCard (means m)
+base_of (Some f) m = AtFault f.0 f.1
+
+-- the journal that owes
+abbrev pub owing : Which → Journal
+owing (Only j) = j
+owing Both = One
+owing Neither = One

@@ -1,0 +1,9 @@
+#![tactic(auto)]
+
+//! The words of a device, what a write does to them, atomic writes, and the card that an image means.
+
+mod cause;
+mod device;
+
+pub use cause::Cause;
+pub use device::Stop;

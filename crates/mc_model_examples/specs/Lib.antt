@@ -1,0 +1,5 @@
+pub mod Written
+pub mod Played
+pub mod Checked
+pub mod Verdicts
+pub mod Summed

@@ -1,0 +1,25 @@
+-- Ways to write bytes, texts and lists of worked rows.
+use Rattle.std.specs.Prelude.{ℕ, zero, suc, not, List, [], ◌∷◌, ◌++◌, take, filter, unwrap_or, Result}
+use Rattle.std.specs.Fmt.{digits}
+use Rattle.mc_model_machine.specs.declared.instruction.DecodeFault.{DecodeFault}
+use Rattle.mc_model_machine.specs.Listing.{listed}
+use Rattle.mc_model_machine.specs.Text.{hex_bytes, is_blank}
+
+-- the bytes that hexadecimal digits spell, with blanks anywhere
+abbrev pub hex : List ℕ → List ℕ
+hex t = unwrap_or (hex_bytes (filter (λ c. not (is_blank c)) t)) []
+
+-- a text n times over
+abbrev pub times : ℕ → List ℕ → List ℕ
+times zero t = []
+times (suc n) t = t ++ times n t
+
+-- the fronts of a list that are shorter than n, the longest one first
+abbrev pub fronts : ℕ → List ℕ → List (List ℕ)
+fronts zero l = []
+fronts (suc n) l = take n l ∷ fronts n l
+
+-- the listing of code, with its numbers written
+unfoldable pub listing : List ℕ → Result (List ℕ) (ℕ × DecodeFault)
+unfolding listed digits
+listing code = listed code

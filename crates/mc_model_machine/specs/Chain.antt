@@ -1,0 +1,279 @@
+-- A command to an application: frames that run instructions under a budget, delegate, exit and abend.
+use Rattle.std.specs.Prelude.{ℕ, zero, suc, ◌+◌, Bool, true, false, cond, ◌||◌, nat_lt, nat_le, ◌==◌, min, List, [], ◌∷◌, ◌++◌, length, take, unwrap_or, bytes_eq, Option, Some, None, Result, Ok, Err}
+use Rattle.mc_model_machine.specs.declared.instruction.Ins.{Ins}
+use Rattle.mc_model_machine.specs.declared.instruction.DecodeFault.{DecodeFault}
+use Rattle.mc_model_machine.specs.declared.instruction.DecodeFault.TheVariants.{Undefined, Past}
+use Rattle.mc_model_machine.specs.declared.machine.Abend.{Abend}
+use Rattle.mc_model_machine.specs.declared.machine.Abend.TheVariants.{A01, A02, A07, A09}
+use Rattle.mc_model_device.specs.Bytes.{zeros, lookup, insert}
+use Rattle.mc_model_device.specs.Pieces.{laid_pieces, touched}
+use Rattle.mc_model_machine.specs.Apdu.{ApduParts, apdu_case}
+use Rattle.mc_model_machine.specs.Code.{decoded}
+use Rattle.mc_model_device.specs.Card.{App}
+use Rattle.mc_model_machine.specs.Frame.{Frame, Effect, new_frame, session_of, new_public, with_sw, sw_of, la_of}
+use Rattle.mc_model_machine.specs.Primitives.{Around, Then, Goes, Exits, Delegates, Done}
+use Rattle.mc_model_machine.specs.Row.{RowEnd, Abends, Does, row}
+
+-- how a command ends: a reply of data and status, or an abend
+pub data Outcome : Type 0 where
+  Reply : (body : List ℕ) (sw : ℕ) → Outcome
+  Abended : (cause : Abend) → Outcome
+
+-- one atomic write: the application, the pieces laid over its static bytes, and how many words they touch
+pub record Write : Type 0 where
+  pub name : List ℕ
+  pub pieces : List (ℕ × List ℕ)
+  pub words : ℕ
+
+-- One executed instruction, or a fetch that abends: the depth of its frame, the place, the instruction, DT and flags after it
+-- (before it where the chain ends with an abend), the end, and the words of its atomic write.
+pub record Turn : Type 0 where
+  pub depth : ℕ
+  pub at : ℕ
+  pub ins : Option Ins
+  pub dt : ℕ
+  pub c : Bool
+  pub z : Bool
+  pub end : Option Outcome
+  pub wrote : Option ℕ
+
+-- a running chain: the applications, the running frame, the frames below it, the public segment, and the command
+pub record Chain : Type 0 where
+  pub map : List (List ℕ × App)
+  pub frame : Frame
+  pub below : List Frame
+  pub public : List ℕ
+  pub apdu : ApduParts
+
+-- what a chain did: its turns, how many instructions it decoded, its atomic writes, the pairs of every delegation that read a
+-- name, the session bytes of the first frame at the end, and the outcome
+pub record Ran : Type 0 where
+  pub turns : List Turn
+  pub count : ℕ
+  pub writes : List Write
+  pub pairs : List (List ℕ × List ℕ)
+  pub session : List ℕ
+  pub outcome : Outcome
+
+-- ---- parts of a chain
+
+-- the code of an application, nothing where it is not there
+abbrev pub code_in : Option App → List ℕ
+code_in None = []
+code_in (Some a) = a.code
+
+-- the name of the frame that delegated, and the command's case
+abbrev pub delegator_in : List Frame → Option (List ℕ)
+delegator_in [] = None
+delegator_in (f ∷ fs) = Some f.name
+
+-- what a row of the running frame knows besides it
+abbrev pub around : Chain → Around
+around ch = record { case = apdu_case ch.apdu; delegator = delegator_in ch.below }
+
+-- the number of frames
+abbrev pub depth_of : Chain → ℕ
+depth_of ch = length ch.below + 1
+
+-- the first frame
+abbrev pub first_frame : Frame → List Frame → Frame
+first_frame f [] = f
+first_frame f (g ∷ gs) = first_frame g gs
+
+-- the session bytes of the first frame
+abbrev pub chain_session : Chain → List ℕ
+chain_session ch = session_of (first_frame ch.frame ch.below)
+
+-- ---- static changes reach the map
+
+-- an application whose static bytes have these pieces laid over them
+abbrev pub with_pieces : List (ℕ × List ℕ) → App → App
+with_pieces ps a = record a { fixed = laid_pieces a.fixed ps }
+
+-- the map with pieces laid over the static bytes of a name that it has
+abbrev pub changed_app : List (List ℕ × App) → List ℕ → List (ℕ × List ℕ) → Option App → List (List ℕ × App)
+changed_app map n ps None = map
+changed_app map n ps (Some a) = insert map n (with_pieces ps a)
+
+-- the map after a list of static changes, if there is one
+abbrev pub map_changed : List (List ℕ × App) → List ℕ → Option (List (ℕ × List ℕ)) → List (List ℕ × App)
+map_changed map n None = map
+map_changed map n (Some ps) = changed_app map n ps (lookup map n)
+
+-- the atomic write of a list of static changes
+abbrev pub write_of : List ℕ → Option (List (ℕ × List ℕ)) → List Write
+write_of n None = []
+write_of n (Some ps) = record { name = n; pieces = ps; words = length (touched ps) } ∷ []
+
+-- how many words it has
+abbrev pub words_of_write : Option (List (ℕ × List ℕ)) → Option ℕ
+words_of_write None = None
+words_of_write (Some ps) = Some (length (touched ps))
+
+-- the chain after what an instruction changed
+abbrev pub settled : Chain → Effect → Chain
+settled ch e =
+    record ch { map = map_changed ch.map ch.frame.name e.changes; frame = e.frame; public = e.public }
+
+-- ---- delegation and exit
+
+-- a name that a frame of the chain runs
+abbrev pub is_active : List ℕ → Frame → List Frame → Bool
+is_active n f [] = bytes_eq f.name n
+is_active n f (g ∷ gs) = bytes_eq f.name n || is_active n g gs
+
+-- an application runs on top, with zero session bytes
+abbrev pub entered_app : Chain → List ℕ → App → Chain
+entered_app ch n a =
+    record ch { frame = new_frame n (length a.code) a.deny a.fixed (zeros a.session); below = ch.frame ∷ ch.below }
+
+-- a delegation to an application that is there: 6985 where it is active or the chain has four frames
+abbrev pub called_app : Bool → Chain → List ℕ → App → Chain
+called_app true ch n a = record ch { public = with_sw ch.public 0x6985 }
+called_app false ch n a = entered_app ch n a
+
+-- a delegation to a name: 6A82 where it is not on the card
+abbrev pub called : Chain → List ℕ → Option App → Chain
+called ch n None = record ch { public = with_sw ch.public 0x6A82 }
+called ch n (Some a) = called_app (is_active n ch.frame ch.below || nat_le 4 (depth_of ch)) ch n a
+
+-- the reply of the first frame: at most Le bytes of the public segment, and SW
+abbrev pub reply_of : Chain → Outcome
+reply_of ch = Reply (take (min (la_of ch.public) (unwrap_or ch.apdu.le 0)) ch.public) (sw_of ch.public)
+
+-- what follows a turn
+pub data Follows : Type 0 where
+  Continues : (chain : Chain) → Follows
+  Ends : (outcome : Outcome) → Follows
+
+-- the first frame's exit: 09 where the reply would be above 1,024 bytes
+abbrev pub last_exit : Chain → Follows
+last_exit ch = cond (nat_lt 1024 (la_of ch.public)) (Ends (Abended A09)) (Ends (reply_of ch))
+
+-- an exit: the frame below goes on
+abbrev pub exited : Chain → List Frame → Follows
+exited ch [] = last_exit ch
+exited ch (f ∷ fs) = Continues (record ch { frame = f; below = fs })
+
+-- what follows an instruction in a settled chain
+abbrev pub follows : Chain → Then → Follows
+follows ch Goes = Continues ch
+follows ch Exits = exited ch ch.below
+follows ch (Delegates n) = Continues (called ch n (lookup ch.map n))
+
+-- the pair of a delegation: who named whom
+abbrev pub pair_of : List ℕ → Then → List (List ℕ × List ℕ)
+pair_of n Goes = []
+pair_of n Exits = []
+pair_of n (Delegates m) = (n, m) ∷ []
+
+-- ---- turns
+
+-- one turn: what it tells, whether it counts, its write and pair, and what follows
+pub record Acted : Type 0 where
+  pub turn : Turn
+  pub count : ℕ
+  pub writes : List Write
+  pub pairs : List (List ℕ × List ℕ)
+  pub follows : Follows
+
+-- the outcome with which a turn ends the chain
+abbrev pub end_of : Follows → Option Outcome
+end_of (Continues ch) = None
+end_of (Ends o) = Some o
+
+-- an end by an abend, at the frame as it was
+abbrev pub abends_at : Chain → Option Ins → ℕ → Abend → Acted
+abends_at ch i count cause =
+    record {
+      turn = record { depth = depth_of ch; at = ch.frame.at; ins = i; dt = ch.frame.dt; c = ch.frame.c; z = ch.frame.z; end = Some (Abended cause); wrote = None };
+      count = count;
+      writes = [];
+      pairs = [];
+      follows = Ends (Abended cause);
+    }
+
+-- the frame whose registers a turn tells: where the chain ends with an abend, the one before
+abbrev pub told_frame : Frame → Frame → Follows → Frame
+told_frame old new (Continues ch) = new
+told_frame old new (Ends (Reply b sw)) = new
+told_frame old new (Ends (Abended cause)) = old
+
+-- an instruction that was done
+abbrev pub done_turn : Chain → Ins → Effect → Follows → List (List ℕ × List ℕ) → Acted
+done_turn ch i e next pairs =
+    let f = told_frame ch.frame e.frame next in
+    record {
+      turn = record { depth = depth_of ch; at = ch.frame.at; ins = Some i; dt = f.dt; c = f.c; z = f.z; end = end_of next; wrote = words_of_write e.changes };
+      count = 1;
+      writes = write_of ch.frame.name e.changes;
+      pairs = pairs;
+      follows = next;
+    }
+
+-- a turn by the end of its row
+abbrev pub row_turn : Chain → Ins → RowEnd → Acted
+row_turn ch i (Abends cause) = abends_at ch (Some i) 1 cause
+row_turn ch i (Does d) = done_turn ch i d.effect (follows (settled ch d.effect) d.next) (pair_of ch.frame.name d.next)
+
+-- the frame, its code address already behind the instruction
+abbrev pub stepped : Frame → ℕ → Frame
+stepped f next = record f { at = next }
+
+-- a fetch: 01 where no instruction begins, 02 where it is not whole in the code
+abbrev pub fetched : Chain → Result (Ins × ℕ) DecodeFault → Acted
+fetched ch (Err Undefined) = abends_at ch None 0 A01
+fetched ch (Err Past) = abends_at ch None 0 A02
+fetched ch (Ok i) = row_turn ch i.0 (row i.0 (stepped ch.frame i.1) ch.public (around ch))
+
+-- one turn of a chain whose budget is not spent
+unfoldable pub acted : Chain → Acted
+acted ch = fetched ch (decoded (code_in (lookup ch.map ch.frame.name)) ch.frame.at)
+
+-- the turn of a chain whose budget is spent
+abbrev pub spent : Chain → Acted
+spent ch = abends_at ch None 0 A07
+
+-- a turn with this much of the budget left
+abbrev pub turn_of : ℕ → Chain → Acted
+turn_of zero ch = spent ch
+turn_of (suc n) ch = acted ch
+
+-- ---- runs
+
+-- a turn that ends the chain; exits and abends leave the session bytes as they were
+abbrev pub ends_with : Acted → List ℕ → Outcome → Ran
+ends_with t session o =
+    record { turns = t.turn ∷ []; count = t.count; writes = t.writes; pairs = t.pairs; session = session; outcome = o }
+
+-- a turn, and what is run after it
+abbrev pub goes_on : Acted → Ran → Ran
+goes_on t r =
+    record { turns = t.turn ∷ r.turns; count = t.count + r.count; writes = t.writes ++ r.writes; pairs = t.pairs ++ r.pairs; session = r.session; outcome = r.outcome }
+
+-- a turn, and the rest where the chain goes on
+abbrev pub ran_on : Acted → List ℕ → Follows → (Chain → Ran) → Ran
+ran_on t session (Ends o) rest = ends_with t session o
+ran_on t session (Continues ch) rest = goes_on t (rest ch)
+
+-- a chain with this budget
+unfoldable pub ran : ℕ → Chain → Ran
+ran zero ch = ends_with (spent ch) (chain_session ch) (Abended A07)
+ran (suc n) ch = let t = acted ch in ran_on t (chain_session ch) t.follows (λ c. ran n c)
+
+-- the chain of a command to an application with these session bytes, before its first turn
+abbrev pub start_app : List (List ℕ × App) → List ℕ → List ℕ → ApduParts → App → Chain
+start_app map first session apdu a =
+    record { map = map; frame = new_frame first (length a.code) a.deny a.fixed session; below = []; public = new_public apdu; apdu = apdu }
+
+-- an application without code
+abbrev pub no_app : App
+no_app = record { code = []; fixed = []; session = 0; deny = 0; dir = []; fci = []; place = 0 }
+
+-- the chain of a command to an application
+abbrev pub start : List (List ℕ × App) → List ℕ → List ℕ → ApduParts → Chain
+start map first session apdu = start_app map first session apdu (unwrap_or (lookup map first) no_app)
+
+-- a command to the application `first`: the run of its chain
+abbrev pub run : List (List ℕ × App) → List ℕ → List ℕ → ApduParts → ℕ → Ran
+run map first session apdu budget = ran budget (start map first session apdu)

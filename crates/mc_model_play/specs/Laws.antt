@@ -1,0 +1,209 @@
+-- The laws of plays: isolation of closed families, every line whole or stopped, no stale byte in a new application, and no
+-- chain of cuts that makes a card unusable.
+use Rattle.std.specs.Prelude.{◌≡◌, ℕ, ◌-◌, Bool, true, false, cond, ◌==◌, List, [], ◌∷◌, ◌++◌, length, take, Option, Some, None, Result, Ok, Err, ⊤}
+use Rattle.mc_model_card.specs.declared.unit.AidFault.{AidFault}
+use Rattle.mc_model_card.specs.declared.card.Part.{Part}
+use Rattle.mc_model_card.specs.declared.card.Part.TheVariants as part
+use Rattle.mc_model_card.specs.declared.card.Sizes.{Sizes}
+use Rattle.mc_model_device.specs.Bytes.{zeros, lookup}
+use Rattle.mc_model_machine.specs.Apdu.{ApduParts}
+use Rattle.mc_model_card.specs.Units.{name_of}
+use Rattle.mc_model_device.specs.Card.{App, Card, placed}
+use Rattle.mc_model_card.specs.Items.{Change, Fixed, Created, Deleted, Item, Plain, Atomic, done, StopAt, Stopped, at_stop}
+use Rattle.mc_model_card.specs.Manager.{Seat, Route, WrongLength, WrongClass, ToSelect, ToManager, ToApplication, route, Got, got_of, with_got, sizes_in}
+use Rattle.mc_model_play.specs.Play.{Live, Running, Unpowered, Muted, Warm, State, Cold, Hot, Step, is_done, load_commands, plays, start, Possible, WornAt, select_bytes, delete_bytes}
+use Rattle.mc_model_device.specs.PowerUp.{Base, OnCard, AtFault}
+use Rattle.mc_model_card.specs.Commands.{Command, command}
+use Rattle.mc_model_card.specs.Items as items
+use Rattle.mc_model_play.specs.Family.{Closed}
+use Rattle.mc_model_play.specs.Given.{apps_on, apps_in, is_power}
+use Rattle.mc_model_play.specs.View.{IsIsolated}
+use Rattle.mc_model_play.specs.ReadyAgain.{AllFitJournal, AreLines, ReadyAgain}
+use Rattle.mc_model_device.specs.Device.{IsImage}
+use Rattle.mc_model_play.specs.DeckGrammar.{DeckLine}
+use Rattle.mc_model_play.specs.DeckGrammar as line
+
+-- ---- every line leaves the card before it with its whole items
+
+-- all items where no stop hit, else those that are whole by it
+abbrev pub whole_of : List Item → Option StopAt → List Item
+whole_of is None = is
+whole_of is (Some s) = (at_stop is s.at s.left).whole
+
+-- the applications after a line are those before it with these items; before the first power line there is no card
+abbrev pub IsDoneFrom : State → List Item → State → Type 0
+IsDoneFrom (Cold m b a) is after = is ≡ []
+IsDoneFrom (Hot s) is after = apps_in after ≡ done (apps_on s.base) is
+
+-- a line has the whole items of its stop, and leaves the card with them
+pub record KeepsLine (t : Step) : Type 0 where
+  pub whole : t.whole ≡ whole_of t.items t.stop
+  pub apps : IsDoneFrom t.before t.whole t.after
+
+-- each line does
+abbrev pub KeepsLines : List Step → Type 0
+KeepsLines [] = ⊤
+KeepsLines (t ∷ ts) = KeepsLine t × KeepsLines ts
+
+-- ---- no stale byte
+
+-- what the commands of a load have sent since its OPEN
+pub record Sent : Type 0 where
+  pub sizes : Sizes
+  pub got : Got
+
+-- the application that they make: static bytes are the data that were sent, and zeros
+abbrev pub sent_app : Sent → App
+sent_app s =
+    record {
+      code = s.got.code;
+      fixed = s.got.init ++ zeros (s.sizes.fixed - length s.got.init);
+      session = s.sizes.session;
+      deny = s.sizes.deny;
+      dir = s.got.dir;
+      fci = s.got.fci;
+      place = 0;
+    }
+
+-- a section is sent these bytes more
+abbrev pub with_sent : Part → List ℕ → Option Sent → Option Sent
+with_sent p b None = None
+with_sent p b (Some s) = Some (record s { got = with_got p b s.got })
+
+-- what is sent after a command of class BE that was done
+abbrev pub sent_by : Option Sent → ApduParts → Option Sent
+sent_by s a =
+    cond (a.ins == 0x12) (Some (record { sizes = sizes_in a; got = record { code = []; init = []; dir = []; fci = [] } })) (
+    cond (a.ins == 0x24) (with_sent part.Code a.body s) (
+    cond (a.ins == 0x26) (with_sent part.Data a.body s) (
+    cond (a.ins == 0x20) (with_sent part.Dir a.body s) (cond (a.ins == 0x22) (with_sent part.Fci a.body s) None)
+    )
+    )
+    )
+
+-- what is sent after a command that was done
+abbrev pub sent_after : Option Sent → Route → Option Sent
+sent_after s (ToManager a) = sent_by s a
+sent_after s WrongLength = s
+sent_after s WrongClass = s
+sent_after s (ToSelect a) = s
+sent_after s (ToApplication a) = s
+
+-- the name and the application of a CREATE that was done
+abbrev pub named_app : Result (List ℕ) AidFault → Sent → List (List ℕ × App)
+named_app (Ok n) s = (n, sent_app s) ∷ []
+named_app (Err e) s = []
+
+-- the application of a load that was sent
+abbrev pub made_of : Option Sent → List (List ℕ × App)
+made_of None = []
+made_of (Some s) = named_app (name_of s.got.dir) s
+
+-- the application of a command that is a CREATE
+abbrev pub made_by : Option Sent → Route → List (List ℕ × App)
+made_by s (ToManager a) = cond (a.ins == 0x16) (made_of s) []
+made_by s WrongLength = []
+made_by s WrongClass = []
+made_by s (ToSelect a) = []
+made_by s (ToApplication a) = []
+
+-- over the commands of a line that were done, in order
+abbrev pub sent_after_all : Option Sent → List (List ℕ) → Option Sent
+sent_after_all s [] = s
+sent_after_all s (b ∷ bs) = sent_after_all (sent_after s (route b)) bs
+
+-- the applications of commands that were done
+abbrev pub made_by_all : Option Sent → List (List ℕ) → List (List ℕ × App)
+made_by_all s [] = []
+made_by_all s (b ∷ bs) = made_by s (route b) ++ made_by_all (sent_after s (route b)) bs
+
+-- a command that was taken, and those that were taken behind it
+abbrev pub taken_if : Bool → List ℕ → List (List ℕ) → List (List ℕ)
+taken_if true b rest = b ∷ rest
+taken_if false b rest = []
+
+-- the commands in turn that are answered by 9000 alone, up to the first that is not
+unfoldable pub taken : Card → Seat → ℕ → List (List ℕ) → List (List ℕ)
+taken c seat budget [] = []
+taken c seat budget (b ∷ bs) =
+    let r = command c seat b budget in
+    let rest = taken (items.card_done c r.items) r.seat budget bs in
+    taken_if (is_done r.outcome) b rest
+
+-- the commands of a line
+abbrev pub bytes_of : DeckLine → List (List ℕ)
+bytes_of (line.Select n) = select_bytes n ∷ []
+bytes_of (line.Delete n) = delete_bytes n ∷ []
+bytes_of (line.Apdu b) = b ∷ []
+bytes_of (line.Load u fixed session) = load_commands u fixed session
+bytes_of _ = []
+
+-- the commands of a line that a running card takes
+abbrev pub taken_on : Live → Base → ℕ → DeckLine → List (List ℕ)
+taken_on (Running seat) (OnCard c) budget l = taken c seat budget (bytes_of l)
+taken_on live base budget l = []
+
+-- the commands of a line that are taken in a state
+abbrev pub taken_in : State → DeckLine → List (List ℕ)
+taken_in (Cold m b a) l = []
+taken_in (Hot s) l = taken_on s.live s.base s.budget l
+
+-- the load is lost with power, and by any stop
+abbrev pub kept_sent : Bool → Option StopAt → Option Sent → Option Sent
+kept_sent true t s = None
+kept_sent false (Some t) s = None
+kept_sent false None s = s
+
+-- the creation that an item is
+abbrev pub created_by : Item → List (List ℕ × App)
+created_by Plain = []
+created_by (Atomic w (Fixed n ps)) = []
+created_by (Atomic w (Created n a)) = (n, a) ∷ []
+created_by (Atomic w (Deleted n)) = []
+
+-- the creations among items
+abbrev pub created_in : List Item → List (List ℕ × App)
+created_in [] = []
+created_in (i ∷ is) = created_by i ++ created_in is
+
+-- applications wherever they lie
+abbrev pub without_places : List (List ℕ × App) → List (List ℕ × App)
+without_places [] = []
+without_places (e ∷ es) = (e.0, placed 0 e.1) ∷ without_places es
+
+-- each of these is what the map has under its name
+abbrev pub AllAreIn : List (List ℕ × App) → List (List ℕ × App) → Type 0
+AllAreIn map [] = ⊤
+AllAreIn map (e ∷ es) = (lookup map e.0 ≡ Some e.1) × AllAreIn map es
+
+-- a new application has what its own load sent, and nothing else
+pub record KeepsFresh (sent : Option Sent) (t : Step) : Type 0 where
+  -- what a line creates is what its load's own commands sent
+  pub made : without_places (created_in t.items) ≡ made_by_all sent (taken_in t.before t.line)
+  -- and where the creation stands, the map has it
+  pub stands : AllAreIn (apps_in t.after) (created_in t.whole)
+
+-- each new application of a play has
+abbrev pub NoStaleByte : Option Sent → List Step → Type 0
+NoStaleByte sent [] = ⊤
+NoStaleByte sent (t ∷ ts) =
+    KeepsFresh sent t × NoStaleByte (kept_sent (is_power t.line) t.stop (sent_after_all sent (taken_in t.before t.line))) ts
+
+-- ---- the law
+
+-- the law for one front of a play
+pub record HoldsOf (m : List (List ℕ)) (steps : List Step) : Type 0 where
+  pub family : (K : List (List ℕ)) → Closed K steps → IsIsolated K (start m) steps
+  pub each_line : KeepsLines steps
+  pub fresh : NoStaleByte None steps
+  pub few : IsImage m → AreLines steps → AllFitJournal steps
+  pub ready : IsImage m → AreLines steps → ReadyAgain false steps
+
+-- For every deck, every image and every list of worn stops that is possible, and for every front of the play: what a closed family is told
+-- and holds is what it is told and holds on a card of its own; each line leaves the card with its whole items; no new application has a stale byte;
+-- and where the deck's lines are bytes, each item fits a journal, and a card that was found or formatted is found by every later power
+-- line that no stop hits.
+abbrev pub IsolationLaw : Type 0
+IsolationLaw =
+    (ls : List (ℕ × DeckLine)) (m : List (List ℕ)) (ws : List (Option WornAt)) → Possible (start m) ls ws
+    → (n : ℕ) → HoldsOf m (take n (plays (start m) ls ws))

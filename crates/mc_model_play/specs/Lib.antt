@@ -1,0 +1,13 @@
+pub mod DeckGrammar
+pub mod Play
+pub mod Transcript
+pub mod TraceText
+pub mod Family
+pub mod Given
+pub mod Solo
+pub mod View
+pub mod ReadyAgain
+pub mod Laws
+pub mod Generator
+pub mod Patterns
+pub mod Words

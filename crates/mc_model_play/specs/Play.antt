@@ -1,0 +1,552 @@
+-- A deck played on a device, line by line, with the lines' cuts and refused writes, and the words that a play leaves.
+use Rattle.std.specs.Prelude.{◌≡◌, ◌≢◌, ◌⊎◌, ℕ, zero, suc, ◌+◌, ◌-◌, ◌*◌, ◌/◌, ◌%◌, ◌<◌, ◌≤◌, Bool, true, false, cond, ◌&&◌, nat_lt, nat_le, ◌==◌, List, [], ◌∷◌, ◌++◌, length, take, drop, map, slice_set, Option, Some, None, ⊤}
+use Rattle.mc_model_device.specs.PowerUp.{Base, OnCard, AtFault, migration, migrated, base_of, owing}
+use Rattle.mc_model_card.specs.Commands.{Command, refused, command}
+use Rattle.mc_model_device.specs.declared.cause.Cause.{Cause}
+use Rattle.mc_model_device.specs.declared.device.Stop.{Stop}
+use Rattle.mc_model_device.specs.declared.device.Stop.TheVariants as stop
+use Rattle.mc_model_device.specs.Bytes.{bytes2, zeros, lookup}
+use Rattle.mc_model_machine.specs.Apdu.{ApduParts}
+use Rattle.mc_model_card.specs.Units.{UnitParts}
+use Rattle.mc_model_device.specs.Device.{Entry}
+use Rattle.mc_model_device.specs.Image.{Journal, One, Two, Which, Both, Only, Neither, which, owed, shut, laid}
+use Rattle.mc_model_device.specs.Stopped.{stands, owes, remains}
+use Rattle.mc_model_device.specs.Card.{App, Card, means, heap_start}
+use Rattle.mc_model_device.specs.Layout.{root, hole_header, step_of, fault}
+use Rattle.mc_model_machine.specs.Chain.{Outcome, Reply, Write, Turn, Ran, run}
+use Rattle.mc_model_card.specs.Items.{Change, Fixed, Item, Plain, Atomic, moves, changed, card_done, StopAt, Stopped, at_stop, BankItem, Piece, Blank, Note, Commit, Enter, Remove}
+use Rattle.mc_model_card.specs.Manager.{Selected, Seat, empty_seat, Route, WrongLength, WrongClass, ToSelect, ToManager, ToApplication, route, Managed, Declines, Accepts, Accepted, select, manage, room_on}
+use Rattle.mc_model_play.specs.DeckGrammar.{DeckLine}
+use Rattle.mc_model_play.specs.DeckGrammar as line
+
+-- ---- state
+
+-- the stop that is armed for the next card line
+pub data Armed : Type 0 where
+  Unarmed : Armed
+  ArmedCut : (at : ℕ) (fill : List ℕ) → Armed
+  ArmedFail : (at : ℕ) → Armed
+
+-- whether a card runs; after a worn stop it is mute
+pub data Live : Type 0 where
+  Running : (seat : Seat) → Live
+  Unpowered : Live
+  Muted : Live
+
+-- a play from its first power line on: what is owed, and by which journal
+pub record Warm : Type 0 where
+  pub base : Base
+  pub owed : ℕ
+  pub by : Journal
+  pub live : Live
+  pub budget : ℕ
+  pub armed : Armed
+
+-- a play before its first power line, and from it on
+pub data State : Type 0 where
+  Cold : (image : List (List ℕ)) (budget : ℕ) (armed : Armed) → State
+  Hot : (warm : Warm) → State
+
+-- the result of a line that answers
+pub data LineResult : Type 0 where
+  Formatted : LineResult
+  Ready : (writes : ℕ) → LineResult
+  Unusable : (cause : Cause) (place : ℕ) → LineResult
+  OffAt : (write : ℕ) → LineResult
+  WornStop : LineResult
+  NoCard : LineResult
+  Silenced : LineResult
+  Answered : (outcome : Outcome) → LineResult
+  Static : (bytes : List ℕ) → LineResult
+  Absent : LineResult
+
+-- a worn stop of a line: the number of the write, and the word that it left
+pub record WornAt : Type 0 where
+  pub at : ℕ
+  pub left : List ℕ
+
+-- a line that was played: its number, the line, the state before and after, its result, its items and those that are whole,
+-- the stop that hit it, its device writes, the pairs of its delegations, its turns
+pub record Step : Type 0 where
+  pub number : ℕ
+  pub line : DeckLine
+  pub before : State
+  pub result : Option LineResult
+  pub items : List Item
+  pub whole : List Item
+  pub stop : Option StopAt
+  pub moves : ℕ
+  pub pairs : List (List ℕ × List ℕ)
+  pub turns : List Turn
+  pub after : State
+
+-- ---- one command on a running card
+
+-- ---- the commands of a line
+
+-- the SELECT of a name
+abbrev pub select_bytes : List ℕ → List ℕ
+select_bytes aid = 0x00 ∷ 0xA4 ∷ 0x04 ∷ 0x0C ∷ length aid ∷ aid
+
+-- the DELETE of a name
+abbrev pub delete_bytes : List ℕ → List ℕ
+delete_bytes aid = 0xBE ∷ 0x18 ∷ 0x00 ∷ 0x00 ∷ length aid ∷ aid
+
+-- a section in pieces of 248 bytes, the last one shorter, each with its place
+abbrev pub piece_commands : ℕ → ℕ → ℕ → List ℕ → List (List ℕ)
+piece_commands zero ins at b = []
+piece_commands (suc n) ins at b =
+    cond (length b == 0) [] (
+    (0xBE ∷ ins ∷ (bytes2 at ++ length (take 248 b) ∷ take 248 b)) ∷ piece_commands n ins (at + 248) (drop 248 b)
+    )
+
+-- the LOAD commands of a section
+abbrev pub section_commands : ℕ → List ℕ → List (List ℕ)
+section_commands ins b = piece_commands (length b) ins 0 b
+
+-- OPEN, the pieces of code, data, DIR and FCI, and CREATE
+abbrev pub load_commands : UnitParts → ℕ → ℕ → List (List ℕ)
+load_commands u fixed session =
+    (0xBE ∷ 0x12 ∷ 0x00 ∷ 0x00 ∷ 12 ∷ (bytes2 (length u.code) ++ bytes2 fixed ++ bytes2 (length u.init) ++ bytes2 session ++ bytes2 (length u.dir) ++ bytes2 (length u.fci)))
+    ∷ (section_commands 0x24 u.code ++ section_commands 0x26 u.init ++ section_commands 0x20 u.dir ++ section_commands 0x22 u.fci
+    ++ (0xBE ∷ 0x16 ∷ 0x00 ∷ 0x00 ∷ []) ∷ [])
+
+-- an outcome that is 9000 alone
+abbrev pub is_done : Outcome → Bool
+is_done (Reply [] sw) = sw == 0x9000
+is_done o = false
+
+-- a command with the items, pairs and turns of one before it
+abbrev pub with_items : Command → Command → Command
+with_items first r = record r { items = first.items ++ r.items; pairs = first.pairs ++ r.pairs; turns = first.turns ++ r.turns }
+
+-- a command, and those behind it where it was answered by 9000 alone
+abbrev pub sent_on : Bool → Command → Command → Command
+sent_on true first rest = with_items first rest
+sent_on false first rest = first
+
+-- commands in turn, up to the first that is not answered by 9000 alone
+unfoldable pub send : Card → Seat → ℕ → List (List ℕ) → Command
+send c seat budget [] = refused seat 0x9000
+send c seat budget (b ∷ bs) =
+    let r = command c seat b budget in
+    let rest = send (card_done c r.items) r.seat budget bs in
+    sent_on (is_done r.outcome) r rest
+
+-- ---- stops
+
+-- a line for which a stop can be armed
+abbrev pub is_card_line : DeckLine → Bool
+is_card_line line.Power = true
+is_card_line (line.Load u fixed session) = true
+is_card_line (line.Select n) = true
+is_card_line (line.Delete n) = true
+is_card_line (line.Apdu b) = true
+is_card_line _ = false
+
+-- the stop that hits a card line of so many device writes: a worn one, else the cut that is armed
+abbrev pub hit_of : Armed → ℕ → Option WornAt → Option StopAt
+hit_of armed m (Some w) = Some (record { kind = stop.Worn; at = w.at; left = w.left })
+hit_of (ArmedCut k x) m None = cond (nat_le k m) (Some (record { kind = stop.Off; at = k; left = x })) None
+hit_of Unarmed m None = None
+hit_of (ArmedFail k) m None = None
+
+-- the device writes of a line: up to its stop, if one hit
+abbrev pub moves_with : ℕ → Option StopAt → ℕ
+moves_with m None = m
+moves_with m (Some s) = s.at
+
+-- after a stop: no card runs, and after a worn one it is mute
+abbrev pub live_after : Stop → Live
+live_after stop.Off = Unpowered
+live_after stop.Worn = Muted
+
+-- what a stopped line answers
+abbrev pub result_of_stop : StopAt → Stop → LineResult
+result_of_stop s stop.Off = OffAt s.at
+result_of_stop s stop.Worn = WornStop
+
+-- ---- power lines
+
+-- the owed and migration writes of a power line
+abbrev pub power_moves : Warm → ℕ
+power_moves s = s.owed + migration s.base
+
+-- what a power line answers that no stop hit
+abbrev pub power_result : ℕ → Base → LineResult
+power_result m (OnCard c) = Ready m
+power_result m (AtFault cause p) = Unusable cause p
+
+-- whether a card runs after a power line that no stop hit
+abbrev pub power_live : Base → Live
+power_live (OnCard c) = Running empty_seat
+power_live (AtFault cause p) = Unpowered
+
+-- a power-up that is stopped in its owed writes, or in its migration
+abbrev pub stopped_power : Warm → StopAt → Bool → Warm
+stopped_power s t true = record s { owed = remains s.by (s.owed - 1) t.at t.left; live = live_after t.kind; armed = Unarmed }
+stopped_power s t false =
+    let j = t.at - s.owed in
+    record s {
+      base = cond (stands One 1 j t.left) (migrated s.base) s.base;
+      owed = owes One 1 j t.left;
+      by = One;
+      live = live_after t.kind;
+      armed = Unarmed;
+    }
+
+-- the play after a power line
+abbrev pub power_after : Warm → Option StopAt → Warm
+power_after s None = record s { base = migrated s.base; owed = 0; live = power_live s.base; armed = Unarmed }
+power_after s (Some t) = stopped_power s t (nat_le t.at s.owed)
+
+-- what a power line answers
+abbrev pub power_says : Warm → Option StopAt → LineResult
+power_says s None = power_result (power_moves s) s.base
+power_says s (Some t) = result_of_stop t t.kind
+
+-- a power line
+abbrev pub power_step : ℕ → State → Warm → Option StopAt → Step
+power_step n before s t =
+    record {
+      number = n;
+      line = line.Power;
+      before = before;
+      result = Some (power_says s t);
+      items = [];
+      whole = [];
+      stop = t;
+      moves = moves_with (power_moves s) t;
+      pairs = [];
+      turns = [];
+      after = Hot (power_after s t);
+    }
+
+-- ---- lines on a running card
+
+-- the play after a line that a stop hit
+abbrev pub stopped_line : Warm → Card → StopAt → Stopped → Warm
+stopped_line s c t r = record s { base = OnCard (card_done c r.whole); owed = r.owed; by = Two; live = live_after t.kind; armed = Unarmed }
+
+-- the play after a line of a running card
+abbrev pub line_after : Warm → Card → Command → Option StopAt → Warm
+line_after s c r None = record s { base = OnCard (card_done c r.items); live = Running r.seat; armed = Unarmed }
+line_after s c r (Some t) = stopped_line s c t (at_stop r.items t.at t.left)
+
+-- what a line of a running card answers
+abbrev pub line_says : Command → Option StopAt → LineResult
+line_says r None = Answered r.outcome
+line_says r (Some t) = result_of_stop t t.kind
+
+-- the items that are whole after a line
+abbrev pub whole_items : Command → Option StopAt → List Item
+whole_items r None = r.items
+whole_items r (Some t) = (at_stop r.items t.at t.left).whole
+
+-- a line of a running card
+abbrev pub command_step : ℕ → DeckLine → Warm → Card → Command → Option StopAt → Step
+command_step n l s c r t =
+    record {
+      number = n;
+      line = l;
+      before = Hot s;
+      result = Some (line_says r t);
+      items = r.items;
+      whole = whole_items r t;
+      stop = t;
+      moves = moves_with (moves r.items) t;
+      pairs = r.pairs;
+      turns = r.turns;
+      after = Hot (line_after s c r t);
+    }
+
+-- ---- lines that write nothing
+
+-- a line that makes no write: what it answers, and the state after it
+abbrev pub quiet : ℕ → DeckLine → State → Option LineResult → State → Step
+quiet n l before result after =
+    record {
+      number = n;
+      line = l;
+      before = before;
+      result = result;
+      items = [];
+      whole = [];
+      stop = None;
+      moves = 0;
+      pairs = [];
+      turns = [];
+      after = after;
+    }
+
+-- the static bytes of an application, or that it is absent
+abbrev pub static_of : Option App → LineResult
+static_of None = Absent
+static_of (Some a) = Static a.fixed
+
+-- what a line that wants a card answers where none runs
+abbrev pub without_card : Live → LineResult
+without_card (Running seat) = NoCard
+without_card Unpowered = NoCard
+without_card Muted = Silenced
+
+-- what a dump answers
+abbrev pub dumped : Live → Base → List ℕ → LineResult
+dumped (Running seat) (OnCard c) n = static_of (lookup c.apps n)
+dumped (Running seat) (AtFault cause p) n = NoCard
+dumped Unpowered base n = NoCard
+dumped Muted base n = Silenced
+
+-- the words of an empty card of layout 2 in their places
+abbrev pub formatted : List (List ℕ) → List (List ℕ)
+formatted m =
+    let size = length m in
+    slice_set (slice_set (slice_set (slice_set (slice_set m 0 (root 2 size heap_start)) 1 shut) 2 (zeros 8)) 130 shut) heap_start (hole_header (size - heap_start) 0)
+
+-- ---- a line
+
+-- the commands of a line: select, delete, apdu and load
+abbrev pub line_command : Card → Seat → ℕ → DeckLine → Command
+line_command c seat budget (line.Select n) = command c seat (select_bytes n) budget
+line_command c seat budget (line.Delete n) = command c seat (delete_bytes n) budget
+line_command c seat budget (line.Apdu b) = command c seat b budget
+line_command c seat budget (line.Load u fixed session) = send c seat budget (load_commands u fixed session)
+line_command c seat budget _ = refused seat 0x9000
+
+-- a card line other than power: where a card runs its command, else that none runs
+abbrev pub card_line : ℕ → DeckLine → Warm → Live → Base → Option WornAt → Step
+card_line n l s (Running seat) (OnCard c) w =
+    let r = line_command c seat s.budget l in
+    command_step n l s c r (hit_of s.armed (moves r.items) w)
+card_line n l s live base w = quiet n l (Hot s) (Some (without_card live)) (Hot (record s { armed = Unarmed }))
+
+-- a line from the first power line on
+abbrev pub hot_step : ℕ → DeckLine → Warm → Option WornAt → Step
+hot_step n line.Format s w = quiet n line.Format (Hot s) None (Hot s)
+hot_step n (line.Poke at x) s w = quiet n (line.Poke at x) (Hot s) None (Hot s)
+hot_step n line.Named s w = quiet n line.Named (Hot s) None (Hot s)
+hot_step n (line.Budget b) s w = quiet n (line.Budget b) (Hot s) None (Hot (record s { budget = b }))
+hot_step n (line.Cut k x) s w = quiet n (line.Cut k x) (Hot s) None (Hot (record s { armed = ArmedCut k x }))
+hot_step n (line.Fail k) s w = quiet n (line.Fail k) (Hot s) None (Hot (record s { armed = ArmedFail k }))
+hot_step n (line.Dump a) s w = quiet n (line.Dump a) (Hot s) (Some (dumped s.live s.base a)) (Hot s)
+hot_step n line.Power s w = power_step n (Hot s) s (hit_of s.armed (power_moves s) w)
+hot_step n (line.Load u fixed session) s w = card_line n (line.Load u fixed session) s s.live s.base w
+hot_step n (line.Select a) s w = card_line n (line.Select a) s s.live s.base w
+hot_step n (line.Delete a) s w = card_line n (line.Delete a) s s.live s.base w
+hot_step n (line.Apdu b) s w = card_line n (line.Apdu b) s s.live s.base w
+
+-- the play that the first power line finds
+unfoldable pub warmed : List (List ℕ) → ℕ → Armed → Warm
+warmed m budget armed =
+    record { base = base_of (fault m) m; owed = owed m; by = owing (which m); live = Unpowered; budget = budget; armed = armed }
+
+-- a line that wants a card before the first power line; a card line drops the armed stop
+abbrev pub cold_line : ℕ → DeckLine → List (List ℕ) → ℕ → Armed → Armed → Step
+cold_line n l m budget armed after = quiet n l (Cold m budget armed) (Some NoCard) (Cold m budget after)
+
+-- a line up to the first power line
+abbrev pub cold_step : ℕ → DeckLine → List (List ℕ) → ℕ → Armed → Option WornAt → Step
+cold_step n line.Format m b a w = quiet n line.Format (Cold m b a) (Some Formatted) (Cold (formatted m) b a)
+cold_step n (line.Poke at x) m b a w = quiet n (line.Poke at x) (Cold m b a) None (Cold (slice_set m at x) b a)
+cold_step n line.Named m b a w = quiet n line.Named (Cold m b a) None (Cold m b a)
+cold_step n (line.Budget c) m b a w = quiet n (line.Budget c) (Cold m b a) None (Cold m c a)
+cold_step n (line.Cut k x) m b a w = quiet n (line.Cut k x) (Cold m b a) None (Cold m b (ArmedCut k x))
+cold_step n (line.Fail k) m b a w = quiet n (line.Fail k) (Cold m b a) None (Cold m b (ArmedFail k))
+cold_step n (line.Dump x) m b a w = cold_line n (line.Dump x) m b a a
+cold_step n line.Power m b a w = let s = warmed m b a in power_step n (Cold m b a) s (hit_of a (power_moves s) w)
+cold_step n (line.Load u fixed session) m b a w = cold_line n (line.Load u fixed session) m b a Unarmed
+cold_step n (line.Select x) m b a w = cold_line n (line.Select x) m b a Unarmed
+cold_step n (line.Delete x) m b a w = cold_line n (line.Delete x) m b a Unarmed
+cold_step n (line.Apdu x) m b a w = cold_line n (line.Apdu x) m b a Unarmed
+
+-- one line
+unfoldable pub step : State → ℕ × DeckLine → Option WornAt → Step
+step (Cold m b a) l w = cold_step l.0 l.1 m b a w
+step (Hot s) l w = hot_step l.0 l.1 s w
+
+-- ---- a play
+
+-- the worn stop of the first line, and those of the others
+abbrev pub first_worn : List (Option WornAt) → Option WornAt
+first_worn [] = None
+first_worn (w ∷ ws) = w
+
+-- the lines of a deck played in order, with one entry of `worn` for each line
+unfoldable pub plays : State → List (ℕ × DeckLine) → List (Option WornAt) → List Step
+plays s [] ws = []
+plays s (l ∷ ls) ws =
+    let t = step s l (first_worn ws) in
+    t ∷ plays t.after ls (drop 1 ws)
+
+-- the state of a play before its first line
+abbrev pub start : List (List ℕ) → State
+start m = Cold m 10000 Unarmed
+
+-- the state after the last line
+abbrev pub last_state : State → List Step → State
+last_state s [] = s
+last_state s (t ∷ ts) = last_state t.after ts
+
+-- ---- which worn stops are possible
+
+-- the owed and migration writes of a power line
+abbrev pub power_part : State → DeckLine → ℕ
+power_part (Cold m b a) line.Power = power_moves (warmed m b a)
+power_part (Hot s) line.Power = power_moves s
+power_part (Cold m b a) _ = 0
+power_part (Hot s) _ = 0
+
+-- the device writes that a line makes where nothing stops it
+unfoldable pub moves_of : State → ℕ × DeckLine → ℕ
+moves_of s l = power_part s l.1 + moves (step s l None).items
+
+-- the stop that is armed in a state
+abbrev pub armed_in : State → Armed
+armed_in (Cold m b a) = a
+armed_in (Hot s) = s.armed
+
+-- a worn stop comes before the cut that is armed
+abbrev pub IsBeforeCut : Armed → ℕ → Type 0
+IsBeforeCut (ArmedCut k x) j = j < k
+IsBeforeCut Unarmed j = ⊤
+IsBeforeCut (ArmedFail k) j = ⊤
+
+-- a worn stop that a line may have: a card line with so many device writes, before the cut that is armed
+pub record IsPossibleAt (s : State) (l : ℕ × DeckLine) (w : WornAt) : Type 0 where
+  pub card_line : is_card_line l.1 ≡ true
+  pub low : 1 ≤ w.at
+  pub high : w.at ≤ moves_of s l
+  pub first : IsBeforeCut (armed_in s) w.at
+
+-- the worn stop of a line is possible, if it has one
+abbrev pub MayHit : State → ℕ × DeckLine → Option WornAt → Type 0
+MayHit s l None = ⊤
+MayHit s l (Some w) = IsPossibleAt s l w
+
+-- one entry for each line, each possible where it stands
+abbrev pub Possible : State → List (ℕ × DeckLine) → List (Option WornAt) → Type 0
+Possible s [] [] = ⊤
+Possible s [] (w ∷ ws) = ⊥
+Possible s (l ∷ ls) [] = ⊥
+Possible s (l ∷ ls) (w ∷ ws) = MayHit s l w × Possible (step s l w).after ls ws
+
+-- ---- where worn stops come from
+
+-- a steady bench refuses just the writes of `fail` lines, and leaves zeros
+abbrev pub steady_at : Armed → DeckLine → ℕ → Option WornAt
+steady_at (ArmedFail k) l m = cond (is_card_line l && nat_le k m) (Some (record { at = k; left = zeros 8 })) None
+steady_at Unarmed l m = None
+steady_at (ArmedCut k x) l m = None
+
+-- the worn stops of a play on a steady bench
+unfoldable pub steady_worn : State → List (ℕ × DeckLine) → List (Option WornAt)
+steady_worn s [] = []
+steady_worn s (l ∷ ls) =
+    let m = moves_of s l in
+    let w = steady_at (armed_in s) l.1 m in
+    w ∷ steady_worn (step s l w).after ls
+
+-- an entry that is a stop
+abbrev pub ends_tape : Option Stop → Bool
+ends_tape None = false
+ends_tape (Some s) = true
+
+-- an entry before those of a line
+abbrev pub with_entry : Entry → List Entry × List Entry → List Entry × List Entry
+with_entry e c = (e ∷ c.0, c.1)
+
+-- the entries of a line of at most n device writes, up to its first stop, and those after them
+abbrev pub chunk : ℕ → List Entry → List Entry × List Entry
+chunk zero t = ([], t)
+chunk (suc n) [] = ([], [])
+chunk (suc n) (e ∷ t) = cond (ends_tape e.«end») (e ∷ [], t) (with_entry e (chunk n t))
+
+-- the worn stop of an entry with this number, if it is one
+abbrev pub worn_entry : ℕ → List ℕ → Option Stop → Option WornAt
+worn_entry k left None = None
+worn_entry k left (Some stop.Off) = None
+worn_entry k left (Some stop.Worn) = Some (record { at = k; left = left })
+
+-- the worn stop of a line's entries: the last one
+abbrev pub worn_in : ℕ → List Entry → Option WornAt
+worn_in k [] = None
+worn_in k (e ∷ []) = worn_entry (k + 1) e.left e.«end»
+worn_in k (e ∷ f ∷ es) = worn_in (k + 1) (f ∷ es)
+
+-- a bench that tells its tape refuses what the tape says
+unfoldable pub tape_worn : State → List (ℕ × DeckLine) → List Entry → List (Option WornAt)
+tape_worn s [] t = []
+tape_worn s (l ∷ ls) t =
+    let c = chunk (moves_of s l) t in
+    let w = worn_in 0 c.0 in
+    w ∷ tape_worn (step s l w).after ls c.1
+
+-- ---- the words that a play leaves
+
+-- the words fit a play whose base is a card: they have no fault, they mean the card, and they owe what the play owes
+pub record StandsForCard (m : List (List ℕ)) (c : Card) (s : Warm) : Type 0 where
+  pub sound : fault m ≡ None
+  pub meaning : means m ≡ c
+  pub owed : owed m ≡ s.owed
+
+-- the words fit a play whose base is a fault
+pub record StandsForFault (m : List (List ℕ)) (cause : Cause) (place : ℕ) (s : Warm) : Type 0 where
+  pub unsound : fault m ≡ Some (cause, place)
+  pub owed : owed m ≡ s.owed
+
+-- the words fit the base of a play
+abbrev pub StandsForBase : List (List ℕ) → Base → Warm → Type 0
+StandsForBase m (OnCard c) s = StandsForCard m c s
+StandsForBase m (AtFault cause p) s = StandsForFault m cause p s
+
+-- the words fit a state: before the first power line they are the image; then they fit its base, and what they owe is owed by its journal
+abbrev pub StandsForState : List (List ℕ) → State → Type 0
+StandsForState m (Cold image b a) = m ≡ image
+StandsForState m (Hot s) = StandsForBase m s.base s × (s.owed ≢ 0 → owing (which m) ≡ s.by)
+
+-- ---- every write accounted
+
+-- the words after the entries of a tape
+abbrev pub laid_entries : List (List ℕ) → List Entry → List (List ℕ)
+laid_entries m es = laid m (map (λ e. (e.at, e.left)) es)
+
+-- the words after a line
+abbrev pub words_left : List (List ℕ) → List Entry → State → List (List ℕ)
+words_left m es (Cold image b a) = image
+words_left m es (Hot s) = laid_entries m es
+
+-- the state after this line, had a stop at write k that leaves x hit it
+abbrev pub stopped : State → ℕ × DeckLine → ℕ → List ℕ → State
+stopped s l k x = (step s l (Some (record { at = k; left = x }))).after
+
+-- each entry but the last was done, and the last ended as the line did
+abbrev pub EndsAs : Option Stop → List Entry → Type 0
+EndsAs how [] = how ≡ None
+EndsAs how (e ∷ []) = e.«end» ≡ how
+EndsAs how (e ∷ f ∷ es) = (e.«end» ≡ None) × EndsAs how (f ∷ es)
+
+-- the kind of a stop
+abbrev pub kind_of : Option StopAt → Option Stop
+kind_of None = None
+kind_of (Some t) = Some t.kind
+
+-- behind the entries `es` of a line, which left the words m, and with those to come: after each the words stand for the play that was stopped there
+abbrev pub StandsAtEach : List (List ℕ) → State → ℕ × DeckLine → ℕ → List Entry → Type 0
+StandsAtEach m s l k [] = ⊤
+StandsAtEach m s l k (e ∷ es) =
+    let n = slice_set m e.at e.left in
+    StandsForState n (stopped s l (k + 1) e.left) × StandsAtEach n s l (k + 1) es
+
+-- the entries of a line account for it
+pub record AccountsForLine (m : List (List ℕ)) (s : State) (l : ℕ × DeckLine) (t : Step) (es : List Entry) : Type 0 where
+  pub count : length es ≡ t.moves
+  pub each : StandsAtEach m s l 0 es
+  pub ends : EndsAs (kind_of t.stop) es
+
+-- a told tape accounts for a play from the words m on
+abbrev pub Accounts : List (List ℕ) → State → List (ℕ × DeckLine) → List (Option WornAt) → List Entry → Type 0
+Accounts m s [] ws t = t ≡ []
+Accounts m s (l ∷ ls) ws t =
+    let u = step s l (first_worn ws) in
+    let c = chunk (moves_of s l) t in
+    AccountsForLine m s l u c.0 × Accounts (words_left m c.0 u.after) u.after ls (drop 1 ws) c.1

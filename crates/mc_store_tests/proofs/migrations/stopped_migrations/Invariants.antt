@@ -1,4 +1,0 @@
-use Rattle.mc_store_tests.proofs.migrations.stopped_migrations.Given as goal
-
-abbrev pub ghosts-first_stops : goal.ghosts-first_stops
-ghosts-first_stops g a = record { name = a.blank.name; parts = a.blank.parts }

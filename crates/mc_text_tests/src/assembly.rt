@@ -1,0 +1,3 @@
+// The assembler and the listing tried with ample memory.
+
+mod tests;

@@ -1,0 +1,6 @@
+// Decks with ample memory: a deck that is read, decks that are refused, and one that a number generates.
+
+mod more_samples;
+mod refusals;
+mod samples;
+mod tests;

@@ -1,0 +1,3 @@
+// Sweeps of decks over a device and streams in memory.
+
+mod tests;
