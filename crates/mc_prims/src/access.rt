@@ -3,7 +3,7 @@ ghost use Rattle.std.specs.Prelude.{◌≡◌, ◌%◌, ◌≤◌, ◌<◌, ◌�
 ghost use Rattle.mc_model_machine.specs.Modes.{ecb};
 ghost use Rattle.mc_model_machine.specs.Frame.{is_outside};
 ghost use Rattle.mc_model_machine.specs.Primitives as model;
-ghost use Rattle.mc_segs.specs.HeldFrames.{FitsBank, shown};
+ghost use Rattle.mc_segs.specs.HeldFrames.{shown, CanRun};
 ghost use Rattle.mc_segs.specs.Ends.{IfDue};
 ghost use Rattle.mc_prims.specs.Acting.{IsLength, ReadsBytes, ReadsCount};
 ghost use Rattle.mc_prims.specs.Table.{cipher_of, turned};
@@ -39,8 +39,7 @@ impl Block {
         at: u16,
         len: u8,
     ) -> Result<Block, Abend>
-        requires going { (B.state bank.now).stopped ≡ false }
-        requires fits { FitsBank (B.state bank.now) (B.named bank.now) frame.now }
+        requires runs { CanRun (B.state bank.now) (B.named bank.now) frame.now }
         ensures { ReadsBytes result (shown (B.state bank.now) (B.named bank.now) frame.now) public.now at len }
     {
         let mut bytes = [0; 255];
@@ -104,8 +103,7 @@ pub fn reach<B: Bank>(
     at: u16,
     len: u8,
 ) -> Result<(), Abend>
-    requires going { (B.state bank.now).stopped ≡ false }
-    requires fits { FitsBank (B.state bank.now) (B.named bank.now) frame.now }
+    requires runs { CanRun (B.state bank.now) (B.named bank.now) frame.now }
     ensures { IfDue result (is_outside (shown (B.state bank.now) (B.named bank.now) frame.now) at len) Abend.A03 }
 {
     Block::read(bank, frame, public, at, len)?;
@@ -120,8 +118,7 @@ pub fn read_count<B: Bank>(
     public: &Public,
     at: u16,
 ) -> Result<(u8, u16), Abend>
-    requires going { (B.state bank.now).stopped ≡ false }
-    requires fits { FitsBank (B.state bank.now) (B.named bank.now) frame.now }
+    requires runs { CanRun (B.state bank.now) (B.named bank.now) frame.now }
     requires room { length frame.now.frame.fixed ≤ 4096 }
     ensures { ReadsCount result (shown (B.state bank.now) (B.named bank.now) frame.now) public.now at }
 {

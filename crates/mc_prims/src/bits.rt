@@ -4,7 +4,7 @@ ghost use Rattle.mc_model_machine.specs.declared.machine.Abend.TheVariants.{A04}
 ghost use Rattle.mc_model_machine.specs.Blocks.{and_blocks, is_zero};
 ghost use Rattle.mc_model_machine.specs.Frame.{is_under, top};
 ghost use Rattle.mc_model_machine.specs.Primitives as model;
-ghost use Rattle.mc_segs.specs.HeldFrames.{FitsBank, shown};
+ghost use Rattle.mc_segs.specs.HeldFrames.{shown, CanRun};
 ghost use Rattle.mc_segs.specs.Ends.{scene};
 ghost use Rattle.mc_prims.specs.Acting.{CausesAct, PopsInto};
 ghost use Rattle.mc_prims.specs.Table.{shift_block};
@@ -30,8 +30,7 @@ pub fn manipulate_top<B: Bank, const N: usize>(
     public: &mut Public,
     bank: &mut B,
 ) -> Result<Next, Halt>
-    requires going { (B.state bank.old).stopped ≡ false }
-    requires fits { FitsBank (B.state bank.old) (B.named bank.old) frame.old }
+    requires runs { CanRun (B.state bank.old) (B.named bank.old) frame.old }
     requires op { op ≤ 3 }
     requires low { 1 ≤ N }
     requires high { N ≤ 255 }
@@ -83,8 +82,7 @@ pub fn shift_top<B: Bank>(
     public: &mut Public,
     bank: &mut B,
 ) -> Result<Next, Halt>
-    requires going { (B.state bank.old).stopped ≡ false }
-    requires fits { FitsBank (B.state bank.old) (B.named bank.old) frame.old }
+    requires runs { CanRun (B.state bank.old) (B.named bank.old) frame.old }
     requires low { 1 ≤ len }
     requires high { len ≤ 16 }
     requires some { 1 ≤ by }

@@ -2,7 +2,7 @@
 ghost use Rattle.std.specs.Prelude.{◌≡◌, ◌≤◌, false, length};
 ghost use Rattle.mc_model_machine.specs.declared.instruction.Ins.TheVariants.{Prim};
 ghost use Rattle.mc_model_machine.specs.Primitives as model;
-ghost use Rattle.mc_segs.specs.HeldFrames.{FitsBank, shown};
+ghost use Rattle.mc_segs.specs.HeldFrames.{shown, CanRun};
 ghost use Rattle.mc_segs.specs.Ends.{RowActs, scene};
 ghost use Rattle.mc_prims.specs.Acting.{PrimActs};
 ghost use Rattle.mc_prims.specs.Table.{known, primitive_of};
@@ -42,8 +42,7 @@ pub fn prim<B: Bank>(
     public: &mut Public,
     bank: &mut B,
 ) -> Result<Next, Halt>
-    requires going { (B.state bank.old).stopped ≡ false }
-    requires fits { FitsBank (B.state bank.old) (B.named bank.old) frame.old }
+    requires runs { CanRun (B.state bank.old) (B.named bank.old) frame.old }
     ensures { RowActs B.did B.state B.named (scene bank.old bank.new frame.old frame.new public.old public.new)
         (Prim set number args.now) (known around.now) result }
 {
@@ -70,8 +69,7 @@ fn run<B: Bank>(
     public: &mut Public,
     bank: &mut B,
 ) -> Result<Next, Halt>
-    requires going { (B.state bank.old).stopped ≡ false }
-    requires fits { FitsBank (B.state bank.old) (B.named bank.old) frame.old }
+    requires runs { CanRun (B.state bank.old) (B.named bank.old) frame.old }
     requires args { model.has_bad_argument (primitive_of primitive) args.now ≡ false }
     requires room { length frame.old.frame.fixed ≤ 4096 }
     ensures { PrimActs B.did B.state B.named (scene bank.old bank.new frame.old frame.new public.old public.new)

@@ -3,7 +3,7 @@ ghost use Rattle.std.specs.Prelude.{◌≡◌, ◌+◌, ◌==◌, ◌≤◌, [],
 ghost use Rattle.mc_model_machine.specs.Frame.{flagged, pushed};
 ghost use Rattle.mc_model_machine.specs.Primitives as model;
 ghost use Rattle.mc_model_machine.specs.Primitives.{Lookup, MemoryCompare, MemoryCopy, CompareFixed, CopyFixed, Digest};
-ghost use Rattle.mc_segs.specs.HeldFrames.{FitsBank, shown};
+ghost use Rattle.mc_segs.specs.HeldFrames.{shown, CanRun};
 ghost use Rattle.mc_segs.specs.Ends.{scene};
 ghost use Rattle.mc_segs.specs.declared.ends.Next.TheVariants.{Go};
 ghost use Rattle.mc_prims.specs.Acting.{alone, CausesAct, PrimActs, compare_causes, flags_compared};
@@ -22,8 +22,7 @@ pub fn copy_memory<B: Bank>(
     public: &mut Public,
     bank: &mut B,
 ) -> Result<Next, Halt>
-    requires going { (B.state bank.old).stopped ≡ false }
-    requires fits { FitsBank (B.state bank.old) (B.named bank.old) frame.old }
+    requires runs { CanRun (B.state bank.old) (B.named bank.old) frame.old }
     ensures { PrimActs B.did B.state B.named
         (scene bank.old bank.new frame.old frame.new public.old public.new) MemoryCopy [] alone result }
 {
@@ -42,8 +41,7 @@ pub fn copy_fixed<B: Bank>(
     public: &mut Public,
     bank: &mut B,
 ) -> Result<Next, Halt>
-    requires going { (B.state bank.old).stopped ≡ false }
-    requires fits { FitsBank (B.state bank.old) (B.named bank.old) frame.old }
+    requires runs { CanRun (B.state bank.old) (B.named bank.old) frame.old }
     requires args { model.has_bad_argument CopyFixed args.now ≡ false }
     ensures { PrimActs B.did B.state B.named
         (scene bank.old bank.new frame.old frame.new public.old public.new) CopyFixed args.now alone result }
@@ -61,8 +59,7 @@ pub fn compare_memory<B: Bank>(
     public: &mut Public,
     bank: &mut B,
 ) -> Result<Next, Halt>
-    requires going { (B.state bank.old).stopped ≡ false }
-    requires fits { FitsBank (B.state bank.old) (B.named bank.old) frame.old }
+    requires runs { CanRun (B.state bank.old) (B.named bank.old) frame.old }
     ensures { PrimActs B.did B.state B.named
         (scene bank.old bank.new frame.old frame.new public.old public.new) MemoryCompare [] alone result }
 {
@@ -79,8 +76,7 @@ pub fn compare_fixed<B: Bank>(
     public: &mut Public,
     bank: &mut B,
 ) -> Result<Next, Halt>
-    requires going { (B.state bank.old).stopped ≡ false }
-    requires fits { FitsBank (B.state bank.old) (B.named bank.old) frame.old }
+    requires runs { CanRun (B.state bank.old) (B.named bank.old) frame.old }
     requires args { model.has_bad_argument CompareFixed args.now ≡ false }
     ensures { PrimActs B.did B.state B.named
         (scene bank.old bank.new frame.old frame.new public.old public.new) CompareFixed args.now alone result }
@@ -98,8 +94,7 @@ fn compare_bytes<B: Bank>(
     public: &mut Public,
     bank: &mut B,
 ) -> Result<Next, Halt>
-    requires going { (B.state bank.old).stopped ≡ false }
-    requires fits { FitsBank (B.state bank.old) (B.named bank.old) frame.old }
+    requires runs { CanRun (B.state bank.old) (B.named bank.old) frame.old }
     requires len { 1 ≤ len }
     ensures { CausesAct B.did B.state B.named (scene bank.old bank.new frame.old frame.new public.old public.new)
         (compare_causes (shown (B.state bank.old) (B.named bank.old) frame.old) len first second)
@@ -115,8 +110,7 @@ fn compare_bytes<B: Bank>(
 /// SHA-1 (FIPS 180-4): length, from and to are on the stack.
 #[tactic(auto, unfolding(mc_model_machine::specs::Primitives::later_causes, mc_model_machine::specs::Primitives::prim_effect))]
 pub fn digest<B: Bank>(frame: &mut Frame, public: &mut Public, bank: &mut B) -> Result<Next, Halt>
-    requires going { (B.state bank.old).stopped ≡ false }
-    requires fits { FitsBank (B.state bank.old) (B.named bank.old) frame.old }
+    requires runs { CanRun (B.state bank.old) (B.named bank.old) frame.old }
     ensures { PrimActs B.did B.state B.named
         (scene bank.old bank.new frame.old frame.new public.old public.new) Digest [] alone result }
 {
@@ -133,8 +127,7 @@ pub fn digest<B: Bank>(frame: &mut Frame, public: &mut Public, bank: &mut B) -> 
 /// looked up.
 #[tactic(auto, unfolding(mc_model_machine::specs::Primitives::later_causes, mc_model_machine::specs::Primitives::prim_effect))]
 pub fn look_up<B: Bank>(frame: &mut Frame, public: &mut Public, bank: &mut B) -> Result<Next, Halt>
-    requires going { (B.state bank.old).stopped ≡ false }
-    requires fits { FitsBank (B.state bank.old) (B.named bank.old) frame.old }
+    requires runs { CanRun (B.state bank.old) (B.named bank.old) frame.old }
     requires room { length frame.old.frame.fixed ≤ 4096 }
     ensures { PrimActs B.did B.state B.named
         (scene bank.old bank.new frame.old frame.new public.old public.new) Lookup [] alone result }

@@ -1,7 +1,7 @@
 // Messages enciphered, deciphered and signed.
 ghost use Rattle.std.specs.Prelude.{◌≡◌, [], ◌∷◌, false, true, get_or, slice_index};
 ghost use Rattle.mc_model_machine.specs.Primitives as model;
-ghost use Rattle.mc_segs.specs.HeldFrames.{FitsBank, shown};
+ghost use Rattle.mc_segs.specs.HeldFrames.{shown, CanRun};
 ghost use Rattle.mc_segs.specs.Ends.{scene};
 ghost use Rattle.mc_prims.specs.Acting.{alone, CausesAct, PrimActs};
 ghost use Rattle.mc_prims.specs.Table.{cipher_of, turned};
@@ -23,8 +23,7 @@ pub fn turn_message<B: Bank>(
     public: &mut Public,
     bank: &mut B,
 ) -> Result<Next, Halt>
-    requires going { (B.state bank.old).stopped ≡ false }
-    requires fits { FitsBank (B.state bank.old) (B.named bank.old) frame.old }
+    requires runs { CanRun (B.state bank.old) (B.named bank.old) frame.old }
     requires message { model.is_message (cipher_of cipher) len ≡ true }
     ensures { CausesAct B.did B.state B.named (scene bank.old bank.new frame.old frame.new public.old public.new)
         (model.cipher_causes (cipher_of cipher) len (shown (B.state bank.old) (B.named bank.old) frame.old))
@@ -49,8 +48,7 @@ pub fn sign_message<B: Bank>(
     public: &mut Public,
     bank: &mut B,
 ) -> Result<Next, Halt>
-    requires going { (B.state bank.old).stopped ≡ false }
-    requires fits { FitsBank (B.state bank.old) (B.named bank.old) frame.old }
+    requires runs { CanRun (B.state bank.old) (B.named bank.old) frame.old }
     requires message { model.is_message (cipher_of cipher) (slice_index args.now 0) ≡ true }
     ensures { PrimActs B.did B.state B.named (scene bank.old bank.new frame.old frame.new public.old public.new)
         (model.Sign (cipher_of cipher)) args.now alone result }

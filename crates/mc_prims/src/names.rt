@@ -2,7 +2,7 @@
 ghost use Rattle.std.specs.Prelude.{◌≡◌, ◌≤◌, [], ◌∷◌, false, length};
 ghost use Rattle.mc_model_machine.specs.Primitives as model;
 ghost use Rattle.mc_model_machine.specs.Primitives.{DelegateTo, DelegatorAid};
-ghost use Rattle.mc_segs.specs.HeldFrames.{FitsBank};
+ghost use Rattle.mc_segs.specs.HeldFrames.{CanRun};
 ghost use Rattle.mc_segs.specs.Ends.{scene};
 ghost use Rattle.mc_prims.specs.Acting.{alone, PrimActs};
 
@@ -16,8 +16,7 @@ use mc_segs::{Frame, Halt, Next, Public, store};
 /// Delegate: an address is on the stack, and at the address a length and a name.
 #[tactic(auto, unfolding(mc_model_machine::specs::Primitives::later_causes, mc_model_machine::specs::Primitives::prim_effect))]
 pub fn delegate<B: Bank>(frame: &mut Frame, public: &mut Public, bank: &mut B) -> Result<Next, Halt>
-    requires going { (B.state bank.old).stopped ≡ false }
-    requires fits { FitsBank (B.state bank.old) (B.named bank.old) frame.old }
+    requires runs { CanRun (B.state bank.old) (B.named bank.old) frame.old }
     requires room { length frame.old.frame.fixed ≤ 4096 }
     ensures { PrimActs B.did B.state B.named
         (scene bank.old bank.new frame.old frame.new public.old public.new) DelegateTo [] alone result }
@@ -42,8 +41,7 @@ pub fn tell_delegator<B: Bank>(
     public: &mut Public,
     bank: &mut B,
 ) -> Result<Next, Halt>
-    requires going { (B.state bank.old).stopped ≡ false }
-    requires fits { FitsBank (B.state bank.old) (B.named bank.old) frame.old }
+    requires runs { CanRun (B.state bank.old) (B.named bank.old) frame.old }
     ensures { PrimActs B.did B.state B.named
         (scene bank.old bank.new frame.old frame.new public.old public.new) DelegatorAid []
         (record alone { delegator = delegator }) result }

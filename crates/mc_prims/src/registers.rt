@@ -3,7 +3,7 @@
 ghost use Rattle.std.specs.Prelude.{◌≡◌, [], ◌∷◌, false};
 ghost use Rattle.mc_model_machine.specs.Primitives as model;
 ghost use Rattle.mc_model_machine.specs.Primitives.{CheckCase, LoadCcr, StoreCcr, SetProtection};
-ghost use Rattle.mc_segs.specs.HeldFrames.{FitsBank};
+ghost use Rattle.mc_segs.specs.HeldFrames.{CanRun};
 ghost use Rattle.mc_segs.specs.Ends.{scene};
 ghost use Rattle.mc_prims.specs.Acting.{alone, PrimActs};
 
@@ -20,8 +20,7 @@ pub fn check_case<B: Bank>(
     public: &mut Public,
     bank: &mut B,
 ) -> Result<Next, Halt>
-    requires going { (B.state bank.old).stopped ≡ false }
-    requires fits { FitsBank (B.state bank.old) (B.named bank.old) frame.old }
+    requires runs { CanRun (B.state bank.old) (B.named bank.old) frame.old }
     ensures { PrimActs B.did B.state B.named
         (scene bank.old bank.new frame.old frame.new public.old public.new) CheckCase []
         (record alone { case = case }) result }
@@ -41,8 +40,7 @@ pub fn load_flags<B: Bank>(
     public: &mut Public,
     bank: &mut B,
 ) -> Result<Next, Halt>
-    requires going { (B.state bank.old).stopped ≡ false }
-    requires fits { FitsBank (B.state bank.old) (B.named bank.old) frame.old }
+    requires runs { CanRun (B.state bank.old) (B.named bank.old) frame.old }
     ensures { PrimActs B.did B.state B.named
         (scene bank.old bank.new frame.old frame.new public.old public.new) LoadCcr [] alone result }
 {
@@ -57,8 +55,7 @@ pub fn store_flags<B: Bank>(
     public: &mut Public,
     bank: &mut B,
 ) -> Result<Next, Halt>
-    requires going { (B.state bank.old).stopped ≡ false }
-    requires fits { FitsBank (B.state bank.old) (B.named bank.old) frame.old }
+    requires runs { CanRun (B.state bank.old) (B.named bank.old) frame.old }
     ensures { PrimActs B.did B.state B.named
         (scene bank.old bank.new frame.old frame.new public.old public.new) StoreCcr [] alone result }
 {
@@ -75,8 +72,7 @@ pub fn set_protection<B: Bank>(
     public: &mut Public,
     bank: &mut B,
 ) -> Result<Next, Halt>
-    requires going { (B.state bank.old).stopped ≡ false }
-    requires fits { FitsBank (B.state bank.old) (B.named bank.old) frame.old }
+    requires runs { CanRun (B.state bank.old) (B.named bank.old) frame.old }
     requires args { model.has_bad_argument SetProtection args.now ≡ false }
     ensures { PrimActs B.did B.state B.named
         (scene bank.old bank.new frame.old frame.new public.old public.new) SetProtection args.now alone result }

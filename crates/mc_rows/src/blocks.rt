@@ -1,7 +1,7 @@
 // Rows of a block of n bytes at a place.
 ghost use Rattle.std.specs.Prelude.{◌≡◌, ◌≤◌, false, length};
 ghost use Rattle.mc_model_machine.specs.declared.instruction.Ins.TheVariants.{Clearn, Testn};
-ghost use Rattle.mc_segs.specs.HeldFrames.{FitsBank, shown};
+ghost use Rattle.mc_segs.specs.HeldFrames.{shown, CanRun};
 ghost use Rattle.mc_segs.specs.Ends.{scene, EndActs, RowActs};
 ghost use Rattle.mc_rows.specs.Rows.{alone, change_end, changed_end, most_unary, onward};
 
@@ -21,8 +21,7 @@ pub fn change_block<B: Bank>(
     public: &mut Public,
     bank: &mut B,
 ) -> Result<(), Halt>
-    requires going { (B.state bank.old).stopped ≡ false }
-    requires fits { FitsBank (B.state bank.old) (B.named bank.old) frame.old }
+    requires runs { CanRun (B.state bank.old) (B.named bank.old) frame.old }
     requires tag { tag ≤ 7 }
     ensures { EndActs B.did B.state B.named (scene bank.old bank.new frame.old frame.new public.old public.new)
         (change_end kind (shown (B.state bank.old) (B.named bank.old) frame.old) public.old tag off n) (onward result) }
@@ -49,8 +48,7 @@ fn change_in<B: Bank>(
 ) -> Result<(), Halt>
     requires low { 1 ≤ length value.old }
     requires high { length value.old ≤ most_unary kind }
-    requires going { (B.state bank.old).stopped ≡ false }
-    requires fits { FitsBank (B.state bank.old) (B.named bank.old) frame.old }
+    requires runs { CanRun (B.state bank.old) (B.named bank.old) frame.old }
     requires tag { tag ≤ 7 }
     ensures { EndActs B.did B.state B.named (scene bank.old bank.new frame.old frame.new public.old public.new)
         (changed_end kind (shown (B.state bank.old) (B.named bank.old) frame.old) public.old tag off
@@ -74,8 +72,7 @@ pub fn clear_block<B: Bank>(
     public: &mut Public,
     bank: &mut B,
 ) -> Result<(), Halt>
-    requires going { (B.state bank.old).stopped ≡ false }
-    requires fits { FitsBank (B.state bank.old) (B.named bank.old) frame.old }
+    requires runs { CanRun (B.state bank.old) (B.named bank.old) frame.old }
     requires tag { tag ≤ 7 }
     ensures { RowActs B.did B.state B.named (scene bank.old bank.new frame.old frame.new public.old public.new)
         (Clearn tag off n) alone (onward result) }
@@ -98,8 +95,7 @@ pub fn test_block<B: Bank>(
     public: &mut Public,
     bank: &mut B,
 ) -> Result<(), Halt>
-    requires going { (B.state bank.old).stopped ≡ false }
-    requires fits { FitsBank (B.state bank.old) (B.named bank.old) frame.old }
+    requires runs { CanRun (B.state bank.old) (B.named bank.old) frame.old }
     requires tag { tag ≤ 7 }
     ensures { RowActs B.did B.state B.named (scene bank.old bank.new frame.old frame.new public.old public.new)
         (Testn tag off n) alone (onward result) }

@@ -1,6 +1,6 @@
 // Rows of a byte or a word at a place against an immediate.
 ghost use Rattle.std.specs.Prelude.{◌≡◌, ◌≤◌, false, length};
-ghost use Rattle.mc_segs.specs.HeldFrames.{FitsBank, shown};
+ghost use Rattle.mc_segs.specs.HeldFrames.{shown, CanRun};
 ghost use Rattle.mc_segs.specs.Ends.{scene, EndActs};
 ghost use Rattle.mc_rows.specs.Rows.{set_end, compare_end, combine_end, onward};
 
@@ -19,8 +19,7 @@ pub fn set<B: Bank>(
     public: &mut Public,
     bank: &mut B,
 ) -> Result<(), Halt>
-    requires going { (B.state bank.old).stopped ≡ false }
-    requires fits { FitsBank (B.state bank.old) (B.named bank.old) frame.old }
+    requires runs { CanRun (B.state bank.old) (B.named bank.old) frame.old }
     requires tag { tag ≤ 7 }
     requires low { 1 ≤ length bytes.now }
     requires high { length bytes.now ≤ 2 }
@@ -41,8 +40,7 @@ pub fn compare_with<B: Bank>(
     public: &mut Public,
     bank: &mut B,
 ) -> Result<(), Halt>
-    requires going { (B.state bank.old).stopped ≡ false }
-    requires fits { FitsBank (B.state bank.old) (B.named bank.old) frame.old }
+    requires runs { CanRun (B.state bank.old) (B.named bank.old) frame.old }
     requires tag { tag ≤ 7 }
     requires low { 1 ≤ length bytes.now }
     requires high { length bytes.now ≤ 2 }
@@ -69,8 +67,7 @@ pub fn combine_with<B: Bank>(
     public: &mut Public,
     bank: &mut B,
 ) -> Result<(), Halt>
-    requires going { (B.state bank.old).stopped ≡ false }
-    requires fits { FitsBank (B.state bank.old) (B.named bank.old) frame.old }
+    requires runs { CanRun (B.state bank.old) (B.named bank.old) frame.old }
     requires tag { tag ≤ 7 }
     requires low { 1 ≤ length bytes.now }
     requires high { length bytes.now ≤ 2 }

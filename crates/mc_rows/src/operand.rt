@@ -3,7 +3,7 @@ ghost use Rattle.std.specs.Prelude.{◌≡◌, ◌+◌, ◌*◌, ◌≤◌, ◌=
 ghost use Rattle.mc_model_device.specs.Bytes.{num};
 ghost use Rattle.mc_model_machine.specs.Frame.{address_at, in_two_bytes, is_outside, is_under, popped};
 ghost use Rattle.mc_model_machine.specs.Row.{indexed, on_stack, operand};
-ghost use Rattle.mc_segs.specs.HeldFrames.{FitsBank, shown};
+ghost use Rattle.mc_segs.specs.HeldFrames.{shown, CanRun};
 ghost use Rattle.mc_segs.specs.Ends.{addressed, GivesOrAbends, IfDue};
 ghost use Rattle.mc_rows.specs.Rows.{FirstRead, OperandPlaced};
 
@@ -66,8 +66,7 @@ pub fn read_address<B: Bank>(
     public: &Public,
     bank: &B,
 ) -> Result<u16, Abend>
-    requires going { (B.state bank.now).stopped ≡ false }
-    requires fits { FitsBank (B.state bank.now) (B.named bank.now) frame.now }
+    requires runs { CanRun (B.state bank.now) (B.named bank.now) frame.now }
     ensures { GivesOrAbends result (is_outside (shown (B.state bank.now) (B.named bank.now) frame.now) at 2) Abend.A03
         (address_at (shown (B.state bank.now) (B.named bank.now) frame.now) public.now at) }
 {
@@ -87,8 +86,7 @@ pub fn read_first<B: Bank>(
     public: &Public,
     bank: &B,
 ) -> Result<u16, Abend>
-    requires going { (B.state bank.now).stopped ≡ false }
-    requires fits { FitsBank (B.state bank.now) (B.named bank.now) frame.now }
+    requires runs { CanRun (B.state bank.now) (B.named bank.now) frame.now }
     requires tag { tag ≤ 7 }
     requires low { 1 ≤ length into.old }
     requires high { length into.old ≤ 255 }

@@ -1,7 +1,7 @@
 // Rows of n bytes at a place and the top n bytes of the stack.
 ghost use Rattle.std.specs.Prelude.{◌≡◌, ◌≤◌, false, length};
 ghost use Rattle.mc_model_machine.specs.declared.instruction.Ins.TheVariants.{Cmpn};
-ghost use Rattle.mc_segs.specs.HeldFrames.{FitsBank, shown};
+ghost use Rattle.mc_segs.specs.HeldFrames.{shown, CanRun};
 ghost use Rattle.mc_segs.specs.Ends.{scene, EndActs, RowActs};
 ghost use Rattle.mc_rows.specs.Rows.{alone, most_binary, pair_end, paired_end, onward};
 
@@ -21,8 +21,7 @@ pub fn combine_pair<B: Bank>(
     public: &mut Public,
     bank: &mut B,
 ) -> Result<(), Halt>
-    requires going { (B.state bank.old).stopped ≡ false }
-    requires fits { FitsBank (B.state bank.old) (B.named bank.old) frame.old }
+    requires runs { CanRun (B.state bank.old) (B.named bank.old) frame.old }
     requires tag { tag ≤ 7 }
     ensures { EndActs B.did B.state B.named (scene bank.old bank.new frame.old frame.new public.old public.new)
         (pair_end kind (shown (B.state bank.old) (B.named bank.old) frame.old) public.old tag off n) (onward result) }
@@ -51,8 +50,7 @@ fn combine_in<B: Bank>(
 ) -> Result<(), Halt>
     requires low { 1 ≤ length first.old }
     requires high { length first.old ≤ most_binary kind }
-    requires going { (B.state bank.old).stopped ≡ false }
-    requires fits { FitsBank (B.state bank.old) (B.named bank.old) frame.old }
+    requires runs { CanRun (B.state bank.old) (B.named bank.old) frame.old }
     requires tag { tag ≤ 7 }
     ensures { EndActs B.did B.state B.named (scene bank.old bank.new frame.old frame.new public.old public.new)
         (paired_end kind (shown (B.state bank.old) (B.named bank.old) frame.old) public.old tag off
@@ -76,8 +74,7 @@ pub fn compare_pair<B: Bank>(
     public: &mut Public,
     bank: &mut B,
 ) -> Result<(), Halt>
-    requires going { (B.state bank.old).stopped ≡ false }
-    requires fits { FitsBank (B.state bank.old) (B.named bank.old) frame.old }
+    requires runs { CanRun (B.state bank.old) (B.named bank.old) frame.old }
     requires tag { tag ≤ 7 }
     ensures { RowActs B.did B.state B.named (scene bank.old bank.new frame.old frame.new public.old public.new)
         (Cmpn tag off n) alone (onward result) }

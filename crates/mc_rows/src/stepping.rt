@@ -1,7 +1,7 @@
 // One instruction: its row, by families.
 ghost use Rattle.std.specs.Prelude.{◌≡◌, false};
 ghost use Rattle.mc_model_machine.specs.Code.{Shaped};
-ghost use Rattle.mc_segs.specs.HeldFrames.{FitsBank};
+ghost use Rattle.mc_segs.specs.HeldFrames.{CanRun};
 ghost use Rattle.mc_segs.specs.Ends.{scene, RowActs};
 ghost use Rattle.mc_rows.specs.Rows.{alone, flowing, onward};
 ghost use Rattle.mc_rows.specs.FrameRows.{FrameActs};
@@ -33,8 +33,7 @@ pub fn step<B: Bank>(
     public: &mut Public,
     bank: &mut B,
 ) -> Result<Flow, Halt>
-    requires going { (B.state bank.old).stopped ≡ false }
-    requires fits { FitsBank (B.state bank.old) (B.named bank.old) frame.old }
+    requires runs { CanRun (B.state bank.old) (B.named bank.old) frame.old }
     requires shaped { Shaped ins.now }
     requires row { IsNoPrimitive ins.now }
     ensures { RowActs B.did B.state B.named
@@ -111,8 +110,7 @@ fn step_operand<B: Bank>(
     public: &mut Public,
     bank: &mut B,
 ) -> Result<(), Halt>
-    requires going { (B.state bank.old).stopped ≡ false }
-    requires fits { FitsBank (B.state bank.old) (B.named bank.old) frame.old }
+    requires runs { CanRun (B.state bank.old) (B.named bank.old) frame.old }
     requires shaped { Shaped ins.now }
     requires family { HasOperand ins.now }
     ensures { RowActs B.did B.state B.named
@@ -147,8 +145,7 @@ fn step_immediate<B: Bank>(
     public: &mut Public,
     bank: &mut B,
 ) -> Result<(), Halt>
-    requires going { (B.state bank.old).stopped ≡ false }
-    requires fits { FitsBank (B.state bank.old) (B.named bank.old) frame.old }
+    requires runs { CanRun (B.state bank.old) (B.named bank.old) frame.old }
     requires shaped { Shaped ins.now }
     requires family { IsImmediate ins.now }
     ensures { RowActs B.did B.state B.named

@@ -1,7 +1,7 @@
 // Rows that move bytes between the stack and an address.
 ghost use Rattle.std.specs.Prelude.{◌≡◌, ◌≤◌, false};
 ghost use Rattle.mc_model_machine.specs.declared.instruction.Ins.TheVariants.{Load, Store, Loadi, Storei, Loada, Index};
-ghost use Rattle.mc_segs.specs.HeldFrames.{FitsBank, shown};
+ghost use Rattle.mc_segs.specs.HeldFrames.{shown, CanRun};
 ghost use Rattle.mc_segs.specs.Ends.{scene, RowActs};
 ghost use Rattle.mc_rows.specs.Rows.{alone, AddressUnder, onward};
 ghost use Rattle.mc_rows.specs.FrameRows.{FrameActs};
@@ -22,8 +22,7 @@ pub fn load_block<B: Bank>(
     public: &mut Public,
     bank: &mut B,
 ) -> Result<(), Halt>
-    requires going { (B.state bank.old).stopped ≡ false }
-    requires fits { FitsBank (B.state bank.old) (B.named bank.old) frame.old }
+    requires runs { CanRun (B.state bank.old) (B.named bank.old) frame.old }
     requires tag { tag ≤ 7 }
     ensures { RowActs B.did B.state B.named (scene bank.old bank.new frame.old frame.new public.old public.new)
         (Load tag off n) alone (onward result) }
@@ -47,8 +46,7 @@ pub fn store_block<B: Bank>(
     public: &mut Public,
     bank: &mut B,
 ) -> Result<(), Halt>
-    requires going { (B.state bank.old).stopped ≡ false }
-    requires fits { FitsBank (B.state bank.old) (B.named bank.old) frame.old }
+    requires runs { CanRun (B.state bank.old) (B.named bank.old) frame.old }
     requires tag { tag ≤ 7 }
     ensures { RowActs B.did B.state B.named (scene bank.old bank.new frame.old frame.new public.old public.new)
         (Store tag off n) alone (onward result) }
@@ -74,8 +72,7 @@ pub fn load_indirect<B: Bank>(
     public: &mut Public,
     bank: &mut B,
 ) -> Result<(), Halt>
-    requires going { (B.state bank.old).stopped ≡ false }
-    requires fits { FitsBank (B.state bank.old) (B.named bank.old) frame.old }
+    requires runs { CanRun (B.state bank.old) (B.named bank.old) frame.old }
     requires tag { tag ≤ 7 }
     ensures { RowActs B.did B.state B.named (scene bank.old bank.new frame.old frame.new public.old public.new)
         (Loadi tag off n) alone (onward result) }
@@ -100,8 +97,7 @@ pub fn store_indirect<B: Bank>(
     public: &mut Public,
     bank: &mut B,
 ) -> Result<(), Halt>
-    requires going { (B.state bank.old).stopped ≡ false }
-    requires fits { FitsBank (B.state bank.old) (B.named bank.old) frame.old }
+    requires runs { CanRun (B.state bank.old) (B.named bank.old) frame.old }
     requires tag { tag ≤ 7 }
     ensures { RowActs B.did B.state B.named (scene bank.old bank.new frame.old frame.new public.old public.new)
         (Storei tag off n) alone (onward result) }
@@ -144,8 +140,7 @@ fn address_under<B: Bank>(
     public: &Public,
     bank: &B,
 ) -> Result<u16, Abend>
-    requires going { (B.state bank.now).stopped ≡ false }
-    requires fits { FitsBank (B.state bank.now) (B.named bank.now) frame.now }
+    requires runs { CanRun (B.state bank.now) (B.named bank.now) frame.now }
     requires tag { tag ≤ 7 }
     ensures { AddressUnder result (shown (B.state bank.now) (B.named bank.now) frame.now) public.now tag off n }
 {

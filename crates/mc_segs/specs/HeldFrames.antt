@@ -48,6 +48,11 @@ pub record FitsBank (s : BankState) (named : ℕ → Option (List ℕ)) (h : Hel
   pub deny : h.frame.deny ≡ (app_under s named h).deny
   pub session : h.frame.session ≡ (app_under s named h).session
 
+-- an instruction may run: the bank takes changes, and the frame fits it
+pub record CanRun (s : BankState) (named : ℕ → Option (List ℕ)) (h : Held) : Type 0 where
+  pub going : s.stopped ≡ false
+  pub fits : FitsBank s named h
+
 -- a new frame of an application with these sizes
 abbrev pub new_held : ℕ → Sizes → List ℕ → Held
 new_held slot sizes session = record { slot = slot; frame = new_frame [] sizes.code sizes.deny (zeros sizes.fixed) session }

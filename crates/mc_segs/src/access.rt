@@ -1,7 +1,7 @@
 // Addresses, and accesses that lie whole in a segment.
 ghost use Rattle.std.specs.Prelude.{◌≡◌, ◌+◌, ◌*◌, ◌/◌, ◌^◌, ◌≤◌, ◌<◌, length, take, drop, false, OnOk, OnErr, option_map};
 ghost use Rattle.mc_model_machine.specs.Frame as model;
-ghost use Rattle.mc_segs.specs.HeldFrames.{FitsBank, shown};
+ghost use Rattle.mc_segs.specs.HeldFrames.{shown, CanRun};
 ghost use Rattle.mc_segs.specs.Ends.{IfDue, scene, Stores, addressed};
 ghost use Rattle.mc_segs.specs.Overlaid.{IsOverlaid};
 ghost use Rattle.mc_segs.specs.Places.{place_value};
@@ -88,8 +88,7 @@ pub fn load<B: Bank>(
     at: u16,
     into: &mut [u8],
 ) -> Result<(), Abend>
-    requires going { (B.state bank.now).stopped ≡ false }
-    requires fits { FitsBank (B.state bank.now) (B.named bank.now) frame.now }
+    requires runs { CanRun (B.state bank.now) (B.named bank.now) frame.now }
     ensures abend { IfDue result (model.is_outside (shown (B.state bank.now) (B.named bank.now) frame.now) at
         (length into.old)) Abend.A03 }
     ensures bytes { OnOk result (into.new
@@ -112,8 +111,7 @@ pub fn load<B: Bank>(
 // copies in place.
 #[inline(never)]
 fn read_static<B: Bank>(bank: &B, frame: &Frame, at: u16, into: &mut [u8])
-    requires going { (B.state bank.now).stopped ≡ false }
-    requires fits { FitsBank (B.state bank.now) (B.named bank.now) frame.now }
+    requires runs { CanRun (B.state bank.now) (B.named bank.now) frame.now }
     requires range { at + length into.old ≤ length frame.now.frame.fixed }
     ensures { into.new ≡ take (length into.old)
         (drop at (model.static_bytes (shown (B.state bank.now) (B.named bank.now) frame.now))) }
@@ -148,8 +146,7 @@ pub fn store<B: Bank>(
     at: u16,
     from: &[u8],
 ) -> Result<(), Halt>
-    requires going { (B.state bank.old).stopped ≡ false }
-    requires fits { FitsBank (B.state bank.old) (B.named bank.old) frame.old }
+    requires runs { CanRun (B.state bank.old) (B.named bank.old) frame.old }
     requires low { 1 ≤ length from.now }
     requires high { length from.now ≤ 255 }
     ensures { Stores B.did B.state B.named (scene bank.old bank.new frame.old frame.new public.old public.new) at

@@ -3,7 +3,7 @@ ghost use Rattle.std.specs.Prelude.{◌≡◌, ℕ, ◌+◌, ◌*◌, ◌/◌, �
 ghost use Rattle.mc_model_machine.specs.Frame as model;
 ghost use Rattle.mc_model_device.specs.Pieces.{not_pending, pending_at, put_word};
 ghost use Rattle.mc_bank.specs.Bank.{app_of};
-ghost use Rattle.mc_segs.specs.HeldFrames.{FitsBank, shown, ArePendingIn};
+ghost use Rattle.mc_segs.specs.HeldFrames.{shown, ArePendingIn, CanRun};
 ghost use Rattle.mc_segs.specs.Puts.{words_under, IsWordOf, PutsPiece, PutsBytes};
 ghost use Rattle.mc_segs.specs.Commits.{IsCommitted};
 ghost use Rattle.mc_segs.specs.Ends.{IfDue, IsOneCommit, Commits, EffectDone, scene, Protects};
@@ -18,8 +18,7 @@ use mc_trans::Pending;
 /// Sets the protection of static writes: mode 0 drops the pending words and ends it, 1 commits them and ends it, 2 drops
 /// them and begins it, 3 commits them and begins it. A commit is one commit of the bank; with no words there is none.
 pub fn protect<B: Bank>(bank: &mut B, frame: &mut Frame, mode: u8) -> Result<(), Stop>
-    requires going { (B.state bank.old).stopped ≡ false }
-    requires fits { FitsBank (B.state bank.old) (B.named bank.old) frame.old }
+    requires runs { CanRun (B.state bank.old) (B.named bank.old) frame.old }
     requires mode { mode ≤ 3 }
     ensures { Protects B.did B.state B.named (scene bank.old bank.new frame.old frame.new [] [])
         (model.protect (shown (B.state bank.old) (B.named bank.old) frame.old) [] mode) result }
@@ -50,8 +49,7 @@ fn drop_pending(frame: &mut Frame, protected: bool)
 
 // Commits the pending words, if there are some.
 fn commit_pending<B: Bank>(bank: &mut B, frame: &Frame) -> Result<(), Stop>
-    requires going { (B.state bank.old).stopped ≡ false }
-    requires fits { FitsBank (B.state bank.old) (B.named bank.old) frame.now }
+    requires runs { CanRun (B.state bank.old) (B.named bank.old) frame.now }
     ensures items { let m = shown (B.state bank.old) (B.named bank.old) frame.now in
         IsOneCommit B.did m.name m.fixed (model.committed m m.pieces) bank.old result bank.new }
     ensures fixed { OnOk result (IsCommitted (B.state bank.old) (B.state bank.new) (B.named bank.old)
@@ -67,8 +65,7 @@ fn commit_pending<B: Bank>(bank: &mut B, frame: &Frame) -> Result<(), Stop>
 
 /// Writes static bytes at once: one commit of the words that they touch.
 pub fn commit_static<B: Bank>(bank: &mut B, frame: &Frame, at: u16, from: &[u8]) -> Result<(), Stop>
-    requires going { (B.state bank.old).stopped ≡ false }
-    requires fits { FitsBank (B.state bank.old) (B.named bank.old) frame.now }
+    requires runs { CanRun (B.state bank.old) (B.named bank.old) frame.now }
     requires low { 1 ≤ length from.now }
     requires high { length from.now ≤ 255 }
     requires range { at + length from.now ≤ length frame.now.frame.fixed }
@@ -84,8 +81,7 @@ pub fn commit_static<B: Bank>(bank: &mut B, frame: &Frame, at: u16, from: &[u8])
 
 /// Keeps static bytes as pending words. Abend 08 where more than 64 words would be pending, and then nothing changes.
 pub fn keep_static<B: Bank>(bank: &B, frame: &mut Frame, at: u16, from: &[u8]) -> Result<(), Abend>
-    requires going { (B.state bank.now).stopped ≡ false }
-    requires fits { FitsBank (B.state bank.now) (B.named bank.now) frame.old }
+    requires runs { CanRun (B.state bank.now) (B.named bank.now) frame.old }
     requires low { 1 ≤ length from.now }
     requires high { length from.now ≤ 255 }
     requires range { at + length from.now ≤ length frame.old.frame.fixed }

@@ -11,19 +11,19 @@ returns-then-is_empty-clause-bytes g c =
 pub returns-in-Some-Static-clause-bytes : goal.returns-in-Some-Static-clause-bytes
 returns-in-Some-Static-clause-bytes g c =
     c.read_static.ensures
-    ∙ bytes_read (g.B.Bank.state c.args.bank.now) (g.B.Bank.named c.args.bank.now) c.args.frame.now c.args.public.now c.args.at (length c.args.into.now) (Some (model.Static c.in-Some-Static.i)) c.requires.fits
+    ∙ bytes_read (g.B.Bank.state c.args.bank.now) (g.B.Bank.named c.args.bank.now) c.args.frame.now c.args.public.now c.args.at (length c.args.into.now) (Some (model.Static c.in-Some-Static.i)) c.requires.runs.fits
     (some_bytes c.args.into.now (sym c.is_empty.ensures ∙ c.if-is_empty.false)) (rw c.in-Some-Static.field-0-is at c.in-Some-Static.ensures)
 
 pub returns-in-Some-Dynamic-clause-bytes : goal.returns-in-Some-Dynamic-clause-bytes
 returns-in-Some-Dynamic-clause-bytes g c =
     c.read.ensures
     ∙ ap (λ (h : Held). take (length c.args.into.now) (drop c.in-Some-Dynamic.i h.frame.dyn)) c.frame.view_is
-    ∙ bytes_read (g.B.Bank.state c.args.bank.now) (g.B.Bank.named c.args.bank.now) c.args.frame.now c.args.public.now c.args.at (length c.args.into.now) (Some (model.Dynamic c.in-Some-Dynamic.i)) c.requires.fits
+    ∙ bytes_read (g.B.Bank.state c.args.bank.now) (g.B.Bank.named c.args.bank.now) c.args.frame.now c.args.public.now c.args.at (length c.args.into.now) (Some (model.Dynamic c.in-Some-Dynamic.i)) c.requires.runs.fits
     (some_bytes c.args.into.now (sym c.is_empty.ensures ∙ c.if-is_empty.false)) (rw c.in-Some-Dynamic.field-0-is at c.in-Some-Dynamic.ensures)
 
 pub returns-in-Some-Public-clause-bytes : goal.returns-in-Some-Public-clause-bytes
 returns-in-Some-Public-clause-bytes g c =
     c.read-in-Some-Public.ensures
     ∙ ap (λ (p : List ℕ). take (length c.args.into.now) (drop c.in-Some-Public.i p)) c.public.view_is
-    ∙ bytes_read (g.B.Bank.state c.args.bank.now) (g.B.Bank.named c.args.bank.now) c.args.frame.now c.args.public.now c.args.at (length c.args.into.now) (Some (model.Public c.in-Some-Public.i)) c.requires.fits
+    ∙ bytes_read (g.B.Bank.state c.args.bank.now) (g.B.Bank.named c.args.bank.now) c.args.frame.now c.args.public.now c.args.at (length c.args.into.now) (Some (model.Public c.in-Some-Public.i)) c.requires.runs.fits
     (some_bytes c.args.into.now (sym c.is_empty.ensures ∙ c.if-is_empty.false)) (rw c.in-Some-Public.field-0-is at c.in-Some-Public.ensures)

@@ -18,4 +18,4 @@ returns-clause-items g c =
 pub returns-clause-done : goal.returns-clause-done
 returns-clause-done g c =
     done_at_once g.B.Bank.did g.B.Bank.state g.B.Bank.named c.args.bank.now c.commit.new.self c.args.frame.now c.frame.inside.slot c.args.at c.args.from.now c.new-words.result c.put_bytes.new.words c.list.result.now c.commit.result
-    (ap (λ (h : Held). h.slot) c.frame.view_is) c.new-words.ensures c.list.ensures.words c.requires.fits c.requires.low c.requires.range c.put_bytes.ensures c.commit.ensures.items c.commit.ensures.apps c.commit.ensures.slots
+    (ap (λ (h : Held). h.slot) c.frame.view_is) c.new-words.ensures c.list.ensures.words c.requires.runs.fits c.requires.low c.requires.range c.put_bytes.ensures c.commit.ensures.items c.commit.ensures.apps c.commit.ensures.slots
