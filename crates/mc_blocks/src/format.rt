@@ -6,7 +6,7 @@ ghost use Rattle.mc_model_device.specs.Layout.{root, hole_header};
 
 use crate::header::{HEAP, hole_word, root_word};
 use mc_base::Word;
-use mc_gate::{HEAD, Journal, SHUT};
+use mc_gate::{HEAD, Layout, SHUT};
 
 /// Words 0, 1, 2, 130 and 131 of an empty card of layout 2 on a device of so many words, 256 to 16,384: the root, the
 /// two gates, the head of the journal, and one hole over the whole heap.
@@ -18,9 +18,9 @@ pub fn format_words(size: u32) -> [(u16, Word); 5]
 {
     [
         (0, root_word(2, size as u16, HEAP as u16)),
-        (Journal::Plain.gate() as u16, SHUT),
+        (Layout::V1.gate() as u16, SHUT),
         (HEAD as u16, [0; 8]),
-        (Journal::Packed.gate() as u16, SHUT),
+        (Layout::V2.gate() as u16, SHUT),
         (HEAP as u16, hole_word(size as u16 - HEAP as u16, 0)),
     ]
 }

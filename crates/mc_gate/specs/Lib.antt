@@ -1,3 +1,3 @@
-pub mod Journals
+pub mod Layouts
 pub mod Look
 pub mod Recovery

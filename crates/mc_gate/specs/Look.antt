@@ -1,11 +1,11 @@
--- What the code found in a journal, as a look.
+-- What the code found in a journal, as a look of the definitions.
 use Rattle.std.specs.Prelude.{◌≡◌, ℕ, ◌≤◌, List, Result, Ok, Err}
 use Rattle.arrayvec.specs.ArrayVec.{ArrayVec}
 use Rattle.mc_model_device.specs.Image.{Journal, Look, Refused, Closed, Pending, targets, aimed, look_j}
 use Rattle.mc_gate.specs.declared.look.Found.{Found}
 use Rattle.mc_gate.specs.declared.look.Found.TheVariants.{Closed as FoundClosed, Bad as FoundBad, Pending as FoundPending}
 
--- what was found of a journal
+-- the look at journal j that the code found
 abbrev pub look_of : Journal → Found → Look
 look_of j FoundClosed = Closed
 look_of j (FoundBad place) = Refused place
@@ -16,6 +16,6 @@ abbrev pub read_as : Result (ArrayVec ℕ) ℕ → Result (List ℕ) ℕ
 read_as (Ok targets) = Ok targets.items
 read_as (Err place) = Err place
 
--- a journal with so many pairs, at most 64, whose targets say the rest of what it holds
+-- a head that holds the number of pairs, at most 64, so that the targets decide what the journal holds
 abbrev pub HasCount : Journal → List (List ℕ) → ℕ → Type 0
 HasCount j m count = (look_j j m ≡ aimed j m (targets j m count)) × (count ≤ 64)

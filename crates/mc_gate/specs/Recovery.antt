@@ -1,10 +1,10 @@
--- How a recovery ended, from its answer.
+-- How a recovery ended, by the result of its call.
 use Rattle.std.specs.Prelude.{ℕ, Result, Ok, Err}
 use Rattle.mc_model_device.specs.Stopped.{RecoveryOutcome, Recovered, Interrupted, BadAt}
-use Rattle.mc_gate.specs.declared.recovery.Recover.{Recover}
-use Rattle.mc_gate.specs.declared.recovery.Recover.TheVariants.{Stop as RecoverStop, BadJournal as RecoverBad}
+use Rattle.mc_gate.specs.declared.failures.Recover.{Recover}
+use Rattle.mc_gate.specs.declared.failures.Recover.TheVariants.{Stop as RecoverStop, BadJournal as RecoverBad}
 
--- how a recovery ended
+-- the outcome of a recovery, by the result of its call
 abbrev pub outcome_of : Result ℕ Recover → RecoveryOutcome
 outcome_of (Ok n) = Recovered n
 outcome_of (Err (RecoverStop s)) = Interrupted s

@@ -1,53 +1,46 @@
-ghost use Rattle.std.specs.Prelude.{◌≡◌, ◌<◌, ◌≤◌};
-ghost use Rattle.mc_model_device.specs.Image.{gate, opening};
-ghost use Rattle.mc_gate.specs.Journals.{journal_of, place_of_value};
+ghost use Rattle.std.specs.Prelude.{◌≡◌, ◌≤◌, true, length, OnOk};
+ghost use Rattle.mc_model_device.specs.Device.{Makes};
+ghost use Rattle.mc_model_device.specs.Image.{targets};
+ghost use Rattle.mc_model_device.specs.Stopped.{entries};
+ghost use Rattle.mc_gate.specs.Layouts.{journal_of};
+ghost use Rattle.mc_gate.specs.Look.{read_as};
 
-use mc_base::Word;
+use crate::layouts::Layout;
+use crate::look::Targets;
+use mc_base::{Stop, Word};
+use mc_nvm::Nvm;
 
-/// The place of the head of either journal, the number of its pairs.
-pub const HEAD: u32 = 2;
+/// The journal of one layout: how the targets and the values of its pairs are written, and how its targets are read.
+/// All else is the same in both layouts, and `write_words` and `recover` are generic over it.
+pub trait Journal {
+    ghost use Rattle.mc_gate.specs.declared.layouts.Layout.{Layout};
 
-/// The word that shuts the gate of either journal.
-pub const SHUT: Word = *b"SHUT----";
+    /// The layout whose journal it is.
+    const LAYOUT: Layout;
 
-/// The two journals: the plain one of layout 1, and the packed one of layout 2.
-#[derive(Clone, Copy, Debug, PartialEq, Eq)]
-pub enum Journal {
-    Plain,
-    Packed,
-}
+    /// The layout, as contracts cite it.
+    ghost LAYOUT: { Layout };
 
-impl Journal {
-    /// The place of the gate.
-    pub fn gate(self) -> u32
-        ensures place { result ≡ gate (journal_of self) }
-        ensures inside { result ≤ 130 }
-    {
-        match self {
-            Journal::Plain => 1,
-            Journal::Packed => 130,
-        }
-    }
+    /// Writes the targets and the values of at most 64 pairs, each a target and its word, into the journal.
+    ///
+    /// # Errors
+    ///
+    /// Returns the `Stop` of the first device write that stopped; no write is tried after it.
+    fn put_entries<N: Nvm>(device: &mut N, list: &[(u16, Word)]) -> Result<(), Stop>
+        requires power { (N.state device.old).on ≡ true }
+        requires size { 256 ≤ length (N.state device.old).words }
+        requires few { length list.now ≤ 64 }
+        ensures makes { Makes N.wrote device.old (entries (journal_of LAYOUT) list.now) result device.new }
+        ensures on { OnOk result ((N.state device.new).on ≡ true) }
+        ensures size { length (N.state device.new).words ≡ length (N.state device.old).words };
 
-    /// The word that opens the gate.
-    pub fn opening(self) -> Word
-        ensures { result ≡ opening (journal_of self) }
-    {
-        match self {
-            Journal::Plain => *b"OPEN-1--",
-            Journal::Packed => *b"OPEN-2--",
-        }
-    }
-
-    /// The place of the value of pair i.
-    pub fn place_of_value(self, i: usize) -> u32
-        requires few { i < 64 }
-        ensures place { result ≡ place_of_value (journal_of self) i }
-        ensures inside { result ≤ 130 }
-    {
-        match self {
-            Journal::Plain => 4 + 2 * i as u32,
-            Journal::Packed => 19 + i as u32,
-        }
-    }
+    /// Returns the targets of the first `count` pairs, at most 64, as the journal holds them.
+    ///
+    /// # Errors
+    ///
+    /// Returns the place of the first bad target word.
+    fn read_targets<N: Nvm>(device: &N, count: usize) -> Result<Targets, u16>
+        requires size { 256 ≤ length (N.state device.now).words }
+        requires few { count ≤ 64 }
+        ensures { targets (journal_of LAYOUT) (N.state device.now).words count ≡ read_as result };
 }

@@ -1,15 +1,21 @@
 #![tactic(auto)]
 
-//! What both journals share: the gate that opens a journal and shuts it, what a look finds, and how a recovery ends.
+//! The journals of both layouts, as far as they are one: an atomic write of 1 to 64 words and its recovery, generic
+//! over how a layout writes and reads its entries.
 
+mod failures;
 mod journals;
+mod layouts;
 mod look;
 mod numbers;
 mod put;
 mod recovery;
+mod write;
 
-pub use journals::{HEAD, Journal, SHUT};
-pub use look::{Found, Pairs, Targets, aim, is_gate_open, is_within, pair_count};
+pub use failures::Recover;
+pub use journals::Journal;
+pub use layouts::{HEAD, Layout, SHUT};
+pub use look::{Targets, is_gate_open, is_within};
 pub use numbers::number_word;
-pub use put::{open_gate, replay_all};
-pub use recovery::{Recover, finish};
+pub use recovery::recover;
+pub use write::write_words;

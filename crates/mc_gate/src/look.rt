@@ -1,9 +1,10 @@
 ghost use Rattle.std.specs.Prelude.{◌≡◌, ◌≤◌, length, IfSome, MatchResult};
 ghost use Rattle.mc_model_device.specs.Image.{within, aimed, pairs, number, is_count, is_open, look_j};
-ghost use Rattle.mc_gate.specs.Journals.{journal_of};
+ghost use Rattle.mc_gate.specs.Layouts.{journal_of};
 ghost use Rattle.mc_gate.specs.Look.{look_of, read_as, HasCount};
 
-use crate::journals::{HEAD, Journal};
+use crate::journals::Journal;
+use crate::layouts::{HEAD, Layout};
 use arrayvec::ArrayVec;
 use mc_base::{Word, number_of};
 use mc_nvm::Nvm;
@@ -14,7 +15,7 @@ pub type Pairs = ArrayVec<(u16, Word), 64>;
 /// The targets of a journal, in its order.
 pub type Targets = ArrayVec<u16, 64>;
 
-/// What a look at a journal finds.
+/// What a look at a journal finds: its gate is not open, a word of it is bad at this place, or pairs are pending.
 #[derive(Drop)]
 pub enum Found {
     Closed,
@@ -22,22 +23,32 @@ pub enum Found {
     Pending(Pairs),
 }
 
-/// Whether the gate of a journal is open: only the word that opens it does.
-pub fn is_gate_open<N: Nvm>(device: &N, journal: Journal) -> bool
-    ensures open { result ≡ is_open (journal_of journal) (N.state device.now).words }
+/// Returns what the journal `J` of a device holds, by its own gate alone.
+pub fn look<J: Journal, N: Nvm>(device: &N) -> Found
+    ensures found { look_of (journal_of J.LAYOUT) result ≡ look_j (journal_of J.LAYOUT) (N.state device.now).words }
+{
+    match pair_count(device, J::LAYOUT) {
+        Ok(count) => aim(device, J::LAYOUT, J::read_targets(device, count)),
+        Err(found) => found,
+    }
+}
+
+/// Returns whether the gate of a layout is open: only the word that opens it does.
+pub fn is_gate_open<N: Nvm>(device: &N, layout: Layout) -> bool
+    ensures open { result ≡ is_open (journal_of layout) (N.state device.now).words }
     ensures low { 256 ≤ length (N.state device.now).words }
 {
     let _size = device.len();
-    device.read(journal.gate()) == journal.opening()
+    device.read(layout.gate()) == layout.opening()
 }
 
-/// The number of pairs of an open journal with a good head; else what is found of the journal.
-pub fn pair_count<N: Nvm>(device: &N, journal: Journal) -> Result<usize, Found>
-    ensures count { MatchResult result (λ count. HasCount (journal_of journal) (N.state device.now).words count)
-        (λ found. look_of (journal_of journal) found ≡ look_j (journal_of journal) (N.state device.now).words) }
+// Returns the number of pairs of an open journal with a good head; else what is found of the journal.
+fn pair_count<N: Nvm>(device: &N, layout: Layout) -> Result<usize, Found>
+    ensures count { MatchResult result (λ count. HasCount (journal_of layout) (N.state device.now).words count)
+        (λ found. look_of (journal_of layout) found ≡ look_j (journal_of layout) (N.state device.now).words) }
     ensures low { 256 ≤ length (N.state device.now).words }
 {
-    if !is_gate_open(device, journal) {
+    if !is_gate_open(device, layout) {
         return Err(Found::Closed);
     }
     match head_count(device.read(HEAD)) {
@@ -46,7 +57,7 @@ pub fn pair_count<N: Nvm>(device: &N, journal: Journal) -> Result<usize, Found>
     }
 }
 
-// The count of a head, where it is 1 to 64.
+// Returns the count of a head, or `None` if the head does not hold 1 to 64.
 fn head_count(head: Word) -> Option<usize>
     ensures count { result ≡ number is_count head }
     ensures few { IfSome result (λ count. count ≤ 64) }
@@ -63,31 +74,31 @@ fn head_count(head: Word) -> Option<usize>
     }
 }
 
-/// What is found of an open journal by its targets: their pairs, or the place of the first bad target word.
-pub fn aim<N: Nvm>(device: &N, journal: Journal, targets: Result<Targets, u16>) -> Found
-    ensures { look_of (journal_of journal) result
-        ≡ aimed (journal_of journal) (N.state device.now).words (read_as targets) }
+// Returns what is found of an open journal by its targets: their pairs, or the place of the first bad target word.
+fn aim<N: Nvm>(device: &N, layout: Layout, targets: Result<Targets, u16>) -> Found
+    ensures { look_of (journal_of layout) result
+        ≡ aimed (journal_of layout) (N.state device.now).words (read_as targets) }
 {
     match targets {
-        Ok(targets) => Found::Pending(read_pairs(device, journal, targets.as_slice())),
+        Ok(targets) => Found::Pending(read_pairs(device, layout, targets.as_slice())),
         Err(place) => Found::Bad(place),
     }
 }
 
-// The pairs of these targets.
-fn read_pairs<N: Nvm>(device: &N, journal: Journal, targets: &[u16]) -> Pairs
+// Reads the value of each target, at most 64.
+fn read_pairs<N: Nvm>(device: &N, layout: Layout, targets: &[u16]) -> Pairs
     requires few { length targets.now ≤ 64 }
-    ensures { result.items ≡ pairs (journal_of journal) (N.state device.now).words 0 targets.now }
+    ensures { result.items ≡ pairs (journal_of layout) (N.state device.now).words 0 targets.now }
 {
     let _size = device.len();
     let mut list = ArrayVec::new();
     for (i, target) in targets.iter().enumerate() {
-        list.push((*target, device.read(journal.place_of_value(i))));
+        list.push((*target, device.read(layout.place_of_value(i))));
     }
     list
 }
 
-/// Whether a word may be a target on a device of so many words: word 0, or a word of the heap.
+/// Returns whether a word may be a target on a device of `size` words: word 0, or a word of the heap.
 pub fn is_within(target: u16, size: u32) -> bool
     ensures { result ≡ within size target }
 {

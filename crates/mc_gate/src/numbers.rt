@@ -3,7 +3,7 @@ ghost use Rattle.mc_model_device.specs.Stopped.{numbered};
 
 use mc_base::{Word, bytes_of};
 
-/// A word of six zero bytes and a number.
+/// Returns the word of six zero bytes and a number, high byte first.
 pub fn number_word(number: u16) -> Word
     ensures { result ≡ numbered number }
 {

@@ -3,40 +3,44 @@ ghost use Rattle.std.specs.List.{AllByRecursion};
 ghost use Rattle.mc_model_device.specs.Device.{Makes};
 ghost use Rattle.mc_model_device.specs.Image.{within, gate, opening};
 ghost use Rattle.mc_model_device.specs.Stopped.{numbered, replay};
-ghost use Rattle.mc_gate.specs.Journals.{journal_of};
+ghost use Rattle.mc_gate.specs.Layouts.{journal_of};
 
-use crate::journals::{HEAD, Journal, SHUT};
+use crate::layouts::{HEAD, Layout, SHUT};
 use crate::numbers::number_word;
 use mc_base::{Stop, Word};
 use mc_nvm::Nvm;
 
-/// Writes the head, the number of pairs, and opens the gate.
-pub fn open_gate<N: Nvm>(device: &mut N, journal: Journal, count: usize) -> Result<(), Stop>
+/// Writes the head, which holds the number of pairs, and opens the gate.
+///
+/// # Errors
+///
+/// Returns the `Stop` of the device write that stopped; no write is tried after it.
+pub fn open_gate<N: Nvm>(device: &mut N, layout: Layout, count: usize) -> Result<(), Stop>
     requires power { (N.state device.old).on ≡ true }
     requires size { 256 ≤ length (N.state device.old).words }
     requires few { count ≤ 64 }
     ensures makes { Makes N.wrote device.old
-        ((2, numbered count) ∷ (gate (journal_of journal), opening (journal_of journal)) ∷ []) result device.new }
+        ((2, numbered count) ∷ (gate (journal_of layout), opening (journal_of layout)) ∷ []) result device.new }
     ensures on { OnOk result ((N.state device.new).on ≡ true) }
     ensures size { length (N.state device.new).words ≡ length (N.state device.old).words }
 {
     device.write(HEAD, number_word(count as u16))?;
-    device.write(journal.gate(), journal.opening())
+    device.write(layout.gate(), layout.opening())
 }
 
 /// Writes each word to its target, and shuts the gate.
-pub fn replay_all<N: Nvm>(
-    device: &mut N,
-    journal: Journal,
-    list: &[(u16, Word)],
-) -> Result<(), Stop>
+///
+/// # Errors
+///
+/// Returns the `Stop` of the device write that stopped; no write is tried after it.
+pub fn replay_all<N: Nvm>(device: &mut N, layout: Layout, list: &[(u16, Word)]) -> Result<(), Stop>
     requires power { (N.state device.old).on ≡ true }
     requires size { 256 ≤ length (N.state device.old).words }
     requires targets { AllByRecursion (λ p. within (length (N.state device.old).words) p.0 ≡ true) list.now }
-    ensures makes { Makes N.wrote device.old (replay (journal_of journal) list.now) result device.new }
+    ensures makes { Makes N.wrote device.old (replay (journal_of layout) list.now) result device.new }
 {
     put_words(device, list)?;
-    device.write(journal.gate(), SHUT)
+    device.write(layout.gate(), SHUT)
 }
 
 // Writes each word to its target.

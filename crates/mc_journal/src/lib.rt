@@ -1,12 +1,10 @@
 #![tactic(auto)]
 
-//! The journal of layout 1: one atomic write of 1 to 64 words, and its recovery. It looks at its own gate alone.
+//! The journal of layout 1: an atomic write of 1 to 64 words, and its recovery. It reads its own gate alone.
 
+mod journal;
 mod look;
 mod put;
-mod recovery;
-mod write;
 
+pub use journal::{recover, write_words};
 pub use mc_gate::Recover;
-pub use recovery::recover;
-pub use write::write_words;

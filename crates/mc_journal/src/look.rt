@@ -1,24 +1,19 @@
 ghost use Rattle.std.specs.Prelude.{◌≡◌, ◌≤◌, length};
-ghost use Rattle.mc_model_device.specs.Image.{One, within, targets, number, look_j};
-ghost use Rattle.mc_gate.specs.Look.{look_of, read_as};
+ghost use Rattle.mc_model_device.specs.Image.{One, within, targets, number};
+ghost use Rattle.mc_gate.specs.Look.{read_as};
 
 use arrayvec::ArrayVec;
 use mc_base::{Word, number_of};
-use mc_gate::{Found, Journal, Targets, aim, is_within, pair_count};
+use mc_gate::{Targets, is_within};
 use mc_nvm::Nvm;
 
-/// Looks at the journal of a device: whether its gate is open, and what it holds then.
-pub fn look<N: Nvm>(device: &N) -> Found
-    ensures found { look_of One result ≡ look_j One (N.state device.now).words }
-{
-    match pair_count(device, Journal::Plain) {
-        Ok(count) => aim(device, Journal::Plain, read_targets(device, count)),
-        Err(found) => found,
-    }
-}
-
-// All targets, or the place of the first bad target word.
-fn read_targets<N: Nvm>(device: &N, count: usize) -> Result<Targets, u16>
+/// Returns the targets of the first `count` pairs, at most 64, as the journal holds them.
+///
+/// # Errors
+///
+/// Returns the place of the first bad target word: it is not six zero bytes and a number, or the number is neither word
+/// 0 nor a word of the heap.
+pub fn read_targets<N: Nvm>(device: &N, count: usize) -> Result<Targets, u16>
     requires size { 256 ≤ length (N.state device.now).words }
     requires few { count ≤ 64 }
     ensures { targets One (N.state device.now).words count ≡ read_as result }
@@ -35,7 +30,8 @@ fn read_targets<N: Nvm>(device: &N, count: usize) -> Result<Targets, u16>
     Ok(found)
 }
 
-// The target of a target word: six zero bytes, and word 0 or a word of the heap.
+// Returns the target of a target word, which is six zero bytes and a number, or `None` if the front is not zero or the
+// number is neither word 0 nor a word of the heap.
 fn target_of(word: Word, size: u32) -> Option<u16>
     ensures { result ≡ number (within size) word }
 {

@@ -4,10 +4,14 @@ ghost use Rattle.mc_model_device.specs.Image.{One};
 ghost use Rattle.mc_model_device.specs.Stopped.{entries, numbered};
 
 use mc_base::{Stop, Word};
-use mc_gate::{Journal, number_word};
+use mc_gate::{Layout, number_word};
 use mc_nvm::Nvm;
 
-/// Writes the target word and the value of each pair.
+/// Writes the target word and the value of each of at most 64 pairs.
+///
+/// # Errors
+///
+/// Returns the `Stop` of the first device write that stopped; no write is tried after it.
 pub fn put_entries<N: Nvm>(device: &mut N, list: &[(u16, Word)]) -> Result<(), Stop>
     requires power { (N.state device.old).on ≡ true }
     requires size { 256 ≤ length (N.state device.old).words }
@@ -32,5 +36,5 @@ fn put_pair<N: Nvm>(device: &mut N, i: usize, target: u16, word: Word) -> Result
     ensures size { length (N.state device.new).words ≡ length (N.state device.old).words }
 {
     device.write(3 + 2 * i as u32, number_word(target))?;
-    device.write(Journal::Plain.place_of_value(i), word)
+    device.write(Layout::V1.place_of_value(i), word)
 }

@@ -1,26 +1,21 @@
 ghost use Rattle.std.specs.Prelude.{◌≡◌, ◌+◌, ◌≤◌, true, false, ◌++◌, length, min, MatchOption};
-ghost use Rattle.mc_model_device.specs.Image.{Two, within, four, all_zero, ascend, after_all, targets, look_j};
-ghost use Rattle.mc_gate.specs.Look.{look_of, read_as};
+ghost use Rattle.mc_model_device.specs.Image.{Two, within, four, all_zero, ascend, after_all, targets};
+ghost use Rattle.mc_gate.specs.Look.{read_as};
 ghost use Rattle.arrayvec.specs.ArrayVec.{array_vec_len};
 
 use crate::put::TARGETS;
 use arrayvec::ArrayVec;
 use mc_base::{Word, number_of};
-use mc_gate::{Found, Journal, Targets, aim, is_within, pair_count};
+use mc_gate::{Targets, is_within};
 use mc_nvm::Nvm;
 
-/// Looks at the journal of a device: whether its gate is open, and what it holds then.
-pub fn look<N: Nvm>(device: &N) -> Found
-    ensures found { look_of Two result ≡ look_j Two (N.state device.now).words }
-{
-    match pair_count(device, Journal::Packed) {
-        Ok(count) => aim(device, Journal::Packed, read_targets(device, count)),
-        Err(found) => found,
-    }
-}
-
-// All targets, or the place of the first bad target word.
-fn read_targets<N: Nvm>(device: &N, count: usize) -> Result<Targets, u16>
+/// Returns the targets of the first `count` pairs, at most 64, as the journal holds them.
+///
+/// # Errors
+///
+/// Returns the place of the first bad target word: the targets do not ascend up to its last, one of its targets is
+/// neither word 0 nor a word of the heap, or it is not zero past its last target.
+pub fn read_targets<N: Nvm>(device: &N, count: usize) -> Result<Targets, u16>
     requires size { 256 ≤ length (N.state device.now).words }
     requires few { count ≤ 64 }
     ensures { targets Two (N.state device.now).words count ≡ read_as result }
@@ -44,7 +39,7 @@ fn read_targets<N: Nvm>(device: &N, count: usize) -> Result<Targets, u16>
     Ok(found)
 }
 
-// Adds these targets, for which there is room.
+// Appends these targets, for which there is room.
 fn push_all(found: &mut Targets, now: &[u16])
     requires { array_vec_len found.old + length now.now ≤ 64 }
     ensures { found.new.items ≡ found.old.items ++ now.now }
@@ -52,14 +47,14 @@ fn push_all(found: &mut Targets, now: &[u16])
     let _room = found.try_extend_from_slice(now);
 }
 
-// So many, and four where there are more.
+// Returns `left`, but at most 4.
 fn up_to_four(left: usize) -> usize
     ensures { result ≡ min left 4 }
 {
     if left < 4 { left } else { 4 }
 }
 
-// The four numbers of a target word.
+// Returns the four numbers of a target word.
 fn numbers(word: Word) -> [u16; 4]
     ensures { result ≡ four word }
 {
@@ -72,7 +67,8 @@ fn numbers(word: Word) -> [u16; 4]
     ]
 }
 
-// Targets that ascend from `least` on, each word 0 or in the heap: the least that may come after them.
+// Returns the least target that may come after these, or `None` if they do not ascend from `least` on or one of them is
+// neither word 0 nor a word of the heap.
 fn ascending(targets: &[u16], least: u32, size: u32) -> Option<u32>
     requires { size ≤ 16384 }
     ensures { MatchOption result (ascend size least targets.now ≡ false)
@@ -88,7 +84,7 @@ fn ascending(targets: &[u16], least: u32, size: u32) -> Option<u32>
     Some(next)
 }
 
-// Whether all are zero.
+// Returns whether all are zero.
 fn are_zero(numbers: &[u16]) -> bool
     ensures { result ≡ all_zero numbers.now }
 {

@@ -5,13 +5,17 @@ ghost use Rattle.mc_model_device.specs.Image.{Two};
 ghost use Rattle.mc_model_device.specs.Stopped.{four_targets, target_words, values_2, entries};
 
 use mc_base::{Stop, Word, bytes_of};
-use mc_gate::Journal;
+use mc_gate::Layout;
 use mc_nvm::Nvm;
 
-/// The first target word.
+/// The place of the first target word.
 pub const TARGETS: u32 = 3;
 
-/// Writes the target words, and then the values.
+/// Writes the target words of at most 64 pairs, and then their values.
+///
+/// # Errors
+///
+/// Returns the `Stop` of the first device write that stopped; no write is tried after it.
 pub fn put_entries<N: Nvm>(device: &mut N, list: &[(u16, Word)]) -> Result<(), Stop>
     requires power { (N.state device.old).on ≡ true }
     requires size { 256 ≤ length (N.state device.old).words }
@@ -40,7 +44,7 @@ fn put_targets<N: Nvm>(device: &mut N, list: &[(u16, Word)]) -> Result<(), Stop>
     Ok(())
 }
 
-// The word of the four targets from this one on, zeros where there are fewer.
+// Returns the word of the four targets from this one on, padded with zeros if there are fewer.
 fn target_word(list: &[(u16, Word)], first: usize) -> Word
     requires { first ≤ 64 }
     ensures { result ≡ four_targets (take 4 (drop first (map (λ p. p.0) list.now))) }
@@ -52,7 +56,7 @@ fn target_word(list: &[(u16, Word)], first: usize) -> Word
     [a, b, c, d, e, f, g, h]
 }
 
-// The two bytes of a target, or zeros past the last.
+// Returns the two bytes of a target, or zeros past the last.
 fn target_bytes(list: &[(u16, Word)], i: usize) -> [u8; 2]
     ensures { result ≡ bytes2 (get_or (map (λ p. p.0) list.now) i 0) }
 {
@@ -63,7 +67,7 @@ fn target_bytes(list: &[(u16, Word)], i: usize) -> [u8; 2]
     }
 }
 
-// Writes the values.
+// Writes the values, a word each.
 fn put_values<N: Nvm>(device: &mut N, list: &[(u16, Word)]) -> Result<(), Stop>
     requires power { (N.state device.old).on ≡ true }
     requires size { 256 ≤ length (N.state device.old).words }
@@ -73,7 +77,7 @@ fn put_values<N: Nvm>(device: &mut N, list: &[(u16, Word)]) -> Result<(), Stop>
     ensures size { length (N.state device.new).words ≡ length (N.state device.old).words }
 {
     for (i, (_, word)) in list.iter().enumerate() {
-        device.write(Journal::Packed.place_of_value(i), *word)?;
+        device.write(Layout::V2.place_of_value(i), *word)?;
     }
     Ok(())
 }

@@ -6,14 +6,14 @@ ghost use Rattle.mc_model_device.specs.Image.{One, Closed, look, look_j, is_open
 ghost use Rattle.mc_model_device.specs.Stopped.{writes, owed_writes, outcome_answer, RecoverEnds};
 ghost use Rattle.mc_model_device.specs.Card.{means, word};
 ghost use Rattle.mc_model_device.specs.Layout.{fault};
-ghost use Rattle.mc_gate.specs.Journals.{journal_of};
+ghost use Rattle.mc_gate.specs.Layouts.{journal_of};
 ghost use Rattle.mc_gate.specs.Recovery.{outcome_of};
 ghost use Rattle.mc_store.specs.Store.{settled};
 ghost use Rattle.mc_store.specs.Power.{new_root, found, migrating, power_writes, power_answer, PowersUp, PowerFollows, RecoverFollows, FinishFollows, recovered, prepared};
 
 use mc_base::{Stop, Word};
 use mc_blocks::{Cause, Shape, Unusable, walk};
-use mc_gate::{Journal, Recover, is_gate_open};
+use mc_gate::{Layout, Recover, is_gate_open};
 use mc_nvm::Nvm;
 
 /// The byte of the root that holds the version of the layout.
@@ -85,28 +85,28 @@ fn replay_open<N: Nvm>(device: &mut N) -> Result<u16, Up>
     ensures few { IfOk result (λ n. n ≤ 65) }
     ensures lent { N.same device.old device.new }
 {
-    let packed = is_gate_open(device, Journal::Packed);
-    let plain = is_gate_open(device, Journal::Plain);
+    let packed = is_gate_open(device, Layout::V2);
+    let plain = is_gate_open(device, Layout::V1);
     match (packed, plain) {
-        (true, true) => Err(bad_journal(Journal::Plain.gate() as u16)),
-        (true, false) => replay_alone(device, Journal::Packed),
-        (false, true) => replay_alone(device, Journal::Plain),
+        (true, true) => Err(bad_journal(Layout::V1.gate() as u16)),
+        (true, false) => replay_alone(device, Layout::V2),
+        (false, true) => replay_alone(device, Layout::V1),
         (false, false) => Ok(0),
     }
 }
 
 // Replays a journal, which alone is open.
-fn replay_alone<N: Nvm>(device: &mut N, journal: Journal) -> Result<u16, Up>
+fn replay_alone<N: Nvm>(device: &mut N, layout: Layout) -> Result<u16, Up>
     requires power { (N.state device.old).on ≡ true }
     requires low { 256 ≤ length (N.state device.old).words }
-    requires alone { look (N.state device.old).words ≡ look_j (journal_of journal) (N.state device.old).words }
+    requires alone { look (N.state device.old).words ≡ look_j (journal_of layout) (N.state device.old).words }
     ensures makes { Makes N.wrote device.old (owed_writes (look (N.state device.old).words))
         (power_answer (recovered result)) device.new }
     ensures follows { RecoverFollows (N.state device.old).words (recovered result) }
     ensures few { IfOk result (λ n. n ≤ 65) }
     ensures lent { N.same device.old device.new }
 {
-    match replay(device, journal) {
+    match replay(device, layout) {
         Ok(writes) => Ok(writes),
         Err(Recover::Stop(stop)) => Err(Up::Stop(stop)),
         Err(Recover::BadJournal(place)) => Err(bad_journal(place)),
@@ -114,17 +114,17 @@ fn replay_alone<N: Nvm>(device: &mut N, journal: Journal) -> Result<u16, Up>
 }
 
 // Replays a journal by the recovery of its layout.
-fn replay<N: Nvm>(device: &mut N, journal: Journal) -> Result<u16, Recover>
+fn replay<N: Nvm>(device: &mut N, layout: Layout) -> Result<u16, Recover>
     requires power { (N.state device.old).on ≡ true }
-    ensures makes { Makes N.wrote device.old (owed_writes (look_j (journal_of journal) (N.state device.old).words))
+    ensures makes { Makes N.wrote device.old (owed_writes (look_j (journal_of layout) (N.state device.old).words))
         (outcome_answer (outcome_of result)) device.new }
-    ensures ends { RecoverEnds (journal_of journal) (look_j (journal_of journal) (N.state device.old).words)
+    ensures ends { RecoverEnds (journal_of layout) (look_j (journal_of layout) (N.state device.old).words)
         (N.state device.old) (outcome_of result) (N.state device.new) }
     ensures lent { N.same device.old device.new }
 {
-    match journal {
-        Journal::Plain => mc_journal::recover(device),
-        Journal::Packed => mc_packed::recover(device),
+    match layout {
+        Layout::V1 => mc_journal::recover(device),
+        Layout::V2 => mc_packed::recover(device),
     }
 }
 

@@ -96,7 +96,7 @@ fn list_of(w: u8) -> ArrayVec<(u16, Word), 64> {
 
 fn write_one<N: Bench>(device: &mut N, list: &[(u16, Word)]) -> Answer {
     device.power();
-    if !is_atomic(device, list) || is_gate_open(device, mc_gate::Journal::Plain) {
+    if !is_atomic(device, list) || is_gate_open(device, mc_gate::Layout::V1) {
         return Answer::NotTried;
     }
     match mc_journal::write_words(device, list) {
@@ -107,7 +107,7 @@ fn write_one<N: Bench>(device: &mut N, list: &[(u16, Word)]) -> Answer {
 
 fn write_two<N: Bench>(device: &mut N, list: &[(u16, Word)]) -> Answer {
     device.power();
-    if !is_atomic(device, list) || is_gate_open(device, mc_gate::Journal::Packed) {
+    if !is_atomic(device, list) || is_gate_open(device, mc_gate::Layout::V2) {
         return Answer::NotTried;
     }
     match mc_packed::write_words(device, list) {

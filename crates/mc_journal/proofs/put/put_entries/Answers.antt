@@ -3,7 +3,7 @@ use Rattle.std.proofs.lemmas.Result.{err_from_is_err_and}
 use Rattle.mc_model_device.specs.Device.{Makes}
 use Rattle.mc_model_device.specs.Stopped.{entries_1, numbered}
 use Rattle.mc_model_device.proofs.LoopLemmas.{stopped}
-use Rattle.mc_journal.proofs.PutLemmas.{entry-step}
+use Rattle.mc_journal.proofs.PutLemmas.{entry_step}
 use Rattle.mc_journal.proofs.put.put_entries.Goals as goal
 
 pub returns-in_err-put_pair-clause-makes : goal.returns-in_err-put_pair-clause-makes
@@ -15,5 +15,5 @@ returns-in_err-put_pair-clause-makes g c =
     let pair : List (ℕ × List ℕ) = (3 + 2 * i, numbered (get_or list i (0, [])).0) ∷ (4 + 2 * i, (get_or list i (0, [])).1) ∷ [] in
     let s = c.in_err-put_pair.field-0.0 in
     rw (p.1, p.2) (c.loop-i.invariant.leads (Err s) c.put_pair.new.device
-    (subst (λ (l : List (ℕ × List ℕ)). Makes g.N.Nvm.wrote c.loop-i.device l (Err s) c.put_pair.new.device) (sym (entry-step list i c.loop-i-test.true))
+    (subst (λ (l : List (ℕ × List ℕ)). Makes g.N.Nvm.wrote c.loop-i.device l (Err s) c.put_pair.new.device) (sym (entry_step list i c.loop-i-test.true))
     (stopped g.N.Nvm.wrote pair rest c.loop-i.device c.put_pair.new.device s c.in_err-put_pair.ensures.makes)))
