@@ -1,10 +1,10 @@
 -- Deciphering undoes enciphering: bytes, rows, columns, and the rounds.
-use Rattle.std.proofs.Common.{◌≡◌, ◌⊎◌, inl, inr, ℕ, zero, suc, ◌+◌, ◌*◌, ◌/◌, ◌%◌, ◌^◌, ◌<◌, ◌==◌, ◌&&◌, true, List, [], ◌∷◌, ◌++◌, length, get_or, take, drop, map, reverse, refl, sym, ap, ◌∙◌, arith, subst, length-append, length-drop, length-take}
+use Rattle.std.proofs.Common.{◌≡◌, inl, inr, ℕ, zero, suc, ◌+◌, ◌*◌, ◌/◌, ◌%◌, ◌^◌, ◌<◌, ◌==◌, ◌&&◌, true, List, [], ◌∷◌, ◌++◌, length, get_or, take, drop, map, reverse, refl, sym, ap, ◌∙◌, arith, subst, length-append, length-drop, length-take}
 use Rattle.std.specs.Prelude.{Bool, nat_lt, bytes_eq}
 use Rattle.std.specs.Int.Bits.{bit_xor, xor_zero_r, xor_assoc}
 use Rattle.std.proofs.Math.Nat.{zero-mul, one-mul}
 use Rattle.std.proofs.lemmas.Nat.{xor_comm, xor_shr, xor_block, xor_mod, xor_lt}
-use Rattle.std.proofs.lemmas.Bool.{cases_lt, eqb-true, ltb-true, and_parts}
+use Rattle.std.proofs.lemmas.Bool.{eqb-true, ltb-true, and_parts}
 use Rattle.std.proofs.lemmas.Slice.Eq.{bytes_eq-Decides}
 use Rattle.std.proofs.lemmas.List.{reverse-append, reverse-reverse, length-reverse, append_assoc}
 use Rattle.mc_model_machine.specs.Modes.{added, AllBelow, IsBlock}
@@ -12,6 +12,7 @@ use Rattle.mc_model_machine.proofs.ModesLemmas.{all_below, below_at, added_back,
 use Rattle.mc_model_machine.specs.Aes.{times2, mul_bits, mul, sub, sub_back, dot, times_matrix, placed, shift_rows, shift_rows_back, mixed, mix_columns, mix_columns_back, round, last_round, round_back, last_round_back, changed, next_key, round_keys_from, round_keys, rounds, rounds_back, enciphered, deciphered, aes_encipher, aes_decipher}
 use Rattle.mc_aes.proofs.CipherLemmas.{rounds-cons, rounds-last, rounds_back-cons, rounds_back-last, enciphered-cons, deciphered-cons}
 use Rattle.mc_aes.proofs.AesLemmas.{aes_encipher-open, aes_decipher-open}
+use Rattle.mc_model_device.proofs.ListLemmas.{bit_cases}
 
 -- ---- bytes
 
@@ -91,9 +92,6 @@ exchange a b c d =
     xor_assoc a b (bit_xor c d)
     ∙ ap (bit_xor a) (sym (xor_assoc b c d) ∙ ap (λ (x : ℕ). bit_xor x d) (xor_comm b c) ∙ xor_assoc c b d)
     ∙ sym (xor_assoc a c (bit_xor b d))
-
-bit_cases : (p : ℕ) → p < 2 → (p ≡ 0) ⊎ (p ≡ 1)
-bit_cases p h = elim (cases_lt p 1) [ inl low ↦ inl (omega arith) | inr high ↦ inr (omega arith) ]
 
 bit_times : (p x y : ℕ) → p < 2 → p * bit_xor x y ≡ bit_xor (p * x) (p * y)
 bit_times p x y h =

@@ -2,16 +2,13 @@
 use Rattle.std.proofs.Common.{◌≡◌, ℕ, ◌*◌, ◌/◌, ◌%◌, ◌^◌, ◌<◌, List, [], ◌∷◌, ◌++◌, length, get_or, refl, sym, ap, ◌∙◌, arith}
 use Rattle.std.specs.Int.{w32, from_be_bytes, to_be_bytes}
 use Rattle.std.specs.Int.Bits.{bit_xor, xor_zero_r}
-use Rattle.std.proofs.lemmas.Nat.{xor_shr, xor_mod}
+use Rattle.std.proofs.lemmas.Nat.{xor_mod}
 use Rattle.mc_model_machine.proofs.ModesLemmas.{listed_from, listed}
 use Rattle.mc_model_machine.specs.Modes.{added}
 use Rattle.mc_model_machine.specs.Aes.{mul, times_matrix}
 use Rattle.mc_aes.specs.State.{word, state_bytes}
 use Rattle.mc_aes.specs.declared.state.State.{State}
-
--- a byte of a sum
-byte_xor : (a b k : ℕ) → bit_xor a b / 2 ^ k % 256 ≡ bit_xor (a / 2 ^ k % 256) (b / 2 ^ k % 256)
-byte_xor a b k = ap (λ (x : ℕ). x % 256) (xor_shr a b k) ∙ xor_mod (a / 2 ^ k) (b / 2 ^ k) 8
+use Rattle.mc_model_device.proofs.ListLemmas.{byte_xor}
 
 pub word-xor : (a b : ℕ) → word (bit_xor a b) ≡ added (word a) (word b)
 unfolding word

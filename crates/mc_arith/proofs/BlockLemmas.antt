@@ -1,14 +1,10 @@
 -- Blocks as numbers: their size, and the block of a number.
-use Rattle.std.proofs.Common.{◌≡◌, ℕ, zero, suc, ◌+◌, ◌*◌, ◌/◌, ◌%◌, ◌^◌, ◌<◌, ◌≤◌, Bool, List, [], ◌∷◌, length, get_or, refl, sym, ◌∙◌, ap, arith, Fits, w8}
-use Rattle.std.specs.List.{AllByRecursion}
+use Rattle.std.proofs.Common.{◌≡◌, ℕ, zero, suc, ◌+◌, ◌*◌, ◌/◌, ◌%◌, ◌^◌, ◌<◌, ◌≤◌, Bool, List, [], ◌∷◌, length, refl, sym, ◌∙◌, ap, arith}
 use Rattle.std.proofs.Math.Arith.{digits_div, digits_mod}
 use Rattle.std.proofs.Math.Nat.{pow-succ'}
 use Rattle.mc_model_device.specs.Bytes.{num, bytes, AreBytes}
 use Rattle.mc_model_machine.specs.Blocks.{Worked, worked, is_zero}
-
-pub all_bytes : (l : List ℕ) → ((i : ℕ) → Fits w8 (get_or l i 0)) → AreBytes l
-all_bytes [] h = tt
-all_bytes (b ∷ l) h = (omega (arith, h 0), all_bytes l (λ i. h (suc i)))
+use Rattle.mc_model_device.proofs.ListLemmas.{length-bytes}
 
 pub pow_more : (n : ℕ) → 256 ^ suc n ≡ 256 * 256 ^ n
 pow_more n = pow-succ' 256 n
@@ -38,10 +34,6 @@ bytes_of (b ∷ l) k h =
     let turned : (b + 256 * k) * 256 ^ length l + num l ≡ num l + (b + 256 * k) * 256 ^ length l = omega arith in
     rw same (ap (λ x. x ∷ bytes (length l) ((b + 256 * k) * 256 ^ length l + num l)) high ∙ ap (λ v. b ∷ bytes (length l) v) turned ∙ ap (λ r. b ∷ r) (bytes_of l (b + 256 * k) h.1))
 
-pub length_bytes : (n v : ℕ) → length (bytes n v) ≡ n
-length_bytes zero v = refl
-length_bytes (suc n) v = ap suc (length_bytes n v)
-
 -- the number of a block of n bytes is taken modulo 256 to the power of n
 pub num_bytes : (n v : ℕ) → num (bytes n v) ≡ v % 256 ^ n
 num_bytes zero v = omega arith
@@ -56,7 +48,7 @@ num_bytes (suc n) v =
     let scaled = ap (λ k. k * p) digit in
     let whole : v ≡ v / p / 256 * (256 * p) + (v / p % 256 * p + v % p) = omega (arith, scaled, parts) in
     let reduced : v % (256 * p) ≡ v / p % 256 * p + v % p = ap (λ k. k % (256 * p)) whole ∙ digits_mod (v / p / 256) inside in
-    rw (length_bytes n v, num_bytes n v, pow_more n) (sym reduced)
+    rw (length-bytes n v, num_bytes n v, pow_more n) (sym reduced)
 
 -- a block with its flags is the result of v where v is its number with k in front
 pub worked_is : (v : ℕ) (l : List ℕ) (k : ℕ) (c z c' : Bool) → AreBytes l → v ≡ num l + k * 256 ^ length l → c ≡ c' → z ≡ is_zero l → ◌≡◌ {A = Worked} (record { value = l; c = c; z = z }) (worked (length l) v c')

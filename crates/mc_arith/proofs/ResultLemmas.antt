@@ -1,5 +1,5 @@
 -- From the numbers that a loop leaves to results with their flags.
-use Rattle.std.proofs.Common.{◌≡◌, ℕ, zero, suc, ◌+◌, ◌-◌, ◌*◌, ◌%◌, ◌^◌, ◌<◌, ◌≢◌, Bool, true, false, List, [], ◌∷◌, length, get_or, drop, refl, sym, ◌∙◌, ap, subst, arith, length-drop, ◌⊎◌, inl, inr}
+use Rattle.std.proofs.Common.{◌≡◌, ℕ, ◌+◌, ◌-◌, ◌*◌, ◌%◌, ◌^◌, ◌<◌, ◌≢◌, Bool, true, false, List, [], length, get_or, drop, refl, sym, ◌∙◌, ap, subst, arith, length-drop, ◌⊎◌, inl, inr}
 use Rattle.std.specs.Prelude.{nat_le, nat_lt, nat_eq, cond}
 use Rattle.std.proofs.Math.Arith.{digits_mod}
 use Rattle.mc_model_device.specs.Bytes.{num, AreBytes}
@@ -7,6 +7,7 @@ use Rattle.mc_model_machine.specs.Blocks.{Worked, worked, is_zero, add_blocks, s
 use Rattle.mc_arith.specs.Carry.{carry_of}
 use Rattle.mc_arith.proofs.BlockLemmas.{num_below, num_bytes, pow_positive, times_at_most, worked_is}
 use Rattle.mc_arith.proofs.StepLemmas.{num_drop}
+use Rattle.mc_model_device.proofs.ListLemmas.{bytes_from}
 
 lt_or_at : (x y : ℕ) → x ≢ y → (b : Bool) → nat_lt x y ≡ b → (x < y) ⊎ (y < x)
 lt_or_at x y ne true e = inl (grind (arith, e))
@@ -79,11 +80,6 @@ nonzero x p r h k =
 
 pub not_zero : (l : List ℕ) (i : ℕ) → i < length l → get_or l i 0 ≢ 0 → is_zero (drop i l) ≡ false
 not_zero l i h k = ap (λ n. nat_eq n 0) (num_drop l (i + 1) i refl h) ∙ nonzero (get_or l i 0) (256 ^ (length l - (i + 1))) (num (drop (i + 1) l)) (pow_positive (length l - (i + 1))) k
-
-bytes_from : (l : List ℕ) (i : ℕ) → AreBytes l → AreBytes (drop i l)
-bytes_from l zero h = h
-bytes_from [] (suc i) h = tt
-bytes_from (b ∷ l) (suc i) h = bytes_from l i h.1
 
 rest_below : (l : List ℕ) (i : ℕ) → AreBytes l → num (drop i l) < 256 ^ (length l - i)
 rest_below l i h = subst (λ n. num (drop i l) < 256 ^ n) (length-drop i l) (num_below (drop i l) (bytes_from l i h))

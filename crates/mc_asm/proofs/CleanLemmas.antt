@@ -4,7 +4,9 @@ use Rattle.std.specs.Prelude.{◌==◌, ◌&&◌, not, nat_lt, nat_le}
 use Rattle.mc_model_device.specs.Bytes.{lookup}
 use Rattle.mc_model_machine.specs.Text.{first_cut, pieces, is_blank, is_empty, trim, trim_front, trim_end, before_trimmed, every}
 use Rattle.mc_model_machine.specs.Assembly.{WordForm, CodeItem, words, worded, operands, word_and_operands, line_read}
-use Rattle.mc_model_device.proofs.ListLemmas.{and-true as and_both}
+use Rattle.std.proofs.lemmas.Bool.{and_from as and_both, not-true}
+use Rattle.mc_model_device.proofs.BoolLemmas.{and_first, and_second}
+use Rattle.mc_model_machine.proofs.TextLemmas.{every_append}
 
 -- a character of an operand: no blank or less, no comma, no colon, no semicolon
 abbrev pub solid : ℕ → Bool
@@ -14,48 +16,32 @@ solid c = nat_lt 32 c && (not (c == 44) && (not (c == 58) && not (c == 59)))
 abbrev pub written : ℕ → Bool
 written c = nat_le 32 c && (not (c == 58) && not (c == 59))
 
-pub and_first : (a b : Bool) → (a && b) ≡ true → a ≡ true
-and_first true b h = refl
-and_first false b h = absurd (cc h)
-
-pub and_second : (a b : Bool) → (a && b) ≡ true → b ≡ true
-and_second true b h = h
-and_second false b h = absurd (cc h)
-
 pub every_as : (p q : ℕ → Bool) (t : List ℕ) → ((c : ℕ) → p c ≡ true → q c ≡ true) → every p t ≡ true → every q t ≡ true
 every_as p q [] h e = refl
 every_as p q (c ∷ t) h e = and_both (q c) (every q t) (h c (and_first (p c) (every p t) e)) (every_as p q t h (and_second (p c) (every p t) e))
 
-pub every_append : (p : ℕ → Bool) (s t : List ℕ) → every p s ≡ true → every p t ≡ true → every p (s ++ t) ≡ true
-every_append p [] t e h = h
-every_append p (c ∷ s) t e h = and_both (p c) (every p (s ++ t)) (and_first (p c) (every p s) e) (every_append p s t (and_second (p c) (every p s) e) h)
-
-not_true : (b : Bool) → not b ≡ true → b ≡ false
-not_true true h = absurd (cc h)
-not_true false h = refl
-
 pub cut_none : (f : ℕ → Bool) (t : List ℕ) → every (λ c. not (f c)) t ≡ true → first_cut f t ≡ (t, None)
 cut_none f [] e = refl
 cut_none f (c ∷ t) e =
-    let n : f c ≡ false = not_true (f c) (and_first (not (f c)) (every (λ c. not (f c)) t) e) in
+    let n : f c ≡ false = not-true (f c) (and_first (not (f c)) (every (λ c. not (f c)) t) e) in
     rw (n, cut_none f t (and_second (not (f c)) (every (λ c. not (f c)) t) e)) refl
 
 pub cut_there : (f : ℕ → Bool) (s : List ℕ) (c : ℕ) (t : List ℕ) → every (λ c. not (f c)) s ≡ true → f c ≡ true → first_cut f (s ++ c ∷ t) ≡ (s, Some t)
 cut_there f [] c t e h = rw h refl
 cut_there f (d ∷ s) c t e h =
-    let n : f d ≡ false = not_true (f d) (and_first (not (f d)) (every (λ c. not (f c)) s) e) in
+    let n : f d ≡ false = not-true (f d) (and_first (not (f d)) (every (λ c. not (f c)) s) e) in
     rw (n, cut_there f s c t (and_second (not (f d)) (every (λ c. not (f c)) s) e) h) refl
 
 pub pieces_none : (f : ℕ → Bool) (t : List ℕ) → every (λ c. not (f c)) t ≡ true → pieces f t ≡ t ∷ []
 pieces_none f [] e = refl
 pieces_none f (c ∷ t) e =
-    let n : f c ≡ false = not_true (f c) (and_first (not (f c)) (every (λ c. not (f c)) t) e) in
+    let n : f c ≡ false = not-true (f c) (and_first (not (f c)) (every (λ c. not (f c)) t) e) in
     rw (n, pieces_none f t (and_second (not (f c)) (every (λ c. not (f c)) t) e)) refl
 
 pub pieces_there : (f : ℕ → Bool) (s : List ℕ) (c : ℕ) (t : List ℕ) → every (λ c. not (f c)) s ≡ true → f c ≡ true → pieces f (s ++ c ∷ t) ≡ s ∷ pieces f t
 pieces_there f [] c t e h = rw h refl
 pieces_there f (d ∷ s) c t e h =
-    let n : f d ≡ false = not_true (f d) (and_first (not (f d)) (every (λ c. not (f c)) s) e) in
+    let n : f d ≡ false = not-true (f d) (and_first (not (f d)) (every (λ c. not (f c)) s) e) in
     rw (n, pieces_there f s c t (and_second (not (f d)) (every (λ c. not (f c)) s) e) h) refl
 
 -- ---- what solid characters are not
@@ -78,10 +64,10 @@ no_semicolon c h = and_second (not (c == 58)) (not (c == 59)) (and_second (nat_l
 -- ---- trimmed texts
 
 trim_solid : (c : ℕ) (t : List ℕ) → not (is_blank c) ≡ true → trim_front (c ∷ t) ≡ c ∷ t
-trim_solid c t h = rw (not_true (is_blank c) h) refl
+trim_solid c t h = rw (not-true (is_blank c) h) refl
 
 end_one : (c : ℕ) (t : List ℕ) → not (is_blank c) ≡ true → before_trimmed c t ≡ c ∷ t
-end_one c [] h = rw (not_true (is_blank c) h) refl
+end_one c [] h = rw (not-true (is_blank c) h) refl
 end_one c (d ∷ t) h = refl
 
 -- the last character is solid

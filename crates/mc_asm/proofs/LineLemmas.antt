@@ -1,5 +1,5 @@
 -- The operands of a line.
-use Rattle.std.proofs.Common.{◌≡◌, ◌≢◌, ℕ, zero, suc, ◌≤◌, false, List, [], ◌∷◌, ◌++◌, length, append-nil, subst, Bor, take, Option, Some, None, Result, arith, refl, sym, ap, ◌∙◌}
+use Rattle.std.proofs.Common.{◌≡◌, ◌≢◌, ℕ, suc, ◌≤◌, false, List, [], ◌∷◌, ◌++◌, length, append-nil, subst, Bor, take, Option, Some, None, Result, arith, refl, sym, ap, ◌∙◌}
 use Rattle.std.specs.Prelude.{map, nat_le, ◌==◌}
 use Rattle.mc_model_machine.specs.Text.{first_cut, trim, is_empty}
 use Rattle.mc_model_machine.specs.Assembly.{WordForm, Bare, OfByte, OfBytes, OfWord, OfWords, RawByte, ByDistance, ByPlace, Primitive, Addressed, AddressedByte, AddressedWord, words, operands, worded, word_and_operands, label_and_rest, line_read, CodeItem, Line}
@@ -7,6 +7,7 @@ use Rattle.mc_model_device.specs.Bytes.{lookup}
 use Rattle.mc_model_machine.specs.declared.assembler.AsmCause.{AsmCause}
 use Rattle.mc_asm.specs.Items.{texts}
 use Rattle.mc_text.proofs.ReadingLemmas.{pieces_at, pieces_cut}
+use Rattle.std.proofs.lemmas.List.{take_all}
 
 -- a bound on the turns that are left
 abbrev pub left_of : Option (List ℕ) → ℕ
@@ -46,7 +47,7 @@ first_five f (a ∷ b ∷ c ∷ d ∷ e ∷ ts) = sym (first_five_long f a b c d
 
 -- ---- operands one by one
 
-texts_one : (ps : List (Bor (List ℕ))) (p : Bor (List ℕ)) (qs : List (List ℕ)) → texts (ps ++ p ∷ []) ++ qs ≡ texts ps ++ p.now ∷ qs
+pub texts_one : (ps : List (Bor (List ℕ))) (p : Bor (List ℕ)) (qs : List (List ℕ)) → texts (ps ++ p ∷ []) ++ qs ≡ texts ps ++ p.now ∷ qs
 texts_one [] p qs = refl
 texts_one (x ∷ ps) p qs = ap (λ l. x.now ∷ l) (texts_one ps p qs)
 
@@ -57,12 +58,6 @@ length_texts (p ∷ ps) = ap suc (length_texts ps)
 front_of : (xs ys : List (List ℕ)) → take (length xs) (xs ++ ys) ≡ xs
 front_of [] ys = refl
 front_of (x ∷ xs) ys = ap (λ l. x ∷ l) (front_of xs ys)
-
-take_whole : (n : ℕ) (xs : List (List ℕ)) → length xs ≤ n → take n xs ≡ xs
-take_whole zero [] h = refl
-take_whole (suc n) [] h = refl
-take_whole zero (x ∷ xs) h = absurd (omega (arith, h))
-take_whole (suc n) (x ∷ xs) h = ap (λ l. x ∷ l) (take_whole n xs (omega (arith, h)))
 
 -- one more operand
 pub operand_more : (ps : List (Bor (List ℕ))) (p : Bor (List ℕ)) (t f : List ℕ) (b : Option (List ℕ)) (w : List (List ℕ)) → p.now ≡ trim f → f ≡ (first_cut (λ c. c == 44) t).0 → b ≡ (first_cut (λ c. c == 44) t).1
@@ -81,7 +76,7 @@ operands_full ps qs w l h =
 pub operands_all : (ps : List (Bor (List ℕ))) (w : List (List ℕ)) → length ps ≤ 5 → texts ps ++ [] ≡ w → texts ps ≡ take 5 w
 operands_all ps w l h =
     let k : length (texts ps) ≤ 5 = rw (length_texts ps) l in
-    sym (take_whole 5 (texts ps) k) ∙ ap (take 5) (sym (append-nil (texts ps)) ∙ h)
+    sym (take_all 5 (texts ps) k) ∙ ap (take 5) (sym (append-nil (texts ps)) ∙ h)
 
 -- ---- a line's word
 

@@ -6,6 +6,7 @@ use Rattle.mc_model_machine.specs.Code.{Form, form, made_of, front, from_place, 
 use Rattle.mc_model_machine.specs.Listing.{text_of, line_before, listed_from, listed}
 use Rattle.mc_model_machine.specs.declared.instruction.DecodeFault.{DecodeFault}
 use Rattle.mc_model_machine.specs.declared.instruction.Ins.{Ins}
+use Rattle.std.proofs.lemmas.List.{drop-drop}
 
 -- an instruction has a byte at least
 made_some : (o : Option Form) (bs : List ℕ) (p : Ins × ℕ) → made_of o bs ≡ Ok p → 1 ≤ p.1
@@ -73,17 +74,6 @@ fault_in : (at : ℕ) (r : Result (Ins × ℕ) DecodeFault) (e : DecodeFault) �
 fault_in at (Ok p) e h = absurd (cc h)
 fault_in at (Err f) e h = ap Err (cc h)
 
-drop_none : (n : ℕ) → drop {A = ℕ} n [] ≡ []
-drop_none zero = refl
-drop_none (suc n) = refl
-
-drop_more : (m n : ℕ) (l : List ℕ) → drop m (drop n l) ≡ drop (n + m) l
-drop_more m zero l = ap (λ k. drop k l) (omega arith)
-drop_more m (suc n) [] = drop_none m ∙ sym (drop_none (suc n + m))
-drop_more m (suc n) (b ∷ l) =
-    let e : suc n + m ≡ suc (n + m) = omega arith in
-    rw e (drop_more m n l)
-
 more_in : (fuel at : ℕ) (l : List ℕ) (i : Ins) (n : ℕ) → front l ≡ Ok (i, n) → length l ≤ fuel → listed_from fuel l at ≡ line_before (text_of i) (listed_from fuel (drop n l) (at + n))
 unfolding listed_from
 more_in fuel at [] i n e h = absurd (cc e)
@@ -105,7 +95,7 @@ listed_more code at next i e =
     let f = decoded_in at (front (drop at code)) i next e in
     let d = length-drop at code in
     more_in (length code) at (drop at code) i f.size f.is (omega (arith, d))
-    ∙ ap (λ l. line_before (text_of i) (listed_from (length code) l (at + f.size))) (drop_more f.size at code)
+    ∙ ap (λ l. line_before (text_of i) (listed_from (length code) l (at + f.size))) (drop-drop f.size at code)
     ∙ ap (λ n. line_before (text_of i) (left_listed code n)) (sym f.place)
 
 -- no instruction

@@ -1,6 +1,6 @@
 -- Operands as a listing writes them, read back.
 use Rattle.std.proofs.Common.{◌≡◌, ℕ, zero, suc, ◌+◌, ◌*◌, ◌-◌, ◌/◌, ◌%◌, ◌^◌, ◌<◌, ◌≤◌, Bool, true, false, List, [], ◌∷◌, ◌++◌, length, map, Some, Ok, arith, refl, ap, append_assoc, ◌∙◌}
-use Rattle.std.specs.Prelude.{ℤ, pos, negsuc, FitsSigned, ◌==◌, ◌&&◌, not, nat_le, nat_lt, bytes_eq, codes, decimal, take}
+use Rattle.std.specs.Prelude.{ℤ, pos, negsuc, FitsSigned, ◌==◌, not, nat_le, nat_lt, bytes_eq, codes, decimal, take}
 use Rattle.std.specs.Int.{w8, w16}
 use Rattle.std.specs.Fmt.{signed_decimal}
 use Rattle.std.proofs.lemmas.Fmt.{decimal_by_steps}
@@ -8,7 +8,9 @@ use Rattle.std.proofs.lemmas.Int.{ints}
 use Rattle.mc_model_machine.specs.Text.{every, is_digit, is_empty, digits_onto, decimal_number, hex_value, begins, is_within}
 use Rattle.mc_model_machine.specs.Listing.{hex_digit, hex_word, condition_name, register_name, register_names, address_text}
 use Rattle.mc_model_machine.specs.Assembly.{natural, fits_signed, byte, word, signed_operand, condition, address, is_label, place_among}
-use Rattle.mc_asm.proofs.CleanLemmas.{Solid, solid, every_as, every_append, pieces_none, pieces_there, and_first, and_second}
+use Rattle.mc_asm.proofs.CleanLemmas.{Solid, solid, every_as, pieces_none, pieces_there}
+use Rattle.mc_model_device.proofs.BoolLemmas.{and_false, and_first, and_second}
+use Rattle.mc_model_machine.proofs.TextLemmas.{every_append}
 
 -- ---- decimal digits
 
@@ -56,10 +58,6 @@ no_sign c h = grind (arith, h)
 
 digit_solid : (c : ℕ) → is_digit c ≡ true → solid c ≡ true
 digit_solid c h = grind (arith, h)
-
-and_false : (b : Bool) → (b && false) ≡ false
-and_false true = refl
-and_false false = refl
 
 decimal_no_hex : (ds : List ℕ) → every is_digit ds ≡ true → bytes_eq (take 2 ds) (codes "0x") ≡ false
 decimal_no_hex [] h = refl

@@ -15,7 +15,8 @@ use Rattle.mc_asm.specs.declared.line.NumberedLine.{NumberedLine}
 use Rattle.mc_asm.specs.declared.refusal.AsmRefusal.{AsmRefusal}
 use Rattle.mc_asm.specs.declared.refusal.AsmRefusal.TheVariants.{At, NoMemory}
 use Rattle.mc_asm.specs.Passes.{label_and_end, places, code_and_end, coded, numbered_lines}
-use Rattle.mc_text.proofs.ReadingLemmas.{lines_at, lines_from, rest_of}
+use Rattle.mc_text.proofs.ReadingLemmas.{lines_at, lines_from}
+use Rattle.std.proofs.lemmas.List.{drop_more}
 
 -- a label that was put, and the others
 pub label_found : (k q : List ℕ) (p : ℕ) (o : Option ℕ) (l : List (List ℕ × ℕ)) → o ≡ lookup l q → cond (is_eq (slice_cmp nat_cmp k q)) (Some p) o ≡ cond (bytes_eq k q) (Some p) (lookup l q)
@@ -48,8 +49,6 @@ coded_refused labels place n l ts c h = rw (sym h) refl
 pub coded_end : (labels : List (List ℕ × ℕ)) (place : ℕ) → coded labels place [] ≡ Ok []
 unfolding coded
 coded_end labels place = refl
-
--- ---- the two passes are the definition
 
 -- ---- the two passes are the definition
 
@@ -211,7 +210,7 @@ no_line = record { number = 0; text = record { ref_ptr = (0, 0); now = [] } }
 
 -- a line, and those behind it
 pub line_at : (ls : List NumberedLine) (i : ℕ) → i < length ls → numbered_lines (drop i ls) ≡ ((get_or ls i no_line).number, (get_or ls i no_line).text.now) ∷ numbered_lines (drop (i + 1) ls)
-line_at ls i h = ap numbered_lines (rest_of ls i no_line h)
+line_at ls i h = ap numbered_lines (drop_more ls i no_line h)
 
 -- no line is left
 pub no_line_left : (ls : List NumberedLine) (i : ℕ) → length ls ≤ i → numbered_lines (drop i ls) ≡ []

@@ -15,8 +15,9 @@ use Rattle.mc_text.specs.Reading.{next_line, without_return}
 use Rattle.mc_asm.specs.Passes.{places, coded, label_and_end, code_and_end}
 use Rattle.mc_asm.proofs.PassLemmas.{two_passes, numbered_some, places_more, places_end, coded_more, coded_end}
 use Rattle.mc_asm.proofs.ListingLemmas.{whole_listed, no_bytes, front_some}
-use Rattle.mc_asm.proofs.CleanLemmas.{written, every_as, cut_there, and_first, and_second}
+use Rattle.mc_asm.proofs.CleanLemmas.{written, every_as, cut_there}
 use Rattle.mc_asm.proofs.InstructionLemmas.{ReadsAs, instruction_read}
+use Rattle.mc_model_device.proofs.BoolLemmas.{and_first, and_second}
 
 -- ---- the first line of a listing
 

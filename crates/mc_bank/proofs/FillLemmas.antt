@@ -3,7 +3,6 @@ use Rattle.std.proofs.Common.{◌≡◌, ◌≢◌, ℕ, zero, suc, ◌+◌, ◌
 use Rattle.std.specs.Prelude.{map}
 use Rattle.std.proofs.lemmas.Bool.{cases_lt}
 use Rattle.std.proofs.lemmas.List.{length-take-le, length-drop, length-set, take-append-drop, take_all, drop_all}
-use Rattle.std.proofs.lemmas.List.Edits.{paste_none}
 use Rattle.mc_model_card.specs.declared.card.Part.{Part}
 use Rattle.mc_model_card.specs.declared.card.Part.TheVariants.{Code, Data, Dir, Fci}
 use Rattle.mc_model_card.specs.declared.card.Sizes.{Sizes}
@@ -17,9 +16,10 @@ use Rattle.mc_bank.specs.declared.entries.Entry.{Entry}
 use Rattle.mc_bank.specs.Bank.{app_of, sizes_of, part_len, FitsLimits, IsGoodSite}
 use Rattle.mc_bank.specs.Memory.{facts_in, first_free, IsWholeEntry, IsMemory, apps_from, memory_room, entry_at, part_of, with_piece, MemoryDid}
 use Rattle.mc_bank.specs.EntryLaws.{facts_kept, whole_at, apps_free}
-use Rattle.mc_bank.specs.MemoryLaws.{set_self, entry_set}
+use Rattle.mc_bank.specs.MemoryLaws.{set_self, entry_set, piece_keeps_facts}
 use Rattle.mc_bank.specs.Left.{FillLeft}
-use Rattle.mc_bank.proofs.LeftLemmas.{length-spliced, front_piece, splice-splice, same_named, memory_kept, free_place}
+use Rattle.mc_bank.proofs.LeftLemmas.{front_piece, splice-splice, same_named, memory_kept, free_place}
+use Rattle.mc_model_device.proofs.ListLemmas.{splice-none, length-splice}
 
 -- ---- one entry
 
@@ -47,12 +47,6 @@ part_beside Fci Data at b x h = refl
 part_beside Fci Dir at b x h = refl
 part_beside Fci Fci at b x h = absurd (h refl)
 
-keeps_facts : (p : Part) (at : ℕ) (b : List ℕ) (x : Entry) → (with_piece p at b x).facts ≡ x.facts
-keeps_facts Code at b x = refl
-keeps_facts Data at b x = refl
-keeps_facts Dir at b x = refl
-keeps_facts Fci at b x = refl
-
 -- a section of a site has memory
 pub part_small : (p : Part) (s : Sizes) (x : Entry) → FitsLimits s → IsWholeEntry x → part_len p s ≤ length (part_of p x)
 part_small Code s x h w = let a = h.code in let b = w.code in omega (arith, a, b)
@@ -61,19 +55,16 @@ part_small Dir s x h w = let a = h.dir in let b = w.dir in omega (arith, a, b)
 part_small Fci s x h w = let a = h.fci in let b = w.fci in omega (arith, a, b)
 
 whole_with : (p : Part) (at : ℕ) (b : List ℕ) (x : Entry) → at + length b ≤ length (part_of p x) → IsWholeEntry x → IsWholeEntry (with_piece p at b x)
-whole_with Code at b x le w = record { facts = w.facts; code = length-spliced x.code at b le ∙ w.code; fixed = w.fixed; dir = w.dir; fci = w.fci }
-whole_with Data at b x le w = record { facts = w.facts; code = w.code; fixed = length-spliced x.fixed at b le ∙ w.fixed; dir = w.dir; fci = w.fci }
-whole_with Dir at b x le w = record { facts = w.facts; code = w.code; fixed = w.fixed; dir = length-spliced x.dir at b le ∙ w.dir; fci = w.fci }
-whole_with Fci at b x le w = record { facts = w.facts; code = w.code; fixed = w.fixed; dir = w.dir; fci = length-spliced x.fci at b le ∙ w.fci }
-
-splice_none : (l : List ℕ) (at : ℕ) → splice l at [] ≡ l
-splice_none l at = sym (paste_none l at [])
+whole_with Code at b x le w = record { facts = w.facts; code = length-splice x.code at b le ∙ w.code; fixed = w.fixed; dir = w.dir; fci = w.fci }
+whole_with Data at b x le w = record { facts = w.facts; code = w.code; fixed = length-splice x.fixed at b le ∙ w.fixed; dir = w.dir; fci = w.fci }
+whole_with Dir at b x le w = record { facts = w.facts; code = w.code; fixed = w.fixed; dir = length-splice x.dir at b le ∙ w.dir; fci = w.fci }
+whole_with Fci at b x le w = record { facts = w.facts; code = w.code; fixed = w.fixed; dir = w.dir; fci = length-splice x.fci at b le ∙ w.fci }
 
 piece_none : (p : Part) (at : ℕ) (x : Entry) → with_piece p at [] x ≡ x
-piece_none Code at x = ap (λ (l : List ℕ). record x { code = l }) (splice_none x.code at)
-piece_none Data at x = ap (λ (l : List ℕ). record x { fixed = l }) (splice_none x.fixed at)
-piece_none Dir at x = ap (λ (l : List ℕ). record x { dir = l }) (splice_none x.dir at)
-piece_none Fci at x = ap (λ (l : List ℕ). record x { fci = l }) (splice_none x.fci at)
+piece_none Code at x = ap (λ (l : List ℕ). record x { code = l }) (splice-none x.code at)
+piece_none Data at x = ap (λ (l : List ℕ). record x { fixed = l }) (splice-none x.fixed at)
+piece_none Dir at x = ap (λ (l : List ℕ). record x { dir = l }) (splice-none x.dir at)
+piece_none Fci at x = ap (λ (l : List ℕ). record x { fci = l }) (splice-none x.fci at)
 
 piece_joined : (p : Part) (at : ℕ) (b c : List ℕ) (x : Entry) → at ≤ length (part_of p x) → with_piece p (at + length b) c (with_piece p at b x) ≡ with_piece p at (b ++ c) x
 piece_joined Code at b c x le = ap (λ (l : List ℕ). record x { code = l }) (splice-splice x.code at b c le)
@@ -124,11 +115,11 @@ did_words (suc n) m s p at (y ∷ b) few lt free room =
     let left : length (drop k c) ≡ length c - k = length-drop k c in
     let few_left : length (drop k c) ≤ n = omega (arith, few, left) in
     let there : s.place < length l = subst (λ (i : ℕ). s.place < i) (sym (length-set m s.place z)) lt in
-    let free_left : (entry_at l s.place).facts ≡ None = ap (λ (e : Entry). e.facts) same ∙ keeps_facts p at (take k c) x ∙ free in
+    let free_left : (entry_at l s.place).facts ≡ None = ap (λ (e : Entry). e.facts) same ∙ piece_keeps_facts p at (take k c) x ∙ free in
     let room_left : 0 < length (drop k c) → (at + k) + length (drop k c) ≤ length (part_of p (entry_at l s.place)) = λ some.
     let whole : length (take k c) ≡ k = length-take-le k c (omega (arith, some, left)) in
     let size : length (part_of p (entry_at l s.place)) ≡ length (part_of p x) =
-    ap (λ (e : Entry). length (part_of p e)) same ∙ ap length (part_with p at (take k c) x) ∙ length-spliced (part_of p x) at (take k c) (omega (arith, fits, whole, some, left)) in
+    ap (λ (e : Entry). length (part_of p e)) same ∙ ap length (part_with p at (take k c) x) ∙ length-splice (part_of p x) at (take k c) (omega (arith, fits, whole, some, left)) in
     omega (arith, some, left, fits, size) in
     let rest = did_words n l s p (at + k) (drop k c) few_left there free_left room_left in
     let end : slice_set l s.place (with_piece p (at + k) (drop k c) (entry_at l s.place)) ≡ slice_set m s.place (with_piece p at c x) =
@@ -147,7 +138,7 @@ fill_left m s p at b x h good range is =
     let small = fill_fits m s p h good in
     let fits : at + length b ≤ length (part_of p y) = omega (arith, range, small) in
     let z = with_piece p at b y in
-    let same : z.facts ≡ y.facts = keeps_facts p at b y in
+    let same : z.facts ≡ y.facts = piece_keeps_facts p at b y in
     let here : entry_at (slice_set m s.place z) s.place ≡ z = entry_set m s.place z free.0 in
     let apps : apps_from 0 (slice_set m s.place z) ≡ apps_from 0 m = apps_free 0 m s.place z free.1 (same ∙ free.1) in
     let facts : facts_in (slice_set m s.place z) ≡ facts_in m = facts_kept m s.place z same in

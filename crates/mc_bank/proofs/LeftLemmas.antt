@@ -2,7 +2,7 @@
 use Rattle.std.proofs.Common.{◌≡◌, ℕ, ◌+◌, ◌-◌, ◌*◌, ◌≤◌, ◌<◌, false, List, [], ◌∷◌, ◌++◌, length, take, drop, slice_set, Option, Some, None, Ok, refl, sym, ap, subst, ◌∙◌, inl, arith}
 use Rattle.std.specs.Prelude.{map, is_some, IsSome}
 use Rattle.std.specs.List.{AllByRecursion}
-use Rattle.std.proofs.lemmas.List.{length-take-le, length-append, length-drop, length-replicate, length-set, take-take, drop-take}
+use Rattle.std.proofs.lemmas.List.{length-take-le, length-append, length-replicate, length-set, take-take, drop-take}
 use Rattle.std.proofs.lemmas.List.Edits.{paste-paste}
 use Rattle.std.proofs.Math.Seq.{take-length, take-append-add}
 use Rattle.mc_model_device.specs.Orders.{Answer, InOrder}
@@ -23,19 +23,16 @@ use Rattle.mc_bank.specs.Slots.{slot_place, name_of_slot}
 use Rattle.mc_bank.specs.SlotLaws.{slot_stays, commit_sized}
 use Rattle.mc_bank.specs.Left.{CommitLeft, CreateLeft, DeleteLeft}
 use Rattle.mc_bank.proofs.ShownLemmas.{name_at, slot_at, slot_within}
+use Rattle.mc_model_device.proofs.ListLemmas.{length-splice}
 
 -- ---- lists of bytes
-
-pub length-spliced : (x : List ℕ) (at : ℕ) (b : List ℕ) → at + length b ≤ length x → length (splice x at b) ≡ length x
-length-spliced x at b le =
-    omega (arith, le, length-append (take at x ++ b) (drop (at + length b) x), length-append (take at x) b, length-drop (at + length b) x, length-take-le at x (omega (arith, le)))
 
 pub length-laid : (x : List ℕ) (ws : List (ℕ × List ℕ)) → AllByRecursion (λ w. length w.1 ≡ 8) ws → AllByRecursion (λ w. 8 * w.0 + 8 ≤ length x) ws → length (laid_pieces x (word_pieces ws)) ≡ length x
 length-laid x [] h a = refl
 length-laid x (w ∷ ws) h a =
     let first = a.0 in
     let eight = h.0 in
-    let len = length-spliced x (8 * w.0) w.1 (omega (arith, first, eight)) in
+    let len = length-splice x (8 * w.0) w.1 (omega (arith, first, eight)) in
     length-laid (splice x (8 * w.0) w.1) ws h.1 (subst (λ (k : ℕ). AllByRecursion (λ (v : ℕ × List ℕ). 8 * v.0 + 8 ≤ k) ws) (sym len) a.1) ∙ len
 
 -- words of a segment end in its memory
@@ -209,7 +206,7 @@ create_left m s n x h good fresh name is =
     record {
       facts = (name, new, refl);
       code = w.code;
-      fixed = length-spliced (entry_at m s.place).fixed s.sizes.init zs (omega (arith, len, fixed, init, long)) ∙ w.fixed;
+      fixed = length-splice (entry_at m s.place).fixed s.sizes.init zs (omega (arith, len, fixed, init, long)) ∙ w.fixed;
       dir = w.dir;
       fci = w.fci;
     } in

@@ -6,13 +6,14 @@ use Rattle.mc_model_device.specs.Card.{App}
 use Rattle.mc_bank.specs.declared.bank.Facts.{Facts}
 use Rattle.mc_bank.specs.declared.entries.Entry.{Entry}
 use Rattle.mc_bank.specs.Bank.{app_of, sizes_of}
-use Rattle.mc_bank.specs.NameLaws.{same_name}
 use Rattle.mc_bank.specs.Memory.{facts_in, name_in, named_at, memory_named, has, app_in, apps_from, entry_at, AreFacts, IsMemory}
 use Rattle.mc_bank.specs.EntryLaws.{named_here, named_is, lookup_is, sizes_are, whole_at}
 use Rattle.mc_bank.specs.MemoryLaws.{split, app_is}
 use Rattle.mc_bank.specs.Slots.{slot_number, slot_place, AreDigits}
 use Rattle.mc_bank.specs.SlotLaws.{place_back, sizes_back, slot_named, name_there as slot_name_there}
 use Rattle.mc_bank.specs.Shown.{app_at, IsFront, AreFactsOf, EntryShows}
+use Rattle.mc_model_device.proofs.MapLemmas.{same_name}
+use Rattle.mc_model_device.proofs.BoolLemmas.{some-is}
 
 -- an element is what a list has at its place, whatever stands in for a missing one
 pub entry_is : (m : List Entry) (k : ℕ) (e : Entry) → k < length m → e ≡ slice_index_or m k e → e ≡ entry_at m k
@@ -35,16 +36,12 @@ named_of m k e n lt is h =
     let same = entry_is m k e lt is in
     stands_named m k f.0 (sym (ap (λ (x : Entry). x.facts) same) ∙ f.1) lt ∙ ap (λ (l : List ℕ). Some l) f.2
 
-name_there : (o : Option (List ℕ)) → IsSome o → (n : List ℕ) × (o ≡ Some n)
-name_there None h = absurd (cc h)
-name_there (Some n) h = (n, refl)
-
 -- the name of a slot is the one at its place
 pub slot_at : (m : List Entry) (j : ℕ) → IsSome (memory_named m j) → memory_named m j ≡ named_at (facts_in m) (slot_place j)
 slot_at m j there = slot_name_there (apps_from 0 m) j (named_at (facts_in m) (slot_place j)) there
 
 pub name_at : (m : List Entry) (j : ℕ) → IsSome (memory_named m j) → (n : List ℕ) × (named_at (facts_in m) (slot_place j) ≡ Some n) × (memory_named m j ≡ Some n)
-name_at m j there = let n = name_there (memory_named m j) there in (n.0, sym (slot_at m j there) ∙ n.1, n.1)
+name_at m j there = let n = some-is (memory_named m j) there in (n.0, sym (slot_at m j there) ∙ n.1, n.1)
 
 front : (n : ℕ) (ys : List ℕ) → n ≤ length ys → IsFront (take n ys) ys
 front n ys le at k h =
@@ -87,11 +84,11 @@ pub shows : (m : List Entry) (j : ℕ) → IsMemory m → IsSome (memory_named m
 shows m j h there = let n = name_at m j there in shows_by m j n.0 h n.1 n.2
 
 pub place_within : (m : List Entry) (k : ℕ) → IsSome (named_at (facts_in m) k) → k < length m
-place_within m k there = let n = name_there (named_at (facts_in m) k) there in (named_here m k n.0 n.1).within
+place_within m k there = let n = some-is (named_at (facts_in m) k) there in (named_here m k n.0 n.1).within
 
 pub place_used : (m : List Entry) (k : ℕ) (e : Entry) → e ≡ entry_at m k → IsSome (named_at (facts_in m) k) → IsSome e.facts
 place_used m k e is there =
-    let n = name_there (named_at (facts_in m) k) there in
+    let n = some-is (named_at (facts_in m) k) there in
     ap (λ (x : Entry). is_some x.facts) is ∙ ap is_some (named_here m k n.0 n.1).stands
 
 pub slot_within : (m : List Entry) (j : ℕ) → IsSome (memory_named m j) → slot_place j < length m
@@ -106,7 +103,7 @@ slot_entry m j k e there is at = entry_is m k e (place_is_within m j k there is)
 -- the slot of a name at a place
 pub slot_of_place : (m : List Entry) (k : ℕ) (f : Facts) → IsMemory m → IsSome (named_at (facts_in m) k) → (entry_at m k).facts ≡ Some f → memory_named m (slot_number k f.sizes) ≡ named_at (facts_in m) k
 slot_of_place m k f h there stands =
-    let n = name_there (named_at (facts_in m) k) there in
+    let n = some-is (named_at (facts_in m) k) there in
     let here = named_here m k n.0 n.1 in
     let s = split m k n.0 n.1 h.apart in
     let w = whole_at m k here.within h.whole in

@@ -1,5 +1,5 @@
 -- What a bank of applications means, and what its calls and its items do to it.
-use Rattle.std.specs.Prelude.{◌≡◌, ◌≢◌, ◌⊎◌, ℕ, ◌-◌, ◌*◌, ◌<◌, ◌≤◌, Bool, true, false, List, [], ◌∷◌, ◌++◌, length, unwrap_or, option_and_then, Option, Some, None, Result, Ok, Err}
+use Rattle.std.specs.Prelude.{◌≡◌, ◌≢◌, ◌⊎◌, ℕ, ◌-◌, ◌*◌, ◌<◌, ◌≤◌, Bool, true, false, List, [], ◌++◌, length, unwrap_or, option_and_then, Option, Some, None, Result, Ok, Err}
 use Rattle.std.specs.List.{AllByRecursion}
 use Rattle.mc_model_card.specs.declared.card.Part.{Part}
 use Rattle.mc_model_card.specs.declared.card.Part.TheVariants.{Code, Data, Dir, Fci}
@@ -11,7 +11,7 @@ use Rattle.mc_model_device.specs.declared.device.Stop.TheVariants.{Off, Worn}
 use Rattle.mc_model_device.specs.Limits.{most_code}
 use Rattle.mc_model_device.specs.Orders.{Answer}
 use Rattle.mc_model_device.specs.Counts.{Rose}
-use Rattle.mc_model_device.specs.Bytes.{zeros, lookup, insert, remove, name_before}
+use Rattle.mc_model_device.specs.Bytes.{AscendByName, zeros, lookup, insert, remove}
 use Rattle.mc_model_device.specs.Pieces.{laid_words, ArePending}
 use Rattle.mc_model_device.specs.Card.{App}
 use Rattle.mc_model_card.specs.Items.{Site, BankItem, Piece, Blank, Note, Commit, Enter, Remove}
@@ -67,11 +67,6 @@ pub record FitsLimits (s : Sizes) : Type 0 where
 pub record IsApplication (e : List ℕ × App) : Type 0 where
   pub name : IsName e.0
   pub limits : FitsLimits (sizes_of e.1)
-
--- names ascend, so that no two are the same
-abbrev pub AscendByName : {A : Type 0} → List (List ℕ × A) → Type 0
-AscendByName [] = Unit {0}
-AscendByName (e ∷ es) = AllByRecursion (λ f. name_before e.0 f.0 ≡ true) es × AscendByName es
 
 -- the applications of a card: at most 32, each within the limits, ascending by name
 pub record AreApps (apps : List (List ℕ × App)) : Type 0 where

@@ -5,13 +5,14 @@ use Rattle.std.proofs.Common.{refl, ap, sym, subst, ◌∙◌, arith}
 use Rattle.std.proofs.lemmas.List.{length-take}
 use Rattle.std.proofs.Math.Nat.{min-eq_left}
 use Rattle.mc_model_card.specs.declared.card.Sizes.{Sizes}
-use Rattle.mc_model_device.specs.Bytes.{lookup, insert}
+use Rattle.mc_model_device.specs.Bytes.{lookup, insert, AscendByName}
 use Rattle.mc_model_device.specs.Card.{App}
 use Rattle.mc_bank.specs.declared.bank.Facts.{Facts}
 use Rattle.mc_bank.specs.declared.entries.Entry.{Entry}
-use Rattle.mc_bank.specs.Bank.{AscendByName, IsApplication, AreApps, FitsLimits, sizes_of}
-use Rattle.mc_bank.specs.NameLaws.{same_name, name_is_itself, other_way, lookup-inserted, lookup-beside, insert-swap, each-inserted, ascend-inserted, length-inserted}
+use Rattle.mc_bank.specs.Bank.{IsApplication, AreApps, FitsLimits, sizes_of}
 use Rattle.mc_bank.specs.Memory.{facts_in, name_in, named_at, first_free, used, has, is_named, IsApart, AreApart, app_in, with_entry, apps_from, entry_at, AreFacts, IsWholeEntry, IsMemory}
+use Rattle.mc_model_device.proofs.MapLemmas.{same_name, name_is_itself, other_way, lookup-inserted, lookup-beside, length-inserted, insert-swap, each-inserted, ascending-inserted}
+use Rattle.mc_model_device.proofs.BoolLemmas.{no_value}
 
 -- ---- facts
 
@@ -159,10 +160,6 @@ pub lookup_is : (j : ℕ) (m : List Entry) (n : List ℕ) → is_some (lookup (a
 lookup_is j [] n = refl
 lookup_is j (x ∷ m) n = lookup_one j x x.facts (apps_from (suc j) m) n ∙ ap (λ b. has x.facts n || b) (lookup_is (suc j) m n)
 
-no_value : {A : Type 0} (o : Option A) → is_some o ≡ false → o ≡ None
-no_value None h = refl
-no_value (Some x) h = absurd (cc h)
-
 pub lookup_none : (j : ℕ) (m : List Entry) (n : List ℕ) → is_named (facts_in m) n ≡ false → lookup (apps_from j m) n ≡ None
 lookup_none j m n h = no_value (lookup (apps_from j m) n) (lookup_is j m n ∙ h)
 
@@ -219,7 +216,7 @@ used_few (Some f ∷ fs) = let r = used_few fs in omega (arith, r)
 
 in_order : (j : ℕ) (x : Entry) (f : Option Facts) (apps : List (List ℕ × App)) → AscendByName apps → AscendByName (with_entry j x f apps)
 in_order j x None apps h = h
-in_order j x (Some f) apps h = ascend-inserted apps f.aid (app_in j x f.sizes) h
+in_order j x (Some f) apps h = ascending-inserted apps f.aid (app_in j x f.sizes) h
 
 pub apps_ascend : (j : ℕ) (m : List Entry) → AscendByName (apps_from j m)
 apps_ascend j [] = tt

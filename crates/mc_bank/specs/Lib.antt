@@ -1,5 +1,4 @@
 pub mod Bank
-pub mod NameLaws
 pub mod Slots
 pub mod SlotLaws
 pub mod Memory

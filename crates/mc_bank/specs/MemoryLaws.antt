@@ -3,7 +3,7 @@ use Rattle.std.specs.Prelude.{◌≡◌, ◌≢◌, ℕ, zero, suc, ◌+◌, ◌
 use Rattle.std.specs.List.{AllByRecursion}
 use Rattle.std.proofs.Common.{refl, ap, sym, subst, ◌∙◌, arith}
 use Rattle.std.proofs.Math.Seq.{take-length}
-use Rattle.std.proofs.lemmas.List.{length-replicate, length-take-le, length-append, length-drop, take-take}
+use Rattle.std.proofs.lemmas.List.{length-replicate, length-take-le, length-append, take-take}
 use Rattle.std.proofs.lemmas.List.Edits.{take-paste}
 use Rattle.mc_model_card.specs.declared.card.Part.{Part}
 use Rattle.mc_model_card.specs.declared.card.Part.TheVariants.{Code, Data, Dir, Fci}
@@ -15,11 +15,12 @@ use Rattle.mc_model_card.specs.Items.{Site, BankItem, Piece, Blank, Note, Commit
 use Rattle.mc_bank.specs.declared.bank.Facts.{Facts}
 use Rattle.mc_bank.specs.declared.entries.Entry.{Entry}
 use Rattle.mc_bank.specs.Bank.{app_of, no_app, sizes_of, part_len, with_words, committed, entered, item_done, Spares, StayGood, BytesStay, Changes}
-use Rattle.mc_bank.specs.NameLaws.{lookup-inserted, insert-twice, remove-inserted, length-same}
 use Rattle.mc_bank.specs.Memory.{facts_in, named_at, memory_named, first_free, is_named, AreApart, app_in, apps_from, memory_state, memory_room, entry_at, part_of, with_piece, memory_standing, new_facts, with_app, with_list, freed, fixed_len, CommitDone, EnterDone, RemoveDone, ItemDone, MemoryDid}
 use Rattle.mc_bank.specs.Slots.{slot_place}
 use Rattle.mc_bank.specs.SlotLaws.{HasSizes, EntersNot, has_sizes, slot_named, item_sized}
 use Rattle.mc_bank.specs.EntryLaws.{facts_set, facts_kept, named_here, named_other, named_is, free_has_no_name, free_named, name_gone, not_named_freed, lookup_none, apps_free, apps_set}
+use Rattle.mc_model_device.proofs.MapLemmas.{lookup-inserted, insert-twice, remove-inserted, length-same}
+use Rattle.mc_model_device.proofs.ListLemmas.{splice-longer}
 
 -- ---- lists of bytes
 
@@ -42,10 +43,6 @@ front_splice n at b x le long =
     ∙ ap (λ (q : List ℕ). take n ((q ++ b) ++ drop (length (q ++ b)) (take n x))) (sym (take-take at n x le))
     ∙ sym (ap (take n) (joined (take n x) at b (let l = length-take-le n x long in omega (arith, l))))
 
-length-splice : (x : List ℕ) (at : ℕ) (b : List ℕ) → at ≤ length x → length x ≤ length (splice x at b)
-length-splice x at b le =
-    omega (arith, length-append (take at x ++ b) (drop (at + length b) x), length-append (take at x) b, length-drop (at + length b) x, length-take-le at x le)
-
 fronts_laid : (n : ℕ) (x y : List ℕ) (ws : List (ℕ × List ℕ)) → take n x ≡ take n y → n ≤ length x → n ≤ length y → AllByRecursion (λ w. 8 * w.0 < n) ws
     → take n (laid_pieces x (word_pieces ws)) ≡ take n (laid_pieces y (word_pieces ws))
 fronts_laid n x y [] h lx ly a = h
@@ -53,8 +50,8 @@ fronts_laid n x y (w ∷ ws) h lx ly a =
     let lt = a.0 in
     fronts_laid n (splice x (8 * w.0) w.1) (splice y (8 * w.0) w.1) ws
     (front_splice n (8 * w.0) w.1 x (omega (arith, lt)) lx ∙ ap (λ (l : List ℕ). take n (splice l (8 * w.0) w.1)) h ∙ sym (front_splice n (8 * w.0) w.1 y (omega (arith, lt)) ly))
-    (let l = length-splice x (8 * w.0) w.1 (omega (arith, lt, lx)) in omega (arith, l, lx))
-    (let l = length-splice y (8 * w.0) w.1 (omega (arith, lt, ly)) in omega (arith, l, ly))
+    (let l = splice-longer x (8 * w.0) w.1 in omega (arith, l, lx))
+    (let l = splice-longer y (8 * w.0) w.1 in omega (arith, l, ly))
     a.1
 
 -- words laid over a longer list are laid over its front
@@ -161,7 +158,7 @@ enter_apps m s n e d =
     ∙ ap (λ (l : List Entry). insert (apps_from 0 l) n (app_in s.place y (new_facts s.sizes n).sizes)) (set_self m s.place)
     ∙ ap (insert (apps_from 0 m) n) app
 
-piece_keeps_facts : (p : Part) (at : ℕ) (b : List ℕ) (x : Entry) → (with_piece p at b x).facts ≡ x.facts
+pub piece_keeps_facts : (p : Part) (at : ℕ) (b : List ℕ) (x : Entry) → (with_piece p at b x).facts ≡ x.facts
 piece_keeps_facts Code at b x = refl
 piece_keeps_facts Data at b x = refl
 piece_keeps_facts Dir at b x = refl

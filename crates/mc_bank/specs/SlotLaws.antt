@@ -1,5 +1,5 @@
 -- A number gives back the place and the sizes of its slot, and a slot keeps its name while its application keeps its sizes.
-use Rattle.std.specs.Prelude.{◌≡◌, ◌≢◌, ℕ, suc, ◌+◌, ◌*◌, ◌/◌, ◌%◌, ◌<◌, ◌≤◌, Bool, true, false, cond, List, [], ◌∷◌, ◌++◌, length, bytes_eq, unwrap_or, IsSome, Option, Some, None}
+use Rattle.std.specs.Prelude.{◌≡◌, ◌≢◌, ℕ, suc, ◌+◌, ◌*◌, ◌/◌, ◌%◌, ◌<◌, ◌≤◌, Bool, true, false, cond, List, [], ◌∷◌, length, bytes_eq, unwrap_or, IsSome, Option, Some, None}
 use Rattle.std.proofs.Common.{refl, ap, sym, subst, ◌∙◌, arith}
 use Rattle.std.proofs.lemmas.List.{length-take-le}
 use Rattle.std.proofs.lemmas.Bool.{false_from_ne_true}
@@ -11,8 +11,9 @@ use Rattle.mc_model_device.specs.Card.{App}
 use Rattle.mc_model_card.specs.Items.{Site, BankItem, Piece, Blank, Note, Commit, Enter, Remove}
 use Rattle.mc_model_device.proofs.ListLemmas.{splice-longer as splice-long}
 use Rattle.mc_bank.specs.Bank.{app_of, no_app, sizes_of, with_words, entered, item_done, Spares}
-use Rattle.mc_bank.specs.NameLaws.{same_name, name_is_itself, lookup-inserted, lookup-beside}
 use Rattle.mc_bank.specs.Slots.{slot_number, digit, slot_place, slot_sizes, listed, same_sizes, name_of_slot, AreDigits}
+use Rattle.mc_model_device.proofs.MapLemmas.{same_name, name_is_itself, lookup-inserted, lookup-beside, lookup-left}
+use Rattle.mc_model_device.proofs.BoolLemmas.{some-is}
 
 -- ---- digits
 
@@ -87,13 +88,9 @@ pub slot_named : (apps : List (List ℕ × App)) (k : ℕ) (o : Option (List ℕ
 slot_named apps k o n name sizes =
     ap (λ (x : Option (List ℕ)). name_of_slot apps k x) name ∙ ap (λ (t : Bool). cond t (Some n) None) (same_self (slot_sizes k) (sizes_of (app_of apps (Some n))) sizes)
 
-some-name : (o : Option (List ℕ)) → IsSome o → (n : List ℕ) × (o ≡ Some n)
-some-name None h = absurd (cc h)
-some-name (Some n) h = (n, refl)
-
 -- a slot that has a name has the one that stands at its place
 pub name_there : (apps : List (List ℕ × App)) (k : ℕ) (o : Option (List ℕ)) → IsSome (name_of_slot apps k o) → name_of_slot apps k o ≡ o
-name_there apps k o h = let n = some-name (name_of_slot apps k o) h in n.1 ∙ sym (has_sizes apps k o n.0 n.1).name
+name_there apps k o h = let n = some-is (name_of_slot apps k o) h in n.1 ∙ sym (has_sizes apps k o n.0 n.1).name
 
 pub some_there : (apps : List (List ℕ × App)) (k : ℕ) (o : Option (List ℕ)) → IsSome (name_of_slot apps k o) → IsSome o
 some_there apps k o h = subst (λ (x : Option (List ℕ)). IsSome x) (name_there apps k o h) h
@@ -101,7 +98,7 @@ some_there apps k o h = subst (λ (x : Option (List ℕ)). IsSome x) (name_there
 -- and the sizes of its application
 pub slot_sized : (apps : List (List ℕ × App)) (k : ℕ) (o : Option (List ℕ)) → IsSome (name_of_slot apps k o) → slot_sizes k ≡ sizes_of (app_of apps (name_of_slot apps k o))
 slot_sized apps k o h =
-    let n = some-name (name_of_slot apps k o) h in
+    let n = some-is (name_of_slot apps k o) h in
     (has_sizes apps k o n.0 n.1).sizes ∙ ap (λ (x : Option (List ℕ)). sizes_of (app_of apps x)) (sym n.1)
 
 -- applications that keep their sizes keep the names of slots
@@ -141,12 +138,8 @@ commit_sized apps m ws n = by_test (bytes_eq m n) refl
         (ap (λ (o : Option App). sizes_of (unwrap_or o no_app)) (lookup-inserted apps m (with_words ws (app_of apps (Some m)))) ∙ words_sized ws (app_of apps (Some m)))
     by_test false e = ap sizes_of (app_some apps (insert apps m (with_words ws (app_of apps (Some m)))) n (lookup-beside apps m (with_words ws (app_of apps (Some m))) n e))
 
-lookup-removed : (es : List (List ℕ × App)) (m n : List ℕ) → bytes_eq m n ≡ false → lookup (remove es m) n ≡ lookup es n
-lookup-removed [] m n h = refl
-lookup-removed (e ∷ es) m n h = grind (arith, h, same_name e.0 m, lookup-removed es m n h)
-
 pub remove_sized : (apps : List (List ℕ × App)) (m n : List ℕ) → m ≢ n → sizes_of (app_of (remove apps m) (Some n)) ≡ sizes_of (app_of apps (Some n))
-remove_sized apps m n h = ap sizes_of (app_some apps (remove apps m) n (lookup-removed apps m n (beside m n h)))
+remove_sized apps m n h = ap sizes_of (app_some apps (remove apps m) n (lookup-left apps m n (beside m n h)))
 
 -- an item enters no application of this name
 abbrev pub EntersNot : List ℕ → BankItem → Type 0

@@ -4,6 +4,7 @@
 
 mod aid;
 mod ledger;
+mod limits;
 mod memory;
 mod numbers;
 mod outside;
@@ -13,6 +14,7 @@ mod source;
 
 pub use aid::Aid;
 pub use ledger::Steps;
+pub use limits::{MOST_CODE, limits_code};
 pub use mc_model_device::Stop;
 pub use memory::{MemSink, MemSource};
 pub use numbers::{bytes_of, number_of};

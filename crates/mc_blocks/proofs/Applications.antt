@@ -12,7 +12,9 @@ use Rattle.mc_blocks.specs.Blocks.{used_spans, admitted}
 use Rattle.mc_blocks.specs.Plans.{has_span}
 use Rattle.mc_blocks.proofs.Tiles.{Tiled}
 use Rattle.mc_blocks.proofs.Maps.{Free, OneAt, one-insert, has-self}
-use Rattle.mc_blocks.proofs.Bridge.{WellLaid, well-laid, means-closed, with-block, some-apps, no-apps, AreNamed, named, free-all, Faultless, faultless, fault-closed}
+use Rattle.mc_blocks.proofs.Bridge.{WellLaid, well-laid, with-block, some-apps, no-apps, AreNamed, named, free-all, Faultless, faultless}
+use Rattle.mc_model_device.proofs.MapLemmas.{same_name}
+use Rattle.mc_model_device.proofs.LayoutLemmas.{closed_fault, closed_means}
 
 -- ---- at most 32
 
@@ -37,29 +39,26 @@ few-blocks m f = let few : 0 + length (used_spans (blocks m)) ≤ 32 = few-all m
 
 pub few-applications : (m : List (List ℕ)) → IsSized m → look m ≡ Closed → IsWellLaid m → length (means m).apps ≤ 32
 few-applications m image closed h =
-    let f : Faultless m = faultless m (sym (fault-closed m closed) ∙ h) in
+    let f : Faultless m = faultless m (sym (closed_fault m closed) ∙ h) in
     let l : WellLaid m = well-laid m image closed h in
-    let same : length (means m).apps ≡ length (used_spans (blocks m)) = ap (λ (k : Card). length k.apps) (means-closed m closed) ∙ l.apps in
+    let same : length (means m).apps ≡ length (used_spans (blocks m)) = ap (λ (k : Card). length k.apps) (closed_means m closed) ∙ l.apps in
     omega (arith, same, few-blocks m f)
 
 -- ---- found by its name
-
-pub same-name : (a b : List ℕ) → bytes_eq a b ≡ true → a ≡ b
-same-name a b h = (bytes_eq-Decides a b).0 h
 
 found-same : (k n : List ℕ) (a : App) (e : List ℕ × App) (es : List (List ℕ × App)) (t : Bool) → bytes_eq e.0 n ≡ t → cond t (Some a) (lookup es n) ≡ cond t (Some a) (cond (bytes_eq e.0 n) (Some e.1) (lookup es n))
 found-same k n a e es true h = refl
 found-same k n a e es false h = sym (ap (λ (t : Bool). cond t (Some e.1) (lookup es n)) h)
 
 found-other : (k n : List ℕ) (a : App) (e : List ℕ × App) (o : Option App) (t s : Bool) → bytes_eq e.0 n ≡ t → bytes_eq k n ≡ s → bytes_eq e.0 k ≡ false → cond t (Some e.1) (cond s (Some a) o) ≡ cond s (Some a) (cond t (Some e.1) o)
-found-other k n a e o true true h g ne = absurd (cc (sym ((bytes_eq-Decides e.0 k).1 (same-name e.0 n h ∙ sym (same-name k n g))) ∙ ne))
+found-other k n a e o true true h g ne = absurd (cc (sym ((bytes_eq-Decides e.0 k).1 (same_name e.0 n h ∙ sym (same_name k n g))) ∙ ne))
 found-other k n a e o true false h g ne = refl
 found-other k n a e o false true h g ne = refl
 found-other k n a e o false false h g ne = refl
 
 found-test : (k n : List ℕ) (a : App) (e : List ℕ × App) (es : List (List ℕ × App)) (t s : Bool) → bytes_eq e.0 k ≡ t → lookup (insert es k a) n ≡ cond (bytes_eq k n) (Some a) (lookup es n)
     → lookup (cond t ((k, a) ∷ es) (cond s ((k, a) ∷ e ∷ es) (e ∷ insert es k a))) n ≡ cond (bytes_eq k n) (Some a) (cond (bytes_eq e.0 n) (Some e.1) (lookup es n))
-found-test k n a e es true s h rest = found-same k n a e es (bytes_eq k n) (ap (λ (x : List ℕ). bytes_eq x n) (same-name e.0 k h))
+found-test k n a e es true s h rest = found-same k n a e es (bytes_eq k n) (ap (λ (x : List ℕ). bytes_eq x n) (same_name e.0 k h))
 found-test k n a e es false true h rest = refl
 found-test k n a e es false false h rest =
     ap (λ (o : Option App). cond (bytes_eq e.0 n) (Some e.1) o) rest ∙ found-other k n a e (lookup es n) (bytes_eq e.0 n) (bytes_eq k n) refl refl h
@@ -68,7 +67,7 @@ pub lookup-insert : (es : List (List ℕ × App)) (k n : List ℕ) (a : App) →
 lookup-insert [] k n a = refl
 lookup-insert (e ∷ es) k n a = found-test k n a e es (bytes_eq e.0 k) (name_before k e.0) refl (lookup-insert es k n a)
 
-free-one : (n : List ℕ) (p : ℕ) (es : List (List ℕ × App)) → Free n p es → OneAt n p es
+pub free-one : (n : List ℕ) (p : ℕ) (es : List (List ℕ × App)) → Free n p es → OneAt n p es
 free-one n p [] f = tt
 free-one n p (e ∷ es) f = (f.0 ∙ sym (ne_eqb (e.1).place p f.1), free-one n p es f.2)
 
@@ -94,11 +93,11 @@ found-kind m n a b bs names true true long e nm rest free l =
     let is : Some (app_at m b.place) ≡ Some a = sym (lookup-insert (apps_of m bs) k n (app_at m b.place) ∙ ap (λ (x : Bool). cond x (Some (app_at m b.place)) (lookup (apps_of m bs) n)) e) ∙ l in
     let same : app_at m b.place ≡ a = cc in
     let place : b.place ≡ a.place = ap (λ (x : App). x.place) same in
-    let clear : Free n b.place (apps_of m bs) = subst (λ (x : List ℕ). Free x b.place (apps_of m bs)) (same-name k n e) (free (k ∷ names) k (has-self k names) nm.2) in (
+    let clear : Free n b.place (apps_of m bs) = subst (λ (x : List ℕ). Free x b.place (apps_of m bs)) (same_name k n e) (free (k ∷ names) k (has-self k names) nm.2) in (
       omega (arith, place),
       or_left (b.place == a.place) (has_span a.place (used_spans bs)) (eq-eqb b.place a.place place),
       one-insert (apps_of m bs) n k a.place (app_at m b.place) (e ∙ sym (eq-eqb b.place a.place place)) (free-one n a.place (apps_of m bs) (subst (λ (q : ℕ). Free n q (apps_of m bs)) place clear)),
-      sym (ap (λ (q : ℕ). name_at m q) place) ∙ same-name k n e,
+      sym (ap (λ (q : ℕ). name_at m q) place) ∙ same_name k n e,
     )
 found-kind m n a b bs names true false long e nm rest free l =
     let k = name_at m b.place in
@@ -127,11 +126,11 @@ pub record FoundIn (m : List (List ℕ)) (n : List ℕ) (a : App) : Type 0 where
 
 pub found-application : (m : List (List ℕ)) (n : List ℕ) (a : App) → IsSized m → look m ≡ Closed → IsWellLaid m → lookup (means m).apps n ≡ Some a → FoundIn m n a
 found-application m n a image closed h l =
-    let f : Faultless m = faultless m (sym (fault-closed m closed) ∙ h) in
+    let f : Faultless m = faultless m (sym (closed_fault m closed) ∙ h) in
     let laid : WellLaid m = well-laid m image closed h in
-    let found : ApplicationFound m n (blocks m) 131 a = found-all m n a (blocks m) 131 false (length m) [] laid.tiled (named m (blocks m) [] 0 f.records) (sym (ap (λ (k : Card). lookup k.apps n) (means-closed m closed)) ∙ l) in
+    let found : ApplicationFound m n (blocks m) 131 a = found-all m n a (blocks m) 131 false (length m) [] laid.tiled (named m (blocks m) [] 0 f.records) (sym (ap (λ (k : Card). lookup k.apps n) (closed_means m closed)) ∙ l) in
     record {
-      span = subst (λ (ss : List (ℕ × ℕ)). has_span a.place ss ≡ true) (sym (ap (λ (k : Card). spans k) (means-closed m closed) ∙ laid.spans)) found.span;
-      one = subst (λ (k : Card). OneAt n a.place k.apps) (sym (means-closed m closed)) found.one;
+      span = subst (λ (ss : List (ℕ × ℕ)). has_span a.place ss ≡ true) (sym (ap (λ (k : Card). spans k) (closed_means m closed) ∙ laid.spans)) found.span;
+      one = subst (λ (k : Card). OneAt n a.place k.apps) (sym (closed_means m closed)) found.one;
       name = found.name;
     }

@@ -2,29 +2,22 @@
 use Rattle.std.proofs.Common.{◌≡◌, ℕ, ◌+◌, ◌<◌, ◌≤◌, Bool, true, false, ◌&&◌, List, [], ◌∷◌, length, Option, Some, None, refl, sym, ◌∙◌, ap, subst, arith, cond, not}
 use Rattle.std.specs.Prelude.{nat_lt, ◌==◌, slice_index, MatchBool}
 use Rattle.std.proofs.lemmas.Bool.{and_parts, eqb-true, not-true}
-use Rattle.mc_model_device.specs.Bytes.{up, be2, has_name, or_else, insert}
-use Rattle.mc_model_device.specs.Image.{Look, Closed, look, replayed}
+use Rattle.mc_model_device.specs.Bytes.{up, be2, has_name, insert}
+use Rattle.mc_model_device.specs.Image.{Closed, look}
 use Rattle.mc_model_device.specs.Device.{IsSized}
-use Rattle.mc_model_device.specs.Card.{App, Block, blocks, section, record_at, name_in, name_at, app_at, apps_of, card_of, words_after, means, needed, needed_of, heap_start}
-use Rattle.mc_model_device.specs.Layout.{spans, spans_of, gaps, gaps_from, put_at, no_root, is_record, bad_block, bad_record, bad_chain, by_cause, words_fault, fault_of, fault, IsWellLaid}
-use Rattle.mc_model_device.specs.declared.cause.Cause.{Cause}
+use Rattle.mc_model_device.specs.Card.{App, Block, blocks, section, record_at, name_in, name_at, app_at, apps_of, card_of, needed, needed_of, heap_start}
+use Rattle.mc_model_device.specs.Layout.{spans, spans_of, gaps, gaps_from, put_at, no_root, is_record, bad_block, bad_record, bad_chain, words_fault, IsWellLaid}
 use Rattle.mc_blocks.specs.Chains.{SpansAbove}
 use Rattle.mc_blocks.specs.Blocks.{used_spans, hole_spans, admitted}
 use Rattle.mc_blocks.proofs.Sections.{length-section}
 use Rattle.mc_blocks.proofs.Steps.{blocks_all}
 use Rattle.mc_blocks.proofs.Headers.{bad_all}
 use Rattle.mc_blocks.proofs.Tiles.{Tiled, HeadersRead, BlocksWalked, all-walked, gaps_are_holes}
-use Rattle.mc_blocks.proofs.Maps.{put-front, above-weaker, Free, spans-insert, free-insert, length-spans, names-apart, has-self, has-more}
+use Rattle.mc_blocks.proofs.Maps.{put-front, above-weaker, Free, spans-insert, free-insert, names-apart, has-self, has-more}
+use Rattle.mc_model_device.proofs.BoolLemmas.{or_else-none}
+use Rattle.mc_model_device.proofs.LayoutLemmas.{cause-none, closed_fault, length-spans}
 
 -- ---- the parts of a fault
-
-else-none : {A : Type 0} (o q : Option A) → or_else o q ≡ None → (o ≡ None) × (q ≡ None)
-else-none None q h = (refl, h)
-else-none (Some x) q h = absurd (cc h)
-
-cause-none : (c : Cause) (o : Option ℕ) → by_cause c o ≡ None → o ≡ None
-cause-none c None h = refl
-cause-none c (Some p) h = absurd (cc h)
 
 -- words without a fault
 pub record Faultless (m : List (List ℕ)) : Type 0 where
@@ -35,17 +28,10 @@ pub record Faultless (m : List (List ℕ)) : Type 0 where
 
 pub faultless : (m : List (List ℕ)) → words_fault m ≡ None → Faultless m
 faultless m h =
-    let first = else-none _ _ h in
-    let second = else-none _ _ first.1 in
-    let third = else-none _ _ second.1 in
+    let first = or_else-none _ _ h in
+    let second = or_else-none _ _ first.1 in
+    let third = or_else-none _ _ second.1 in
     record { root = cause-none _ _ first.0; headers = cause-none _ _ second.0; records = cause-none _ _ third.0; chain = cause-none _ _ third.1 }
-
--- with a closed journal an image is its own words
-pub fault-closed : (m : List (List ℕ)) → look m ≡ Closed → fault m ≡ words_fault m
-fault-closed m h = ap (λ (l : Look). fault_of l m) h
-
-pub means-closed : (m : List (List ℕ)) → look m ≡ Closed → means m ≡ card_of m
-means-closed m h = ap (λ (l : Look). card_of (words_after (replayed m l) m)) h
 
 -- a block whose record is good takes the words that its application needs
 needed-is : (m : List (List ℕ)) (p words : ℕ) → IsSized m → is_record (record_at m p) words ≡ true → p + words ≤ length m → needed (app_at m p) ≡ words
@@ -183,4 +169,4 @@ laid m image h =
 
 -- the same of an image with a closed journal
 pub well-laid : (m : List (List ℕ)) → IsSized m → look m ≡ Closed → IsWellLaid m → WellLaid m
-well-laid m image closed h = laid m image (sym (fault-closed m closed) ∙ h)
+well-laid m image closed h = laid m image (sym (closed_fault m closed) ∙ h)

@@ -16,6 +16,7 @@ use Rattle.mc_blocks.proofs.Tiles.{Tiled, HeadersRead}
 use Rattle.mc_blocks.proofs.Taking.{tiled-end}
 use Rattle.mc_blocks.proofs.Applications.{few-blocks}
 use Rattle.mc_blocks.proofs.Bridge.{AreNamed, Faultless, faultless, WellLaid, laid, named, some-apps, no-apps}
+use Rattle.mc_blocks.proofs.Search.{chain-parts}
 
 -- ---- the walk finds the blocks
 
@@ -177,10 +178,6 @@ same-all m n names (b ∷ bs) size r nm a =
       named = all.0;
       apps = some-apps n b bs ∙ all.2 ∙ sym (some-apps m b bs);
     }
-
-pub chain-parts : (x first : ℕ) (rest : Option ℕ) (t : Bool) → (x == first) ≡ t → or_else (cond t None (Some 0)) rest ≡ None → (x ≡ first) × (rest ≡ None)
-chain-parts x first rest true e h = (eqb-true x first e, h)
-chain-parts x first rest false e h = absurd (cc h)
 
 card-parts : (n m : List (List ℕ)) → length n ≡ length m → slice_index (word n 0) 3 ≡ slice_index (word m 0) 3 → apps_of n (blocks n) ≡ apps_of m (blocks m) → card_of n ≡ card_of m
 card-parts n m size version apps =

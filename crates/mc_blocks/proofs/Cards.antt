@@ -2,26 +2,25 @@
 use Rattle.std.proofs.Common.{◌≡◌, ◌≢◌, ◌⊎◌, ℕ, ◌+◌, ◌-◌, ◌<◌, ◌≤◌, Bool, true, false, ◌||◌, List, [], ◌∷◌, Option, Some, None, refl, sym, ◌∙◌, ap, subst, inl, inr, arith, cond, not}
 use Rattle.std.specs.Prelude.{nat_lt, ◌==◌, bytes_eq, MatchBool}
 use Rattle.std.specs.List.{AllByRecursion, list_any}
-use Rattle.std.proofs.lemmas.Bool.{eq-eqb, and_from, or_left, or_right, or_parts, or_cases, eqb-true}
-use Rattle.std.proofs.lemmas.Slice.Eq.{bytes_eq-Decides}
+use Rattle.std.proofs.lemmas.Bool.{or_left, or_right, or_parts, or_cases, eqb-true}
 use Rattle.mc_model_device.specs.Bytes.{insert, lookup, has_name}
 use Rattle.mc_model_device.specs.Card.{App, Block, record_at, name_in, name_at, app_at, apps_of}
 use Rattle.mc_model_device.specs.Layout.{first_hole, hole_header, used_header, same_pair, is_record}
-use Rattle.mc_model_device.proofs.ListLemmas.{or-swap, other-name as turned}
 use Rattle.mc_blocks.specs.Blocks.{used_spans, hole_spans}
 use Rattle.mc_blocks.specs.Plans.{changes, has_room, has_span}
 use Rattle.mc_blocks.specs.Chains.{SpansAbove}
 use Rattle.mc_blocks.proofs.Tiles.{Tiled}
 use Rattle.mc_blocks.proofs.Bridge.{AreNamed, with-block, some-apps, no-apps, used-above}
-use Rattle.mc_blocks.proofs.Changes.{From}
+use Rattle.mc_blocks.proofs.Changes.{From, self-pair}
 use Rattle.mc_blocks.proofs.Heads.{heads, heads-from}
 use Rattle.mc_blocks.proofs.Applications.{lookup-insert}
 use Rattle.mc_blocks.proofs.Taking.{used_block, free_block, rest_of, take_in, RoomAt, room-at, taken-here, taken-later}
 use Rattle.mc_blocks.proofs.Maps.{names-apart, has-self, has-more}
 use Rattle.mc_blocks.proofs.Freeing.{with_hole, free_in, SpanAt, span-at, freed-here, freed-touching, freed-later}
-use Rattle.mc_blocks.proofs.Names.{insert-swap}
 use Rattle.mc_blocks.proofs.Written.{relink, from-apart, changes-from}
 use Rattle.mc_blocks.proofs.Built.{SameBlock}
+use Rattle.mc_model_device.proofs.MapLemmas.{other_way as turned, insert-swap}
+use Rattle.mc_model_device.proofs.BoolLemmas.{or-swap}
 
 -- ---- the words that a plan leaves
 
@@ -33,9 +32,6 @@ In s (t ∷ ts) = (t ≡ s) ⊎ In s ts
 pub in-above : (p : ℕ) (s : ℕ × ℕ) (l : List (ℕ × ℕ)) → SpansAbove p l → In s l → p ≤ s.0
 in-above p s [] a i = absurd i
 in-above p s (t ∷ ts) a i = elim i [ inl here ↦ subst (λ (x : ℕ × ℕ). p ≤ x.0) here a.0 | inr later ↦ in-above p s ts a.1 later ]
-
-self-pair : (e : ℕ × List ℕ) → same_pair e e ≡ true
-self-pair e = and_from (e.0 == e.0) (bytes_eq e.1 e.1) (eq-eqb e.0 e.0 refl) ((bytes_eq-Decides e.1 e.1).1 refl)
 
 old-kind : (s : ℕ × ℕ) (b : Block) (bs : List Block) (u : Bool) → In s (cond u ((b.place, b.words) ∷ used_spans bs) (used_spans bs)) → (In s (used_spans bs) → list_any (same_pair (s.0, used_header s.1)) (heads bs) ≡ true)
     → (same_pair (s.0, used_header s.1) (b.place, cond u (used_header b.words) (hole_header b.words (first_hole bs))) || list_any (same_pair (s.0, used_header s.1)) (heads bs)) ≡ true

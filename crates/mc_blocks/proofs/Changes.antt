@@ -7,6 +7,7 @@ use Rattle.std.proofs.lemmas.List.Elements.{filter-append}
 use Rattle.std.proofs.lemmas.Slice.Eq.{bytes_eq-Decides}
 use Rattle.mc_model_device.specs.Layout.{same_pair, hole_header, root}
 use Rattle.mc_blocks.specs.Plans.{changes, link_word}
+use Rattle.std.proofs.lemmas.List.Folds.{list_any-append}
 
 -- all places from p on, and all places before p
 abbrev pub From : ℕ → List (ℕ × List ℕ) → Type 0
@@ -42,10 +43,6 @@ or-or : (a b c : Bool) → (a || (b || c)) ≡ ((a || b) || c)
 or-or true b c = refl
 or-or false b c = refl
 
-any-append : (t : ℕ × List ℕ → Bool) (xs ys : List (ℕ × List ℕ)) → list_any t (xs ++ ys) ≡ (list_any t xs || list_any t ys)
-any-append t [] ys = refl
-any-append t (x ∷ xs) ys = ap (λ (b : Bool). t x || b) (any-append t xs ys) ∙ or-or (t x) (list_any t xs) (list_any t ys)
-
 or-false : (a b : Bool) → b ≡ false → (a || b) ≡ a
 or-false true b h = refl
 or-false false b h = h
@@ -53,13 +50,13 @@ or-false false b h = h
 front : (p : ℕ) (a b new : List (ℕ × List ℕ)) → From p b → Before p new → changes (a ++ b) new ≡ changes a new
 front p a b [] f n = refl
 front p a b (x ∷ xs) f n =
-    ap (λ (t : Bool). cond (not t) (x ∷ changes (a ++ b) xs) (changes (a ++ b) xs)) (any-append (same_pair x) a b ∙ or-false (list_any (same_pair x) a) (list_any (same_pair x) b) (none-from x p b n.0 f))
+    ap (λ (t : Bool). cond (not t) (x ∷ changes (a ++ b) xs) (changes (a ++ b) xs)) (list_any-append (same_pair x) a b ∙ or-false (list_any (same_pair x) a) (list_any (same_pair x) b) (none-from x p b n.0 f))
     ∙ ap (λ (l : List (ℕ × List ℕ)). cond (not (list_any (same_pair x) a)) (x ∷ l) l) (front p a b xs f n.1)
 
 pub back : (p : ℕ) (a b new : List (ℕ × List ℕ)) → Before p a → From p new → changes (a ++ b) new ≡ changes b new
 back p a b [] f n = refl
 back p a b (x ∷ xs) f n =
-    ap (λ (t : Bool). cond (not t) (x ∷ changes (a ++ b) xs) (changes (a ++ b) xs)) (any-append (same_pair x) a b ∙ ap (λ (t : Bool). t || list_any (same_pair x) b) (none-before x p a n.0 f))
+    ap (λ (t : Bool). cond (not t) (x ∷ changes (a ++ b) xs) (changes (a ++ b) xs)) (list_any-append (same_pair x) a b ∙ ap (λ (t : Bool). t || list_any (same_pair x) b) (none-before x p a n.0 f))
     ∙ ap (λ (l : List (ℕ × List ℕ)). cond (not (list_any (same_pair x) b)) (x ∷ l) l) (back p a b xs f n.1)
 
 -- the changes before a place, and those from it on
@@ -69,7 +66,7 @@ split p a b c d ba fb bc fd =
     ∙ ap (λ (l : List (ℕ × List ℕ)). l ++ changes (a ++ b) d) (front p a b c fb bc)
     ∙ ap (λ (l : List (ℕ × List ℕ)). changes a c ++ l) (back p a b d ba fd)
 
-self-pair : (e : ℕ × List ℕ) → same_pair e e ≡ true
+pub self-pair : (e : ℕ × List ℕ) → same_pair e e ≡ true
 self-pair e = and_from (e.0 == e.0) (bytes_eq e.1 e.1) (eq-eqb e.0 e.0 refl) ((bytes_eq-Decides e.1 e.1).1 refl)
 
 pub one-same : (e : ℕ × List ℕ) → changes (e ∷ []) (e ∷ []) ≡ []

@@ -6,13 +6,13 @@ use Rattle.std.proofs.lemmas.List.{map-append}
 use Rattle.mc_model_device.specs.Bytes.{be2, has_name, up}
 use Rattle.mc_model_device.specs.Card.{Block, word, header, blocks, record_at, name_in, needed_of}
 use Rattle.mc_model_device.specs.Layout.{is_record, bad_record}
-use Rattle.mc_model_device.proofs.ListLemmas.{or-swap as swapped}
 use Rattle.mc_blocks.specs.Blocks.{fitting, blocks_at, admitted, Admits}
 use Rattle.mc_blocks.proofs.Steps.{blocks_step, blocks_stop, blocks_all}
+use Rattle.mc_model_device.proofs.BoolLemmas.{or-swap as swapped}
 
 -- a block of fewer than six words has no record
-six : (r : List ℕ) (w : ℕ) → is_record r w ≡ true → 6 ≤ w
-six r w h =
+pub long_enough : (r : List ℕ) (w : ℕ) → is_record r w ≡ true → 6 ≤ w
+long_enough r w h =
     let n = slice_index r 16 in
     let all = and_parts _ (w == needed_of (be2 r 20) (be2 r 22) (slice_index r 17) (slice_index r 18)) h in
     let a = and_parts _ _ all.0 in
@@ -27,7 +27,7 @@ six r w h =
     omega (arith, is, part)
 
 pub short_is_none : (r : List ℕ) (w : ℕ) → w < 6 → is_record r w ≡ false
-short_is_none r w h = false_from_ne_true (is_record r w) (λ e. absurd (omega (arith, six r w e)))
+short_is_none r w h = false_from_ne_true (is_record r w) (λ e. absurd (omega (arith, long_enough r w e)))
 
 -- a name among others
 pub name-append : (k x : List ℕ) (ns : List (List ℕ)) → has_name k (ns ++ x ∷ []) ≡ (bytes_eq x k || has_name k ns)

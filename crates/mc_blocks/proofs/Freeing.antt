@@ -15,6 +15,7 @@ use Rattle.mc_blocks.proofs.Changes.{From, from-weaker, under-same, under-other,
 use Rattle.mc_blocks.proofs.Heads.{heads, heads-from, heads-behind, heads-same, layout-is}
 use Rattle.mc_blocks.proofs.Claims.{Claim, later-either}
 use Rattle.mc_blocks.proofs.Taking.{free_block, tiled-end, first-range}
+use Rattle.mc_model_device.proofs.BoolLemmas.{and_false}
 
 -- a hole of k words at q and the blocks behind it, of which the first joins it where it is a hole
 abbrev pub with_hole : ℕ → ℕ → List Block → List Block
@@ -137,10 +138,6 @@ joined-shift q k n (g ∷ gs) =
 
 -- ---- where the block is
 
-and-false : (a : Bool) → (a && false) ≡ false
-and-false true = refl
-and-false false = refl
-
 not-before-hole : (a u : Bool) → u ≡ false → (a && not u) ≡ false → a ≡ false
 not-before-hole false u e h = refl
 not-before-hole true u e h = absurd (cc (sym (ap not e) ∙ h))
@@ -186,7 +183,7 @@ after-hole p r b c cs end true e used before other ends t span =
 after-hole p r b c cs end false e used before other ends t span =
     inr (inr (record {
       other = other;
-      apart = ap (λ (u : Bool). not b.used && u) e ∙ and-false (not b.used);
+      apart = ap (λ (u : Bool). not b.used && u) e ∙ and_false (not b.used);
       span = span;
       before = before;
       ends = λ _ same. eqb-false c.place p e (t.0 ∙ sym ends ∙ same);

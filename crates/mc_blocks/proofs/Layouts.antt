@@ -4,17 +4,19 @@ use Rattle.std.specs.Prelude.{nat_le, nat_lt, ◌==◌, slice_index, bytes_eq}
 use Rattle.std.specs.List.{AllByRecursion}
 use Rattle.std.proofs.lemmas.Bool.{and_parts, eqb-true}
 use Rattle.std.proofs.lemmas.Slice.Eq.{bytes_eq-Decides}
-use Rattle.mc_model_device.specs.Bytes.{AreBytes, be2, bytes2, or_else}
+use Rattle.mc_model_device.specs.Bytes.{AreBytes, be2, bytes2}
 use Rattle.mc_model_device.specs.Device.{IsImage, sized}
-use Rattle.mc_model_device.specs.Image.{Look, Refused, Closed, Pending, look, replayed, after}
+use Rattle.mc_model_device.specs.Image.{look, after}
 use Rattle.mc_model_device.specs.Card.{Block, used_tag, hole_tag, word, is_header, header, blocks, card_of, words_after, means}
-use Rattle.mc_model_device.specs.Layout.{put_at, spans, gaps, first_place, first_hole, hole_header, used_header, root, chained, with_used, layout, no_root, bad_link, words_fault, fault_of, IsWellLaid}
+use Rattle.mc_model_device.specs.Layout.{put_at, spans, gaps, first_place, first_hole, hole_header, used_header, root, chained, with_used, layout, no_root, bad_link, words_fault, IsWellLaid}
 use Rattle.mc_model_device.proofs.LookLemmas.{IsFull}
 use Rattle.mc_model_device.proofs.ImageBytes.{image-settled}
 use Rattle.mc_blocks.specs.Blocks.{used_spans, hole_spans}
 use Rattle.mc_blocks.proofs.Steps.{header-is}
 use Rattle.mc_blocks.proofs.Tiles.{HeadersRead, first-is}
 use Rattle.mc_blocks.proofs.Bridge.{WellLaid, laid}
+use Rattle.mc_model_device.proofs.LayoutLemmas.{sound-after}
+use Rattle.mc_blocks.proofs.Search.{link-none, chain-parts}
 
 -- ---- words of eight bytes
 
@@ -119,14 +121,10 @@ full-at m b is ends image =
     let low : 1 ≤ b.words = (header-is b.place (word m b.place) b is).low in
     (image.words b.place (omega arith), image.bytes b.place)
 
-link-step : (b : Block) (l : ℕ) (rest : Option ℕ) (t : Bool) → (b.link == l) ≡ t → cond t rest (Some b.place) ≡ None → (b.link ≡ l) × (rest ≡ None)
-link-step b l rest true e h = (eqb-true b.link l e, h)
-link-step b l rest false e h = absurd (cc h)
-
 blocks-stand : (m : List (List ℕ)) (bs : List Block) → IsImage m → HeadersRead m bs → bad_link bs ≡ None → Used m (used_spans bs) × Stand m (chained (hole_spans bs))
 blocks-stand m [] image r h = (tt, tt)
 blocks-stand m (b ∷ bs) image r h =
-    let link = link-step b (cond b.used 0 (first_hole bs)) (bad_link bs) (b.link == cond b.used 0 (first_hole bs)) refl h in
+    let link = link-none b (cond b.used 0 (first_hole bs)) (bad_link bs) (b.link == cond b.used 0 (first_hole bs)) refl h in
     by b.used refl (blocks-stand m bs image r.2 link.1) link.0
   where
     by : (u : Bool) → b.used ≡ u → Used m (used_spans bs) × Stand m (chained (hole_spans bs)) → b.link ≡ cond u 0 (first_hole bs)
@@ -162,10 +160,6 @@ root-stands m first image h last =
     let both = and_parts (v == 1 || v == 2) (bytes_eq (take 6 x) (take 6 (root v (length m) 0))) (rooted _ h) in
     root-form x v (length m) first (image.words 0 (omega arith), image.bytes 0) ((bytes_eq-Decides (take 6 x) (take 6 (root v (length m) 0))).0 both.1) last
 
-chain-parts : (a f : ℕ) (o : Option ℕ) (t : Bool) → (a == f) ≡ t → or_else (cond t None (Some 0)) o ≡ None → (a ≡ f) × (o ≡ None)
-chain-parts a f o true e h = (eqb-true a f e, h)
-chain-parts a f o false e h = absurd (cc h)
-
 -- ---- the layout
 
 layout-stands : (m : List (List ℕ)) → IsImage m → words_fault m ≡ None → Stand m (layout (card_of m))
@@ -179,11 +173,6 @@ layout-stands m image good =
     let used : Used m (spans (card_of m)) = subst (λ (s : List (ℕ × ℕ)). Used m s) (sym l.spans) all.0 in
     let first : be2 (word m 0) 6 ≡ first_place (gaps (card_of m)) = chain.0 ∙ first-is bs ∙ ap first_place (sym l.gaps) in
     (root-stands m (first_place (gaps (card_of m))) image l.root first, with-stands m (spans (card_of m)) (chained (gaps (card_of m))) used holes)
-
-sound-after : (m : List (List ℕ)) (l : Look) → look m ≡ l → fault_of l m ≡ None → words_fault (words_after (after m) m) ≡ None
-sound-after m (Refused p) e h = absurd (cc h)
-sound-after m Closed e h = ap (λ (k : Look). words_fault (words_after (replayed m k) m)) e ∙ h
-sound-after m (Pending j ps) e h = h
 
 -- an image without a fault, once its journal is replayed
 pub layout-law : (m : List (List ℕ)) → IsImage m → IsWellLaid m → Stand (words_after (after m) m) (layout (means m))

@@ -19,7 +19,6 @@ pub mod Built
 pub mod Written
 pub mod Cards
 pub mod Outcome
-pub mod Names
 pub mod Setting
 pub mod Layouts
 pub mod Sections

@@ -11,6 +11,7 @@ use Rattle.mc_blocks.specs.Chains.{SpansAbove, IsChain}
 use Rattle.mc_blocks.specs.Blocks.{hole_spans}
 use Rattle.mc_blocks.specs.Plans.{names_before, gap_before, gaps_behind, joined_words, joined_next, has_room}
 use Rattle.mc_blocks.proofs.Search.{GapChain, chain-of, left_of, next-nearer}
+use Rattle.mc_blocks.proofs.Taking.{room-from}
 
 chain-cut : (m : List (List ℕ)) (p : ℕ) (g : ℕ × ℕ) (gs : List (ℕ × ℕ)) (t : Bool) → IsChain m (g ∷ gs) → IsChain m (gaps_behind p gs) → IsChain m (cond t (gaps_behind p gs) (g ∷ gs))
 chain-cut m p g gs true c rest = rest
@@ -157,15 +158,6 @@ hole-first m need g gs c fits =
       next = c.4;
     }
 
-room-above : (q p need : ℕ) (gs : List (ℕ × ℕ)) → SpansAbove q gs → has_room p need gs ≡ true → q ≤ p
-room-above q p need [] a h = absurd (cc h)
-room-above q p need (g ∷ gs) a h =
-    let low : q ≤ g.0 = a.0 in
-    elim (or_cases (g.0 == p && nat_le need g.1) (has_room p need gs) h) [
-      | inl here ↦ let is : g.0 ≡ p = eqb-true g.0 p (and_parts (g.0 == p) (nat_le need g.1) here).0 in omega arith
-      | inr later ↦ room-above q p need gs a.1 later
-    ]
-
 pub hole-at : (m : List (List ℕ)) (p need : ℕ) (gs : List (ℕ × ℕ)) → IsChain m gs → has_room p need gs ≡ true → HoleAt m p need gs
 hole-at m p need [] c h = absurd (cc h)
 hole-at m p need (g ∷ gs) c h =
@@ -174,7 +166,7 @@ hole-at m p need (g ∷ gs) c h =
           let parts = and_parts (g.0 == p) (nat_le need g.1) here in
           subst (λ (q : ℕ). HoleAt m q need (g ∷ gs)) (eqb-true g.0 p parts.0) (hole-first m need g gs c (leb-true need g.1 parts.1))
       | inr later ↦
-          let far : g.0 + 1 ≤ p = room-above (g.0 + 1) p need gs c.5 later in
+          let far : g.0 + 1 ≤ p = room-from (g.0 + 1) p need gs c.5 later in
           let there : HoleAt m p need gs = hole-at m p need gs c.6 later in
           record { long = there.long; ends = there.ends; some = there.some; rest = there.rest; behind = ap (λ (t : Bool). cond t (gaps_behind p gs) (g ∷ gs)) (lt-ltb g.0 p (omega arith)) ∙ there.behind; next = there.next }
     ]

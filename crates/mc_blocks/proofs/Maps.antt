@@ -1,5 +1,5 @@
 -- Spans in the order of their places, whatever the order of the names.
-use Rattle.std.proofs.Common.{◌≡◌, ◌≢◌, ℕ, ◌+◌, ◌<◌, ◌≤◌, Bool, true, false, ◌||◌, List, [], ◌∷◌, length, Some, None, refl, sym, ◌∙◌, ap, inl, inr, arith, cond}
+use Rattle.std.proofs.Common.{◌≡◌, ◌≢◌, ℕ, ◌+◌, ◌<◌, ◌≤◌, Bool, true, false, ◌||◌, List, [], ◌∷◌, Some, None, refl, sym, ◌∙◌, ap, inl, inr, arith, cond}
 use Rattle.std.specs.Prelude.{nat_lt, ◌==◌, bytes_eq}
 use Rattle.std.proofs.lemmas.Bool.{lt-ltb, le-ltb, ltb-true, ltb-false, eq-eqb, eqb-true, eqb-false, cases_lt, or_cases, or_parts, cases_Bool, false_from_ne_true}
 use Rattle.std.proofs.lemmas.Bool.Decides.{nat_tests}
@@ -7,9 +7,10 @@ use Rattle.std.proofs.lemmas.Slice.Eq.{bytes_eq-Decides}
 use Rattle.mc_model_device.specs.Bytes.{insert, remove, lookup, name_before, has_name}
 use Rattle.mc_model_device.specs.Card.{App, needed}
 use Rattle.mc_model_device.specs.Layout.{put_at, spans_of}
-use Rattle.mc_model_device.proofs.ListLemmas.{or-swap}
 use Rattle.mc_blocks.specs.Chains.{SpansAbove}
 use Rattle.mc_blocks.specs.Plans.{has_span, without}
+use Rattle.mc_model_device.proofs.BoolLemmas.{or-swap}
+use Rattle.mc_model_device.proofs.MapLemmas.{name_is_itself}
 
 -- ---- spans put in order
 
@@ -46,14 +47,6 @@ swap-one p q x y false false a b ne = absurd (grind (arith, nat_tests, a, b, ne)
 pub put-put : {A : Type 0} (p q : ℕ) (x y : A) (l : List (ℕ × A)) → p ≢ q → put_at p x (put_at q y l) ≡ put_at q y (put_at p x l)
 put-put p q x y [] ne = swap-one p q x y (nat_lt p q) (nat_lt q p) refl refl ne
 put-put p q x y (e ∷ es) ne = swap-cons p q x y e es (nat_lt p e.0) (nat_lt q e.0) refl refl ne (put-put p q x y es ne)
-
-length-test : {A : Type 0} (t : Bool) (p : ℕ) (x : A) (e : ℕ × A) (es more : List (ℕ × A)) → length more ≡ length es + 1 → length (cond t ((p, x) ∷ e ∷ es) (e ∷ more)) ≡ length es + 2
-length-test true p x e es more h = omega arith
-length-test false p x e es more h = omega (arith, h)
-
-pub length-put : {A : Type 0} (p : ℕ) (x : A) (l : List (ℕ × A)) → length (put_at p x l) ≡ length l + 1
-length-put p x [] = refl
-length-put p x (e ∷ es) = let h = length-test (nat_lt p e.0) p x e es (put_at p x es) (length-put p x es) in omega (arith, h)
 
 -- before all others
 pub put-front : (p n : ℕ) (l : List (ℕ × ℕ)) → SpansAbove (p + 1) l → put_at p n l ≡ (p, n) ∷ l
@@ -95,14 +88,7 @@ pub free-insert : (es : List (List ℕ × App)) (n k : List ℕ) (p : ℕ) (a : 
 free-insert [] n k p a h ne f = (h, ne, tt)
 free-insert (e ∷ es) n k p a h ne f = free-entry n k p a e es (bytes_eq e.0 n) (name_before n e.0) h ne f (free-insert es n k p a h ne f.2)
 
-pub length-spans : (es : List (List ℕ × App)) → length (spans_of es) ≡ length es
-length-spans [] = refl
-length-spans (e ∷ es) = let more = length-put (e.1).place (needed e.1) (spans_of es) in let rest = length-spans es in omega (arith, more, rest)
-
 -- ---- names
-
-same-bytes : (k : List ℕ) → bytes_eq k k ≡ true
-same-bytes k = (bytes_eq-Decides k k).1 refl
 
 -- a name that is in a list, and one that is not, differ
 pub names-apart : (names : List (List ℕ)) (k n : List ℕ) → has_name k names ≡ true → has_name n names ≡ false → bytes_eq n k ≡ false
@@ -113,12 +99,12 @@ names-apart (x ∷ xs) k n there absent =
       | inl here ↦ false_from_ne_true (bytes_eq n k) (λ e.
           let x-is : x ≡ k = (bytes_eq-Decides x k).0 here in
           let n-is : n ≡ k = (bytes_eq-Decides n k).0 e in
-          absurd (cc (sym (ap (λ (y : List ℕ). bytes_eq y n) (x-is ∙ sym n-is) ∙ same-bytes n) ∙ parts.0)))
+          absurd (cc (sym (ap (λ (y : List ℕ). bytes_eq y n) (x-is ∙ sym n-is) ∙ name_is_itself n) ∙ parts.0)))
       | inr behind ↦ names-apart xs k n behind parts.1
     ]
 
 pub has-self : (k : List ℕ) (names : List (List ℕ)) → has_name k (k ∷ names) ≡ true
-has-self k names = ap (λ (t : Bool). t || has_name k names) (same-bytes k)
+has-self k names = ap (λ (t : Bool). t || has_name k names) (name_is_itself k)
 
 pub has-more : (k x : List ℕ) (names : List (List ℕ)) → has_name k names ≡ true → has_name k (x ∷ names) ≡ true
 has-more k x names h = elim (cases_Bool (bytes_eq x k)) [ inl t ↦ ap (λ (s : Bool). s || has_name k names) t | inr f ↦ ap (λ (s : Bool). s || has_name k names) f ∙ h ]

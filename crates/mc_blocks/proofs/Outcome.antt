@@ -8,24 +8,26 @@ use Rattle.mc_model_device.specs.Image.{Closed, look, Two}
 use Rattle.mc_model_device.specs.Device.{IsSized}
 use Rattle.mc_model_device.specs.Card.{App, Card, Block, word, blocks, means, record_at, name_at, app_at, apps_of}
 use Rattle.mc_model_device.specs.Layout.{first_hole, gaps, spans, put_at, root, same_pair, is_record, IsWellLaid}
-use Rattle.mc_model_device.specs.Stopped.{InJournal, LaidWhole as WrittenBy}
+use Rattle.mc_model_device.specs.Stopped.{LaidWhole as WrittenBy}
 use Rattle.mc_model_device.proofs.ImageLemmas.{HoldsWords, all-append, laid-other, length-laid}
 use Rattle.mc_blocks.specs.Blocks.{used_spans, hole_spans}
 use Rattle.mc_blocks.specs.Outcomes.{OthersKept, Planned, HoldsApplications}
 use Rattle.mc_blocks.specs.Plans.{changes, layout_of, plan, link_word, without, has_room, has_span}
 use Rattle.mc_blocks.proofs.Tiles.{Tiled, HeadersRead}
-use Rattle.mc_blocks.proofs.Maps.{length-put}
-use Rattle.mc_blocks.proofs.Bridge.{WellLaid, well-laid, means-closed, used-above, AreNamed, named, Faultless, faultless, fault-closed}
+use Rattle.mc_blocks.proofs.Bridge.{WellLaid, well-laid, used-above, AreNamed, named, Faultless, faultless}
 use Rattle.mc_blocks.proofs.Applications.{few-blocks, found-application}
-use Rattle.mc_blocks.proofs.Names.{remove-inserted}
 use Rattle.mc_blocks.proofs.Changes.{from-weaker, split}
 use Rattle.mc_blocks.proofs.Heads.{heads, heads-from, layout-is}
 use Rattle.mc_blocks.proofs.Plans.{plan-is, gaps-are, spans-are}
 use Rattle.mc_blocks.proofs.Taking.{take_in, take-tiled, take-spans}
 use Rattle.mc_blocks.proofs.Freeing.{free_in, free-tiled, free-spans}
-use Rattle.mc_blocks.proofs.Built.{HoldsBlocks, built, same-block, chain-parts, root-good}
+use Rattle.mc_blocks.proofs.Built.{HoldsBlocks, built, same-block, root-good}
 use Rattle.mc_blocks.proofs.Written.{relink, relink-used, Relaid, written, root-apart}
 use Rattle.mc_blocks.proofs.Cards.{In, in-above, in-old, changes-apart, SameUsed, NotNamed, not-named, relink-named, relink-apps, ApplicationInserted, created, Deleted, deleted}
+use Rattle.mc_model_device.proofs.MapLemmas.{remove-inserted}
+use Rattle.mc_model_device.proofs.LookLemmas.{outside_two}
+use Rattle.mc_model_device.proofs.LayoutLemmas.{closed_fault, closed_means, length-put}
+use Rattle.mc_blocks.proofs.Search.{chain-parts}
 
 -- what stands after a plan for the spans of these blocks
 record AfterPlan (m n : List (List ℕ)) (new : List Block) : Type 0 where
@@ -124,7 +126,7 @@ leaves m n new apps closed size r nm few is =
       card = ap (λ (x : ℕ). record { size = x; layout = slice_index (word n 0) 3; apps = apps_of n (blocks n) }) size
           ∙ ap (λ (x : ℕ). record { size = length m; layout = x; apps = apps_of n (blocks n) }) r.version
           ∙ ap (λ (x : List (List ℕ × App)). record { size = length m; layout = slice_index (word m 0) 3; apps = x }) (ap (λ (l : List Block). apps_of n l) s.blocks ∙ relink-apps n new ∙ is)
-          ∙ sym (ap (λ (k : Card). record k { apps = apps }) (means-closed m closed));
+          ∙ sym (ap (λ (k : Card). record k { apps = apps }) (closed_means m closed));
     }
 
 -- words taken for an application whose record stands there
@@ -132,7 +134,7 @@ pub creates : (m n : List (List ℕ)) (p need : ℕ) → IsSized m → look m �
     → is_record (record_at n p) need ≡ true → lookup (means m).apps (name_at n p) ≡ None → length (means m).apps < 32 → HoldsApplications m n (insert (means m).apps (name_at n p) (app_at n p))
 creates m n p need image closed h some room planned good fresh few =
     let l : WellLaid m = well-laid m image closed h in
-    let f : Faultless m = faultless m (sym (fault-closed m closed) ∙ h) in
+    let f : Faultless m = faultless m (sym (closed_fault m closed) ∙ h) in
     let bs = blocks m in
     let free : has_room p need (hole_spans bs) ≡ true = subst (λ (x : List (ℕ × ℕ)). has_room p need x ≡ true) (gaps-are m image closed h) room in
     let new = take_in p need bs in
@@ -140,7 +142,7 @@ creates m n p need image closed h some room planned good fresh few =
     let same-spans : used_spans new ≡ put_at p need (used_spans bs) = take-spans p need 131 false bs (length m) l.tiled free in
     let after : AfterPlan m n new = after-plan m n (put_at p need) new image closed h planned tiled (sym same-spans) in
     let names : AreNamed m [] bs = named m bs [] 0 f.records in
-    let means-apps : (means m).apps ≡ apps_of m bs = ap (λ (k : Card). k.apps) (means-closed m closed) in
+    let means-apps : (means m).apps ≡ apps_of m bs = ap (λ (k : Card). k.apps) (closed_means m closed) in
     let used : SameUsed m n p bs = same-used m n p [] bs planned.size l.read names (λ s i ne. after.same s i (subst (λ (x : List (ℕ × ℕ)). In s x) (sym same-spans) (in-put s p need (used_spans bs) i))) in
     let unnamed : NotNamed m (name_at n p) bs = not-named m (name_at n p) bs (sym (ap (λ (es : List (List ℕ × App)). lookup es (name_at n p)) means-apps) ∙ fresh) in
     let c : ApplicationInserted m n [] (name_at n p) (app_at n p) bs new = created m n p need 131 false [] bs (length m) l.tiled names used unnamed free refl good in
@@ -152,7 +154,7 @@ creates m n p need image closed h some room planned good fresh few =
 pub deletes : (m n : List (List ℕ)) (k : List ℕ) (a : App) → IsSized m → look m ≡ Closed → IsWellLaid m → lookup (means m).apps k ≡ Some a → Planned m n (without a.place (spans (means m))) → HoldsApplications m n (remove (means m).apps k)
 deletes m n k a image closed h found planned =
     let l : WellLaid m = well-laid m image closed h in
-    let f : Faultless m = faultless m (sym (fault-closed m closed) ∙ h) in
+    let f : Faultless m = faultless m (sym (closed_fault m closed) ∙ h) in
     let bs = blocks m in
     let p = a.place in
     let at = found-application m k a image closed h found in
@@ -162,7 +164,7 @@ deletes m n k a image closed h found planned =
     let same-spans : used_spans new ≡ without p (used_spans bs) = free-spans p 131 false bs (length m) l.tiled there in
     let after : AfterPlan m n new = after-plan m n (without p) new image closed h planned tiled (sym same-spans) in
     let names : AreNamed m [] bs = named m bs [] 0 f.records in
-    let means-apps : (means m).apps ≡ apps_of m bs = ap (λ (k : Card). k.apps) (means-closed m closed) in
+    let means-apps : (means m).apps ≡ apps_of m bs = ap (λ (k : Card). k.apps) (closed_means m closed) in
     let used : SameUsed m n p bs = same-used m n p [] bs planned.size l.read names (λ s i ne. after.same s i (subst (λ (x : List (ℕ × ℕ)). In s x) (sym same-spans) (in-without s p (used_spans bs) ne i))) in
     let d : Deleted m n [] (name_at m p) (app_at m p) bs new = deleted m n p 131 false [] bs (length m) l.tiled names used there in
     let few : length (used_spans new) ≤ 32 = omega (arith, ap length same-spans, length-without p (used_spans bs), few-blocks m f) in
@@ -174,17 +176,11 @@ deletes m n k a image closed h found planned =
 
 -- ---- an atomic write of the plan
 
-outside : (q : ℕ) → (q ≡ 0) ⊎ (131 ≤ q) → InJournal Two q → ⊥
-outside q (inl z) (inl i) = absurd (omega (arith, z, i.0))
-outside q (inl z) (inr e) = absurd (omega (arith, z, e))
-outside q (inr h) (inl i) = absurd (omega (arith, h, i.1))
-outside q (inr h) (inr e) = absurd (omega (arith, h, e))
-
 -- what it leaves of words 0 and the heap
 pub written-plan : (m n : List (List ℕ)) (ss : List (ℕ × ℕ)) → WrittenBy Two m (plan (means m) ss) n → Planned m n ss
 written-plan m n ss s =
     let list = plan (means m) ss in
-    let stays : (q : ℕ) → (q ≡ 0) ⊎ (131 ≤ q) → AllByRecursion (λ (e : ℕ × List ℕ). e.0 ≢ q) list → word n q ≡ word m q = λ q at free. s.same.words q (outside q at) ∙ laid-other m list q free in
+    let stays : (q : ℕ) → (q ≡ 0) ⊎ (131 ≤ q) → AllByRecursion (λ (e : ℕ × List ℕ). e.0 ≢ q) list → word n q ≡ word m q = λ q at free. s.same.words q (outside_two q at) ∙ laid-other m list q free in
     record {
       size = s.same.size ∙ length-laid m list;
       stand = s.targets;

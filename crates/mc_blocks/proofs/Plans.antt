@@ -7,18 +7,19 @@ use Rattle.mc_model_device.specs.Image.{Closed, look, within, ascend}
 use Rattle.mc_model_device.specs.Device.{IsSized}
 use Rattle.mc_model_device.specs.Stopped.{IsAtomic}
 use Rattle.mc_model_device.specs.Card.{Card, Block, means, card_of, word, header, blocks}
-use Rattle.mc_model_device.specs.Layout.{gaps, spans, put_at, hole_header, used_header, IsWellLaid}
+use Rattle.mc_model_device.specs.Layout.{first_fitting, layout, step_of, gaps, spans, put_at, hole_header, used_header, IsWellLaid}
 use Rattle.mc_blocks.specs.Chains.{SpansAbove}
 use Rattle.mc_blocks.specs.Blocks.{used_spans, hole_spans}
 use Rattle.mc_blocks.specs.Plans.{changes, layout_of, plan, without, has_room, has_span, link_word, gap_before, gaps_behind, touches, take_front, take_list, joined_words, joined_next, put_hole, free_list}
 use Rattle.mc_blocks.proofs.Steps.{HeaderIs, header-is}
 use Rattle.mc_blocks.proofs.Tiles.{Tiled, HeadersRead}
-use Rattle.mc_blocks.proofs.Bridge.{WellLaid, well-laid, means-closed, used-above}
+use Rattle.mc_blocks.proofs.Bridge.{WellLaid, well-laid, used-above}
 use Rattle.mc_blocks.proofs.Search.{holes-above}
 use Rattle.mc_blocks.proofs.Heads.{layout-spans}
 use Rattle.mc_blocks.proofs.Taking as taking
 use Rattle.mc_blocks.proofs.Freeing as freeing
 use Rattle.mc_blocks.proofs.Links.{chain-behind, gaps-chain, joined-within, HoleAt, hole-at, BeforeAt, before-at, before-cases}
+use Rattle.mc_model_device.proofs.LayoutLemmas.{closed_means}
 
 -- a plan for spans that are made of the card's
 pub plan-is : (m : List (List ℕ)) (f : List (ℕ × ℕ) → List (ℕ × ℕ)) → IsSized m → look m ≡ Closed → IsWellLaid m
@@ -26,15 +27,15 @@ pub plan-is : (m : List (List ℕ)) (f : List (ℕ × ℕ) → List (ℕ × ℕ)
 plan-is m f image closed h =
     let l : WellLaid m = well-laid m image closed h in
     let v = slice_index (word m 0) 3 in
-    ap (λ (k : Card). plan k (f (spans k))) (means-closed m closed)
+    ap (λ (k : Card). plan k (f (spans k))) (closed_means m closed)
     ∙ ap (λ (x : List (ℕ × List ℕ)). changes x (layout_of v (length m) (f (spans (card_of m))))) (layout-spans (card_of m))
     ∙ ap (λ (ss : List (ℕ × ℕ)). changes (layout_of v (length m) ss) (layout_of v (length m) (f ss))) l.spans
 
 pub gaps-are : (m : List (List ℕ)) → IsSized m → look m ≡ Closed → IsWellLaid m → gaps (means m) ≡ hole_spans (blocks m)
-gaps-are m image closed h = ap (λ (k : Card). gaps k) (means-closed m closed) ∙ (well-laid m image closed h).gaps
+gaps-are m image closed h = ap (λ (k : Card). gaps k) (closed_means m closed) ∙ (well-laid m image closed h).gaps
 
 pub spans-are : (m : List (List ℕ)) → IsSized m → look m ≡ Closed → IsWellLaid m → spans (means m) ≡ used_spans (blocks m)
-spans-are m image closed h = ap (λ (k : Card). spans k) (means-closed m closed) ∙ (well-laid m image closed h).spans
+spans-are m image closed h = ap (λ (k : Card). spans k) (closed_means m closed) ∙ (well-laid m image closed h).spans
 
 gaps-above : (m : List (List ℕ)) → IsSized m → look m ≡ Closed → IsWellLaid m → SpansAbove 131 (gaps (means m))
 gaps-above m image closed h = subst (λ (l : List (ℕ × ℕ)). SpansAbove 131 l) (sym (gaps-are m image closed h)) (holes-above 131 false (blocks m) (length m) (well-laid m image closed h).tiled)
@@ -249,3 +250,27 @@ free-listed m p before at words next n items f a b k c d e =
     ∙ ap (λ (x : ℕ). put_hole v (length m) (gap_before p (0, 0) (gaps (means m))) p (joined_words p x hs) (joined_next p x hs)) k
     ∙ sym f.is in
     (same ∙ f.plan, subst (λ (l : List (ℕ × List ℕ)). FewPairs (length m) l) (sym same) f.few)
+
+-- ---- the atomic write between two cards
+
+step-changes : (a b : Card) → step_of a b ≡ changes (layout a) (layout b)
+unfolding step_of
+step-changes a b = refl
+
+-- it is the plan for the spans of the second
+pub step-plan : (a b : Card) (ss : List (ℕ × ℕ)) → b.layout ≡ a.layout → b.size ≡ a.size → spans b ≡ ss → step_of a b ≡ plan a ss
+step-plan a b ss version size same =
+    step-changes a b
+    ∙ ap (λ (l : List (ℕ × List ℕ)). changes (layout a) l) (layout-spans b)
+    ∙ ap (λ (v : ℕ). changes (layout a) (layout_of v b.size (spans b))) version
+    ∙ ap (λ (s : ℕ). changes (layout a) (layout_of a.layout s (spans b))) size
+    ∙ ap (λ (ss : List (ℕ × ℕ)). changes (layout a) (layout_of a.layout a.size ss)) same
+
+room-test : (need p : ℕ) (g : ℕ × ℕ) (gs : List (ℕ × ℕ)) (t : Bool) → nat_le need g.1 ≡ t → cond t (Some g.0) (first_fitting need gs) ≡ Some p → (first_fitting need gs ≡ Some p → has_room p need gs ≡ true) → has_room p need (g ∷ gs) ≡ true
+room-test need p g gs true e h rest = let is : g.0 ≡ p = cc in or_left (g.0 == p && nat_le need g.1) (has_room p need gs) (and_from (g.0 == p) (nat_le need g.1) (eq-eqb g.0 p is) e)
+room-test need p g gs false e h rest = or_right (g.0 == p && nat_le need g.1) (has_room p need gs) (rest h)
+
+-- where the first gap that is long enough is, there is room
+pub first-room : (need p : ℕ) (gs : List (ℕ × ℕ)) → first_fitting need gs ≡ Some p → has_room p need gs ≡ true
+first-room need p [] h = absurd (cc h)
+first-room need p (g ∷ gs) h = room-test need p g gs (nat_le need g.1) refl h (first-room need p gs)

@@ -12,11 +12,12 @@ use Rattle.mc_blocks.specs.Blocks.{hole_spans}
 use Rattle.mc_blocks.proofs.Steps.{HeaderIs, header-is}
 use Rattle.mc_blocks.proofs.Tiles.{Tiled, HeadersRead, first-is}
 use Rattle.mc_blocks.proofs.Maps.{above-weaker}
-use Rattle.mc_blocks.proofs.Bridge.{WellLaid, well-laid, means-closed}
+use Rattle.mc_blocks.proofs.Bridge.{WellLaid, well-laid}
+use Rattle.mc_model_device.proofs.LayoutLemmas.{closed_means}
 
 -- ---- the chain of a well laid image
 
-link-none : (b : Block) (due : ℕ) (rest : Option ℕ) (t : Bool) → (b.link == due) ≡ t → cond t rest (Some b.place) ≡ None → (b.link ≡ due) × (rest ≡ None)
+pub link-none : (b : Block) (due : ℕ) (rest : Option ℕ) (t : Bool) → (b.link == due) ≡ t → cond t rest (Some b.place) ≡ None → (b.link ≡ due) × (rest ≡ None)
 link-none b due rest true e h = (eqb-true b.link due e, h)
 link-none b due rest false e h = absurd (cc h)
 
@@ -45,9 +46,9 @@ chain-all m (b ∷ bs) p a end low t r h =
     (above-weaker (p + b.words) (b.place + 1) (hole_spans bs) (omega arith) (holes-above (p + b.words) (not b.used) bs end t.3))
     (chain-all m bs (p + b.words) (not b.used) end (omega arith) t.3 r.2 links.1)
 
-root-none : (x first : ℕ) (rest : Option ℕ) (t : Bool) → (x == first) ≡ t → or_else (cond t None (Some 0)) rest ≡ None → (x ≡ first) × (rest ≡ None)
-root-none x first rest true e h = (eqb-true x first e, h)
-root-none x first rest false e h = absurd (cc h)
+pub chain-parts : (x first : ℕ) (rest : Option ℕ) (t : Bool) → (x == first) ≡ t → or_else (cond t None (Some 0)) rest ≡ None → (x ≡ first) × (rest ≡ None)
+chain-parts x first rest true e h = (eqb-true x first e, h)
+chain-parts x first rest false e h = absurd (cc h)
 
 -- the gaps of the card that an image means, as its chain
 pub record GapChain (m : List (List ℕ)) : Type 0 where
@@ -58,9 +59,9 @@ pub record GapChain (m : List (List ℕ)) : Type 0 where
 pub chain-of : (m : List (List ℕ)) → IsSized m → look m ≡ Closed → IsWellLaid m → GapChain m
 chain-of m image closed h =
     let l : WellLaid m = well-laid m image closed h in
-    let root = root-none (be2 (word m 0) 6) (first_hole (blocks m)) (bad_link (blocks m)) (be2 (word m 0) 6 == first_hole (blocks m)) refl l.chain in
+    let root = chain-parts (be2 (word m 0) 6) (first_hole (blocks m)) (bad_link (blocks m)) (be2 (word m 0) 6 == first_hole (blocks m)) refl l.chain in
     record {
-      gaps = ap (λ (k : Card). gaps k) (means-closed m closed) ∙ l.gaps;
+      gaps = ap (λ (k : Card). gaps k) (closed_means m closed) ∙ l.gaps;
       chain = chain-all m (blocks m) 131 false (length m) (omega arith) l.tiled l.read root.1;
       first = root.0 ∙ first-is (blocks m);
     }

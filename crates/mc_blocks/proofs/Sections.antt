@@ -1,7 +1,7 @@
 -- The bytes of sections in words: their lengths, and where they are the same.
-use Rattle.std.proofs.Common.{◌≡◌, ℕ, zero, suc, ◌+◌, ◌-◌, ◌*◌, ◌<◌, ◌≤◌, min, List, [], ◌∷◌, ◌++◌, length, take, drop, refl, sym, ◌∙◌, ap, arith, length-append, length-take, append_assoc}
+use Rattle.std.proofs.Common.{◌≡◌, ℕ, zero, suc, ◌+◌, ◌-◌, ◌*◌, ◌<◌, ◌≤◌, min, List, [], ◌++◌, length, take, drop, refl, sym, ◌∙◌, ap, arith, length-append, length-take, append_assoc}
 use Rattle.std.specs.List.{concat}
-use Rattle.std.proofs.lemmas.List.{drop_more, take-append-drop, take-append-le}
+use Rattle.std.proofs.lemmas.List.{drop_more, take-append-drop, take-append-le, take-take}
 use Rattle.mc_model_device.specs.Bytes.{up}
 use Rattle.mc_model_device.specs.Device.{IsSized}
 use Rattle.mc_model_device.specs.Card.{word, cells, section}
@@ -36,12 +36,6 @@ cells-append m (suc a) b p h =
     ∙ ap (λ (q : ℕ). (word m p ++ cells m (p + 1) a) ++ cells m q b) (let e : p + 1 + a ≡ p + suc a = omega arith in e)
     ∙ ap (λ (l : List ℕ). l ++ cells m (p + suc a) b) (sym (cells-more m p a lt))
 
-pub take-twice : {A : Type 0} (i j : ℕ) (l : List A) → i ≤ j → take i (take j l) ≡ take i l
-take-twice zero j l h = refl
-take-twice (suc i) zero l h = absurd (omega arith)
-take-twice (suc i) (suc j) [] h = refl
-take-twice {A} (suc i) (suc j) (x ∷ xs) h = ap (λ (t : List A). x ∷ t) (take-twice i j xs (omega arith))
-
 -- the front of a section
 pub section-front : (m : List (List ℕ)) (p i n : ℕ) → IsSized m → i ≤ n → p + up n 8 ≤ length m → take i (section m p n) ≡ section m p i
 section-front m p i n image few h =
@@ -50,7 +44,7 @@ section-front m p i n image few h =
     let parts : up n 8 ≡ up i 8 + k = omega arith in
     let whole : length (cells m p (up i 8)) ≡ 8 * up i 8 = length-cells m (up i 8) p image (omega arith) in
     let enough : i ≤ 8 * up i 8 = omega arith in
-    take-twice i n (cells m p (up n 8)) few
+    take-take i n (cells m p (up n 8)) few
     ∙ ap (λ (l : List ℕ). take i l) (ap (λ (x : ℕ). cells m p x) parts ∙ cells-append m (up i 8) k p (omega arith))
     ∙ take-append-le i (cells m p (up i 8)) (cells m (p + up i 8) k) (omega (arith, whole, enough))
 

@@ -7,21 +7,22 @@ use Rattle.mc_model_device.specs.Image.{Closed, look}
 use Rattle.mc_model_device.specs.Device.{IsSized}
 use Rattle.mc_model_device.specs.Card.{App, Card, Block, word, header, blocks, means, record_at, name_in, name_at, app_at, apps_of}
 use Rattle.mc_model_device.specs.Layout.{first_hole, spans, bad_link, is_record, IsWellLaid}
-use Rattle.mc_model_device.proofs.ListLemmas.{other-name as turned}
 use Rattle.mc_blocks.specs.Blocks.{used_spans, is_root_word}
 use Rattle.mc_blocks.specs.Chains.{SpansAbove}
 use Rattle.mc_blocks.specs.Outcomes.{HoldsApplications, AgreeBut}
 use Rattle.mc_blocks.specs.Plans.{has_span}
 use Rattle.mc_blocks.proofs.Tiles.{Tiled, HeadersRead}
 use Rattle.mc_blocks.proofs.Maps.{has-self}
-use Rattle.mc_blocks.proofs.Names.{insert-swap, insert-twice}
-use Rattle.mc_blocks.proofs.Bridge.{WellLaid, well-laid, means-closed, AreNamed, named, with-block, some-apps, used-above, Faultless, faultless, fault-closed}
+use Rattle.mc_blocks.proofs.Bridge.{WellLaid, well-laid, AreNamed, named, with-block, some-apps, used-above, Faultless, faultless}
 use Rattle.mc_blocks.proofs.Applications.{few-blocks}
 use Rattle.mc_blocks.proofs.Plans.{spans-are}
 use Rattle.mc_blocks.proofs.Freeing.{span-from}
-use Rattle.mc_blocks.proofs.Built.{HoldsBlocks, built, SameBlock, same-block, chain-parts, root-good}
+use Rattle.mc_blocks.proofs.Built.{HoldsBlocks, built, SameBlock, same-block, root-good}
 use Rattle.mc_blocks.proofs.Cards.{SameUsed, SameApplications, same-named, ApplicationInserted, name-behind, first-name}
 use Rattle.mc_blocks.proofs.Outcome.{good-of, tail-of}
+use Rattle.mc_model_device.proofs.MapLemmas.{other_way as turned, insert-swap, insert-twice}
+use Rattle.mc_model_device.proofs.LayoutLemmas.{closed_fault, closed_means}
+use Rattle.mc_blocks.proofs.Search.{chain-parts}
 
 agree-read : (m n : List (List ℕ)) (p : ℕ) (bs : List Block) → length n ≡ length m → HeadersRead m bs → AgreeBut m n p bs → HeadersRead n bs
 agree-read m n p [] size r a = tt
@@ -101,7 +102,7 @@ pub sets : (m n : List (List ℕ)) (p : ℕ) → IsSized m → look m ≡ Closed
     → HoldsApplications m n (insert (means m).apps (name_at m p) (app_at n p))
 sets m n p image closed h span size same agree entry =
     let l : WellLaid m = well-laid m image closed h in
-    let f : Faultless m = faultless m (sym (fault-closed m closed) ∙ h) in
+    let f : Faultless m = faultless m (sym (closed_fault m closed) ∙ h) in
     let bs = blocks m in
     let names : AreNamed m [] bs = named m bs [] 0 f.records in
     let there : has_span p (used_spans bs) ≡ true = subst (λ (x : List (ℕ × ℕ)). has_span p x ≡ true) (spans-are m image closed h) span in
@@ -117,11 +118,11 @@ sets m n p image closed h span size same agree entry =
       named = c.named;
       few = few-blocks m f;
     }) in
-    let means-apps : apps_of m bs ≡ (means m).apps = sym (ap (λ (k : Card). k.apps) (means-closed m closed)) in
+    let means-apps : apps_of m bs ≡ (means m).apps = sym (ap (λ (k : Card). k.apps) (closed_means m closed)) in
     record {
       laid = s.good;
       card = ap (λ (x : ℕ). record { size = x; layout = slice_index (word n 0) 3; apps = apps_of n (blocks n) }) size
           ∙ ap (λ (w : List ℕ). record { size = length m; layout = slice_index w 3; apps = apps_of n (blocks n) }) same
           ∙ ap (λ (x : List (List ℕ × App)). record { size = length m; layout = slice_index (word m 0) 3; apps = x }) (ap (λ (x : List Block). apps_of n x) s.blocks ∙ c.apps ∙ ap (λ (es : List (List ℕ × App)). insert es (name_at m p) (app_at n p)) means-apps)
-          ∙ sym (ap (λ (k : Card). record k { apps = insert (means m).apps (name_at m p) (app_at n p) }) (means-closed m closed));
+          ∙ sym (ap (λ (k : Card). record k { apps = insert (means m).apps (name_at m p) (app_at n p) }) (closed_means m closed));
     }

@@ -2,7 +2,7 @@
 use Rattle.std.proofs.Common.{◌≡◌, ◌≢◌, ℕ, zero, suc, ◌+◌, ◌-◌, ◌*◌, ◌<◌, ◌≤◌, List, [], ◌∷◌, ◌++◌, length, take, drop, map, refl, sym, ◌∙◌, ap, subst, inl, inr, arith, length-append, append_assoc}
 use Rattle.std.specs.Prelude.{slice_set}
 use Rattle.std.specs.List.{AllByRecursion}
-use Rattle.std.proofs.lemmas.List.{take_at, drop_at, get_or-set_same, get_or-set_other, length-set}
+use Rattle.std.proofs.lemmas.List.{take_at, drop_at, get_or-set_same, get_or-set_other, length-set, take-take}
 use Rattle.std.proofs.lemmas.Bool.Decides.{eqb_tells}
 use Rattle.mc_model_device.specs.Bytes.{up, splice}
 use Rattle.mc_model_device.specs.Pieces.{laid_pieces, word_pieces, laid_words}
@@ -10,7 +10,7 @@ use Rattle.mc_model_device.specs.Device.{IsSized}
 use Rattle.mc_model_device.specs.Image.{laid}
 use Rattle.mc_model_device.specs.Card.{word, cells, section}
 use Rattle.mc_model_device.proofs.ListLemmas.{splice-longer}
-use Rattle.mc_blocks.proofs.Sections.{take-twice, cells-more, cells-append, length-cells, same-cells}
+use Rattle.mc_blocks.proofs.Sections.{cells-more, cells-append, length-cells, same-cells}
 
 -- ---- words of eight bytes
 
@@ -128,7 +128,7 @@ section-laid m q n ws image h is a w8 =
     let all = cells m q (up n 8) in
     let long : length all ≡ 8 * up n 8 = length-cells m (up n 8) q image h in
     let enough : n ≤ 8 * up n 8 = omega arith in
-    let same : take n all ≡ take n (take n all) = sym (take-twice n n all (omega arith)) in
+    let same : take n all ≡ take n (take n all) = sym (take-take n n all (omega arith)) in
     record {
       image = c.0;
       bytes = ap (λ (l : List ℕ). take n l) c.1 ∙ same-pieces n ws all (section m q n) (omega (arith, long, enough)) (omega (arith, is)) a same

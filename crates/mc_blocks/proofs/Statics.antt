@@ -7,18 +7,17 @@ use Rattle.mc_model_device.specs.Bytes.{up, be2, lookup, insert, has_name}
 use Rattle.mc_model_device.specs.Device.{IsSized}
 use Rattle.mc_model_device.specs.Card.{App, Block, word, header, blocks, section, record_at, name_in, name_at, app_of, app_at, apps_of, card_of, needed_of}
 use Rattle.mc_model_device.specs.Layout.{is_record, words_fault, first_hole, bad_link}
-use Rattle.mc_model_device.proofs.ListLemmas.{other-name}
 use Rattle.mc_blocks.specs.Chains.{SpansAbove}
 use Rattle.mc_blocks.specs.Blocks.{hole_spans, is_root_word}
 use Rattle.mc_blocks.specs.Plans.{has_room}
-use Rattle.mc_blocks.proofs.Search.{holes-above}
+use Rattle.mc_blocks.proofs.Search.{holes-above, chain-parts}
 use Rattle.mc_blocks.proofs.Taking.{room-from}
 use Rattle.mc_blocks.proofs.Tiles.{Tiled, HeadersRead}
 use Rattle.mc_blocks.proofs.Bridge.{WellLaid, laid, AreNamed, named, Faultless, faultless, with-block, some-apps, no-apps}
-use Rattle.mc_blocks.proofs.Names.{insert-swap, insert-twice}
 use Rattle.mc_blocks.proofs.Applications.{few-blocks, lookup-insert}
-use Rattle.mc_blocks.proofs.Built.{HoldsBlocks, built, SameBlock, same-block, root-good, chain-parts}
+use Rattle.mc_blocks.proofs.Built.{HoldsBlocks, built, SameBlock, same-block, root-good}
 use Rattle.mc_blocks.proofs.Sections.{length-section, same-cells, same-section}
+use Rattle.mc_model_device.proofs.MapLemmas.{other_way, insert-swap, insert-twice}
 
 -- ---- blocks that stay
 
@@ -214,7 +213,7 @@ again-kind m n names k a fixed b bs true false image heap long h above s e nm re
       apps = ap (λ (y : List ℕ). insert (apps_of n bs) y (app_at n b.place)) name
           ∙ ap (λ (y : App). insert (apps_of n bs) x y) block.app
           ∙ ap (λ (es : List (List ℕ × App)). insert es x (app_at m b.place)) g.apps
-          ∙ insert-swap (apps_of m bs) k (record a { fixed = fixed }) x (app_at m b.place) (other-name x k e);
+          ∙ insert-swap (apps_of m bs) k (record a { fixed = fixed }) x (app_at m b.place) (other_way x k e);
       apart = g.apart;
     }
 

@@ -14,6 +14,7 @@ use Rattle.mc_blocks.proofs.Search.{holes-above}
 use Rattle.mc_blocks.proofs.Changes.{From, from-weaker, under-other, links-differ, none-from}
 use Rattle.mc_blocks.proofs.Heads.{heads, heads-from, heads-same, layout-is}
 use Rattle.mc_blocks.proofs.Claims.{Claim, not-before, later-either}
+use Rattle.mc_model_device.proofs.BoolLemmas.{and_false}
 
 -- a used block and a hole, each by its place and its words
 abbrev pub used_block : ℕ → ℕ → Block
@@ -83,10 +84,6 @@ rest-tiled p need end b bs false lt fits rest =
     let same : p + need ≡ p + b.words = omega arith in
     subst (λ (q : ℕ). Tiled q false bs end) (sym same) (loosen (p + b.words) bs end rest)
 
-and-false : (a : Bool) → (a && false) ≡ false
-and-false true = refl
-and-false false = refl
-
 pub taken-here : (p need : ℕ) (b : Block) (bs : List Block) → b.place ≡ p → take_in p need (b ∷ bs) ≡ used_block p need ∷ rest_of p need b bs
 taken-here p need b bs here = ap (λ (t : Bool). cond t (used_block p need ∷ rest_of p need b bs) (b ∷ take_in p need bs)) (eq-eqb b.place p here)
 
@@ -103,7 +100,7 @@ take-tiled p need q a (b ∷ bs) end some t room =
           let same : p ≡ q = sym here.1 ∙ place in
           let behind : Tiled (p + b.words) true bs end = subst (λ (r : ℕ). Tiled (r + b.words) true bs end) (sym same) (subst (λ (v : Bool). Tiled (q + b.words) (not v) bs end) here.0 t.3) in
           subst (λ (l : List Block). Tiled q a l end) (sym (taken-here p need b bs here.1))
-          (same, some, and-false a, subst (λ (r : ℕ). Tiled (r + need) false (rest_of p need b bs) end) same (rest-tiled p need end b bs (nat_lt need b.words) refl here.2 behind))
+          (same, some, and_false a, subst (λ (r : ℕ). Tiled (r + need) false (rest_of p need b bs) end) same (rest-tiled p need end b bs (nat_lt need b.words) refl here.2 behind))
       | inr later ↦ subst (λ (l : List Block). Tiled q a l end) (sym (taken-later p need b bs later.0)) (t.0, t.1, t.2, take-tiled p need (q + b.words) (not b.used) bs end some t.3 later.1)
     ]
 

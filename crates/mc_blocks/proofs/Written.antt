@@ -1,5 +1,5 @@
 -- A plan that is written to the words makes the blocks afterwards stand: their headers are read, and root and holes name each other.
-use Rattle.std.proofs.Common.{◌≡◌, ◌≢◌, ℕ, ◌+◌, ◌*◌, ◌/◌, ◌%◌, ◌<◌, ◌≤◌, Bool, true, false, ◌&&◌, ◌||◌, List, [], ◌∷◌, ◌++◌, length, take, Option, Some, None, refl, sym, ◌∙◌, ap, subst, inl, inr, arith, cond, not}
+use Rattle.std.proofs.Common.{◌≡◌, ◌≢◌, ℕ, ◌+◌, ◌*◌, ◌/◌, ◌%◌, ◌<◌, ◌≤◌, Bool, true, false, ◌&&◌, ◌||◌, List, [], ◌∷◌, ◌++◌, length, take, Some, None, refl, sym, ◌∙◌, ap, subst, inl, inr, arith, cond, not}
 use Rattle.std.specs.Prelude.{nat_le, ◌==◌, slice_index, bytes_eq}
 use Rattle.std.specs.List.{AllByRecursion, list_any}
 use Rattle.std.proofs.lemmas.Bool.{le-leb, eq-eqb, eqb-true, and_parts, and_from, or_cases, cases_eq}
@@ -16,6 +16,7 @@ use Rattle.mc_blocks.proofs.Tiles.{Tiled, HeadersRead}
 use Rattle.mc_blocks.proofs.Taking.{tiled-end, first-range}
 use Rattle.mc_blocks.proofs.Changes.{From, from-weaker, split, one-other, one-same, links-differ}
 use Rattle.mc_blocks.proofs.Heads.{heads, heads-from, heads-behind}
+use Rattle.mc_blocks.proofs.Search.{link-none}
 
 -- ---- blocks with the links that are due
 
@@ -70,15 +71,11 @@ abbrev AllRead : List (List ℕ) → List (ℕ × List ℕ) → Type 0
 AllRead m [] = Unit {0}
 AllRead m (e ∷ es) = ReadsAsDue m e × AllRead m es
 
-link-due : (b : Block) (due : ℕ) (rest : Option ℕ) (t : Bool) → (b.link == due) ≡ t → cond t rest (Some b.place) ≡ None → (b.link ≡ due) × (rest ≡ None)
-link-due b due rest true e h = (eqb-true b.link due e, h)
-link-due b due rest false e h = absurd (cc h)
-
 old-read : (m : List (List ℕ)) (p : ℕ) (a : Bool) (bs : List Block) (end : ℕ) → end < 65536 → Tiled p a bs end → HeadersRead m bs → bad_link bs ≡ None → AllRead m (heads bs)
 old-read m p a [] end few t r l = tt
 old-read m p a (b ∷ bs) end few t r l =
     let due = cond b.used 0 (first_hole bs) in
-    let links = link-due b due (bad_link bs) (b.link == due) refl l in
+    let links = link-none b due (bad_link bs) (b.link == due) refl l in
     let low : 1 ≤ b.words = t.1 in
     let ends : p + b.words ≤ end = tiled-end (p + b.words) (not b.used) bs end t.3 in
     let same : Some (record b { link = due }) ≡ Some b = ap (λ (k : ℕ). Some (record b { link = k })) (sym links.0) in (

@@ -25,7 +25,7 @@ use Rattle.mc_card.specs.Parts.{card_in, seat_in, with_session, IsUp}
 use Rattle.mc_machine.proofs.SoundChains.{AreSound, SameLengths, sizes_done}
 use Rattle.mc_card.proofs.MadeLemmas.{card-found}
 use Rattle.mc_card.proofs.WriteLemmas.{AsCommits, as_commits, writes_made}
-use Rattle.mc_card.proofs.ManagerLemmas.{not-false}
+use Rattle.std.proofs.lemmas.Bool.{not-false}
 
 -- the seat with other session bytes
 seat_with : (standing : Site → Part → List ℕ) (old new : List ℕ) (m : ManagerState) → seat_of standing new m ≡ with_session new (seat_of standing old m)

@@ -1,5 +1,5 @@
 -- A command as the manager of a card deals with it: what it makes, what it answers, and that the card is ready again.
-use Rattle.std.proofs.Common.{◌≡◌, ℕ, Bool, true, false, cond, List, [], ◌∷◌, length, Option, Some, None, Ok, Err, refl, sym, ◌∙◌, ap, subst}
+use Rattle.std.proofs.Common.{◌≡◌, ℕ, Bool, true, false, cond, List, [], length, Option, Some, None, Ok, Err, refl, sym, ◌∙◌, ap, subst}
 use Rattle.std.specs.Prelude.{◌==◌, ◌&&◌, Result, bytes_eq, is_some, option_map, unwrap_or, IsSome}
 use Rattle.std.proofs.lemmas.List.{length-replicate}
 use Rattle.mc_model_card.specs.declared.card.Part.{Part}
@@ -9,7 +9,7 @@ use Rattle.mc_model_card.specs.declared.unit.AidFault.{AidFault}
 use Rattle.mc_model_device.specs.declared.device.Stop.{Stop}
 use Rattle.mc_model_device.specs.Orders.{Answer, InOrder}
 use Rattle.mc_model_machine.specs.Apdu.{ApduParts}
-use Rattle.mc_model_device.specs.Bytes.{zeros, lookup, insert, remove}
+use Rattle.mc_model_device.specs.Bytes.{zeros, lookup, insert}
 use Rattle.mc_model_device.specs.Device.{DeviceState, Wrote}
 use Rattle.mc_model_device.specs.Card.{App, Card as ModelCard}
 use Rattle.mc_model_card.specs.Units.{name_of}
@@ -18,7 +18,6 @@ use Rattle.mc_model_card.specs.Manager.{Selected, Seat, Open, Managed, Declines,
 use Rattle.mc_model_machine.specs.Chain.{Reply}
 use Rattle.mc_model_card.specs.Commands.{Command, managed, passed, by_route}
 use Rattle.mc_bank.specs.Bank.{no_app, app_of}
-use Rattle.mc_bank.specs.NameLaws.{name_is_itself, same_name, lookup-beside}
 use Rattle.mc_bank.specs.Slots.{slot_place}
 use Rattle.mc_bank.specs.SlotLaws.{has_sizes}
 use Rattle.mc_apdu.specs.declared.reply.Reply.{Reply as CardReply}
@@ -38,8 +37,10 @@ use Rattle.mc_card.specs.declared.card.Card.{Card}
 use Rattle.mc_card.specs.Parts.{card_in, seat_in, view_in, IsReadyCard}
 use Rattle.mc_card.specs.Ends.{is_passed}
 use Rattle.mc_card.specs.Managing.{IsAnswered, IsPassed}
-use Rattle.mc_card.proofs.StaticLemmas.{going-apps, none-is}
+use Rattle.mc_card.proofs.StaticLemmas.{going-apps}
 use Rattle.mc_card.proofs.ManagerLemmas.{none-of, due-made}
+use Rattle.mc_model_device.proofs.MapLemmas.{same_name, lookup-beside, lookup-left, other_way}
+use Rattle.mc_model_device.proofs.BoolLemmas.{no_value}
 
 -- ---- what a command is due, and what it does
 
@@ -75,16 +76,6 @@ passed-not v seat (ToApplication a) h = by-selected seat.selected h
     by-selected (Some s) h = absurd (h refl)
 
 -- ---- the selected application stays
-
-lookup-kept : (apps : List (List ℕ × App)) (k n : List ℕ) → bytes_eq k n ≡ false → lookup (remove apps k) n ≡ lookup apps n
-lookup-kept [] k n other = refl
-lookup-kept (e ∷ es) k n other = by-tests (bytes_eq e.0 k) (bytes_eq e.0 n) refl refl (lookup-kept es k n other)
-  where
-    by-tests : (x y : Bool) → bytes_eq e.0 k ≡ x → bytes_eq e.0 n ≡ y → lookup (remove es k) n ≡ lookup es n → lookup (cond x (remove es k) (e ∷ remove es k)) n ≡ cond y (Some e.1) (lookup es n)
-    by-tests true true p q rest = absurd (cc (ap (λ (t : List ℕ). bytes_eq t n) (sym (same_name e.0 k p)), q, other))
-    by-tests true false p q rest = rest
-    by-tests false true p q rest = ap (λ (b : Bool). cond b (Some e.1) (lookup (remove es k) n)) q
-    by-tests false false p q rest = ap (λ (b : Bool). cond b (Some e.1) (lookup (remove es k) n)) q ∙ rest
 
 module _ (apps : List (List ℕ × App)) (n : List ℕ) (there : is_some (lookup apps n) ≡ true) where
   -- the application of this name is the same after a command
@@ -122,7 +113,7 @@ module _ (apps : List (List ℕ × App)) (n : List ℕ) (there : is_some (lookup
       by-load : (x : Option Open) (k : Result (List ℕ) AidFault) → is_taken apps k ≡ false → CommandSpares (Does (create_done seat x k))
       by-load None k h = refl
       by-load (Some o) (Err f) h = refl
-      by-load (Some o) (Ok k) h = inserted-spares k (fresh o) (none-is (lookup apps k) h)
+      by-load (Some o) (Ok k) h = inserted-spares k (fresh o) (no_value (lookup apps k) h)
 
   delete-spares : (seat : Seat) (a : ApduParts) → (is_selected seat.selected a.body ≡ false → bytes_eq a.body n ≡ false) → CommandSpares (due_manager (delete apps seat a))
   delete-spares seat a other =
@@ -131,7 +122,7 @@ module _ (apps : List (List ℕ × App)) (n : List ℕ) (there : is_some (lookup
       let two = none-of _ 0x6700 _ one.1 in
       let three = none-of _ 0x6A82 _ two.1 in
       let four = none-of _ 0x6985 _ three.1 in
-      lookup-kept apps a.body n (other four.0))
+      lookup-left apps a.body n (other four.0))
 
   by-test : (x y : Managed) → CommandSpares (due_manager x) → CommandSpares (due_manager y) → (b : Bool) → CommandSpares (due_manager (cond b x y))
   by-test x y h k true = h
@@ -143,14 +134,6 @@ module _ (apps : List (List ℕ × App)) (n : List ℕ) (there : is_some (lookup
       by-test _ _ (by-refusal (first_status (open_refusals room apps a)) (open_done room seat a) (λ e. refl)) (by-test _ _ (load-spares part.Code seat a) (by-test _ _ (load-spares part.Data seat a)
       (by-test _ _ (load-spares part.Dir seat a) (by-test _ _ (load-spares part.Fci seat a)
       (by-test _ _ (create-spares seat a) (by-test _ _ (delete-spares seat a other) refl (a.ins == 0x18)) (a.ins == 0x16)) (a.ins == 0x22)) (a.ins == 0x20)) (a.ins == 0x26)) (a.ins == 0x24)) (a.ins == 0x12)
-
--- a name that is not the selected one
-apart : (n k : List ℕ) → bytes_eq n k ≡ false → bytes_eq k n ≡ false
-apart n k h = by-test (bytes_eq k n) refl
-  where
-    by-test : (b : Bool) → bytes_eq k n ≡ b → bytes_eq k n ≡ false
-    by-test true e = absurd (cc (ap (λ (t : List ℕ). bytes_eq n t) (same_name k n e), name_is_itself n, h))
-    by-test false e = e
 
 -- the selected application is the same after a command
 due-spares : (v : BankView) (s : List ℕ) (m : ManagerState) (t : Selection) (r : Route) → m.selected ≡ Some t → is_some (lookup v.state.apps t.aid) ≡ true
@@ -168,7 +151,7 @@ due-spares v s m t (ToManager a) is there =
   where
     by-selected : (x : Option Selection) → x ≡ Some t → is_selected (option_map {T = Selection} {U = Selected} (λ u. record { name = u.aid; session = s }) x) a.body ≡ false → bytes_eq a.body t.aid ≡ false
     by-selected None e h = absurd (cc e)
-    by-selected (Some u) e h = let same : u ≡ t = cc e in apart t.aid a.body (sym (ap (λ (y : Selection). bytes_eq y.aid a.body) same) ∙ h)
+    by-selected (Some u) e h = let same : u ≡ t = cc e in other_way t.aid a.body (sym (ap (λ (y : Selection). bytes_eq y.aid a.body) same) ∙ h)
 due-spares v s m t (ToApplication a) is there = by-selected m.selected
   where
     by-selected : (x : Option Selection) → lookup (apps_after (due_application (option_map {T = Selection} {U = Selected} (λ u. record { name = u.aid; session = s }) x)) v.state.apps) t.aid ≡ lookup v.state.apps t.aid

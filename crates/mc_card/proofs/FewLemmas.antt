@@ -32,8 +32,9 @@ use Rattle.mc_machine.proofs.SoundChains.{AreSound}
 use Rattle.mc_card.specs.ItemWrites.{CountsWrites, ItemsMade, begun, MadeWithin}
 use Rattle.mc_card.specs.Ends.{is_passed, most_weight}
 use Rattle.mc_card.proofs.StaticLemmas.{going-apps}
-use Rattle.mc_card.proofs.MadeLemmas.{moves-append, card-found}
+use Rattle.mc_card.proofs.MadeLemmas.{card-found}
 use Rattle.mc_card.proofs.WriteLemmas.{write_made, goes_on}
+use Rattle.mc_model_card.proofs.ItemLemmas.{moves-append}
 
 -- ---- items that were begun
 

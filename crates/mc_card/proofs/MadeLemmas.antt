@@ -1,16 +1,15 @@
 -- Items of a store as items of the definitions: one of them, and lists of them one after another, done or stopped.
-use Rattle.std.proofs.Common.{◌≡◌, ◌≢◌, ℕ, ◌+◌, ◌-◌, ◌<◌, ◌≤◌, Bool, true, false, cond, List, [], ◌∷◌, ◌++◌, length, map, Option, Some, None, Ok, Err, refl, sym, ◌∙◌, ap, subst, inl, inr, arith, length-append}
-use Rattle.std.specs.Prelude.{nat_le, ◌==◌, unwrap_or}
+use Rattle.std.proofs.Common.{◌≡◌, ℕ, ◌+◌, ◌-◌, ◌≤◌, Bool, true, false, cond, List, [], ◌∷◌, ◌++◌, length, map, Option, Some, None, Ok, Err, refl, sym, ◌∙◌, ap, subst, inl, inr, arith, length-append}
+use Rattle.std.specs.Prelude.{nat_le, unwrap_or}
 use Rattle.std.specs.List.{AllByRecursion}
 use Rattle.std.proofs.lemmas.List.{length-map}
-use Rattle.std.proofs.lemmas.Bool.{cases_lt, le-leb, lt-leb, eq-eqb, leb-false}
-use Rattle.std.proofs.lemmas.Bool.Decides.{eqb_tells}
+use Rattle.std.proofs.lemmas.Bool.{cases_lt, le-leb}
 use Rattle.mc_model_device.specs.declared.cause.Cause.{Cause}
 use Rattle.mc_model_device.specs.declared.device.Stop.{Stop}
 use Rattle.mc_model_device.specs.Orders.{Answer, InOrder}
 use Rattle.mc_model_device.specs.Bytes.{lookup}
 use Rattle.mc_model_device.specs.Image.{Two, look, Closed, debt}
-use Rattle.mc_model_device.specs.Device.{DeviceState, IsSized, Wrote}
+use Rattle.mc_model_device.specs.Device.{DeviceState, IsSized, Wrote, Makes}
 use Rattle.mc_model_device.specs.Stopped.{cost, stands, owes, torn, writes, IsAtomic}
 use Rattle.mc_model_device.specs.Card.{App, Card, card_of, means}
 use Rattle.mc_model_device.specs.Layout.{words_fault, fault, step_of, IsWellLaid}
@@ -23,59 +22,17 @@ use Rattle.mc_model_device.proofs.CallLemmas.{length-writes}
 use Rattle.mc_bank.specs.Bank.{no_app, app_of, CanCommit, item_done}
 use Rattle.mc_store.specs.Store.{apps_in, part_in, static_writes, card_with, card_without, item_writes, store_standing, Allows, StoreDid}
 use Rattle.mc_store.specs.Power.{HoldsBase}
-use Rattle.mc_store.specs.GoingLaws.{Going, going_is, closed_means, closed_fault}
+use Rattle.mc_store.specs.GoingLaws.{Going, going_is}
 use Rattle.mc_store.specs.Stops.{card_after, IsStoppedAt}
 use Rattle.mc_store.specs.CommitLaws.{CommittedCard, commits}
 use Rattle.mc_store.specs.CreationLaws.{creates-plan}
 use Rattle.mc_store.specs.DeletionLaws.{deletes-plan}
-use Rattle.mc_store.specs.TurnLaws.{CardChanged, Standing, standing-of, some-is, turns}
+use Rattle.mc_store.specs.TurnLaws.{CardChanged, Standing, standing-of, turns}
 use Rattle.mc_store.proofs.StopLemmas.{item_stops}
 use Rattle.mc_card.specs.ItemWrites.{IsCardAfterStop, CountsWrites, IsCardAfter, ItemsMade}
-
--- ---- lists of items
-
-pub moves-append : (is js : List Item) → moves (is ++ js) ≡ moves is + moves js
-moves-append [] js = omega arith
-moves-append (i ∷ is) js = let rest = moves-append is js in omega (arith, rest)
-
-pub done-append : (is js : List Item) (apps : List (List ℕ × App)) → done apps (is ++ js) ≡ done (done apps is) js
-done-append [] js apps = refl
-done-append (Plain ∷ is) js apps = done-append is js apps
-done-append (Atomic w c ∷ is) js apps = done-append is js (changed c apps)
-
-pub card-append : (is js : List Item) (c : Card) → card_done c (is ++ js) ≡ card_done (card_done c is) js
-card-append is js c = ap (λ (apps : List (List ℕ × App)). record c { apps = apps }) (done-append is js c.apps)
-
--- the items of a stop that is past some items
-abbrev pub behind : List Item → Stopped → Stopped
-behind is s = record s { whole = is ++ s.whole }
-
--- a choice, by a test that is known on one side
-chosen : {A : Type 0} → (b : Bool) → (u v w : A) → (b ≡ false → v ≡ w) → cond b u v ≡ cond b u w
-chosen true u v w rest = refl
-chosen false u v w rest = rest refl
-
-pub stop-within : (is js : List Item) (k : ℕ) (x : List ℕ) → 1 ≤ k → k ≤ moves is → at_stop (is ++ js) k x ≡ at_stop is k x
-stop-within [] js k x low high = absurd (omega (arith, low, high))
-stop-within (Plain ∷ is) js k x low high =
-    chosen (k == 1) (record { whole = []; owed = 0 }) (with_item Plain (at_stop (is ++ js) (k - 1) x)) (with_item Plain (at_stop is (k - 1) x)) (λ e.
-    let more : k ≢ 1 = λ same. absurd (cc (sym (eq-eqb k 1 same) ∙ e)) in
-    ap (λ (s : Stopped). with_item Plain s) (stop-within is js (k - 1) x (omega (arith, low, more)) (omega (arith, high))))
-stop-within (Atomic w c ∷ is) js k x low high =
-    chosen (nat_le k (cost Two w)) (in_flight w c k x) (with_item (Atomic w c) (at_stop (is ++ js) (k - cost Two w) x)) (with_item (Atomic w c) (at_stop is (k - cost Two w) x)) (λ e.
-    let more : cost Two w < k = leb-false k (cost Two w) e in
-    ap (λ (s : Stopped). with_item (Atomic w c) s) (stop-within is js (k - cost Two w) x (omega (arith, more)) (omega (arith, high))))
-
-pub stop-past : (is js : List Item) (n k : ℕ) (x : List ℕ) → 1 ≤ k → n ≡ moves is + k → at_stop (is ++ js) n x ≡ behind is (at_stop js k x)
-stop-past [] js n k x low e = let same : n ≡ k = omega (arith, e) in ap (λ (t : ℕ). at_stop js t x) same
-stop-past (Plain ∷ is) js n k x low e =
-    let other : (n == 1) ≡ false = elim (eqb_tells n 1) [ inl own ↦ absurd (let same = own.1 in omega (arith, e, same, low)) | inr not ↦ not.0 ] in
-    ap (λ (b : Bool). cond b (record { whole = []; owed = 0 }) (with_item Plain (at_stop (is ++ js) (n - 1) x))) other
-    ∙ ap (λ (s : Stopped). with_item Plain s) (stop-past is js (n - 1) k x low (omega (arith, e)))
-stop-past (Atomic w c ∷ is) js n k x low e =
-    let more : nat_le n (cost Two w) ≡ false = lt-leb n (cost Two w) (omega (arith, e, low)) in
-    ap (λ (b : Bool). cond b (in_flight w c n x) (with_item (Atomic w c) (at_stop (is ++ js) (n - cost Two w) x))) more
-    ∙ ap (λ (s : Stopped). with_item (Atomic w c) s) (stop-past is js (n - cost Two w) k x low (omega (arith, e)))
+use Rattle.mc_model_device.proofs.LayoutLemmas.{closed_fault, closed_means}
+use Rattle.mc_model_card.proofs.ItemLemmas.{moves-append, card-append, behind, stop-within, stop-past}
+use Rattle.mc_model_device.proofs.BoolLemmas.{some-is}
 
 -- ---- words that are a card
 
@@ -103,40 +60,46 @@ module _ {D : Type 0} (state : D → DeviceState) (wrote : D → ℕ → List �
   made-none c d base =
       record { writes = []; makes = refl; number = refl; stops = λ k x low high size. absurd (omega (arith, low, high)); done = base }
 
+  -- items made by these writes
+  pub record MadeBy (c : Card) (is : List Item) (d : D) (a : Answer) (e : D) (ws : List (ℕ × List ℕ)) : Type 0 where
+    pub makes : Makes wrote d ws a e
+    pub number : CountsWrites is a (length ws)
+    pub stops : StopsAtEach c is (state d).words ws
+    pub done : IsCardAfter c is a (state e).words
+
+  pub by_made : (c : Card) (is : List Item) (d e : D) (a : Answer) (m : ItemsMade state wrote c is d a e) → MadeBy c is d a e m.writes
+  by_made c is d e a m = record { makes = m.makes; number = m.number; stops = m.stops; done = m.done }
+
   -- items that stopped, whatever was to come after them
-  pub made-stopped : (c : Card) (is js : List Item) (d e : D) (s : Stop) → ItemsMade state wrote c is d (Err s) e → ItemsMade state wrote c (is ++ js) d (Err s) e
-  made-stopped c is js d e s m =
-      let few : length m.writes ≤ moves is = m.number in
+  pub made_before : (c : Card) (is js : List Item) (d e : D) (s : Stop) (ws : List (ℕ × List ℕ)) → MadeBy c is d (Err s) e ws → MadeBy c (is ++ js) d (Err s) e ws
+  made_before c is js d e s ws m =
+      let few : length ws ≤ moves is = m.number in
       let all : moves (is ++ js) ≡ moves is + moves js = moves-append is js in
       record {
-        writes = m.writes;
         makes = m.makes;
         number = omega (arith, few, all);
         stops = λ k x low high size.
-            subst (λ (t : Stopped). IsCardAfterStop c t (torn (state d).words m.writes k x)) (sym (stop-within is js k x low (omega (arith, few, high)))) (m.stops k x low high size);
+            subst (λ (t : Stopped). IsCardAfterStop c t (torn (state d).words ws k x)) (sym (stop-within is js k x low (omega (arith, few, high)))) (m.stops k x low high size);
         done = tt;
       }
 
-  number-append : (is js : List Item) (n k : ℕ) (a : Answer) → n ≡ moves is → CountsWrites js a k → CountsWrites (is ++ js) a (n + k)
-  number-append is js n k (Ok u) first second = let all = moves-append is js in omega (arith, first, second, all)
-  number-append is js n k (Err s) first second = let all = moves-append is js in omega (arith, first, second, all)
+  number_on : (is js : List Item) (n k : ℕ) (a : Answer) → n ≡ moves is → CountsWrites js a k → CountsWrites (is ++ js) a (n + k)
+  number_on is js n k (Ok u) first second = let all = moves-append is js in omega (arith, first, second, all)
+  number_on is js n k (Err s) first second = let all = moves-append is js in omega (arith, first, second, all)
 
-  done-behind : (c : Card) (is js : List Item) (a : Answer) (m : List (List ℕ)) → IsCardAfter (card_done c is) js a m → IsCardAfter c (is ++ js) a m
-  done-behind c is js (Ok u) m h = subst (λ (k : Card). HoldsBase (OnCard k) 0 Two m) (sym (card-append is js c)) h
-  done-behind c is js (Err s) m h = tt
+  done_on : (c : Card) (is js : List Item) (a : Answer) (m : List (List ℕ)) → IsCardAfter (card_done c is) js a m → IsCardAfter c (is ++ js) a m
+  done_on c is js (Ok u) m h = subst (λ (k : Card). HoldsBase (OnCard k) 0 Two m) (sym (card-append is js c)) h
+  done_on c is js (Err s) m h = tt
 
-  -- items that were done, and others after them
-  pub made-append : (c : Card) (is js : List Item) (d m e : D) (a : Answer) → (state d).on ≡ true → ItemsMade state wrote c is d (Ok tt) m → ItemsMade state wrote (card_done c is) js m a e → ItemsMade state wrote c (is ++ js) d a e
-  made-append c is js d m e a on first second =
-      let ws = first.writes in
-      let vs = second.writes in
+  -- items behind items that were done
+  pub made_on : (c : Card) (is js : List Item) (d m e : D) (a : Answer) (ws vs : List (ℕ × List ℕ)) → (state d).on ≡ true → MadeBy c is d (Ok tt) m ws → MadeBy (card_done c is) js m a e vs → MadeBy c (is ++ js) d a e (ws ++ vs)
+  made_on c is js d m e a ws vs on first second =
       let all : DoneAll (state d) ws (state m) = makes-done state wrote obeys ws d m on first.makes in
       let count : length ws ≡ moves is = first.number in
       let size : length (ws ++ vs) ≡ length ws + length vs = length-append ws vs in
       record {
-        writes = ws ++ vs;
         makes = InOrder-append (λ d p a e. wrote d p.0 p.1 a e) ws vs d m e a first.makes second.makes;
-        number = subst (λ (n : ℕ). CountsWrites (is ++ js) a n) (sym size) (number-append is js (length ws) (length vs) a count second.number);
+        number = subst (λ (n : ℕ). CountsWrites (is ++ js) a n) (sym size) (number_on is js (length ws) (length vs) a count second.number);
         stops = λ k x low high long. elim (cases_lt (length ws) k) [
           | inr in-first ↦ subst (λ (t : Stopped). IsCardAfterStop c t (torn (state d).words (ws ++ vs) k x)) (sym (stop-within is js k x low (omega (arith, in-first, count))))
               (subst (λ (w : List (List ℕ)). IsCardAfterStop c (at_stop is k x) w) (sym (torn-within (state d).words ws vs k x low in-first)) (first.stops k x low in-first long))
@@ -152,8 +115,18 @@ module _ {D : Type 0} (state : D → DeviceState) (wrote : D → ℕ → List �
               (subst (λ (w : List (List ℕ)). IsCardAfterStop c (behind is (at_stop js j x)) w) (sym words)
               (subst (λ (b : Card). HoldsBase (OnCard b) (at_stop js j x).owed Two (torn (state m).words vs j x)) (sym (card-append is (at_stop js j x).whole c)) there))
         ];
-        done = done-behind c is js a (state e).words second.done;
+        done = done_on c is js a (state e).words second.done;
       }
+
+  pub of_made : (c : Card) (is : List Item) (d e : D) (a : Answer) (ws : List (ℕ × List ℕ)) → MadeBy c is d a e ws → ItemsMade state wrote c is d a e
+  of_made c is d e a ws m = record { writes = ws; makes = m.makes; number = m.number; stops = m.stops; done = m.done }
+
+  pub made-stopped : (c : Card) (is js : List Item) (d e : D) (s : Stop) → ItemsMade state wrote c is d (Err s) e → ItemsMade state wrote c (is ++ js) d (Err s) e
+  made-stopped c is js d e s m = of_made c (is ++ js) d e (Err s) m.writes (made_before c is js d e s m.writes (by_made c is d e (Err s) m))
+
+  pub made-append : (c : Card) (is js : List Item) (d m e : D) (a : Answer) → (state d).on ≡ true → ItemsMade state wrote c is d (Ok tt) m → ItemsMade state wrote (card_done c is) js m a e → ItemsMade state wrote c (is ++ js) d a e
+  made-append c is js d m e a on first second =
+      of_made c (is ++ js) d e a (first.writes ++ second.writes) (made_on c is js d m e a first.writes second.writes on (by_made c is d m (Ok tt) first) (by_made (card_done c is) js m e a second))
 
   -- steps of any kind of which each makes one item
   module _ {S X : Type 0} (device : S → D) (one : S → X → Answer → S → Type 0) (item : X → Item) (P : X → Type 0)

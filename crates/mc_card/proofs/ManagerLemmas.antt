@@ -1,5 +1,5 @@
 -- What the items of a manager's command make of a card in the words of a device.
-use Rattle.std.proofs.Common.{◌≡◌, ◌⊎◌, ℕ, ◌-◌, Bool, true, false, cond, not, List, [], ◌∷◌, ◌++◌, length, map, Option, Some, None, Ok, Err, refl, sym, ◌∙◌, ap, subst, inl, inr}
+use Rattle.std.proofs.Common.{◌≡◌, ◌⊎◌, ℕ, ◌-◌, Bool, true, false, cond, List, [], ◌∷◌, ◌++◌, length, map, Option, Some, None, Ok, Err, refl, sym, ◌∙◌, ap, subst, inl, inr}
 use Rattle.std.specs.Prelude.{◌==◌, Result, option_map}
 use Rattle.std.specs.Option.{ForSome}
 use Rattle.std.specs.List.{AllByRecursion}
@@ -30,13 +30,15 @@ use Rattle.mc_manager.proofs.LoadLemmas.{complete_full, fresh_entered}
 use Rattle.mc_store.specs.declared.store.Store.{Store}
 use Rattle.mc_store.specs.Store.{part_in, is_going, store_state, store_named, store_room, store_standing}
 use Rattle.mc_store.specs.Power.{HoldsBase, device_of, count_of}
-use Rattle.mc_store.specs.GoingLaws.{Going, going_is, closed_means}
+use Rattle.mc_store.specs.GoingLaws.{Going, going_is}
 use Rattle.mc_store.specs.StoreItems.{store_did}
 use Rattle.mc_store.proofs.FoldLemmas.{IsQuiet, CardKept, all_kept, all_stand, stands_now, before_enter, creation_is, creation_quiet, quiet_plain as quiet-plain, same_entered as entered-same}
 use Rattle.mc_store.proofs.ItemLemmas.{IsPlain}
 use Rattle.mc_card.specs.ItemWrites.{ItemsMade}
 use Rattle.mc_card.proofs.StaticLemmas.{going-apps}
 use Rattle.mc_card.proofs.MadeLemmas.{IsAs, card-found, closed-base, made-stopped, made-append, made-fold, made-one}
+use Rattle.mc_model_device.proofs.LayoutLemmas.{closed_means}
+use Rattle.std.proofs.lemmas.Bool.{not-false}
 
 -- ---- lists of steps that are done in order
 
@@ -97,10 +99,6 @@ items_in (Accepts d) = d.items
 pub none-of : (b : Bool) (sw : ℕ) (rest : Option ℕ) → cond b (Some sw) rest ≡ None → (b ≡ false) × (rest ≡ None)
 none-of true sw rest h = absurd (cc h)
 none-of false sw rest h = (refl, h)
-
-pub not-false : (b : Bool) → not b ≡ false → b ≡ true
-not-false true h = refl
-not-false false h = absurd (cc h)
 
 -- a CREATE that is not refused has a complete load
 can-create : (apps : List (List ℕ × App)) (load : Option Open) (a : ApduParts) → first_status (create_refusals apps load a) ≡ None → can_create load ≡ true

@@ -9,6 +9,7 @@ use Rattle.mc_bank.specs.Bank.{no_app, app_of, sizes_of}
 use Rattle.mc_store.specs.Store.{apps_in, is_going, store_named}
 use Rattle.mc_store.specs.GoingLaws.{going_is}
 use Rattle.mc_store.specs.TurnLaws.{Standing, standing-of}
+use Rattle.mc_model_device.proofs.BoolLemmas.{no_value}
 
 -- the applications of a bank that goes on are those of the card
 pub going-apps : (d : DeviceState) (c : ℕ) → is_going d c ≡ true → apps_in d.words ≡ (means d.words).apps
@@ -18,13 +19,9 @@ going-apps d c h = let t : Standing d.words = standing-of d c (going_is d c h) i
 pub slot-app : (d : DeviceState) (c k : ℕ) (n : List ℕ) → is_going d c ≡ true → store_named d k ≡ Some n → app_of (apps_in d.words) (store_named d k) ≡ app_of (means d.words).apps (Some n)
 slot-app d c k n going named = ap (app_of (apps_in d.words)) named ∙ ap (λ (es : List (List ℕ × App)). app_of es (Some n)) (going-apps d c going)
 
-pub none-is : {A : Type 0} (o : Option A) → is_some o ≡ false → o ≡ None
-none-is None h = refl
-none-is (Some x) h = absurd (cc h)
-
 -- a name that the bank does not find
 pub not-there : (d : DeviceState) (c : ℕ) (n : List ℕ) → is_going d c ≡ true → is_some (lookup (apps_in d.words) n) ≡ false → lookup (means d.words).apps n ≡ None
-not-there d c n going h = ap (λ (es : List (List ℕ × App)). lookup es n) (sym (going-apps d c going)) ∙ none-is (lookup (apps_in d.words) n) h
+not-there d c n going h = ap (λ (es : List (List ℕ × App)). lookup es n) (sym (going-apps d c going)) ∙ no_value (lookup (apps_in d.words) n) h
 
 pub none-there : (o : Option App) → o ≡ None → IsSome o → ⊥
 none-there None e h = absurd (cc h)

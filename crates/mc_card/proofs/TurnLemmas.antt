@@ -26,13 +26,11 @@ use Rattle.mc_machine.proofs.SoundRuns.{turn_end}
 use Rattle.mc_card.proofs.StaticLemmas.{going-apps}
 use Rattle.mc_card.proofs.FewLemmas.{going-entries}
 use Rattle.mc_card.proofs.AfterLemmas.{card_made, still_up, same_seat, seat_after}
+use Rattle.std.proofs.lemmas.Option.{same_Some}
 
 -- a card of these parts
 abbrev pub card_of : {N : Type 0} → Store N → ManagerState → List ℕ → Option Chained → Card N
 card_of store manager session chain = record { store = store; manager = manager; session = session; chain = chain }
-
-some_same : {A : Type 0} → (x y : A) → Some x ≡ Some y → x ≡ y
-some_same x y e = cc e
 
 module _ {N : Type 0} (state : N → DeviceState) (wrote : N → ℕ → List ℕ → Answer → N → Type 0)
     (obeys : (d : N) (at : ℕ) (w : List ℕ) (a : Answer) (e : N) → (state d).on ≡ true → wrote d at w a e → DeviceWrote (state d) at w a (state e)) where
@@ -69,7 +67,7 @@ module _ {N : Type 0} (state : N → DeviceState) (wrote : N → ℕ → List �
     -- the first frame has as many session bytes as the selected application
     first_size : (s : Selection) → c.manager.selected ≡ Some s → length (chain_session ch) ≡ (app_of apps (Some s.aid)).session
     first_size s is =
-        let name : s.aid ≡ (first_in ch).name = some_same s.aid (first_in ch).name (sym (ap (λ (o : Option Selection). option_map (λ s. s.aid) o) is) ∙ r.own) in
+        let name : s.aid ≡ (first_in ch).name = same_Some s.aid (first_in ch).name (sym (ap (λ (o : Option Selection). option_map (λ s. s.aid) o) is) ∙ r.own) in
         session_size ch r.sound ∙ ap (λ (m : List (List ℕ × App)). (app_of m (Some (first_in ch).name)).session) own_map ∙ ap (λ (n : List ℕ). (app_of apps (Some n)).session) (sym name)
 
     module _ (e : Store N) (d : Chained) (acts : TurnActs did bank_state named c.store e r.chained d ch t) where
@@ -130,7 +128,7 @@ module _ {N : Type 0} (state : N → DeviceState) (wrote : N → ℕ → List �
     Does result = (ch : Chain) → RunsAs (bank_state c.store) (named c.store) k ch → TurnDone did bank_state named c.store e k d ch (turn_of k.left ch) result
 
     own_chain : (ch : Chain) (left : ℕ) (r : RunsChain state c ch left) → r.chained ≡ k
-    own_chain ch left r = some_same r.chained k (sym r.is ∙ is)
+    own_chain ch left r = same_Some r.chained k (sym r.is ∙ is)
 
     -- the chain that runs is the code's
     pub runs_own : (ch : Chain) (left : ℕ) → RunsChain state c ch left → RunsAs (bank_state c.store) (named c.store) k ch

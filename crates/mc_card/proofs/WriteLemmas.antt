@@ -1,7 +1,7 @@
 -- The atomic writes of a chain on a store, as items of the definitions and as commits of a bank.
-use Rattle.std.proofs.Common.{◌≡◌, ℕ, ◌+◌, ◌≤◌, true, List, [], ◌∷◌, ◌++◌, length, take, drop, Option, Some, Ok, Err, refl, sym, ◌∙◌, ap, subst, inl, inr, arith, append-nil}
+use Rattle.std.proofs.Common.{◌≡◌, ℕ, ◌+◌, ◌≤◌, true, List, [], ◌∷◌, length, Option, Some, Ok, Err, refl, sym, ◌∙◌, ap, subst, inl, inr, arith}
 use Rattle.std.specs.Prelude.{unwrap_or}
-use Rattle.std.proofs.lemmas.List.{length-map, take-append-drop}
+use Rattle.std.proofs.lemmas.List.{length-map}
 use Rattle.mc_model_device.specs.Orders.{Answer, InOrder}
 use Rattle.mc_model_device.specs.Bytes.{lookup, insert, splice}
 use Rattle.mc_model_device.specs.Pieces.{laid_pieces, laid_words, with_words, with_touched, touched, HoldPieces, LieIn}
@@ -10,22 +10,24 @@ use Rattle.mc_model_device.specs.Card.{App, Card, means}
 use Rattle.mc_model_machine.specs.Chain.{Write, changed_app, map_changed}
 use Rattle.mc_model_card.specs.Items.{Fixed, Item, Atomic, card_done, BankItem, Commit, write_items}
 use Rattle.mc_trans.proofs.Holding.{words_laid}
-use Rattle.mc_trans.proofs.Putting.{held_same}
 use Rattle.mc_bank.specs.Bank.{BankState, no_app, app_of, with_words as app_with, committed, item_done, Changes}
 use Rattle.mc_bank.proofs.Commits.{Words, commits}
 use Rattle.mc_store.specs.declared.store.Store.{Store}
 use Rattle.mc_store.specs.Store.{apps_in, is_going, store_state, store_standing}
 use Rattle.mc_store.specs.Laws.{store_obeys}
 use Rattle.mc_store.specs.StoreItems.{store_did}
-use Rattle.mc_store.specs.GoingLaws.{Going, going_is, closed_means}
+use Rattle.mc_store.specs.GoingLaws.{Going, going_is}
 use Rattle.mc_card.proofs.StaticLemmas.{going-apps}
-use Rattle.mc_card.proofs.ManagerLemmas.{not-false}
-use Rattle.mc_store.specs.TurnLaws.{some-is}
 use Rattle.mc_card.specs.ItemWrites.{ItemsMade}
 use Rattle.mc_machine_laws.specs.FewWords.{PiecesWithin}
 use Rattle.mc_machine.specs.Chains.{ChainWrote}
 use Rattle.mc_machine.proofs.SoundChains.{IsSoundWrite, AreSound}
 use Rattle.mc_card.proofs.MadeLemmas.{card-found, closed-base, made-none, made-stopped, made-append, IsAtomicAs, made-one}
+use Rattle.mc_model_device.proofs.LayoutLemmas.{closed_means}
+use Rattle.mc_model_device.proofs.PieceLemmas.{held_same}
+use Rattle.mc_model_device.proofs.ListLemmas.{splice-none}
+use Rattle.std.proofs.lemmas.Bool.{not-false}
+use Rattle.mc_model_device.proofs.BoolLemmas.{some-is}
 
 -- ---- words that hold pieces
 
@@ -38,12 +40,8 @@ abbrev solid : List (ℕ × List ℕ) → List (ℕ × List ℕ)
 solid [] = []
 solid (p ∷ ps) = put_solid p.0 p.1 (solid ps)
 
--- no bytes laid over a list leave it
-none_laid : (l : List ℕ) (at : ℕ) → splice l at [] ≡ l
-none_laid l at = let same : at + 0 ≡ at = omega arith in ap (λ (x : List ℕ). x ++ drop (at + 0) l) (append-nil (take at l)) ∙ ap (λ (n : ℕ). take at l ++ drop n l) same ∙ take-append-drop at l
-
 laid_one : (l : List ℕ) (at : ℕ) (b : List ℕ) (ps : List (ℕ × List ℕ)) → laid_pieces l (put_solid at b ps) ≡ laid_pieces (splice l at b) ps
-laid_one l at [] ps = ap (λ (x : List ℕ). laid_pieces x ps) (sym (none_laid l at))
+laid_one l at [] ps = ap (λ (x : List ℕ). laid_pieces x ps) (sym (splice-none l at))
 laid_one l at (b ∷ bs) ps = refl
 
 laid_solid : (l : List ℕ) (ps : List (ℕ × List ℕ)) → laid_pieces l (solid ps) ≡ laid_pieces l ps

@@ -8,7 +8,7 @@ use Rattle.mc_model_machine.specs.declared.instruction.DecodeFault.TheVariants a
 use Rattle.mc_model_machine.specs.declared.checker.CheckCause.TheVariants.{Indirect, Returns, Under, Target}
 use Rattle.mc_model_machine.specs.Code.{decoded}
 use Rattle.mc_model_machine.specs.StackRows.{need, is_indirect, counts, goes_on, jump_target, call_target, target_inside, call_inside, places_inside}
-use Rattle.mc_model_machine.specs.StackShape.{Routine, Main, At, Fact, fact, is_main, FactLook, Stands, first_bad, seen, look, Reached, Gives, IsAt, Calls, IsBase, NoRecursion, ReachesItself}
+use Rattle.mc_model_machine.specs.StackShape.{Routine, Main, At, Fact, fact, is_main, FactLook, Stands, first_bad, seen, look, Reached, IsAt, Calls, IsBase, NoRecursion, ReachesItself}
 use Rattle.mc_model_machine.specs.StackShape as shape
 use Rattle.mc_check.specs.Table.{routine_of, IsGoodFact}
 use Rattle.mc_check.specs.declared.calls.Call.{Call}
@@ -52,7 +52,7 @@ called_inside : (len : ℕ) (t : Option ℕ) (q : ℕ) → t ≡ Some q → call
 called_inside len None q is inside = cc
 called_inside len (Some p) q is inside = let same : p ≡ q = cc in subst (λ (n : ℕ). n < len) same (ltb-true p len inside)
 
-same_ins : (r : Result (Ins × ℕ) DecodeFault) (a i : Ins) (m n : ℕ) → r ≡ Ok (a, m) → r ≡ Ok (i, n) → a ≡ i
+pub same_ins : (r : Result (Ins × ℕ) DecodeFault) (a i : Ins) (m n : ℕ) → r ≡ Ok (a, m) → r ≡ Ok (i, n) → a ≡ i
 same_ins r a i m n e h = let same : ◌≡◌ {A = Ins × ℕ} (a, m) (i, n) = cc in ap (λ (p : Ins × ℕ). p.0) same
 
 -- a good CALL calls a place of the code

@@ -1,9 +1,9 @@
 -- Written addresses that are plain touch no byte of the stack below LB; and how many bytes the rows read and write.
-use Rattle.std.proofs.Common.{◌≡◌, ◌⊎◌, ℕ, zero, suc, ◌+◌, ◌-◌, ◌≤◌, ◌<◌, ℤ, pos, negsuc, Bool, true, false, cond, List, [], ◌∷◌, take, drop, length, Option, Some, None, refl, ap, inl, inr, arith}
+use Rattle.std.proofs.Common.{◌≡◌, ◌⊎◌, ℕ, zero, suc, ◌+◌, ◌-◌, ◌≤◌, ◌<◌, ℤ, pos, negsuc, Bool, true, false, cond, List, [], ◌∷◌, take, drop, length, Option, Some, None, refl, inl, inr, arith}
 use Rattle.std.specs.Prelude.{◌==◌, ◌&&◌, not, nat_lt, nat_le, is_none}
 use Rattle.std.proofs.lemmas.Bool.{and_parts, leb-true, ltb-true, eqb-true}
-use Rattle.std.proofs.lemmas.List.{length-take, length-drop, length-replicate}
-use Rattle.mc_model_device.specs.Bytes.{bytes, splice, zeros}
+use Rattle.std.proofs.lemmas.List.{length-take, length-drop}
+use Rattle.mc_model_device.specs.Bytes.{splice}
 use Rattle.mc_model_machine.specs.Code.{IsAddress}
 use Rattle.mc_model_device.specs.Pieces.{laid_pieces}
 use Rattle.mc_model_machine.specs.Frame.{Frame, Place, Static, Dynamic, Public, where_is, floor, dynamic_base, dynamic_end, public_base, public_end, moved, static_bytes, bytes_in, bytes_at, is_outside, no_access}
@@ -105,16 +105,6 @@ operand_safe len size base h f tag off n k m s shaped top few low high safe = sa
 pub anywhere_safe : (len size base h : ℕ) (f : Frame) (a m : ℕ) → StandsAt len size base h f → IsSafeAt f a m (IsSafe size base h WritesAnywhere)
 anywhere_safe len size base h f a m s low high (inl plain) = absurd (cc plain)
 anywhere_safe len size base h f a m s low high (inr is) = no_call len size base h f a m s is
-
--- ---- lengths
-
--- a block of n bytes has n
-length-bytes : (n v : ℕ) → length (bytes n v) ≡ n
-length-bytes zero v = refl
-length-bytes (suc n) v = ap suc (length-bytes n v)
-
-pub zeros-short : (n : ℕ) → length (zeros n) ≤ n
-zeros-short n = omega (arith, length-replicate {A = ℕ} n 0)
 
 -- ---- bytes that are all there
 

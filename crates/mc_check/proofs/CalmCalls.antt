@@ -15,7 +15,8 @@ use Rattle.mc_model_machine.specs.StackRows.{call_target, is_conditional}
 use Rattle.mc_model_machine.specs.StackShape.{Routine, At, fact, Reached, calls, passes, Depth, called, Accepts, Gives}
 use Rattle.mc_check.specs.Standing.{OpenCalls, call}
 use Rattle.mc_check.proofs.AcceptedFacts.{GoodAt, HasStackRoom, HasBases, room_at, gives_at}
-use Rattle.mc_check.proofs.OpenCalls.{IsAtFact, open_front, open_depth, spliced_length, spliced_above, spliced_words}
+use Rattle.mc_check.proofs.OpenCalls.{IsAtFact, open_front, open_depth, spliced_above, spliced_words}
+use Rattle.mc_model_device.proofs.ListLemmas.{length-splice}
 
 -- ---- the end of a row
 
@@ -106,7 +107,7 @@ module _ (code : List ℕ) (session most : ℕ) (accepts : Accepts code session 
           stands = record {
             session = size;
             code_len = s.code_len;
-            dyn = spliced_length f.dyn (f.dt - dynamic_base) words fits ∙ long;
+            dyn = length-splice f.dyn (f.dt - dynamic_base) words fits ∙ long;
             fixed = s.fixed;
             lb = omega (arith, lb, dt);
             dt = omega (arith);

@@ -13,10 +13,9 @@ use Rattle.mc_model_machine.specs.Frame.{Frame, Effect, dynamic_base, public_bas
 use Rattle.mc_model_machine.specs.Primitives.{Around, Then, Goes, Exits, Delegates, Done}
 use Rattle.mc_model_machine.specs.Row.{RowEnd, Abends, Does, row}
 use Rattle.mc_model_machine.specs.Chain.{Chain, Outcome, Reply, Abended, Follows, Continues, Ends, code_in, around, with_pieces, changed_app, map_changed, settled, called, called_app, is_active, depth_of, exited, follows, end_of, told_frame, row_turn, stepped, fetched, acted}
-use Rattle.mc_model_device.specs.Limits.{most_static}
+use Rattle.mc_model_device.specs.Limits.{most_static, most_code}
 use Rattle.mc_model_machine.specs.StackShape.{Main, fact, begins, main, Accepts}
 use Rattle.mc_bank.specs.Bank.{no_app, app_of}
-use Rattle.mc_bank.specs.NameLaws.{same_name, lookup-inserted, lookup-beside}
 use Rattle.mc_model_device.proofs.ListLemmas.{splice-longer}
 use Rattle.mc_check.specs.Checked.{ends_excluded, RunsCode, IsCalm, OnFollows}
 use Rattle.mc_machine_laws.specs.Limited.{AreLimited}
@@ -28,6 +27,7 @@ use Rattle.mc_check.proofs.RowFacts.{RowsAreCalm}
 use Rattle.mc_check.proofs.AcceptedFacts.{HasBases, room_at, undefined_never, past_never, GoodAt, good_at}
 use Rattle.mc_check.proofs.OpenCalls.{IsStanding}
 use Rattle.mc_check.proofs.CalmTurns.{OnGoing, IsLow, DoneCalm, RowCalm, FixedStays, row_calm, low_at}
+use Rattle.mc_model_device.proofs.MapLemmas.{same_name, lookup-inserted, lookup-beside}
 
 -- ---- applications with the code
 
@@ -234,7 +234,7 @@ module _ (code : List ℕ) (session most : ℕ) (accepts : Accepts code session 
       (settled_limited ch next d.effect held.limited sound keeps) (omega (arith, whole, grows)) (frame_held ch next d keeps calm)
       (held_still code session ch.map ch.frame.name d.effect.changes ch.below held.below)
 
-  module _ (short : length code ≤ 8192) (bytes : AllByRecursion (λ b. b < 256) code) (facts : RowsAreCalm) where
+  module _ (short : length code ≤ most_code) (bytes : AllByRecursion (λ b. b < 256) code) (facts : RowsAreCalm) where
     -- the code that a frame fetches from, where it runs this code
     fetches : (ch : Chain) (r : Result (Ins × ℕ) DecodeFault) → HasCode code session ch.map ch.frame.name → decoded (code_in (lookup ch.map ch.frame.name)) ch.frame.at ≡ r → decoded code ch.frame.at ≡ r
     fetches ch r has is =

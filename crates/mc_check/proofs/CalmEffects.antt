@@ -1,11 +1,10 @@
 -- What each row that stands on accepted code leaves of its frame: where DT and the code address are then, and the open calls.
-use Rattle.std.proofs.Common.{◌≡◌, ℕ, ◌+◌, ◌-◌, ◌*◌, ◌≤◌, ℤ, Bool, true, false, cond, List, [], ◌∷◌, length, Option, Some, None, refl, arith}
+use Rattle.std.proofs.Common.{◌≡◌, ℕ, ◌+◌, ◌-◌, ◌*◌, ◌≤◌, ℤ, Bool, true, false, cond, List, [], ◌∷◌, length, Option, Some, None, arith}
 use Rattle.std.specs.Prelude.{◌==◌, slice_index, take, drop}
 use Rattle.std.proofs.lemmas.Bool.{or_parts}
 use Rattle.std.proofs.lemmas.List.{length-replicate}
 use Rattle.mc_model_machine.specs.declared.instruction.Ins.{Ins}
 use Rattle.mc_model_machine.specs.declared.instruction.Ins.TheVariants as ins
-use Rattle.mc_model_machine.specs.declared.machine.Abend.{Abend}
 use Rattle.mc_model_device.specs.Bytes.{zeros}
 use Rattle.mc_model_machine.specs.Blocks.{and_blocks, or_blocks, xor_blocks, not_block}
 use Rattle.mc_model_machine.specs.Code.{IsAddress, Shaped}
@@ -13,12 +12,13 @@ use Rattle.mc_model_machine.specs.Frame.{Frame, dynamic_end, public_base, public
 use Rattle.mc_model_machine.specs.Primitives.{Around, framed, effect_flagged, Primitive, CheckCase, LoadCcr, StoreCcr, Lookup, MemoryCompare, MemoryCopy, DelegateTo, DelegatorAid, Digest, CompareFixed, CopyFixed, SetProtection, Encipher, Decipher, Sign, BitByte, ShiftLeft, ShiftRight, BitWord, primitive, prim_done, prim_effect, looked_up, delegator_told, manipulated}
 use Rattle.mc_model_machine.specs.Row.{causes, first_cause, effect, holds, gone, known, on_stack, operand, place_of, value_of}
 use Rattle.mc_model_machine.specs.StackRows.{WritesAt, WritesAnywhere, height_after, pair_uses, prim_uses, row_uses, prim_writing, row_writing, is_indirect, counts, call_target}
-use Rattle.mc_machine_laws.proofs.RowWords.{none_holds, NoneHolds}
+use Rattle.mc_machine_laws.proofs.RowWords.{none_holds}
 use Rattle.mc_machine_laws.proofs.BlockLengths.{worked-short, each-short, map-short, stacked-short, at-short}
 use Rattle.mc_check.specs.Standing.{StandsAt}
 use Rattle.mc_check.proofs.CalmWrites.{IsRoomy, stands_roomy, popped_roomy, KeepsCalls, framed_kept, popped_kept, gone_kept, flagged_kept, pushed_kept, topped_kept, written_kept, protect_kept}
-use Rattle.mc_check.proofs.CalmAddresses.{IsSafe, operand_safe, anywhere_safe, zeros-short, operand-whole, at-whole}
+use Rattle.mc_check.proofs.CalmAddresses.{IsSafe, operand_safe, anywhere_safe, operand-whole, at-whole}
 use Rattle.mc_check.proofs.CalmCauses.{row_pops}
+use Rattle.mc_model_device.proofs.ListLemmas.{zeros-short}
 
 -- ---- no cause
 

@@ -16,7 +16,10 @@ use Rattle.mc_model_machine.specs.StackShape.{Routine, At, fact, Reached, return
 use Rattle.mc_check.specs.Standing.{StandsAt, OpenCalls, none, call}
 use Rattle.mc_check.proofs.AcceptedFacts.{GoodAt, good_at, HasStackRoom, HasBases, room_at}
 use Rattle.mc_check.proofs.FactLooks.{fine}
-use Rattle.mc_check.proofs.OpenCalls.{IsAtFact, IsStanding, open_front, open_depth, spliced_length, spliced_above, num_bytes2}
+use Rattle.mc_check.proofs.OpenCalls.{IsAtFact, IsStanding, open_front, open_depth, spliced_above, num_bytes2}
+use Rattle.mc_model_device.proofs.ListLemmas.{length-splice}
+use Rattle.mc_check.proofs.ClosingPlaces.{call_goes_on}
+use Rattle.mc_model_device.specs.Limits.{most_code}
 
 -- ---- the rows of returns
 
@@ -39,16 +42,12 @@ returning i c e = absurd (cc e)
 
 -- ---- the place behind a call
 
-call_goes : (j : Ins) (q : ℕ) → call_target j ≡ Some q → goes_on j ≡ true
-call_goes (ins.Call k to) q e = refl
-call_goes j q e = absurd (cc e)
-
 -- it lies in the code
 pub behind_call : (len : ℕ) (j : Ins) (q after : ℕ) → call_target j ≡ Some q → places_inside len j after ≡ true → after < len
 behind_call len j q after target inside =
     let first : ((not (goes_on j) || nat_lt after len) && target_inside len (jump_target j after)) ≡ true = (and_parts _ (call_inside len (call_target j)) inside).0 in
     let next : (not (goes_on j) || nat_lt after len) ≡ true = (and_parts _ (target_inside len (jump_target j after)) first).0 in
-    ltb-true after len (subst (λ (b : Bool). (not b || nat_lt after len) ≡ true) (call_goes j q target) next)
+    ltb-true after len (subst (λ (b : Bool). (not b || nat_lt after len) ≡ true) (call_goes_on j q target) next)
 
 -- ---- numbers of a return
 
@@ -70,7 +69,7 @@ pub record Back (code : List ℕ) (session : ℕ) (f : Frame) (less more : ℕ) 
   pub calm : first_cause (return_causes f less more) ≡ None
   pub standing : IsStanding code session (come_back f less more)
 
-module _ (code : List ℕ) (session most : ℕ) (accepts : Accepts code session most) (bases : HasBases code) (short : length code ≤ 8192) where
+module _ (code : List ℕ) (session most : ℕ) (accepts : Accepts code session most) (bases : HasBases code) (short : length code ≤ most_code) where
   -- the call took no more bytes than there were
   enough_taken : (r : Routine) (p k at h q less more : ℕ) (j i : Ins) (after next : ℕ) → Reached code (fact r p k) → GoodAt code (fact r p k) j after → call_target j ≡ Some q
       → Reached code (fact (At q) at h) → GoodAt code (fact (At q) at h) i next → counts i ≡ Some (less, more) → less ≤ k
@@ -150,7 +149,7 @@ module _ (code : List ℕ) (session most : ℕ) (accepts : Accepts code session 
             stands = record {
               session = s.session;
               code_len = s.code_len;
-              dyn = spliced_length f.dyn moved (top f more) all ∙ long;
+              dyn = length-splice f.dyn moved (top f more) all ∙ long;
               fixed = s.fixed;
               lb = old_lb;
               dt = omega (arith, lb, old_lb, fewer);

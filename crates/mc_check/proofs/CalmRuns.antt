@@ -18,6 +18,7 @@ use Rattle.mc_check.proofs.AcceptedFacts.{HasBases}
 use Rattle.mc_check.proofs.CalmPublic.{begun_whole}
 use Rattle.mc_check.proofs.CalmTurns.{low_at}
 use Rattle.mc_check.proofs.CalmChains.{StandsIfRunning, IsHeldChain, new_held, acted_held, acted_calm}
+use Rattle.mc_model_device.specs.Limits.{most_code}
 
 -- what holds of each sound and held chain holds of the one that follows
 on_follows : (code : List ℕ) (session : ℕ) (ch : Chain) (apps : List (List ℕ × App)) (f : Follows) (holds : Chain → Type 0) → FollowsSound ch apps f → OnFollows f (IsHeldChain code session)
@@ -25,7 +26,7 @@ on_follows : (code : List ℕ) (session : ℕ) (ch : Chain) (apps : List (List �
 on_follows code session ch apps (Ends o) holds sound held all = tt
 on_follows code session ch apps (Continues next) holds sound held all = all next sound.sound held
 
-module _ (facts : RowsAreCalm) (code : List ℕ) (bytes : AllByRecursion (λ b. b < 256) code) (short : length code ≤ 8192) (session most : ℕ) (accepts : Accepts code session most) (bases : HasBases code) where
+module _ (facts : RowsAreCalm) (code : List ℕ) (bytes : AllByRecursion (λ b. b < 256) code) (short : length code ≤ most_code) (session most : ℕ) (accepts : Accepts code session most) (bases : HasBases code) where
   -- the turn of a chain whose budget is spent
   spent_calm : (ch : Chain) → IsHeldChain code session ch → RunsCode code session ch → IsCalm session most (turn_of zero ch).turn
   spent_calm ch held runs =
@@ -53,7 +54,7 @@ session_there map first None is = ap session_in is ∙ ap (λ (o : Option App). 
 session_there map first (Some a) is = ap session_in is ∙ ap (λ (o : Option App). (unwrap_or o no_app).session) (sym is)
 
 -- accepted code is checked
-pub checked : RowsAreCalm → (code : List ℕ) → AllByRecursion (λ b. b < 256) code → length code ≤ 8192 → (session most : ℕ) → Accepts code session most → HasBases code → IsChecked code session most
+pub checked : RowsAreCalm → (code : List ℕ) → AllByRecursion (λ b. b < 256) code → length code ≤ most_code → (session most : ℕ) → Accepts code session most → HasBases code → IsChecked code session most
 checked facts code bytes short session most accepts bases = λ map first body apdu budget limited size.
     let sound : IsSoundChain (start map first body apdu) = start_sound map first body apdu (size ∙ session_there map first (lookup map first) refl) in
     runs_calmly facts code bytes short session most accepts bases budget (start map first body apdu) sound (start_held facts code bytes short session most accepts bases map first body apdu size limited)

@@ -24,6 +24,7 @@ use Rattle.mc_check.proofs.HeightLemmas.{moves, jump_height, exit_height}
 use Rattle.mc_check.proofs.CalmCalls.{row_cause, row_done, CallEnd, call_end, call_room, entered_at, passed_at}
 use Rattle.mc_check.proofs.FactLooks.{fine}
 use Rattle.mc_check.proofs.CalmReturns.{returning, Back, comes_back}
+use Rattle.mc_model_device.specs.Limits.{most_code}
 
 -- what holds of a frame that does not exit
 abbrev pub OnGoing : Then → Type 0 → Type 0
@@ -160,7 +161,7 @@ module _ (code : List ℕ) (session most : ℕ) (accepts : Accepts code session 
         ] in
         record { dt = low_at d.effect.frame s; stands = going_calm code session d.next d.effect.frame s }
 
-    module _ (short : length code ≤ 8192) where
+    module _ (short : length code ≤ most_code) where
       return_calm : (c : ℕ × ℕ) (public : List ℕ) (x : Around) (d : Done) → counts i ≡ Some c → row i (stepped f next) public x ≡ Does d → DoneCalm code session most d
       return_calm c public x d e done =
           let back : Back code session (stepped f next) c.0 c.1 = comes_back code session most accepts bases short r b h f i next c here good e in

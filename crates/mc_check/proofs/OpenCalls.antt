@@ -1,6 +1,6 @@
 -- The open calls of a frame: they depend on the bytes below LB alone, and they are calls of the code. And lists that have bytes spliced in.
 use Rattle.std.proofs.Common.{◌≡◌, ℕ, ◌+◌, ◌-◌, ◌≤◌, ◌<◌, true, List, ◌++◌, length, take, drop, Some, refl, sym, ap, ◌∙◌, arith}
-use Rattle.std.proofs.lemmas.List.{length-append, length-take, length-drop, length-take-le, take-take, drop-take, drop-drop, take_at, drop_at, append_assoc}
+use Rattle.std.proofs.lemmas.List.{length-take-le, take-take, drop-take, drop-drop, take_at, drop_at, append_assoc}
 use Rattle.mc_model_machine.specs.declared.instruction.Ins.{Ins}
 use Rattle.mc_model_machine.specs.declared.instruction.Ins.TheVariants as ins
 use Rattle.mc_model_device.specs.Bytes.{bytes2, num, splice}
@@ -22,10 +22,6 @@ same_two k b xs ys fits same = two_of k b xs fits ∙ ap (λ (l : List ℕ). dro
 -- fewer bytes of the same ones
 same_fewer : (a b : ℕ) (xs ys : List ℕ) → a ≤ b → take b xs ≡ take b ys → take a xs ≡ take a ys
 same_fewer a b xs ys fewer same = sym (take-take a b xs fewer) ∙ ap (λ (l : List ℕ). take a l) same ∙ take-take a b ys fewer
-
-pub spliced_length : (l : List ℕ) (at : ℕ) (c : List ℕ) → at + length c ≤ length l → length (splice l at c) ≡ length l
-spliced_length l at c fits =
-    omega (arith, length-append (take at l ++ c) (drop (at + length c) l), length-append (take at l) c, length-take at l, length-drop (at + length c) l)
 
 -- what was spliced in stands at its place
 spliced_at : (l : List ℕ) (at : ℕ) (c : List ℕ) → at ≤ length l → drop at (splice l at c) ≡ c ++ drop (at + length c) l

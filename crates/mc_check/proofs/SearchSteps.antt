@@ -19,6 +19,7 @@ use Rattle.mc_check.specs.Searching.{CallTells, Answers, is_unseen, unseen, AreB
 use Rattle.mc_check.proofs.ListPlaces.{get_set_same, get_set_other, get_push_before, get_push_last, get_push, before, last, get_take, take_get}
 use Rattle.mc_check.proofs.CallTelling.{called_is_inside, caller_is_inside}
 use Rattle.mc_check.proofs.ToldBases.{told_unseen, told_open, told_bound, base_found}
+use Rattle.mc_model_device.specs.Limits.{most_code}
 
 -- ---- one change of a state
 
@@ -86,11 +87,11 @@ module _ (states : List Progress) (l : List Call) (stack : List ℕ) (q : ℕ) (
   some_open : 0 < length stack
   some_open = let inside = slice_get_within stack (length stack - 1) q top in omega arith
 
-  pub bases_below : length states ≤ 8192 → AreBelow (2 ^ 31) states
+  pub bases_below : length states ≤ most_code → AreBelow (2 ^ 31) states
   bases_below short r b there =
       let low = so.bound r b there in
-      let most : length states - unseen states - length stack ≤ 8192 = omega arith in
-      let product : 65539 * (length states - unseen states - length stack) ≤ 65539 * 8192 = omega arith in
+      let most : length states - unseen states - length stack ≤ most_code = omega arith in
+      let product : 65539 * (length states - unseen states - length stack) ≤ 65539 * most_code = omega arith in
       omega arith
 
   -- an unseen caller

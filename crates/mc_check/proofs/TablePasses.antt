@@ -20,6 +20,7 @@ use Rattle.mc_check.specs.Table.{routine_of, fact_of, base_in, IsWholeTable, Are
 use Rattle.mc_check.proofs.TableReads.{kept-inside}
 use Rattle.mc_check.proofs.Reaching.{RoutineEntered, entered}
 use Rattle.mc_check.proofs.FactLooks.{KeepsRules as GoodAlone, fine as good-alone}
+use Rattle.mc_check.proofs.CallLemmas.{same_ins}
 
 -- ---- what stands at a place
 
@@ -31,11 +32,6 @@ wild-of : (session height : ℕ) (r : Result (Ins × ℕ) DecodeFault) → plain
     → (i : Ins) × (next : ℕ) × (r ≡ Ok (i, next)) × (is_plain session height (writing i) ≡ false)
 wild-of session height (Ok p) h = (p.0, p.1, refl, h)
 wild-of session height (Err e) h = absurd (cc h)
-
-same-ins : (r : Result (Ins × ℕ) DecodeFault) (i j : Ins) (n m : ℕ) → r ≡ Ok (i, n) → r ≡ Ok (j, m) → i ≡ j
-same-ins r i j n m a b =
-    let pairs : ◌≡◌ {A = Ins × ℕ} (i, n) (j, m) = cc (a, b) in
-    ap (λ (p : Ins × ℕ). p.0) pairs
 
 same-next : (r : Result (Ins × ℕ) DecodeFault) (i j : Ins) (n m : ℕ) → r ≡ Ok (i, n) → r ≡ Ok (j, m) → n ≡ m
 same-next r i j n m a b =
@@ -184,7 +180,7 @@ module _ (code : List ℕ) (session : ℕ) (t : List (Option Entry)) (bases : Li
   no-holds : (f : Fact) (P : Ins → ℕ → Type 0) → Reached code f → ((i : Ins) (next : ℕ) → GoodAlone code f i next → P i next → ⊥) → HoldsAtFact code f P → ⊥
   no-holds f P reached not-there h =
       let g = good f reached in
-      let ins = same-ins (decoded code f.place) h.0 g.0 h.1 g.1 h.2 g.2.there in
+      let ins = same_ins (decoded code f.place) h.0 g.0 h.1 g.1 h.2 g.2.there in
       let next = same-next (decoded code f.place) h.0 g.0 h.1 g.1 h.2 g.2.there in
       not-there g.0 g.1 g.2 (subst (λ (n : ℕ). P g.0 n) next (subst (λ (i : Ins). P i h.1) ins h.3))
 

@@ -1,6 +1,6 @@
 // Code whose verdict is known.
 use crate::verdict::{Verdict, check};
-use mc_base::NoMemory;
+use mc_base::{MOST_CODE, NoMemory};
 use mc_model_machine::CheckCause;
 use std::alloc::Global;
 use std::test::Fail;
@@ -50,7 +50,7 @@ const REFUSED: [(&[u8], u16, CheckCause); 7] = [
 
 // The verdict on code of a length that can be checked.
 fn verdict(alloc: Global, code: &[u8], session: u16) -> Result<Option<Verdict>, NoMemory> {
-    if code.is_empty() || code.len() > 8192 {
+    if code.is_empty() || code.len() > MOST_CODE {
         return Ok(None);
     }
     Ok(Some(check(alloc, code, session)?))

@@ -5,6 +5,7 @@ use Rattle.std.specs.List.{AllByRecursion}
 use Rattle.mc_model_machine.specs.Text.{first_cut, fields, is_blank, is_empty, pieces}
 use Rattle.mc_asm.specs.Items.{texts}
 use Rattle.mc_text.proofs.ReadingLemmas.{pieces_at, pieces_cut}
+use Rattle.mc_asm.proofs.LineLemmas.{texts_one}
 
 -- the fields of the text that is left
 abbrev pub fields_left : Option (List ℕ) → List (List ℕ)
@@ -17,11 +18,11 @@ left_of None = 0
 left_of (Some t) = suc (length t)
 
 -- a part before fields, which is none where it is empty
-abbrev put_field : Bool → List ℕ → List (List ℕ) → List (List ℕ)
+abbrev pub put_field : Bool → List ℕ → List (List ℕ) → List (List ℕ)
 put_field true p ps = ps
 put_field false p ps = p ∷ ps
 
-fields_cut_by : (b : Bool) (p : List ℕ) (ps : List (List ℕ)) → is_empty p ≡ b → filter (λ p. not (is_empty p)) (p ∷ ps) ≡ put_field b p (filter (λ p. not (is_empty p)) ps)
+pub fields_cut_by : (b : Bool) (p : List ℕ) (ps : List (List ℕ)) → is_empty p ≡ b → filter (λ p. not (is_empty p)) (p ∷ ps) ≡ put_field b p (filter (λ p. not (is_empty p)) ps)
 fields_cut_by true p ps e = rw e refl
 fields_cut_by false p ps e = rw e refl
 
@@ -31,10 +32,6 @@ fields_cut (a, Some rest) = fields_cut_by (is_empty a) a (pieces is_blank rest) 
 
 fields_at : (t : List ℕ) → fields t ≡ put_field (is_empty (first_cut is_blank t).0) (first_cut is_blank t).0 (fields_left (first_cut is_blank t).1)
 fields_at t = ap (filter (λ p. not (is_empty p))) (pieces_at is_blank t) ∙ fields_cut (first_cut is_blank t)
-
-texts_one : (ps : List (Bor (List ℕ))) (p : Bor (List ℕ)) (qs : List (List ℕ)) → texts (ps ++ p ∷ []) ++ qs ≡ texts ps ++ p.now ∷ qs
-texts_one [] p qs = refl
-texts_one (x ∷ ps) p qs = ap (λ l. x.now ∷ l) (texts_one ps p qs)
 
 empty_is : (t : List ℕ) (b : Bool) → nat_eq (length t) 0 ≡ b → is_empty t ≡ b
 empty_is [] true h = refl

@@ -1,13 +1,14 @@
 -- The public calls, from the rounds.
-use Rattle.std.proofs.Common.{◌≡◌, ℕ, ◌+◌, ◌-◌, ◌*◌, ◌/◌, ◌%◌, ◌^◌, ◌<◌, ◌≤◌, List, [], ◌∷◌, ◌++◌, length, take, drop, map, reverse, refl, sym, ap, ◌∙◌, arith}
+use Rattle.std.proofs.Common.{◌≡◌, ℕ, ◌+◌, ◌-◌, ◌*◌, ◌/◌, ◌<◌, ◌≤◌, List, [], ◌∷◌, ◌++◌, length, take, drop, map, reverse, refl, sym, ap, ◌∙◌, arith}
 use Rattle.std.specs.Int.{w64, to_be_bytes}
 use Rattle.std.specs.Int.Bits.{bit_xor}
 use Rattle.std.proofs.Math.Nat.{sub-zero}
-use Rattle.std.proofs.lemmas.Nat.{xor_shr, xor_mod}
+use Rattle.std.proofs.lemmas.Nat.{xor_mod}
 use Rattle.std.proofs.lemmas.List.{reverse-append, length-drop, take_all, map-append}
 use Rattle.mc_model_machine.proofs.ModesLemmas.{chain_step}
 use Rattle.mc_model_machine.specs.Modes.{added, blocks_of, chained}
 use Rattle.mc_model_machine.specs.Des.{ciphered, round_keys, des_encipher, des_decipher, tdes_encipher, tdes_decipher, des_signature, tdes_signature}
+use Rattle.mc_model_device.proofs.ListLemmas.{byte_xor}
 
 -- ---- the definitions, opened once
 
@@ -73,9 +74,6 @@ tdes_decipher_is key block kb jb bb r ks os js ek ej eb es eo et er =
     er ∙ des_decipher_is (take 8 key) _ kb _ _ ks os ek second es eo refl ∙ sym (tdes_decipher-open key block)
 
 -- ---- chains
-
-byte_xor : (a b k : ℕ) → bit_xor a b / 2 ^ k % 256 ≡ bit_xor (a / 2 ^ k % 256) (b / 2 ^ k % 256)
-byte_xor a b k = ap (λ (x : ℕ). x % 256) (xor_shr a b k) ∙ xor_mod (a / 2 ^ k) (b / 2 ^ k) 8
 
 pub bytes-xor : (a b : ℕ) → to_be_bytes w64 (bit_xor a b) ≡ added (to_be_bytes w64 a) (to_be_bytes w64 b)
 bytes-xor a b = rw (byte_xor a b 56, byte_xor a b 48, byte_xor a b 40, byte_xor a b 32, byte_xor a b 24, byte_xor a b 16, byte_xor a b 8, xor_mod a b 8) refl

@@ -1,9 +1,8 @@
 -- Deciphering undoes enciphering: the permutations, the rounds, and blocks of bytes.
-use Rattle.std.proofs.Common.{◌≡◌, ◌⊎◌, inl, inr, ℕ, zero, suc, ◌+◌, ◌-◌, ◌*◌, ◌/◌, ◌%◌, ◌^◌, ◌<◌, ◌≤◌, List, [], ◌∷◌, ◌++◌, length, take, drop, reverse, refl, sym, ap, ◌∙◌, arith, subst, length-append, length-drop, length-take}
+use Rattle.std.proofs.Common.{◌≡◌, inl, inr, ℕ, zero, suc, ◌+◌, ◌-◌, ◌*◌, ◌/◌, ◌%◌, ◌^◌, ◌<◌, ◌≤◌, List, [], ◌∷◌, ◌++◌, length, take, drop, reverse, refl, sym, ap, ◌∙◌, arith, subst, length-append, length-drop, length-take}
 use Rattle.std.proofs.Math.Nat.{pow-suc, one-mul, zero-mul}
-use Rattle.std.proofs.lemmas.Bool.{cases_lt}
 use Rattle.std.proofs.lemmas.Nat.Bits.{bit_at_cat_low, bit_at_cat_high}
-use Rattle.std.proofs.lemmas.List.{reverse-append, reverse-reverse, take_at, drop_at, take-append-drop}
+use Rattle.std.proofs.lemmas.List.{reverse-append, reverse-reverse, take_at, drop_at, take-append-drop, nil_from_length}
 use Rattle.mc_model_machine.specs.Modes.{added, AllBelow, IsBlock}
 use Rattle.mc_model_machine.specs.Des.{bits, number, bits_of, bytes_of, pick, initial, final, permutation, through, boxes, box_at, expansion, f, rounds, with_keys, ciphered, round_keys, des_encipher, des_decipher, tdes_encipher, tdes_decipher}
 use Rattle.mc_model_machine.proofs.ModesLemmas.{added_back, length-added, AllBelow-append, AllBelow-take, AllBelow-drop, AllBelow-at, AllBelow-added, listed_from, listed}
@@ -11,6 +10,7 @@ use Rattle.mc_des.proofs.BitsLemmas.{length-bits, length-pick}
 use Rattle.mc_des.proofs.BlockLemmas.{number-bits, rounds-cons, rounds-none, with_keys-open, ciphered-open, bytes_of-open, bytes_of-none, bits_of-open}
 use Rattle.mc_des.proofs.CipherFunction.{f-open}
 use Rattle.mc_des.proofs.DesLemmas.{des_encipher-open, des_decipher-open, tdes_encipher-open, tdes_decipher-open}
+use Rattle.mc_model_device.proofs.ListLemmas.{bit_cases}
 
 -- ---- lists of bits
 
@@ -41,12 +41,9 @@ through-low (b ∷ bs) l = AllBelow-append 2 (box_at b (take 6 l)) (through bs (
 f-low : (r k : List ℕ) → AllBelow 2 (f r k)
 f-low r k = subst (λ (l : List ℕ). AllBelow 2 l) (sym (f-open r k)) (pick-low permutation (through boxes (added (pick expansion r) k)) (through-low boxes (added (pick expansion r) k)))
 
-zero_or_one : (b : ℕ) → b < 2 → (b ≡ 0) ⊎ (b ≡ 1)
-zero_or_one b h = elim (cases_lt b 1) [ inl low ↦ inl (omega arith) | inr high ↦ inr (omega arith) ]
-
 two_cases : (b p m : ℕ) → b < 2 → m < p → b * p + m < p * 2
 two_cases b p m hb hm =
-    elim (zero_or_one b hb) [
+    elim (bit_cases b hb) [
       | inl e ↦ let z : b * p ≡ 0 = rw e (zero-mul p) in omega arith
       | inr e ↦ let z : b * p ≡ p = rw e (one-mul p) in omega arith
     ]
@@ -94,16 +91,12 @@ bytes_of-bits_of (b ∷ bs) a =
     ∙ ap (λ (k : ℕ). k ∷ bytes_of (length bs) (bits_of bs)) (number-bits 8 b ∙ same)
     ∙ ap (λ (l : List ℕ). b ∷ l) (bytes_of-bits_of bs a.1)
 
-empty : (l : List ℕ) → length l ≡ 0 → l ≡ []
-empty [] h = refl
-empty (x ∷ l) h = absurd (cc)
-
 bits_of-none : bits_of [] ≡ []
 unfolding bits_of
 bits_of-none = refl
 
 pub bits_of-bytes_of : (n : ℕ) (l : List ℕ) → length l ≡ 8 * n → AllBelow 2 l → bits_of (bytes_of n l) ≡ l
-bits_of-bytes_of zero l h a = ap bits_of (bytes_of-none l) ∙ bits_of-none ∙ sym (empty l h)
+bits_of-bytes_of zero l h a = ap bits_of (bytes_of-none l) ∙ bits_of-none ∙ sym (nil_from_length l h)
 bits_of-bytes_of (suc n) l h a =
     let size : length (take 8 l) ≡ 8 = simp length-take (omega arith) in
     ap bits_of (bytes_of-open n l) ∙ bits_of-open (number (take 8 l)) (bytes_of n (drop 8 l))

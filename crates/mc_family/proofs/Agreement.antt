@@ -5,7 +5,7 @@ use Rattle.mc_model_device.specs.Bytes.{has_name, lookup, insert, remove}
 use Rattle.mc_model_device.specs.Card.{App, placed}
 use Rattle.mc_model_machine.specs.Chain.{with_pieces, changed_app, map_changed}
 use Rattle.mc_model_card.specs.Items.{Change, Fixed, Created, Deleted, Item, Plain, Atomic, changed, done}
-use Rattle.mc_machine_laws.proofs.MapLemmas.{same_name, apart, lookup-inserted, lookup-beside, lookup-removed, lookup-left}
+use Rattle.mc_model_device.proofs.MapLemmas.{same_name, apart, lookup-inserted, lookup-beside, lookup-removed, lookup-left}
 
 -- an application wherever it lies, if there is one
 abbrev pub bare : Option App → Option App

@@ -15,6 +15,7 @@ use Rattle.mc_model_machine.specs.Listing.{condition_names, register_names}
 use Rattle.mc_model_machine.specs.Assembly.{fits_signed, number_operand, byte, word, signed_operand, natural, signed, place_among, condition, offset_and_end, register_and_rest, address, both, all_bytes, CodeItem, Nothing, Raw, Plain, ToPlace, ToDistance, WordForm, Bare, OfByte, OfBytes, OfWord, OfWords, RawByte, ByDistance, ByPlace, Primitive, Addressed, AddressedByte, AddressedWord, words, Given, label_or_given, is_label, by_distance, by_place, primitive, worded, operands, word_and_operands, Line, label_and_rest, line_read, size, Placed, Laid, is_new, with_label, line_laid, laid_lines, emitted, joined_code, assembled_lines}
 use Rattle.mc_model_device.proofs.ImageLemmas.{all-append}
 use Rattle.mc_family.proofs.CardFacts.{all-take}
+use Rattle.mc_model_device.proofs.ListLemmas.{pair-bytes}
 
 -- ---- answers in turn
 
@@ -102,9 +103,6 @@ all-ok (t ∷ ts) =
     (both-ok (byte t) (all_bytes ts) (λ n. n ≤ 255) (λ bs. AreBytes bs × (length bs ≡ length ts)) (number-ok 255 t) (all-ok ts)) (λ p h. let low : p.0 ≤ 255 = h.0 in ((omega arith, (h.1).0), ap suc (h.1).1))
 
 -- ---- spelled instructions
-
-pub pair-bytes : (n : ℕ) → AreBytes (bytes2 n)
-pair-bytes n = (omega arith, (omega arith, tt))
 
 offset-bytes : (tag : ℕ) (off : ℤ) → AreBytes (offset tag off)
 offset-bytes tag off = by (tag == 0)

@@ -4,7 +4,7 @@ use Rattle.std.specs.Prelude.{⊤, ◌==◌, ◌&&◌, nat_lt, nat_le, bytes_eq,
 use Rattle.std.specs.List.{AllByRecursion, concat}
 use Rattle.std.proofs.lemmas.Bool.{and_parts, leb-true, ltb-true}
 use Rattle.std.proofs.lemmas.List.{length-take}
-use Rattle.mc_model_device.specs.Bytes.{AreBytes, lookup, insert, remove, up, be2, zeros, has_name}
+use Rattle.mc_model_device.specs.Bytes.{AreBytes, lookup, insert, remove, up, be2, zeros, has_name, AscendByName}
 use Rattle.mc_model_machine.specs.Code.{DecodesTo}
 use Rattle.mc_model_device.specs.Device.{IsImage}
 use Rattle.mc_model_device.specs.Image.{Two, look, after}
@@ -17,10 +17,11 @@ use Rattle.mc_model_device.proofs.ImageLemmas.{all-append}
 use Rattle.mc_model_device.proofs.ImageBytes.{image-settled}
 use Rattle.mc_isa.proofs.PlaceLemmas.{decoded_stands}
 use Rattle.mc_machine_laws.specs.FewRuns.{AreCoded}
-use Rattle.mc_machine_laws.proofs.AscendingMaps.{Ascending, each-found, each-inserted, each-removed, ascending-inserted, ascending-removed, length-again}
 use Rattle.mc_machine_laws.proofs.AppSizes.{Limited, are-limited}
 use Rattle.mc_machine_laws.proofs.FewHeaders.{insert-length, remove-length}
-use Rattle.mc_family.proofs.PlaySizes.{good-records, sound-after}
+use Rattle.mc_family.proofs.PlaySizes.{good-records}
+use Rattle.mc_model_device.proofs.MapLemmas.{each-found, each-inserted, each-removed, ascending-inserted, ascending-removed, length-again}
+use Rattle.mc_model_device.proofs.LayoutLemmas.{sound-after}
 
 -- ---- lists of bytes
 
@@ -56,7 +57,7 @@ pub record IsNamedCode (e : List ℕ × App) : Type 0 where
 
 -- the applications of a card
 pub record AreOnCard (m : List (List ℕ × App)) : Type 0 where
-  pub ascending : Ascending m
+  pub ascending : AscendByName m
   pub entries : AllByRecursion IsNamedCode m
   pub count : length m ≤ 32
 
@@ -178,7 +179,7 @@ name-few r words h =
 
 -- the applications of blocks whose records are good, behind `used` others
 record RecordsRead (used : ℕ) (m : List (List ℕ × App)) : Type 0 where
-  ascending : Ascending m
+  ascending : AscendByName m
   entries : AllByRecursion IsNamedCode m
   count : length m + used ≤ 32
 

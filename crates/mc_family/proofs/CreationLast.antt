@@ -17,9 +17,9 @@ use Rattle.mc_model_card.specs.Manager.{Selected, Open, Seat, Route, WrongLength
 use Rattle.mc_model_card.specs.Commands.{Command, item_of, atomic_of, managed, passed, by_route, command, refused}
 use Rattle.mc_model_play.specs.Play.{is_done, send, sent_on}
 use Rattle.mc_model_play.specs.Laws.{Sent, made_by, made_of, created_in, without_places, AllAreIn}
-use Rattle.mc_machine_laws.proofs.MapLemmas.{lookup-inserted}
 use Rattle.mc_family.proofs.LoadCommands.{IsFiller, AreFillers}
 use Rattle.mc_family.proofs.FreshCommands.{load_sent, made_at, command-fresh}
+use Rattle.mc_model_device.proofs.MapLemmas.{lookup-inserted}
 
 -- ---- a creation is the last item of its line
 

@@ -18,12 +18,12 @@ use Rattle.mc_model_play.specs.Play.{WornAt, State, step, plays, first_worn, sta
 use Rattle.mc_model_play.specs.ReadyAgain.{AllFitJournal, IsLine, AreLines}
 use Rattle.mc_model_device.proofs.ImageLemmas.{all-append}
 use Rattle.mc_family.specs.ReadDecks.{ReadLinesLaw, ReadDecksLaw}
-use Rattle.mc_machine_laws.proofs.AscendingMaps.{each-found}
 use Rattle.mc_family.proofs.AssembledBytes.{bind-ok, as-ok, err-ok, only-ok, cond-ok, any-ok, assembled-ok}
 use Rattle.mc_family.proofs.UnitBytes.{UnitBytes, unit-ok}
 use Rattle.mc_model_play.proofs.PlayLemmas.{step_is}
 use Rattle.mc_family.proofs.FewLines.{few_words}
 use Rattle.mc_family.proofs.ReadyLines.{ready_again}
+use Rattle.mc_model_device.proofs.MapLemmas.{each-found}
 
 -- ---- fields
 

@@ -12,21 +12,9 @@ use Rattle.mc_model_machine.specs.Row.{RowEnd, Abends, Does}
 use Rattle.mc_model_machine.specs.Chain.{Chain, Ran, Acted, Follows, Continues, Ends, acted, fetched, row_turn, ran, ran_on}
 use Rattle.mc_family.specs.Split.{with_whole}
 
--- a test of k that chooses between a stop in the first item and one behind it
-chosen : (b : Bool) (s t u : Stopped) → (b ≡ false → t ≡ u) → cond b s t ≡ cond b s u
-chosen true s t u h = refl
-chosen false s t u h = h refl
-
 passed : (b : Bool) (s t u : Stopped) → b ≡ false → t ≡ u → cond b s t ≡ u
 passed true s t u b h = absurd (cc b)
 passed false s t u b h = h
-
-pub stop_within : (is js : List Item) (k : ℕ) (x : List ℕ) → 1 ≤ k → k ≤ moves is → at_stop (is ++ js) k x ≡ at_stop is k x
-stop_within [] js k x low high = absurd (omega arith)
-stop_within (Plain ∷ is) js k x low high =
-    chosen (k == 1) _ _ _ (λ no. ap (with_item Plain) (stop_within is js (k - 1) x (grind (arith, nat_tests, no)) (grind (arith, nat_tests, no))))
-stop_within (Atomic w c ∷ is) js k x low high =
-    chosen (nat_le k (cost Two w)) _ _ _ (λ no. ap (with_item (Atomic w c)) (stop_within is js (k - cost Two w) x (grind (arith, nat_tests, no)) (grind (arith, nat_tests, no))))
 
 pub stop_behind : (is js : List Item) (k : ℕ) (x : List ℕ) → moves is < k → at_stop (is ++ js) k x ≡ with_whole is (at_stop js (k - moves is) x)
 stop_behind [] js k x high = let e : k - 0 ≡ k = omega arith in rw e refl

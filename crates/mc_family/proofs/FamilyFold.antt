@@ -11,10 +11,11 @@ use Rattle.mc_model_play.specs.Solo.{Solo, Heard, silent, heard_before, hears_al
 use Rattle.mc_model_play.specs.View.{is_seen, seen_if, answers, rest_of, work_if, work, IsIsolated}
 use Rattle.mc_model_play.specs.DeckGrammar.{DeckLine}
 use Rattle.mc_model_play.specs.DeckGrammar as line
-use Rattle.mc_machine_laws.proofs.MapLemmas.{same_name}
 use Rattle.mc_family.proofs.Agreement.{bare, MapsAgree}
 use Rattle.mc_family.proofs.Sim.{Simulates, LineKeepsSimulation, hears_all-append, hears_none, rest-alike}
 use Rattle.mc_family.proofs.HotLines.{hot-kept, SameAfterPower, powered, power-keeps}
+use Rattle.mc_model_device.proofs.MapLemmas.{same_name}
+use Rattle.mc_model_device.proofs.BoolLemmas.{and_false}
 
 -- the lone card hears of these lines what the play tells of them, and the maps agree behind them
 record HearsAlike (K : List (List ℕ)) (t : Solo) (s : State) (us : List Step) : Type 0 where
@@ -81,12 +82,8 @@ module _ (K : List (List ℕ)) where
   no_dump true n = refl
   no_dump false n = refl
 
-  not_seen : (b : Bool) → (b && false) ≡ false
-  not_seen true = refl
-  not_seen false = refl
-
   cold-line : (n : ℕ) (l : DeckLine) (m : List (List ℕ)) (b : ℕ) (a : Armed) (w : Option WornAt) → GivesNoEvent (cold_step n l m b a w) ⊎ First (cold_step n l m b a w)
-  cold-line n (line.Dump x) m b a w = inl (record { power = refl; none = no_dump (has_name x K) x; seen = not_seen (has_name x K); own = refl; cold = tt })
+  cold-line n (line.Dump x) m b a w = inl (record { power = refl; none = no_dump (has_name x K) x; seen = and_false (has_name x K); own = refl; cold = tt })
   cold-line n line.Power m b a w =
       let s = warmed m b a in
       let st = hit_of a (power_moves s) w in

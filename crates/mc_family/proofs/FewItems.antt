@@ -18,11 +18,12 @@ use Rattle.mc_model_card.specs.Commands.{Command, item_of, managed, passed, by_r
 use Rattle.mc_model_play.specs.Play.{is_done, sent_on, send}
 use Rattle.mc_model_play.specs.ReadyAgain.{FitsJournal}
 use Rattle.mc_model_device.proofs.ImageLemmas.{all-append}
-use Rattle.mc_machine_laws.proofs.AppSizes.{Limited, limited-done, done-append}
+use Rattle.mc_machine_laws.proofs.AppSizes.{Limited, limited-done}
 use Rattle.mc_family.proofs.CardFacts.{all-take, AreOnCard, are-coded, name-short, ChangeStands, ItemsStand, fixed-again, done-stands, stand-append}
 use Rattle.mc_machine_laws.proofs.FewHeaders.{few_headers_law}
 use Rattle.mc_machine_laws.proofs.FewRuns.{few_runs_law}
 use Rattle.mc_family.proofs.PlaySizes.{notes, SeatFits, CommandFits, command-fits}
+use Rattle.mc_model_card.proofs.ItemLemmas.{done-append}
 
 -- ---- the bytes of a command
 

@@ -29,11 +29,9 @@ use Rattle.mc_family.proofs.FewItems.{IsSent, SeatStands, CommandStands, command
 use Rattle.mc_machine_laws.proofs.AppSizes.{Limited}
 use Rattle.mc_family.proofs.HotLines.{hot}
 use Rattle.mc_family.proofs.PlaySizes.{SeatFits, BaseFits, StateFits, step-fits}
+use Rattle.mc_model_device.proofs.ListLemmas.{pair-bytes}
 
 -- ---- the commands of a line
-
-pair-bytes : (n : ℕ) → AreBytes (bytes2 n)
-pair-bytes n = (omega arith, (omega arith, tt))
 
 with-pair : (b : List ℕ) (n : ℕ) → AreBytes b → AreBytes (b ++ bytes2 n)
 with-pair b n h = all-append (λ x. x < 256) b (bytes2 n) h (pair-bytes n)

@@ -16,6 +16,7 @@ use Rattle.mc_model_device.specs.declared.cause.Cause.{Cause}
 use Rattle.mc_model_device.specs.declared.cause.Cause.TheVariants.{BadJournal, NoRoot, BadBlock, BadRecord, BadChain}
 use Rattle.mc_model_machine.specs.declared.instruction.Ins.{Ins}
 use Rattle.mc_model_machine.specs.declared.instruction.Ins.TheVariants.{Nop, Setsw, Setla, Setswla, Exit, Exitsw, Exitla, Exitswla, Branch, Jump, Call, Pushz, Pushb, Pushw, Popn, Popb, Popw, Prim, Ret, Reti, Reto, Retio, Load, Store, Loadi, Storei, Loada, Index, Setb, Cmpb, Addb, Subb, Setw, Cmpw, Addw, Subw, Clearn, Testn, Incn, Decn, Notn, Cmpn, Addn, Subn, Andn, Orn, Xorn}
+use Rattle.mc_model_machine.proofs.TextLemmas.{every_append}
 
 -- a byte other than a line feed, and other than `>`
 abbrev pub unfed : ℕ → Bool
@@ -28,14 +29,8 @@ unmarked c = not (c == 62)
 abbrev pub Flat : List ℕ → Type 0
 Flat t = every unfed t ≡ true
 
-every-append : (test : ℕ → Bool) (a b : List ℕ) → every test a ≡ true → every test b ≡ true → every test (a ++ b) ≡ true
-every-append test [] b h k = k
-every-append test (c ∷ a) b h k =
-    let p = and_parts (test c) (every test a) h in
-    and_from (test c) (every test (a ++ b)) p.0 (every-append test a b p.1 k)
-
 pub flat-append : (a b : List ℕ) → Flat a → Flat b → Flat (a ++ b)
-flat-append a b h k = every-append unfed a b h k
+flat-append a b h k = every_append unfed a b h k
 
 above : (k n : ℕ) → k < n → not (n == k) ≡ true
 above k n h = ap not (ne_eqb n k (λ e. absurd (omega (arith, e, h))))

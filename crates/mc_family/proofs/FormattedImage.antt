@@ -1,5 +1,5 @@
 -- A formatted image is an empty card without a fault.
-use Rattle.std.proofs.Common.{◌≡◌, ◌≢◌, ℕ, zero, suc, ◌+◌, ◌-◌, ◌*◌, ◌/◌, ◌%◌, ◌<◌, ◌≤◌, Bool, true, false, cond, ◌&&◌, ◌||◌, List, [], ◌∷◌, length, take, Option, Some, None, refl, sym, ◌∙◌, ap, subst, arith}
+use Rattle.std.proofs.Common.{◌≡◌, ◌≢◌, ℕ, zero, suc, ◌+◌, ◌-◌, ◌<◌, ◌≤◌, Bool, true, false, cond, ◌&&◌, ◌||◌, List, [], ◌∷◌, length, take, Option, Some, None, refl, sym, ◌∙◌, ap, subst, arith}
 use Rattle.std.specs.Prelude.{bytes_eq, nat_le, ◌==◌, slice_index, slice_set}
 use Rattle.std.proofs.lemmas.Bool.{le-leb, le-ltb, eq-eqb, ne_eqb}
 use Rattle.std.proofs.lemmas.List.{length-set, get_or-set_same, get_or-set_other, get_or_past}
@@ -10,6 +10,7 @@ use Rattle.mc_model_device.specs.Card.{Block, word, header, heap_start, blocks_f
 use Rattle.mc_model_device.specs.Layout.{root, hole_header, no_root, bad_block, bad_record, bad_chain, by_cause, words_fault, fault, fault_of}
 use Rattle.mc_model_device.specs.declared.cause.Cause.TheVariants.{NoRoot, BadBlock, BadRecord, BadChain}
 use Rattle.mc_model_play.specs.Play.{formatted}
+use Rattle.mc_model_device.proofs.ListLemmas.{two-bytes}
 
 -- the words of an empty card of layout 2
 record IsEmptyCard (n : ℕ) (w : List (List ℕ)) : Type 0 where
@@ -38,13 +39,10 @@ rooted n w h =
     ∙ ap (λ (k : ℕ). rootless (root 2 n heap_start) k) h.size
     ∙ ap (λ (b : Bool). cond b None (Some 0)) ((bytes_eq-Decides front front).1 refl)
 
-two_bytes : (k : ℕ) → k < 65536 → 256 * (k / 256 % 256) + k % 256 ≡ k
-two_bytes k h = omega arith
-
 headed : (n : ℕ) → 256 ≤ n → n ≤ 16384 → header 131 (hole_header (n - 131) 0) ≡ Some (hole_of n)
 headed n low high =
     let k : ℕ = n - 131 in
-    ap (λ (t : ℕ). cond (true && true && nat_le 1 t && true && true) (Some (record { place = 131; used = false; words = t; link = 0 })) None) (two_bytes k (omega arith))
+    ap (λ (t : ℕ). cond (true && true && nat_le 1 t && true && true) (Some (record { place = 131; used = false; words = t; link = 0 })) None) (two-bytes k (omega arith))
     ∙ ap (λ (b : Bool). cond (true && true && b && true && true) (Some (hole_of n)) None) (le-leb 1 k (omega arith))
 
 one_header : (k n : ℕ) (w : List (List ℕ)) → IsEmptyCard n w → 256 ≤ n → n ≤ 16384 → bad_block (suc (suc k)) w 131 false ≡ None

@@ -22,6 +22,7 @@ use Rattle.mc_family.proofs.Stops.{WornWithin}
 use Rattle.mc_family.proofs.OtherCommand.{aside_other, command-aside, send-aside}
 use Rattle.mc_family.proofs.LoadCommands.{load-managers, delete-manager}
 use Rattle.mc_family.proofs.Lines.{stopped-runs, no_selection, running, command-keeps, other-keeps}
+use Rattle.mc_model_device.proofs.BoolLemmas.{and_first}
 
 -- ---- lines that change nothing that is related
 
@@ -114,10 +115,6 @@ dump_at K t u n true r sim is same =
     }
 dump_at K t u n false r sim is same = still-keeps K t u sim
 
-and_true : (x y : Bool) → (x && y) ≡ true → x ≡ true
-and_true true y h = refl
-and_true false y h = absurd (cc h)
-
 and_false : (x : Bool) → (x && false) ≡ true → ⊥
 and_false true h = cc h
 and_false false h = cc h
@@ -135,7 +132,7 @@ module _ (K : List (List ℕ)) (t : Solo) (n : ℕ) (o : ℕ) (j : Journal) (g :
   dump-kept : (b : Base) (v : Live) (x : List ℕ) → let u = hot_step n (line.Dump x) (hot b o j v g a) None in Simulates K (Hot (hot b o j v g a)) t → LineKeepsSimulation K t u
   dump-kept (OnCard c) (Running seat) x sim =
       dump_at K t (hot_step n (line.Dump x) (hot (OnCard c) o j (Running seat) g a) None) x (has_name x K && true) (static_of (lookup c.apps x)) sim refl
-      (λ h. sym (static_alike (lookup c.apps x) (lookup t.map x) (sim.map x (and_true (has_name x K) true h))))
+      (λ h. sym (static_alike (lookup c.apps x) (lookup t.map x) (sim.map x (and_first (has_name x K) true h))))
   dump-kept (AtFault cause p) (Running seat) x sim = absurd sim.warm
   dump-kept b Unpowered x sim = dump_at K t (hot_step n (line.Dump x) (hot b o j Unpowered g a) None) x (has_name x K && false) NoCard sim refl (λ h. absurd (and_false (has_name x K) h))
   dump-kept b Muted x sim = dump_at K t (hot_step n (line.Dump x) (hot b o j Muted g a) None) x (has_name x K && false) Silenced sim refl (λ h. absurd (and_false (has_name x K) h))

@@ -1,6 +1,6 @@
 -- Every application of a play is limited, and each run begins with as many session bytes as its application has.
 use Rattle.std.proofs.Common.{◌≡◌, ℕ, ◌+◌, ◌-◌, ◌≤◌, Bool, true, false, cond, not, List, [], ◌∷◌, ◌++◌, take, drop, length, Option, Some, None, Result, Ok, Err, refl, sym, ap, subst, ◌∙◌, arith}
-use Rattle.std.specs.Prelude.{⊤, ◌==◌, ◌&&◌, ◌||◌, nat_lt, nat_le, bytes_eq, map, is_some, is_none, is_ok, slice_index}
+use Rattle.std.specs.Prelude.{⊤, ◌==◌, ◌&&◌, ◌||◌, nat_lt, nat_le, bytes_eq, map, is_none, is_ok, slice_index}
 use Rattle.std.specs.List.{AllByRecursion}
 use Rattle.std.proofs.lemmas.Bool.{and_parts, leb-true, eqb-true}
 use Rattle.std.proofs.lemmas.List.{length-append, length-take, length-replicate}
@@ -12,12 +12,12 @@ use Rattle.mc_model_card.specs.declared.card.Sizes.{Sizes}
 use Rattle.mc_model_device.specs.declared.device.Stop.{Stop}
 use Rattle.mc_model_device.specs.declared.device.Stop.TheVariants as stop
 use Rattle.mc_model_card.specs.declared.unit.AidFault.{AidFault}
-use Rattle.mc_model_device.specs.Bytes.{lookup, insert, remove, zeros, or_else, up, be2, has_name}
+use Rattle.mc_model_device.specs.Bytes.{lookup, insert, remove, zeros, up, be2, has_name}
 use Rattle.mc_model_machine.specs.Apdu.{ApduParts}
 use Rattle.mc_model_card.specs.Units.{name_of}
-use Rattle.mc_model_device.specs.Image.{Journal, Look, Refused, Closed, Pending, look, replayed, after}
+use Rattle.mc_model_device.specs.Image.{Journal, look, after}
 use Rattle.mc_model_device.specs.Card.{App, Card, Block, needed_of, record_at, name_in, name_at, app_at, apps_of, blocks, cells, words_after, means}
-use Rattle.mc_model_device.specs.Layout.{is_record, no_root, bad_block, bad_record, bad_chain, by_cause, words_fault, fault_of, fault}
+use Rattle.mc_model_device.specs.Layout.{is_record, no_root, bad_block, bad_record, bad_chain, by_cause, words_fault, fault}
 use Rattle.mc_model_machine.specs.Chain.{Write, run}
 use Rattle.mc_model_card.specs.Items.{Change, Fixed, Created, Item, Plain, Atomic, moves, changed, done, card_done, StopAt, at_stop, Site, BankItem, Piece, Blank, Note, Enter, write_items}
 use Rattle.mc_model_device.specs.Limits.{most_static, most_code, most_session, most_record}
@@ -30,10 +30,13 @@ use Rattle.mc_model_play.specs.DeckGrammar.{DeckLine}
 use Rattle.mc_model_play.specs.DeckGrammar as line
 use Rattle.mc_machine_laws.specs.Limited.{session_in}
 use Rattle.mc_family.specs.Begins.{PassedWell, RoutedWell, BehindDone, SentWell, TakenWell, LineWell, BeginWell, BeginsLaw}
-use Rattle.mc_machine_laws.proofs.MapLemmas.{same_name, name_is_itself, lookup-beside, lookup-left}
-use Rattle.mc_machine_laws.proofs.AppSizes.{size_of, size_in, SameSizes, changed-sizes, WriteFits, moved-writes, Limited, are-limited, limited-inserted, ChangeFits, ItemsFit, limited-done, fit-whole, fit-append, done-append}
+use Rattle.mc_machine_laws.proofs.AppSizes.{size_of, size_in, SameSizes, changed-sizes, WriteFits, moved-writes, Limited, are-limited, limited-inserted, ChangeFits, ItemsFit, limited-done, fit-whole, fit-append}
 use Rattle.mc_machine_laws.proofs.RunSizes.{RanFits, run-fits}
 use Rattle.mc_family.proofs.HotLines.{hot}
+use Rattle.mc_model_device.proofs.MapLemmas.{same_name, name_is_itself, lookup-beside, lookup-left}
+use Rattle.mc_model_card.proofs.ItemLemmas.{done-append}
+use Rattle.mc_model_device.proofs.BoolLemmas.{or_else-none, no_value}
+use Rattle.mc_model_device.proofs.LayoutLemmas.{cause-none, sound-after}
 
 -- ---- a running card
 
@@ -182,10 +185,6 @@ module _ (c : Card) (seat : Seat) (fits : SeatFits c.apps seat) where
           absurd (subst (λ (z : Option (ℕ × ℕ)). AsManySession z (length s.session)) gone h)
       by false is = same-selected c.apps (insert c.apps n a) s (ap size_of (lookup-beside c.apps n a s.name is)) h
 
-  not-taken : (o : Option App) → is_some o ≡ false → o ≡ None
-  not-taken None h = refl
-  not-taken (Some a) h = absurd (cc h)
-
   created-by : (a : ApduParts) (o : Open) (r : Result (List ℕ) AidFault) (x y z v : Bool) → seat.load ≡ Some o → is_complete o ≡ z → is_taken c.apps r ≡ v
       → ManagedFits (answered (cond x (Some 0x6A86) (cond y (Some 0x6700) (cond (not z) (Some 0x6985) (cond (not (is_ok r)) (Some 0x6A80) (cond v (Some 0x6A89) None))))) (create_done seat (Some o) r))
   unfolding ManagedFits
@@ -201,7 +200,7 @@ module _ (c : Card) (seat : Seat) (fits : SeatFits c.apps seat) where
       record {
         items = blanks-fit c.apps _ ch o.site n cs small;
         seat = subst (λ (m : List (List ℕ × App)). SeatFits m (record seat { load = None })) (sym (blanks-done c.apps _ ch o.site n cs))
-            (record { selected = beside-selected seat.selected n (fresh o) (not-taken (lookup c.apps n) t) fits.selected; load = tt });
+            (record { selected = beside-selected seat.selected n (fresh o) (no_value (lookup c.apps n) t) fits.selected; load = tt });
       }
 
   create-by : (a : ApduParts) (o : Option Open) (x y : Bool) → seat.load ≡ o
@@ -347,20 +346,12 @@ line-fits c seat budget l h = record { items = tt; seat = h }
 
 -- ---- the card that the first power line finds
 
-or-none : {A : Type 0} → (a b : Option A) → or_else a b ≡ None → (a ≡ None) × (b ≡ None)
-or-none (Some x) b e = absurd (cc e)
-or-none None b e = (refl, e)
-
-no-cause : (c : Cause) (o : Option ℕ) → by_cause c o ≡ None → o ≡ None
-no-cause c None e = refl
-no-cause c (Some p) e = absurd (cc e)
-
 pub good-records : (w : List (List ℕ)) → words_fault w ≡ None → bad_record w (blocks w) [] 0 ≡ None
 good-records w h =
-    let root = or-none (by_cause NoRoot (no_root w)) _ h in
-    let block = or-none (by_cause BadBlock (bad_block (length w) w 131 false)) _ root.1 in
-    let records = or-none (by_cause BadRecord (bad_record w (blocks w) [] 0)) (by_cause BadChain (bad_chain w (blocks w))) block.1 in
-    no-cause BadRecord (bad_record w (blocks w) [] 0) records.0
+    let root = or_else-none (by_cause NoRoot (no_root w)) _ h in
+    let block = or_else-none (by_cause BadBlock (bad_block (length w) w 131 false)) _ root.1 in
+    let records = or_else-none (by_cause BadRecord (bad_record w (blocks w) [] 0)) (by_cause BadChain (bad_chain w (blocks w))) block.1 in
+    cause-none BadRecord (bad_record w (blocks w) [] 0) records.0
 
 record-small : (r : List ℕ) (words : ℕ) → is_record r words ≡ true → be2 r 22 ≤ 4096
 record-small r words h =
@@ -403,11 +394,6 @@ limited-blocks m (b ∷ bs) names used h =
         limited-inserted (apps_of m bs) (name_at m b.place) (app_at m b.place) (next e) (app-small m b.place (record-small r b.words good.0))
     by true false is e next other = absurd (cc e)
     by false g is e next other = other e
-
-pub sound-after : (m : List (List ℕ)) (l : Look) → look m ≡ l → fault_of l m ≡ None → words_fault (words_after (after m) m) ≡ None
-sound-after m (Refused p) e h = absurd (cc h)
-sound-after m Closed e h = ap (λ (k : Look). words_fault (words_after (replayed m k) m)) e ∙ h
-sound-after m (Pending j ps) e h = h
 
 means-limited : (m : List (List ℕ)) → fault m ≡ None → Limited (means m).apps
 means-limited m h =

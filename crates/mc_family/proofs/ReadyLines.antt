@@ -7,7 +7,7 @@ use Rattle.mc_model_device.specs.declared.cause.Cause.{Cause}
 use Rattle.mc_model_device.specs.declared.device.Stop.{Stop}
 use Rattle.mc_model_device.specs.declared.device.Stop.TheVariants as stop
 use Rattle.mc_model_device.specs.Bytes.{lookup}
-use Rattle.mc_model_device.specs.Image.{Journal, One, Two, Which, Both, Only, Neither, Look, Refused, Closed, Pending, look_at, look_j, debt, owed, which}
+use Rattle.mc_model_device.specs.Image.{Journal, One, Two, Which, Both, Only, Neither, look_at, look_j, debt, owed, which}
 use Rattle.mc_model_device.specs.Stopped.{cost, stands}
 use Rattle.mc_model_device.specs.Card.{App, Card}
 use Rattle.mc_model_device.specs.Layout.{fault}
@@ -18,30 +18,22 @@ use Rattle.mc_model_card.specs.Commands.{Command}
 use Rattle.mc_model_play.specs.ReadyAgain.{is_found, is_cold, is_poke, sure_after, PowerIsReady, ReadyLine, ReadyAgain, FitsJournal, AllFitJournal}
 use Rattle.mc_model_play.specs.DeckGrammar.{DeckLine}
 use Rattle.mc_model_play.specs.DeckGrammar as line
-use Rattle.mc_model_device.proofs.LookLemmas.{good-pending}
+use Rattle.mc_model_device.proofs.LookLemmas.{owed-few}
 use Rattle.mc_model_device.specs.Device.{IsImage}
 use Rattle.mc_family.proofs.FormattedImage.{formatted_sound, formatted_size}
 use Rattle.mc_family.proofs.HotLines.{hot}
+use Rattle.mc_model_device.proofs.BoolLemmas.{cond-most}
 
 -- ---- what can be owed
 
-owed-pending : (j : Journal) (m : List (List ℕ)) (l : Look) → look_j j m ≡ l → debt l ≤ 65
-owed-pending j m (Refused p) h = omega arith
-owed-pending j m Closed h = omega arith
-owed-pending j m (Pending k ps) h = let few : length ps ≤ 64 = (good-pending j k m ps h).few in omega arith
-
 owed-which : (m : List (List ℕ)) (w : Which) → debt (look_at m w) ≤ 65
 owed-which m Both = omega arith
-owed-which m (Only j) = owed-pending j m (look_j j m) refl
+owed-which m (Only j) = owed-few j m (look_j j m) refl
 owed-which m Neither = omega arith
 
 -- an image owes at most 65 writes
 pub owed-most : (m : List (List ℕ)) → owed m ≤ 65
 owed-most m = owed-which m (which m)
-
-cond-most : (b : Bool) (x y n : ℕ) → x ≤ n → y ≤ n → cond b x y ≤ n
-cond-most true x y n h k = h
-cond-most false x y n h k = k
 
 owed-cond : (b : Bool) (s t : Stopped) → s.owed ≤ 65 → t.owed ≤ 65 → (cond b s t).owed ≤ 65
 owed-cond true s t h k = h
@@ -119,7 +111,7 @@ stopped-sure : (sure : Bool) (s : Warm) (t : StopAt) (b : Bool) → SureWarm sur
 stopped-sure sure s t true h = record { owed = cond-most _ (s.owed - 1 + 1) 0 65 (let o : s.owed ≤ 65 = h.owed in omega arith) (omega arith); base = h.base }
 stopped-sure sure s t false h = record { owed = cond-most _ 2 0 65 (omega arith) (omega arith); base = cond-sure sure (stands One 1 (t.at - s.owed) t.left) s.base h.base }
 
-migration-most : (b : Base) → migration b ≤ 6
+pub migration-most : (b : Base) → migration b ≤ 6
 migration-most (OnCard c) = cond-most (c.layout == 1) 6 0 6 (omega arith) (omega arith)
 migration-most (AtFault cause p) = omega arith
 

@@ -1,5 +1,5 @@
 -- The relation between a state of a play and a card that holds one family alone, and what one line is to keep of it.
-use Rattle.std.specs.Prelude.{◌≡◌, ℕ, Bool, true, false, cond, ◌||◌, List, [], ◌∷◌, ◌++◌, bytes_eq, Option, Some, None, ⊤}
+use Rattle.std.specs.Prelude.{◌≡◌, ℕ, Bool, true, cond, ◌||◌, List, [], ◌∷◌, ◌++◌, bytes_eq, Option, Some, None, ⊤}
 use Rattle.std.proofs.Common.{refl, ap, sym, ◌∙◌}
 use Rattle.std.proofs.lemmas.List.{append_assoc}
 use Rattle.mc_model_device.specs.Bytes.{has_name, lookup}
@@ -12,8 +12,9 @@ use Rattle.mc_model_play.specs.Family.{live_in, is_own}
 use Rattle.mc_model_play.specs.Given.{Event, Leaves, apps_in, events_of}
 use Rattle.mc_model_play.specs.Solo.{Solo, Heard, silent, hears, heard_before, hears_all}
 use Rattle.mc_model_play.specs.View.{is_seen, seen_if, rest_of, work_if}
-use Rattle.mc_machine_laws.proofs.MapLemmas.{name_is_itself}
 use Rattle.mc_family.proofs.Agreement.{bare, MapsAgree}
+use Rattle.mc_model_device.proofs.MapLemmas.{name_is_itself}
+use Rattle.std.proofs.lemmas.Bool.{or_right}
 
 -- ---- the relation
 
@@ -85,15 +86,11 @@ static_of-bare (Some a) = refl
 pub static_alike : (o p : Option App) → bare o ≡ bare p → static_of o ≡ static_of p
 static_alike o p e = sym (static_of-bare o) ∙ (ap static_of e ∙ static_of-bare p)
 
-or_true : (x y : Bool) → y ≡ true → (x || y) ≡ true
-or_true true y h = refl
-or_true false y h = h
-
 rest_from : (ks : List (List ℕ)) (m d : List (List ℕ × App)) → MapsAgree ks true m d → rest_of ks m ≡ rest_of ks d
 rest_from [] m d h = refl
 rest_from (k ∷ ks) m d h =
     let first : static_of (lookup m k) ≡ static_of (lookup d k) = static_alike (lookup m k) (lookup d k) (h k (ap (λ (b : Bool). b || has_name k ks) (name_is_itself k))) in
-    let others : rest_of ks m ≡ rest_of ks d = rest_from ks m d (λ j on. h j (or_true (bytes_eq k j) (has_name j ks) on)) in
+    let others : rest_of ks m ≡ rest_of ks d = rest_from ks m d (λ j on. h j (or_right (bytes_eq k j) (has_name j ks) on)) in
     ap (λ (z : LineResult). z ∷ rest_of ks m) first ∙ ap (λ (z : List LineResult). static_of (lookup d k) ∷ z) others
 
 -- the static bytes of the family are the same where the maps agree

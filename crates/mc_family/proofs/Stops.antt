@@ -15,6 +15,7 @@ use Rattle.mc_model_play.specs.Given.{Event, Arrives, Departs, given_stop, told}
 use Rattle.mc_model_play.specs.Solo.{Solo, Heard, silent, hears, heard_before, hears_all, hits}
 use Rattle.mc_family.proofs.Agreement.{MapsAgree, Agree-inserted, Agree-removed, Agree-beside, Agree-left, Agree-changed_app, Agree-joined}
 use Rattle.mc_family.proofs.RunLemma.{WritesOn}
+use Rattle.mc_family.proofs.Sim.{hears_none}
 
 -- ---- the stop that is given
 
@@ -125,12 +126,8 @@ deletion-told K true t m n es last is h again =
     (again (record t { map = remove t.map n }) (Agree-removed K true m t.map n h))
 deletion-told K false t m n es last is h again = again t (Agree-joined K true (remove m n) m t.map (Agree-left K true m n is) h)
 
-nothing-told : (t : Solo) → hears_all t [] ≡ silent t
-unfolding hears_all
-nothing-told t = refl
-
 pub told-alike : (K : List (List ℕ)) (is : List Item) (t : Solo) (m : List (List ℕ × App)) → AreOthers K is → MapsAgree K true m t.map → StillAgrees K t (done m is) (told K is)
-told-alike K [] t m o h = record { map = t.map; heard = nothing-told t; agree = h }
+told-alike K [] t m o h = record { map = t.map; heard = hears_none t; agree = h }
 told-alike K (Plain ∷ is) t m o h = told-alike K is t m o.1 h
 told-alike K (Atomic w (Fixed n ps) ∷ is) t m o h =
     told-alike K is t (map_changed m n (Some ps)) o.1

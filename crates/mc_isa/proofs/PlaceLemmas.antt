@@ -1,24 +1,18 @@
 -- At each place of code exactly one answer holds, the computed one.
 use Rattle.std.proofs.Common.{◌≡◌, ℕ, zero, suc, ◌+◌, ◌<◌, ◌≤◌, Bool, true, false, cond, List, [], ◌∷◌, ◌++◌, length, take, drop, Option, Some, None, Result, Ok, Err, arith, refl, sym, ap, subst, inl, inr, ◌∙◌, length-drop, length-take}
 use Rattle.std.specs.Prelude.{nat_le, option_map, slice_index}
-use Rattle.std.specs.Int.{w8}
 use Rattle.std.proofs.lemmas.List.{take-append-drop}
 use Rattle.mc_model_machine.specs.Code.{Form, made, made_of, operands, total, form, spell, front, decoded, IsUndefined, IsPast, DecodesTo, kinds, from_place, Kind}
 use Rattle.mc_model_machine.specs.declared.instruction.DecodeFault.{DecodeFault}
 use Rattle.mc_model_machine.specs.declared.instruction.DecodeFault.TheVariants.{Undefined, Past}
 use Rattle.mc_model_machine.specs.declared.instruction.Ins.{Ins}
-use Rattle.mc_model_machine.specs.declared.instruction.Ins.TheVariants.{Prim}
-use Rattle.std.proofs.Common.{Fits, get_or}
 use Rattle.mc_isa.proofs.RowLemmas.{Good, GoodRow, good_form, made_good}
 use Rattle.mc_model_device.specs.Bytes.{AreBytes}
 use Rattle.mc_isa.proofs.SpellingLemmas.{front_spell}
+use Rattle.mc_model_device.proofs.ListLemmas.{bytes_from}
+use Rattle.std.proofs.lemmas.Bool.{leb-false, leb-true}
 
 -- ---- what stands at a place
-
-bytes_at : (code : List ℕ) (at : ℕ) → AreBytes code → AreBytes (drop at code)
-bytes_at code zero all = all
-bytes_at [] (suc at) all = tt
-bytes_at (b ∷ code) (suc at) all = bytes_at code at all.1
 
 -- the first byte from a place on is the byte at the place
 byte_at : (code : List ℕ) (at b : ℕ) (bs : List ℕ) → drop at code ≡ b ∷ bs → slice_index code at ≡ b
@@ -36,16 +30,10 @@ length_at (x ∷ code) (suc at) b bs e = let h = length_at code at b bs e in gri
 none_at : (code : List ℕ) (at : ℕ) → drop at code ≡ [] → length code ≤ at
 none_at code at e = let h = length-drop at code in let l : length (drop at code) ≡ 0 = rw e refl in omega (arith, h, l)
 
-le_of : (m n : ℕ) → nat_le m n ≡ true → m ≤ n
-le_of m n h = grind (arith, h)
-
-gt_of : (m n : ℕ) → nat_le m n ≡ false → n < m
-gt_of m n h = grind (arith, h)
-
 made_stands : (code : List ℕ) (at b : ℕ) (bs : List ℕ) (f : Form) → drop at code ≡ b ∷ bs → AreBytes bs → form b ≡ Some f → Good b f → (t : Bool) → nat_le (total (operands f)) (length bs) ≡ t → DecodesTo code at (from_place at (cond t (Ok (made f bs, total (operands f) + 1)) (Err Past)))
 made_stands code at b bs f e all o g true le =
     let m = made_good b f bs g all le in
-    let fits = le_of (total (operands f)) (length bs) le in
+    let fits = leb-true (total (operands f)) (length bs) le in
     let short : length (take (total (operands f)) bs) ≡ total (operands f) = rw length-take (omega arith) in
     let size : length (spell (made f bs)) ≡ total (operands f) + 1 = ap length m.1 ∙ ap suc short ∙ omega arith in
     let whole = length_at code at b bs e in
@@ -56,7 +44,7 @@ made_stands code at b bs f e all o g true le =
       bytes = rw (m.1, e) (ap (λ k. b ∷ take k bs) short);
     }
 made_stands code at b bs f e all o g false le =
-    let long = gt_of (total (operands f)) (length bs) le in
+    let long = leb-false (total (operands f)) (length bs) le in
     let whole = length_at code at b bs e in
     inr (operands f, rw (byte_at code at b bs e, o) refl, omega arith)
 
@@ -70,13 +58,9 @@ place_stands : (code : List ℕ) (at : ℕ) (l : List ℕ) → drop at code ≡ 
 place_stands code at [] e all = inl (none_at code at e)
 place_stands code at (b ∷ bs) e all = row_stands code at b bs (form b) e all.1 refl (good_form b)
 
-pub all_bytes : (code : List ℕ) → ((i : ℕ) → Fits w8 (get_or code i 0)) → AreBytes code
-all_bytes [] h = tt
-all_bytes (b ∷ code) h = (omega (arith, h 0), all_bytes code (λ i. h (suc i)))
-
 -- the computed answer holds
 pub decoded_stands : (code : List ℕ) (at : ℕ) → AreBytes code → DecodesTo code at (decoded code at)
-decoded_stands code at all = place_stands code at (drop at code) refl (bytes_at code at all)
+decoded_stands code at all = place_stands code at (drop at code) refl (bytes_from code at all)
 
 kinds_none : (o : Option Form) → option_map operands o ≡ None → o ≡ None
 kinds_none None e = refl

@@ -8,6 +8,7 @@ use Rattle.mc_model_machine.specs.declared.instruction.DecodeFault.{DecodeFault}
 use Rattle.mc_model_machine.specs.declared.instruction.Ins.{Ins}
 use Rattle.mc_model_machine.specs.declared.instruction.Ins.TheVariants.{Nop, Setsw, Setla, Setswla, Exit, Exitsw, Exitla, Exitswla, Branch, Jump, Call, Pushz, Pushb, Pushw, Popn, Popb, Popw, Prim, Ret, Reti, Reto, Retio, Load, Store, Loadi, Storei, Loada, Index, Setb, Cmpb, Addb, Subb, Setw, Cmpw, Addw, Subw, Clearn, Testn, Incn, Decn, Notn, Cmpn, Addn, Subn, Andn, Orn, Xorn}
 use Rattle.mc_isa.proofs.ReadingLemmas.{op_of, tag_of, back_plain, back_byte, back_bytes, back_word, back_words, back_near, back_offset_at, back_byte_offset_at, back_word_offset_at, back_target_at}
+use Rattle.std.proofs.lemmas.List.{nil_from_length}
 
 -- ---- spelled and read back
 
@@ -110,16 +111,12 @@ pub spell_front : (i j : Ins) (r q : List ℕ) → Shaped i → Shaped j → spe
 unfolding ins_of
 spell_front i j r q s t e = ap ins_of (sym (front_spell i r s) ∙ ap front e ∙ front_spell j q t)
 
-empty_of : (r : List ℕ) → length r ≡ 0 → r ≡ []
-empty_of [] h = refl
-empty_of (x ∷ r) h = absurd (grind (arith, h))
-
 pub prefix_free : (i j : Ins) (r : List ℕ) → Shaped i → Shaped j → spell i ++ r ≡ spell j → (i ≡ j) × (r ≡ [])
 prefix_free i j r s t e =
     let same = spell_front i j r [] s t (e ∙ sym (append-nil (spell j))) in
     let l : length (spell i) + length r ≡ length (spell j) = sym (length-append (spell i) r) ∙ ap length e in
     let k : length (spell i) ≡ length (spell j) = ap (λ i. length (spell i)) same in
-    (same, empty_of r (omega (arith, l, k)))
+    (same, nil_from_length r (omega (arith, l, k)))
 
 pub spelling_decoded : (i : Ins) (rest : List ℕ) → Shaped i → decoded (spell i ++ rest) 0 ≡ Ok (i, length (spell i))
 spelling_decoded i rest s = ap (from_place 0) (front_spell i rest s) ∙ ap (λ n. Ok (i, n)) (zero-add (length (spell i)))

@@ -5,6 +5,14 @@ use Rattle.std.proofs.Math.ListN.{drop_of_length-le}
 use Rattle.mc_lab.specs.Rising.{Rising, count_below, last_of}
 use Rattle.mc_lab.specs.Expectations.{last_below, later_or, where_is}
 
+-- what is left of a list from an element on
+pub drop-at : {A : Type 0} (xs : List A) (i : ℕ) (x : A) → slice_get xs i ≡ Some x → drop i xs ≡ x ∷ drop (i + 1) xs
+drop-at [] i x e = absurd (cc e)
+drop-at {A} (y ∷ xs) zero x e = let same : y ≡ x = cc e in ap (λ (y : A). y ∷ xs) same
+drop-at (y ∷ xs) (suc i) x e =
+    let one : suc i + 1 ≡ suc (i + 1) = omega arith in
+    drop-at xs i x e ∙ ap (λ j. x ∷ drop j (y ∷ xs)) (sym one)
+
 module _ {A : Type 0} (number : A → ℕ) where
   -- none is below where the first is not
   none-below : (m n : ℕ) (xs : List A) → n ≤ m → Rising number m xs → last_below number n xs ≡ None
@@ -40,13 +48,6 @@ module _ {A : Type 0} (number : A → ℕ) where
   last-is m n (x ∷ xs) r = last-is_by n x xs (nat_lt (number x) n) refl (last-is (suc (number x)) n xs r.1) r.1
 
   -- ---- counting on
-
-  pub drop-at : (xs : List A) (i : ℕ) (x : A) → slice_get xs i ≡ Some x → drop i xs ≡ x ∷ drop (i + 1) xs
-  drop-at [] i x e = absurd (cc e)
-  drop-at (y ∷ xs) zero x e = let same : y ≡ x = cc e in ap (λ (y : A). y ∷ xs) same
-  drop-at (y ∷ xs) (suc i) x e =
-      let one : suc i + 1 ≡ suc (i + 1) = omega arith in
-      drop-at xs i x e ∙ ap (λ j. x ∷ drop j (y ∷ xs)) (sym one)
 
   count-here : (n : ℕ) (xs : List A) (i : ℕ) (x : A) (b : Bool) → slice_get xs i ≡ Some x → nat_lt (number x) n ≡ b → count_below number n (drop i xs) ≡ cond b (suc (count_below number n (drop (i + 1) xs))) 0
   count-here n xs i x b e h = ap (count_below number n) (drop-at xs i x e) ∙ ap (λ b. cond b (suc (count_below number n (drop (i + 1) xs))) 0) h

@@ -1,29 +1,24 @@
 -- Lines that are expectations, and those that are none.
-use Rattle.std.proofs.Common.{◌≡◌, ◌+◌, ◌<◌, length, refl, sym, ◌∙◌, ap, subst, ℕ, suc, List, [], ◌∷◌, ◌++◌, Bool, true, false, not, cond, filter, Option, Some, None, append_assoc, append-nil, arith, add-one}
-use Rattle.std.specs.Prelude.{◌&&◌, codes, bytes_eq}
+use Rattle.std.proofs.Common.{◌≡◌, ◌+◌, ◌<◌, length, refl, sym, ◌∙◌, ap, subst, ℕ, suc, List, [], ◌∷◌, ◌++◌, Bool, true, false, not, cond, filter, Option, Some, None, append_assoc, append-nil, arith}
+use Rattle.std.specs.Prelude.{◌&&◌, ◌==◌, codes, bytes_eq, Result, Ok, Err}
 use Rattle.mc_model_machine.specs.Text.{fields, first_cut, cut_or_joined, cut_or_kept, is_blank, is_empty, lines, numbered, pieces, trim_front}
-use Rattle.mc_model_play.specs.DeckGrammar.{is_end}
+use Rattle.mc_model_play.specs.declared.deck.DeckCause.{DeckCause}
+use Rattle.mc_model_play.specs.DeckGrammar.{Mode, Between, LineTurn, turn_at, is_end}
 use Rattle.mc_text.specs.Reading.{next_line}
 use Rattle.mc_text.proofs.ReadingLemmas.{pieces_at, pieces_cut}
 use Rattle.mc_asm.proofs.PassLemmas.{numbered_some, numbered_none}
 use Rattle.mc_lab.specs.Rising.{Rising}
 use Rattle.mc_lab.proofs.RisingLemmas.{rising-lower}
-use Rattle.mc_lab.specs.Expectations.{begins_with, first_field, or_nothing, expectation_at, expectations, expectations_from, line_number, stays_inside}
+use Rattle.mc_lab.specs.Expectations.{begins_with, first_field, or_nothing, in_section, expectation_at, after_line, expectations, expectations_from, line_number}
+use Rattle.mc_lab.specs.Scanning.{stays_inside, scanned_from, scanned}
+use Rattle.mc_deck.proofs.FieldLemmas.{fields_cut_by, put_field}
+use Rattle.mc_model_device.proofs.BoolLemmas.{and_false, and_true}
 
 -- ---- fields
 
--- a field before others, which is none where it is empty
-abbrev pub put_field : Bool → List ℕ → List (List ℕ) → List (List ℕ)
-put_field true f fs = fs
-put_field false f fs = f ∷ fs
-
-filter-first : (b : Bool) (p : List ℕ) (ps : List (List ℕ)) → is_empty p ≡ b → filter (λ p. not (is_empty p)) (p ∷ ps) ≡ put_field b p (filter (λ p. not (is_empty p)) ps)
-filter-first true p ps e = rw e refl
-filter-first false p ps e = rw e refl
-
 fields-cut : (p : List ℕ × Option (List ℕ)) → filter (λ p. not (is_empty p)) (pieces_cut is_blank p) ≡ put_field (is_empty p.0) p.0 (fields (or_nothing p.1))
-fields-cut (a, None) = filter-first (is_empty a) a [] refl
-fields-cut (a, Some rest) = filter-first (is_empty a) a (pieces is_blank rest) refl
+fields-cut (a, None) = fields_cut_by (is_empty a) a [] refl
+fields-cut (a, Some rest) = fields_cut_by (is_empty a) a (pieces is_blank rest) refl
 
 fields-at : (t : List ℕ) → fields t ≡ put_field (is_empty (first_cut is_blank t).0) (first_cut is_blank t).0 (fields (or_nothing (first_cut is_blank t).1))
 fields-at t = ap (filter (λ p. not (is_empty p))) (pieces_at is_blank t) ∙ fields-cut (first_cut is_blank t)
@@ -77,17 +72,9 @@ begins_by_empty word l false h e = ap (begins_with word) (sym (fields-by l false
 pub begins_by : (word l : List ℕ) → 0 < length word → bytes_eq (first_field l).0 word ≡ begins_with word (fields l)
 begins_by word l h = begins_by_empty word l (is_empty (first_field l).0) h refl
 
-and-true : (a : Bool) → (a && true) ≡ a
-and-true true = refl
-and-true false = refl
-
-and-false : (a : Bool) → (a && false) ≡ false
-and-false true = refl
-and-false false = refl
-
 one-field : (f b : List ℕ) (e : Bool) → is_empty (first_field b).0 ≡ e → (bytes_eq f (codes "end") && e) ≡ is_end (f ∷ fields b)
-one-field f b true e = and-true (bytes_eq f (codes "end")) ∙ ap (λ fs. is_end (f ∷ fs)) (sym (fields-none b e))
-one-field f b false e = and-false (bytes_eq f (codes "end")) ∙ ap (λ fs. is_end (f ∷ fs)) (sym (fields-by b false e))
+one-field f b true e = and_true (bytes_eq f (codes "end")) ∙ ap (λ fs. is_end (f ∷ fs)) (sym (fields-none b e))
+one-field f b false e = and_false (bytes_eq f (codes "end")) ∙ ap (λ fs. is_end (f ∷ fs)) (sym (fields-by b false e))
 
 ends_by_empty : (l : List ℕ) (b : Bool) → is_empty (first_field l).0 ≡ b → (bytes_eq (first_field l).0 (codes "end") && is_empty (first_field (or_nothing (first_field l).1)).0) ≡ is_end (fields l)
 ends_by_empty l true e = ap (λ f. bytes_eq f (codes "end") && is_empty (first_field (or_nothing (first_field l).1)).0) (empty-is (first_field l).0 e) ∙ ap is_end (sym (fields-none l e))
@@ -101,25 +88,25 @@ ends_by l = ends_by_empty l (is_empty (first_field l).0) refl
 
 -- what is there, and the expectations that are left
 abbrev pub with_left : List (ℕ × List ℕ) → Bool → ℕ → List ℕ → List (ℕ × List ℕ)
-with_left so inside n rest = so ++ expectations_from inside (numbered n (lines rest))
+with_left so inside n rest = so ++ scanned_from inside (numbered n (lines rest))
 
 -- one more line
 pub line-read : (so now whole : List (ℕ × List ℕ)) (inside : Bool) (n : ℕ) (t l b : List ℕ) → Some (l, b) ≡ next_line t
     → now ≡ so ++ expectation_at (not inside && begins_with (codes "#>") (fields l)) (n, l) → with_left so inside n t ≡ whole → with_left now (stays_inside inside (fields l)) (n + 1) b ≡ whole
-unfolding expectations_from
+unfolding scanned_from
 line-read so now whole inside n t l b e h k =
     let here = expectation_at (not inside && begins_with (codes "#>") (fields l)) (n, l) in
-    let left = expectations_from (stays_inside inside (fields l)) (numbered (n + 1) (lines b)) in
-    ap (λ x. x ++ left) h ∙ append_assoc so here left ∙ ap (λ ls. so ++ expectations_from inside ls) (sym (numbered_some n t l b e)) ∙ k
+    let left = scanned_from (stays_inside inside (fields l)) (numbered (n + 1) (lines b)) in
+    ap (λ x. x ++ left) h ∙ append_assoc so here left ∙ ap (λ ls. so ++ scanned_from inside ls) (sym (numbered_some n t l b e)) ∙ k
 
 -- no more line
 pub lines-done : (so whole : List (ℕ × List ℕ)) (inside : Bool) (n : ℕ) (t : List ℕ) → None ≡ next_line t → with_left so inside n t ≡ whole → so ≡ whole
-unfolding expectations_from
-lines-done so whole inside n t e h = sym (append-nil so) ∙ ap (λ ls. so ++ expectations_from inside ls) (sym (numbered_none n t e)) ∙ h
+unfolding scanned_from
+lines-done so whole inside n t e h = sym (append-nil so) ∙ ap (λ ls. so ++ scanned_from inside ls) (sym (numbered_none n t e)) ∙ h
 
-pub expectations-are : (text : List ℕ) → with_left [] false 1 text ≡ expectations text
-unfolding expectations
-expectations-are text = refl
+pub scanned-are : (text : List ℕ) → with_left [] false 1 text ≡ scanned text
+unfolding scanned
+scanned-are text = refl
 
 -- ---- their numbers
 
@@ -127,12 +114,19 @@ rising-at : (n : ℕ) (l : List ℕ) (b : Bool) (es : List (ℕ × List ℕ)) �
 rising-at n l true es h = (omega arith, h)
 rising-at n l false es h = rising-lower line_number n (suc n) es (omega arith) h
 
-rising-from : (inside : Bool) (n : ℕ) (ls : List (List ℕ)) → Rising line_number n (expectations_from inside (numbered n ls))
+rising-turn : (n : ℕ) (r : Result LineTurn (ℕ × DeckCause)) (rest : Mode → List (ℕ × List ℕ)) → ((m : Mode) → Rising line_number n (rest m)) → Rising line_number n (after_line r rest)
+rising-turn n (Ok t) rest h = h t.mode
+rising-turn n (Err e) rest h = tt
+
+rising-from : (m : Mode) (n : ℕ) (ls : List (List ℕ)) → Rising line_number n (expectations_from m (numbered n ls))
 unfolding expectations_from
-rising-from inside n [] = tt
-rising-from inside n (l ∷ ls) = rising-at n l (not inside && begins_with (codes "#>") (fields l)) (expectations_from (stays_inside inside (fields l)) (numbered (suc n) ls)) (rising-from (stays_inside inside (fields l)) (suc n) ls)
+rising-from m n [] = tt
+rising-from m n (l ∷ ls) =
+    let turn = turn_at (n == 20001) m (n, l) in
+    let rest : Mode → List (ℕ × List ℕ) = λ k. expectations_from k (numbered (suc n) ls) in
+    rising-at n l (not (in_section m) && begins_with (codes "#>") (fields l)) (after_line turn rest) (rising-turn (suc n) turn rest (λ k. rising-from k (suc n) ls))
 
 -- the numbers of expectations rise, from 1 on
 pub expectations-rise : (text : List ℕ) → Rising line_number 1 (expectations text)
 unfolding expectations
-expectations-rise text = rising-from false 1 (lines text)
+expectations-rise text = rising-from (Between (record { units = []; powered = false })) 1 (lines text)

@@ -1,6 +1,7 @@
 mod MatchingLemmas
 pub mod RisingLemmas
 mod BelowLemmas
+mod SectionLemmas
 mod ExpectationLemmas
 mod TrialLemmas
 mod StageLemmas

@@ -1,8 +1,10 @@
 -- Blanks that are left out, and walks of a pattern along a text.
-use Rattle.std.proofs.Common.{◌≡◌, ◌+◌, ◌<◌, ◌≤◌, ◌||◌, ◌&&◌, ◌==◌, refl, sym, ◌∙◌, ap, subst, ℕ, List, [], ◌∷◌, Bool, true, false, cond, not, length, filter, arith}
+use Rattle.std.proofs.Common.{◌≡◌, ◌||◌, ◌==◌, refl, sym, ◌∙◌, ap, subst, ℕ, List, [], ◌∷◌, Bool, true, false, cond, arith}
 use Rattle.mc_model_machine.specs.Text.{is_blank, is_empty}
 use Rattle.mc_lab.specs.Walks.{Parts}
 use Rattle.mc_model_play.specs.Patterns.{is_any, is_star, some_rest, first_and_rest, matches, without_blanks}
+use Rattle.std.proofs.lemmas.Bool.{or_left, or_right}
+use Rattle.mc_model_device.proofs.BoolLemmas.{and_second}
 
 -- ---- blanks
 
@@ -14,17 +16,9 @@ without-blank c t e = grind (arith, e)
 
 -- ---- rests
 
-or-true : (a b : Bool) → a ≡ true → (a || b) ≡ true
-or-true true b h = refl
-or-true false b h = absurd (cc h)
-
-or-second : (a b : Bool) → b ≡ true → (a || b) ≡ true
-or-second true b h = refl
-or-second false b h = h
-
 pub some_rest-first : (test : List ℕ → Bool) (t : List ℕ) → test t ≡ true → some_rest test t ≡ true
 some_rest-first test [] h = h
-some_rest-first test (c ∷ t) h = or-true (test (c ∷ t)) (some_rest test t) h
+some_rest-first test (c ∷ t) h = or_left (test (c ∷ t)) (some_rest test t) h
 
 or-again : (a b : Bool) → ((a || b) || b) ≡ (a || b)
 or-again true b = refl
@@ -50,15 +44,11 @@ walked-along p t x y u v i j w = subst (λ (a : List ℕ). PatternWalked p t a v
 false-true : {A : Type 0} → false ≡ true → A
 false-true h = absurd (cc h)
 
-and-second : (a b : Bool) → (a && b) ≡ true → b ≡ true
-and-second true b h = h
-and-second false b h = false-true h
-
 -- a sign that is no star: where it and what is behind it match, what is behind it matches the rest
 sign-rest : (p : ℕ) (ps : List ℕ) (c : ℕ) (t : List ℕ) → is_star p ≡ false → matches (p ∷ ps) (c ∷ t) ≡ true → matches ps t ≡ true
 unfolding matches
 sign-rest p ps c t e h =
-    and-second (is_any p || (c == p)) (matches ps t) (subst (λ (b : Bool). cond b (some_rest (matches ps) (c ∷ t)) (first_and_rest p (matches ps) (c ∷ t)) ≡ true) e h)
+    and_second (is_any p || (c == p)) (matches ps t) (subst (λ (b : Bool). cond b (some_rest (matches ps) (c ∷ t)) (first_and_rest p (matches ps) (c ∷ t)) ≡ true) e h)
 
 sign-none : (p : ℕ) (ps : List ℕ) → is_star p ≡ false → matches (p ∷ ps) [] ≡ false
 unfolding matches
@@ -76,7 +66,7 @@ step-rest p ps c [] e h =
 step-rest p ps c (d ∷ t) e h =
     or-cases (matches (p ∷ ps) (c ∷ d ∷ t)) (some_rest (matches (p ∷ ps)) (d ∷ t)) h
     (λ first. some_rest-first (matches ps) (d ∷ t) (sign-rest p ps c (d ∷ t) e first))
-    (λ later. or-second (matches ps (d ∷ t)) (some_rest (matches ps) t) (step-rest p ps d t e later))
+    (λ later. or_right (matches ps (d ∷ t)) (some_rest (matches ps) t) (step-rest p ps d t e later))
 
 sign-same : (p : ℕ) (ps : List ℕ) (c : ℕ) (t : List ℕ) → is_star p ≡ false → (is_any p || (c == p)) ≡ true → matches (p ∷ ps) (c ∷ t) ≡ matches ps t
 unfolding matches

@@ -95,7 +95,7 @@ module _ {N : Type 0} (state : N → DeviceState) (bench : N → BenchState) whe
       let worn = stepped.played.steady h.steady in
       let t = step h.here (n, l) d.0 in
       let left : drop i whole ≡ t ∷ steady_from t.after (drop (i + 1) ls) =
-      h.rest ∙ ap (steady_from h.here) (drop-at line_number ls i (n, l) e) ∙ steady-on h.here (n, l) (drop (i + 1) ls)
+      h.rest ∙ ap (steady_from h.here) (drop-at ls i (n, l) e) ∙ steady-on h.here (n, l) (drop (i + 1) ls)
       ∙ ap (λ w. step h.here (n, l) w ∷ steady_from (step h.here (n, l) w).after (drop (i + 1) ls)) (sym worn) in
       let next = next-of whole i t (steady_from t.after (drop (i + 1) ls)) left in
       let text_is : result_text (option_map (answer_value state q) answer) ≡ step_text (last_of (i + 1) whole) =

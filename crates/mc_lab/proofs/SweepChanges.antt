@@ -2,15 +2,13 @@
 use Rattle.std.specs.Prelude.{◌≡◌, ◌≢◌, ℕ, ◌+◌, ◌-◌, ◌<◌, ◌≤◌, Bool, true, false, cond, not, ◌&&◌, ◌||◌, nat_lt, nat_le, ◌==◌, bytes_eq, List, [], ◌∷◌, Option, Some, None, refl}
 use Rattle.std.proofs.Common.{arith, ap, sym, subst, ◌∙◌}
 use Rattle.std.proofs.lemmas.Slice.Eq.{bytes_eq-Decides}
-use Rattle.std.proofs.lemmas.Bool.{lt-ltb, leb-true, eqb-true}
+use Rattle.std.proofs.lemmas.Bool.{lt-ltb, leb-true, eqb-true, and_from as joined, not-false, not-true, or_from, and_right, leb-false, and_parts}
 use Rattle.std.proofs.lemmas.Bool.Decides.{nat_tests}
-use Rattle.mc_model_device.proofs.LookLemmas.{both}
 use Rattle.mc_model_device.specs.Image.{Two}
 use Rattle.mc_model_device.specs.Image as image
 use Rattle.mc_model_device.specs.Stopped.{cost, opens_at, stands}
 use Rattle.mc_model_device.specs.Card.{App}
 use Rattle.mc_model_card.specs.Items.{Change, Item, Plain, Atomic, moves, changed, done, at_stop, Stopped}
-use Rattle.mc_model_device.proofs.ListLemmas.{and-true as joined}
 use Rattle.mc_lab.specs.Sweeps.{held_under, is_same_held, are_same_held}
 use Rattle.mc_lab.specs.SweepLaws.{changes, changing, opening}
 
@@ -29,7 +27,7 @@ held-itself (Some a) = (bytes_eq-Decides a a).1 refl
 pub all-same-held : (a b : List (Option (List ℕ))) → are_same_held a b ≡ true → a ≡ b
 all-same-held [] [] h = refl
 all-same-held (x ∷ xs) (y ∷ ys) h =
-    let p = both (is_same_held x y) (are_same_held xs ys) h in
+    let p = and_parts (is_same_held x y) (are_same_held xs ys) h in
     let first : x ≡ y = held-same x y p.0 in
     let rest : xs ≡ ys = all-same-held xs ys p.1 in
     cc
@@ -47,22 +45,6 @@ other-way a b false h e = refl
 pub apart-turned : (a b : List (Option (List ℕ))) → are_same_held a b ≡ false → are_same_held b a ≡ false
 apart-turned a b h = other-way a b (are_same_held b a) h refl
 
-not-changed : (t : Bool) → not t ≡ false → t ≡ true
-not-changed true h = refl
-not-changed false h = absurd (cc h)
-
-was-changed : (t : Bool) → not t ≡ true → t ≡ false
-was-changed true h = absurd (cc h)
-was-changed false h = refl
-
-neither : (a b : Bool) → a ≡ false → b ≡ false → (a || b) ≡ false
-neither true b x y = absurd (cc x)
-neither false b x y = y
-
-not-both : (a b : Bool) → b ≡ false → (a && b) ≡ false
-not-both true b y = y
-not-both false b y = refl
-
 -- ---- items
 
 module _ (names : List (List ℕ)) where
@@ -70,7 +52,7 @@ module _ (names : List (List ℕ)) where
   after_one apps i = done apps (i ∷ [])
 
   kept : (apps : List (List ℕ × App)) (i : Item) → changes names apps i ≡ false → held_under names apps ≡ held_under names (after_one apps i)
-  kept apps i h = all-same-held _ _ (not-changed (are_same_held (held_under names apps) (held_under names (after_one apps i))) h)
+  kept apps i h = all-same-held _ _ (not-false (are_same_held (held_under names apps) (held_under names (after_one apps i))) h)
 
   plain-kept : (apps : List (List ℕ × App)) → changes names apps Plain ≡ false
   plain-kept apps = ap (λ (t : Bool). not t) (all-held-itself (held_under names apps))
@@ -120,7 +102,7 @@ module _ (names : List (List ℕ)) where
 
   -- a stop in an atomic write: before its gate is open, and after
   early : (w k : ℕ) (x : List ℕ) → bytes_eq x (image.opening Two) ≡ false → k ≤ opens_at Two w → stands Two w k x ≡ false
-  early w k x shuts h = neither (nat_lt (opens_at Two w) k) ((k == opens_at Two w) && bytes_eq x (image.opening Two)) (grind (arith, nat_tests)) (not-both (k == opens_at Two w) (bytes_eq x (image.opening Two)) shuts)
+  early w k x shuts h = or_from (nat_lt (opens_at Two w) k) ((k == opens_at Two w) && bytes_eq x (image.opening Two)) (grind (arith, nat_tests)) (and_right (k == opens_at Two w) (bytes_eq x (image.opening Two)) shuts)
 
   late : (w k : ℕ) (x : List ℕ) → opens_at Two w < k → stands Two w k x ≡ true
   late w k x h = ap (λ (b : Bool). b || ((k == opens_at Two w) && bytes_eq x (image.opening Two))) (lt-ltb (opens_at Two w) k h)
@@ -132,9 +114,6 @@ module _ (names : List (List ℕ)) where
   late-held : (apps : List (List ℕ × App)) (w : ℕ) (c : Change) (b : Bool) → b ≡ true → held_under names (done apps (cond b (Atomic w c ∷ []) [])) ≡ held_under names (changed c apps)
   late-held apps w c true is = refl
   late-held apps w c false is = absurd (cc is)
-
-  test-le : (k n : ℕ) → nat_le k n ≡ false → n < k
-  test-le k n h = grind (arith, nat_tests)
 
   test-one : (k : ℕ) → (k == 1) ≡ false → k ≢ 1
   test-one k h = grind (arith, nat_tests)
@@ -151,11 +130,11 @@ module _ (names : List (List ℕ)) where
       record {
         low = omega (arith, o, within.0);
         high = omega (arith, o, within.1);
-        apart = ap (λ (y : List (Option (List ℕ))). are_same_held (held_under names apps) y) rest ∙ was-changed _ e;
+        apart = ap (λ (y : List (Option (List ℕ))). are_same_held (held_under names apps) y) rest ∙ not-true _ e;
         before = λ k x shuts low high.
             chosen-if apps (nat_le k (cost Two w)) _ _ _
             (λ t. early-held apps w c (stands Two w k x) (early w k x shuts (omega (arith, o))))
-            (λ t. absurd (let past : cost Two w < k = test-le k (cost Two w) t in omega (arith, o, within.1)));
+            (λ t. absurd (let past : cost Two w < k = leb-false k (cost Two w) t in omega (arith, o, within.1)));
         after = λ k x low high.
             chosen-if apps (nat_le k (cost Two w)) _ _ _
             (λ t. late-held apps w c (stands Two w k x) (late w k x (omega (arith, o))) ∙ sym rest)
@@ -176,11 +155,11 @@ module _ (names : List (List ℕ)) where
         before = λ k x shuts low high.
             chosen-if apps (nat_le k (cost Two w)) _ _ _
             (λ t. flight-held apps w c k (stands Two w k x) same)
-            (λ t. let past : cost Two w < k = test-le k (cost Two w) t in s.before (k - cost Two w) x shuts (omega arith) (omega (arith, o)) ∙ sym same);
+            (λ t. let past : cost Two w < k = leb-false k (cost Two w) t in s.before (k - cost Two w) x shuts (omega arith) (omega (arith, o)) ∙ sym same);
         after = λ k x low high.
             chosen-if apps (nat_le k (cost Two w)) _ _ _
             (λ t. absurd (let here : k ≤ cost Two w = leb-true k (cost Two w) t in omega (arith, o, low_rest)))
-            (λ t. let past : cost Two w < k = test-le k (cost Two w) t in s.after (k - cost Two w) x (omega (arith, o)) (omega arith));
+            (λ t. let past : cost Two w < k = leb-false k (cost Two w) t in s.after (k - cost Two w) x (omega (arith, o)) (omega arith));
       }
 
   atomic-splits : (w : ℕ) (c : Change) (is : List Item) (apps : List (List ℕ × App)) (t : Bool) → changes names apps (Atomic w c) ≡ t → (changing names (changed c apps) is ≡ 1 → Splits (changed c apps) is)

@@ -1,10 +1,9 @@
 -- The lines of a deck that are swept one by one, and what is told of them.
-use Rattle.std.specs.Prelude.{◌≡◌, ℕ, zero, suc, ◌+◌, ◌<◌, ◌≤◌, Bool, true, false, ◌&&◌, nat_le, List, [], ◌∷◌, ◌++◌, length, map, take, drop, get_or, slice_get, Option, Some, None, Result, refl}
+use Rattle.std.specs.Prelude.{◌≡◌, ℕ, ◌+◌, ◌<◌, ◌≤◌, Bool, true, false, ◌&&◌, nat_le, List, [], ◌∷◌, ◌++◌, length, map, take, drop, slice_get, Option, Some, None, Result, refl}
 use Rattle.std.proofs.Common.{arith, ap, sym, subst, inl, inr, ◌∙◌, append_assoc, length-append}
-use Rattle.std.proofs.lemmas.Bool.{le-leb, cases_lt}
+use Rattle.std.proofs.lemmas.Bool.{le-leb, cases_lt, and_from, and_left, and_parts}
 use Rattle.std.proofs.lemmas.List.{append-nil}
 use Rattle.std.proofs.Math.ListN.{drop_of_length-le}
-use Rattle.mc_model_device.proofs.LookLemmas.{both}
 use Rattle.mc_model_device.specs.Card.{Card}
 use Rattle.mc_model_play.specs.Play.{Live, Running, Unpowered, Muted, Warm, State, Cold, Hot, WornAt, step, card_line, line_command, hit_of, warmed, power_moves, power_after, stopped_power, line_after, armed_in, is_card_line, plays, steady_worn}
 use Rattle.mc_model_device.specs.PowerUp.{Base, OnCard, AtFault}
@@ -15,7 +14,7 @@ use Rattle.mc_model_play.specs.DeckGrammar as line
 use Rattle.mc_base.specs.declared.refusals.WriteFault.{WriteFault}
 use Rattle.mc_text.specs.Texts.{Sunk, Puts, Fails, Writes}
 use Rattle.mc_text.proofs.TextLemmas.{puts_as, puts_then, fails_before}
-use Rattle.mc_model_device.proofs.ListLemmas.{and-true, length-map as map-length}
+use Rattle.mc_model_device.proofs.ListLemmas.{length-map as map-length}
 use Rattle.mc_lab.specs.declared.sweep_trial.Place.{Place}
 use Rattle.mc_lab.specs.declared.sweep_text.Sums.{Sums}
 use Rattle.mc_lab.specs.declared.sweep_word.Word.{Word}
@@ -23,9 +22,11 @@ use Rattle.mc_lab.specs.Sweeps.{played, played_from, count_from, is_unarmed, is_
 use Rattle.mc_lab.specs.SweepBodies.{line_at, front_of, line_in, names_in, tried_in, writes_in, IsUnarmedLine}
 use Rattle.mc_lab.specs.SweepEnds.{free_behind, is_open, is_open_at, swept_in, left_from, AddsSums, AtMost}
 use Rattle.mc_lab.proofs.SweepPlays.{played-one}
-use Rattle.mc_lab.proofs.SweepNames.{next-line}
 use Rattle.mc_lab.proofs.SweepPlayers.{take-one}
 use Rattle.mc_lab.proofs.SweepLoops.{counted-length, SweptAs}
+use Rattle.mc_model_device.proofs.BoolLemmas.{and_false}
+use Rattle.std.proofs.lemmas.Option.{slice_get-get_or}
+use Rattle.mc_lab.proofs.BelowLemmas.{drop-at}
 
 -- ---- stops that are armed
 
@@ -73,31 +74,23 @@ free-on ls i n l free here is =
 
 pub open-is : (p : Place) → is_open_at p.deck.now p.at ≡ true → IsUnarmedLine p
 open-is p h =
-    let q = both (is_card_line (line_in p).1) (is_unarmed (armed_in (played (front_of p)))) h in
+    let q = and_parts (is_card_line (line_in p).1) (is_unarmed (armed_in (played (front_of p)))) h in
     record { card = q.0; unarmed = q.1 }
 
-and-false : (a : Bool) → (a && false) ≡ false
-and-false true = refl
-and-false false = refl
-
-and-first : (a b : Bool) → a ≡ false → (a && b) ≡ false
-and-first true b x = absurd (cc x)
-and-first false b x = refl
-
 pub shut-card : (front : List (ℕ × DeckLine)) (l : ℕ × DeckLine) → is_card_line l.1 ≡ false → is_open front l ≡ false
-shut-card front l h = and-first (is_card_line l.1) (is_unarmed (armed_in (played front))) h
+shut-card front l h = and_left (is_card_line l.1) (is_unarmed (armed_in (played front))) h
 
 pub shut-armed : (front : List (ℕ × DeckLine)) (l : ℕ × DeckLine) → is_unarmed (armed_in (played front)) ≡ false → is_open front l ≡ false
-shut-armed front l h = ap (λ (b : Bool). is_card_line l.1 && b) h ∙ and-false (is_card_line l.1)
+shut-armed front l h = ap (λ (b : Bool). is_card_line l.1 && b) h ∙ and_false (is_card_line l.1)
 
 pub open-both : (front : List (ℕ × DeckLine)) (l : ℕ × DeckLine) → is_card_line l.1 ≡ true → is_unarmed (armed_in (played front)) ≡ true → is_open front l ≡ true
-open-both front l card free = and-true (is_card_line l.1) (is_unarmed (armed_in (played front))) card free
+open-both front l card free = and_from (is_card_line l.1) (is_unarmed (armed_in (played front))) card free
 
 swept-true : (p : Place) → IsUnarmedLine p → 1 ≤ writes_in p → is_swept (front_of p) (line_in p) ≡ true
-swept-true p o some = and-true (is_open (front_of p) (line_in p)) (nat_le 1 (writes_in p)) (open-both (front_of p) (line_in p) o.card o.unarmed) (le-leb 1 (writes_in p) some)
+swept-true p o some = and_from (is_open (front_of p) (line_in p)) (nat_le 1 (writes_in p)) (open-both (front_of p) (line_in p) o.card o.unarmed) (le-leb 1 (writes_in p) some)
 
 swept-false : (p : Place) → writes_in p ≡ 0 → is_swept (front_of p) (line_in p) ≡ false
-swept-false p none = ap (λ (n : ℕ). is_open (front_of p) (line_in p) && nat_le 1 n) none ∙ and-false (is_open (front_of p) (line_in p))
+swept-false p none = ap (λ (n : ℕ). is_open (front_of p) (line_in p) && nat_le 1 n) none ∙ and_false (is_open (front_of p) (line_in p))
 
 not-swept : (p : Place) → is_swept (front_of p) (line_in p) ≡ false → [] ≡ swept_in p
 not-swept p h = sym (ap (λ (b : Bool). swept_if b (swept (names_in p) (front_of p) (line_in p)) []) h)
@@ -106,7 +99,7 @@ pub none-swept : (p : Place) → writes_in p ≡ 0 → [] ≡ swept_in p
 none-swept p none = not-swept p (swept-false p none)
 
 pub shut-swept : (p : Place) → is_open_at p.deck.now p.at ≡ false → [] ≡ swept_in p
-shut-swept p shut = not-swept p (and-first (is_open (front_of p) (line_in p)) (nat_le 1 (writes_in p)) shut)
+shut-swept p shut = not-swept p (and_left (is_open (front_of p) (line_in p)) (nat_le 1 (writes_in p)) shut)
 
 -- ---- the most writes
 
@@ -194,22 +187,17 @@ behind-none names front = refl
 left-by : (names : List (List ℕ)) (ls : List (ℕ × DeckLine)) (i : ℕ) (x : ℕ × DeckLine) → slice_get ls i ≡ Some x
     → left_from names ls i ≡ swept_if (is_swept (take i ls) x) (swept names (take i ls) x) [] ++ left_from names ls (i + 1)
 left-by names ls i x here =
-    ap (λ (l : List (ℕ × DeckLine)). sweep_behind names (take i ls) l) (next-line ls i x here)
+    ap (λ (l : List (ℕ × DeckLine)). sweep_behind names (take i ls) l) (drop-at ls i x here)
     ∙ behind-line names (take i ls) x (drop (i + 1) ls)
     ∙ swept-split (is_swept (take i ls) x) (swept names (take i ls) x) (sweep_behind names (take i ls ++ x ∷ []) (drop (i + 1) ls))
     ∙ ap (λ (f : List (ℕ × DeckLine)). swept_if (is_swept (take i ls) x) (swept names (take i ls) x) [] ++ sweep_behind names f (drop (i + 1) ls)) (sym (take-one i ls x here))
-
-there : {A : Type 0} (xs : List A) (i : ℕ) (d : A) → i < length xs → slice_get xs i ≡ Some (get_or xs i d)
-there [] i d h = absurd (omega (arith, h))
-there (x ∷ xs) zero d h = refl
-there (x ∷ xs) (suc i) d h = there xs i d (omega (arith, h))
 
 -- the swept line at a place, if it is one
 abbrev pub swept_at : List (List ℕ) → List (ℕ × DeckLine) → ℕ → List Swept
 swept_at names ls i = swept_if (is_swept (take i ls) (line_at ls i)) (swept names (take i ls) (line_at ls i)) []
 
 pub left-step : (names : List (List ℕ)) (ls : List (ℕ × DeckLine)) (i : ℕ) → i < length ls → left_from names ls i ≡ swept_at names ls i ++ left_from names ls (i + 1)
-left-step names ls i h = left-by names ls i (line_at ls i) (there ls i (0, line.Named) h)
+left-step names ls i h = left-by names ls i (line_at ls i) (slice_get-get_or ls i (0, line.Named) h)
 
 pub left-none : (names : List (List ℕ)) (ls : List (ℕ × DeckLine)) (i : ℕ) → length ls ≤ i → [] ≡ left_from names ls i
 left-none names ls i h = sym (ap (λ (l : List (ℕ × DeckLine)). sweep_behind names (take i ls) l) (drop_of_length-le ls h) ∙ behind-none names (take i ls))

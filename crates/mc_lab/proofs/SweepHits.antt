@@ -13,7 +13,7 @@ use Rattle.mc_model_play.specs.DeckGrammar.{DeckLine}
 use Rattle.mc_model_play.specs.DeckGrammar as line
 use Rattle.mc_lab.specs.Sweeps.{stepped, played, cut}
 use Rattle.mc_lab.specs.SweepLaws.{is_off, HitsWithin}
-use Rattle.mc_lab.proofs.SweepPlays.{next, played-one}
+use Rattle.mc_lab.proofs.SweepPlays.{next, played-one, warmed-moves}
 
 abbrev cut_at : ℕ → List ℕ → StopAt
 cut_at k x = record { kind = stop.Off; at = k; left = x }
@@ -44,10 +44,6 @@ result-off m (AtFault cause place) = refl
 power-hit : (n : ℕ) (before : State) (w : Warm) (k : ℕ) (x : List ℕ) (b : Bool) → is_off (power_step n before w (cond b (Some (cut_at k x)) None)).result ≡ b
 power-hit n before w k x true = refl
 power-hit n before w k x false = result-off (power_moves w) w.base
-
-warmed-moves : (m : List (List ℕ)) (b : ℕ) (a c : Armed) → power_moves (warmed m b a) ≡ power_moves (warmed m b c)
-unfolding warmed
-warmed-moves m b a c = refl
 
 with-none : (k m n : ℕ) → m ≡ n → nat_le k m ≡ nat_le k n
 with-none k m n e = ap (λ (i : ℕ). nat_le k i) e

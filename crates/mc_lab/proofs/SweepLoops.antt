@@ -3,22 +3,18 @@ use Rattle.std.specs.Prelude.{◌≡◌, ℕ, zero, suc, ◌+◌, ◌*◌, slice
 use Rattle.std.proofs.Common.{arith, ap, sym, ◌∙◌}
 use Rattle.std.proofs.lemmas.Bool.{leb-true}
 use Rattle.std.proofs.lemmas.Bool.Decides.{nat_tests}
-use Rattle.mc_model_play.specs.Play.{Armed, Unarmed, ArmedCut, ArmedFail, Hot, armed_in}
+use Rattle.mc_model_play.specs.Play.{Unarmed, Hot, armed_in}
 use Rattle.mc_model_device.proofs.ListLemmas.{length-map as map-length}
-use Rattle.mc_lab.specs.Sweeps.{Tried, plays_of, played, ToldState, is_same, all_same, count_from, cut, power, under_cut, ones, tried, is_unarmed}
+use Rattle.mc_lab.specs.Sweeps.{Tried, plays_of, played, ToldState, is_same, all_same, count_from, cut, power, under_cut, ones, tried}
 use Rattle.mc_model_device.specs.Bytes.{zeros}
 use Rattle.std.proofs.Common.{length-append}
 use Rattle.mc_lab.specs.declared.sweep_word.Word.{Word}
 use Rattle.mc_lab.specs.SweepBodies.{word_with, tried_in, IsUnarmedLine, OpensNoGate, front_of, line_in, hit_in, told_in, writes_in, again_in, recovered_in}
 use Rattle.mc_lab.specs.declared.sweep_trial.Place.{Place}
 use Rattle.mc_lab.specs.declared.sweep_trial.Behind.TheVariants as behind
-use Rattle.mc_lab.proofs.SweepPlays.{played-two, line-cut}
+use Rattle.mc_lab.proofs.SweepPlays.{played-two, line-cut, unarmed-is}
 use Rattle.mc_lab.proofs.SweepHits.{line-hit}
-
-unarmed-is : (a : Armed) → is_unarmed a ≡ true → a ≡ Unarmed
-unarmed-is Unarmed h = refl
-unarmed-is (ArmedCut k fill) h = absurd (cc h)
-unarmed-is (ArmedFail k) h = absurd (cc h)
+use Rattle.mc_model_device.proofs.BoolLemmas.{and_true}
 
 module _ (p : Place) (open_line : IsUnarmedLine p) where
   at_front : armed_in (played (front_of p)) ≡ Unarmed
@@ -63,10 +59,6 @@ and-assoc : (a b c : Bool) → (a && (b && c)) ≡ ((a && b) && c)
 and-assoc true b c = refl
 and-assoc false b c = refl
 
-and-last : (a : Bool) → (a && true) ≡ a
-and-last true = refl
-and-last false = refl
-
 and-swap : (a b : Bool) → (a && b) ≡ (b && a)
 and-swap true true = refl
 and-swap true false = refl
@@ -96,7 +88,7 @@ recovering-more p k fill first now made same now_same hit r test is_hit is test_
           ap (λ (b : Bool). b && same) (test_same ∙ ap (λ (t : ToldState). is_same t first) is)
           ∙ ap (λ (b : Bool). is_same (f (made + 1)) first && b) r.is
           ∙ and-swap (is_same (f (made + 1)) first) (all_same first (map f (count_from 1 made)))
-          ∙ ap (λ (b : Bool). all_same first (map f (count_from 1 made)) && b) (sym (and-last (is_same (f (made + 1)) first)))
+          ∙ ap (λ (b : Bool). all_same first (map f (count_from 1 made)) && b) (sym (and_true (is_same (f (made + 1)) first)))
           ∙ sym (same-append first (map f (count_from 1 made)) (f (made + 1) ∷ []))
           ∙ ap (λ (l : List ToldState). all_same first l) (sym (map-more f made));
     }

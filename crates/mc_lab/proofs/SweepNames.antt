@@ -1,16 +1,12 @@
 -- The names of the lines that are left.
-use Rattle.std.specs.Prelude.{◌≡◌, ℕ, zero, suc, ◌+◌, List, [], ◌∷◌, drop, slice_get, Some}
-use Rattle.std.proofs.Common.{arith, ap, sym, ◌∙◌}
+use Rattle.std.specs.Prelude.{◌≡◌, ℕ, ◌+◌, List, [], drop, slice_get, Some}
+use Rattle.std.proofs.Common.{ap, sym, ◌∙◌}
 use Rattle.mc_model_play.specs.DeckGrammar.{DeckLine}
 use Rattle.mc_lab.specs.Sweeps.{names_from, with_names, mentioned}
-
-pub next-line : (ls : List (ℕ × DeckLine)) (i : ℕ) (x : ℕ × DeckLine) → slice_get ls i ≡ Some x → drop i ls ≡ x ∷ drop (i + 1) ls
-next-line [] i x h = absurd (cc h)
-next-line (y ∷ ys) zero x h = let e : y ≡ x = cc in ap (λ (z : ℕ × DeckLine). z ∷ ys) e
-next-line (y ∷ ys) (suc i) x h = next-line ys i x h ∙ ap (λ (n : ℕ). x ∷ drop n (y ∷ ys)) (let e : suc (i + 1) ≡ suc i + 1 = omega arith in e)
+use Rattle.mc_lab.proofs.BelowLemmas.{drop-at}
 
 -- the names of one line more
 pub names-step : (ls : List (ℕ × DeckLine)) (i : ℕ) (x : ℕ × DeckLine) (names new all : List (List ℕ)) → slice_get ls i ≡ Some x → new ≡ with_names names (mentioned x.1)
     → names_from names (drop i ls) ≡ all → names_from new (drop (i + 1) ls) ≡ all
 names-step ls i x names new all here is h =
-    ap (λ (ns : List (List ℕ)). names_from ns (drop (i + 1) ls)) is ∙ sym (ap (λ (l : List (ℕ × DeckLine)). names_from names l) (next-line ls i x here)) ∙ h
+    ap (λ (ns : List (List ℕ)). names_from ns (drop (i + 1) ls)) is ∙ sym (ap (λ (l : List (ℕ × DeckLine)). names_from names l) (drop-at ls i x here)) ∙ h

@@ -1,17 +1,17 @@
 -- Players in the plays of a sweep: the states that they stand for, and what is told of them.
-use Rattle.std.specs.Prelude.{◌≡◌, ℕ, zero, suc, ◌+◌, ◌<◌, ◌≤◌, Bool, true, false, cond, ◌==◌, List, [], ◌∷◌, ◌++◌, length, map, take, drop, slice_get, slice_set, get_or, Option, Some, None, option_map, refl, ⊤}
+use Rattle.std.specs.Prelude.{◌≡◌, ℕ, zero, suc, ◌+◌, ◌<◌, ◌≤◌, Bool, true, false, List, [], ◌∷◌, ◌++◌, length, map, take, drop, slice_get, slice_set, get_or, Option, Some, None, option_map, refl, ⊤}
 use Rattle.std.proofs.Common.{arith, ap, sym, subst, ◌∙◌}
-use Rattle.std.proofs.lemmas.List.{length-set}
+use Rattle.std.proofs.lemmas.List.{length-set, take_all}
 use Rattle.mc_blocks.specs.declared.image.Unusable.{Unusable}
 use Rattle.mc_model_device.specs.Bytes.{lookup}
 use Rattle.mc_model_device.specs.Card.{App, heap_start}
 use Rattle.mc_model_machine.specs.Chain.{Turn}
 use Rattle.mc_model_device.specs.Device.{blank_words, device_words, DeviceState, BenchState, Entry}
 use Rattle.mc_model_play.specs.Play.{Armed, Live, Running, Unpowered, Muted, Warm, State, Cold, Hot, WornAt, LineResult, step, card_line, static_of, steady_at, moves_of, armed_in, warmed, power_moves, laid_entries, words_left, start, formatted, plays, steady_worn}
-use Rattle.mc_model_device.specs.PowerUp.{Base, OnCard, AtFault, migration}
+use Rattle.mc_model_device.specs.PowerUp.{Base, OnCard, AtFault}
 use Rattle.mc_model_play.specs.DeckGrammar.{DeckLine}
 use Rattle.mc_model_play.specs.DeckGrammar as line
-use Rattle.mc_family.proofs.ReadyLines.{owed-most}
+use Rattle.mc_family.proofs.ReadyLines.{owed-most, migration-most}
 use Rattle.mc_script.specs.declared.answer.Answer.{Answer}
 use Rattle.mc_script.specs.declared.answer.Answer.TheVariants as answer
 use Rattle.mc_script.specs.declared.player.Power.{Power}
@@ -77,14 +77,6 @@ left-size (Cold i b a) n _ w m es e = ap length (sym e)
 left-size (Hot s) n _ w m es e = hot-size m es
 
 -- ---- what a recovery writes
-
-cond-most : (b : Bool) (x y n : ℕ) → x ≤ n → y ≤ n → cond b x y ≤ n
-cond-most true x y n h k = h
-cond-most false x y n h k = k
-
-migration-most : (b : Base) → migration b ≤ 6
-migration-most (OnCard c) = cond-most (c.layout == 1) 6 0 6 (omega arith) (omega arith)
-migration-most (AtFault cause p) = omega arith
 
 warmed-few : (m : List (List ℕ)) (b : ℕ) (a : Armed) → power_moves (warmed m b a) ≤ 71
 unfolding warmed
@@ -306,17 +298,11 @@ module _ {N : Type 0} (state : N → DeviceState) (bench : N → BenchState) whe
 
 -- ---- what is held under names
 
-take-all : {A : Type 0} (i : ℕ) (xs : List A) → length xs ≤ i → take i xs ≡ xs
-take-all zero [] h = refl
-take-all (suc i) [] h = refl
-take-all zero (x ∷ xs) h = absurd (omega (arith, h))
-take-all (suc i) (x ∷ xs) h = ap (λ l. x ∷ l) (take-all i xs (omega (arith, h)))
-
 pub held-is : (o : Option (List ℕ)) (n m : ℕ) (held into : List ℕ) → Some n ≡ option_map length o → ((fixed : List ℕ) → o ≡ Some fixed → into ≡ take m (drop 0 fixed)) → m ≡ n → held ≡ into → Some held ≡ o
 held-is None n m held into h is size kept = absurd (cc h)
 held-is (Some fixed) n m held into h is size kept =
     let long : n ≡ length fixed = cc h in
-    ap Some (kept ∙ is fixed refl ∙ take-all m fixed (omega (arith, size, long)))
+    ap Some (kept ∙ is fixed refl ∙ take_all m fixed (omega (arith, size, long)))
 
 pub held-more : {A B C : Type 0} (f : A → C) (g : B → C) (i : ℕ) (held : List A) (names : List B) (x : A) (n : B) → i < length held → slice_get names i ≡ Some n → f x ≡ g n
     → map f (take i held) ≡ map g (take i names) → map f (take (i + 1) (slice_set held i x)) ≡ map g (take (i + 1) names)
@@ -330,4 +316,4 @@ held-more f g i held names x n lt here is h =
 pub held-all : {A B C : Type 0} (f : A → C) (g : B → C) (i : ℕ) (held : List A) (names : List B) → length held ≡ length names → length names ≤ i
     → map f (take i held) ≡ map g (take i names) → map f held ≡ map g names
 held-all f g i held names size all h =
-    ap (map f) (sym (take-all i held (omega (arith, size, all)))) ∙ h ∙ ap (map g) (take-all i names all)
+    ap (map f) (sym (take_all i held (omega (arith, size, all)))) ∙ h ∙ ap (map g) (take_all i names all)

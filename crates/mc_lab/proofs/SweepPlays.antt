@@ -1,9 +1,9 @@
 -- What a cut leaves of a line, and of the recovery behind it.
-use Rattle.std.specs.Prelude.{◌≡◌, ℕ, ◌-◌, ◌≤◌, Bool, true, false, cond, ◌&&◌, ◌||◌, ◌⊎◌, nat_lt, nat_le, ◌==◌, bytes_eq, List, [], ◌∷◌, ◌++◌, Option, Some, None, refl}
+use Rattle.std.specs.Prelude.{◌≡◌, ℕ, ◌-◌, ◌≤◌, Bool, true, false, cond, ◌&&◌, ◌||◌, ◌⊎◌, nat_lt, nat_le, ◌==◌, List, [], ◌∷◌, ◌++◌, Option, Some, None, refl}
 use Rattle.std.proofs.Common.{arith, ap, sym, inl, inr, ◌∙◌}
 use Rattle.std.proofs.lemmas.Bool.{le-leb}
 use Rattle.mc_model_device.specs.declared.device.Stop.TheVariants as stop
-use Rattle.mc_model_device.specs.Image.{Journal, One, Two, opening}
+use Rattle.mc_model_device.specs.Image.{Journal, One, Two}
 use Rattle.mc_model_device.specs.Stopped.{cost, opens_at, stands}
 use Rattle.mc_model_device.specs.Card.{Card}
 use Rattle.mc_model_card.specs.Items.{Item, Plain, Atomic, moves, at_stop, Stopped, StopAt, card_done}
@@ -14,7 +14,7 @@ use Rattle.mc_model_device.specs.PowerUp.{Base, OnCard, AtFault, migrated}
 use Rattle.mc_model_card.specs.Commands.{Command}
 use Rattle.mc_model_play.specs.DeckGrammar.{DeckLine}
 use Rattle.mc_model_play.specs.DeckGrammar as line
-use Rattle.mc_lab.specs.Sweeps.{stepped, played_from, played, ToldState, Holds, NoCard, held_under, told_of, told, ones, cut, power}
+use Rattle.mc_lab.specs.Sweeps.{is_unarmed, stepped, played_from, played, ToldState, Holds, NoCard, held_under, told_of, told, ones, cut, power}
 use Rattle.mc_lab.specs.SweepBodies.{OpensNoGate}
 
 -- ---- plays, line by line
@@ -172,7 +172,7 @@ power-cut s w before n k x same true is =
 power-cut s w before n k x same false is = absurd (cc is)
 
 -- a line up to the first power line
-warmed-moves : (m : List (List ℕ)) (b : ℕ) (a c : Armed) → power_moves (warmed m b a) ≡ power_moves (warmed m b c)
+pub warmed-moves : (m : List (List ℕ)) (b : ℕ) (a c : Armed) → power_moves (warmed m b a) ≡ power_moves (warmed m b c)
 unfolding warmed
 warmed-moves m b a c = refl
 
@@ -313,3 +313,8 @@ items-on (Hot s) l = hot-on l.0 l.1 s
 pub power-items : (s : Warm) (n : ℕ) → (step (Hot s) (power n) None).items ≡ []
 unfolding step
 power-items s n = refl
+
+pub unarmed-is : (a : Armed) → is_unarmed a ≡ true → a ≡ Unarmed
+unarmed-is Unarmed h = refl
+unarmed-is (ArmedCut k fill) h = absurd (cc h)
+unarmed-is (ArmedFail k) h = absurd (cc h)

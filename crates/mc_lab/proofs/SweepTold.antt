@@ -2,24 +2,22 @@
 use Rattle.std.specs.Prelude.{◌≡◌, ℕ, ◌<◌, ◌≤◌, Bool, true, false, ◌&&◌, nat_le, ◌==◌, bytes_eq, List, [], ◌∷◌, ◌++◌, Option, refl}
 use Rattle.std.specs.List.{AllByRecursion}
 use Rattle.std.proofs.Common.{arith, ap, sym, subst, inl, inr, ◌∙◌}
-use Rattle.std.proofs.lemmas.Bool.{leb-true, eq-eqb}
+use Rattle.std.proofs.lemmas.Bool.{leb-true, eq-eqb, and_from as both-true, and_parts}
 use Rattle.std.proofs.lemmas.Slice.Eq.{bytes_eq-Decides}
-use Rattle.mc_model_device.proofs.LookLemmas.{both}
 use Rattle.mc_model_device.proofs.ImageLemmas.{all-append}
 use Rattle.mc_model_device.specs.Bytes.{zeros}
 use Rattle.mc_model_device.specs.Card.{App, Card}
 use Rattle.mc_model_card.specs.Items.{Item, moves, done, at_stop}
 use Rattle.mc_model_play.specs.Given.{apps_in}
 use Rattle.mc_model_device.specs.Words.{cause_text}
-use Rattle.mc_model_play.specs.Play.{Armed, Unarmed, ArmedCut, ArmedFail, State, Hot, moves_of, armed_in, is_card_line}
+use Rattle.mc_model_play.specs.Play.{Unarmed, State, Hot, moves_of, armed_in, is_card_line}
 use Rattle.mc_model_device.specs.PowerUp.{Base, OnCard}
 use Rattle.mc_model_play.specs.DeckGrammar.{DeckLine}
-use Rattle.mc_model_device.proofs.ListLemmas.{and-true as both-true}
 use Rattle.mc_lab.specs.Sweeps.{played, ToldState, Holds, NoCard, held_under, are_same_held, told, is_same, word_by, word_if, word_of, all_same, ones, cut, power, under_cut, under_cuts, writes_behind, recovered, tried, is_unarmed, is_swept}
 use Rattle.mc_lab.specs.declared.sweep_word.Word.{Word}
 use Rattle.mc_lab.specs.declared.sweep_word.Word.TheVariants.{Before, After, Same}
 use Rattle.mc_lab.specs.SweepLaws.{changing, opening, items_behind, changing_behind, opening_behind}
-use Rattle.mc_lab.proofs.SweepPlays.{next, played-one, played-two, base_in, shown, told-lines, base_done, shown-none, zeros-shut, ones-shut, CutTo, line-cut, line-whole, power-items, items-on}
+use Rattle.mc_lab.proofs.SweepPlays.{next, played-one, played-two, base_in, shown, told-lines, base_done, shown-none, zeros-shut, ones-shut, CutTo, line-cut, line-whole, power-items, items-on, unarmed-is}
 use Rattle.mc_lab.specs.SweepBodies.{OpensNoGate}
 use Rattle.mc_lab.proofs.SweepChanges.{all-held-itself, apart-turned, none-stopped, none-done, Splits, one-splits}
 use Rattle.mc_lab.proofs.SweepRuns.{all-counted}
@@ -42,15 +40,10 @@ pub record SweptAt (front : List (ℕ × DeckLine)) (l : ℕ × DeckLine) : Type
   pub unarmed : armed_in (played front) ≡ Unarmed
   pub some : 1 ≤ writes_behind front l
 
-unarmed-is : (a : Armed) → is_unarmed a ≡ true → a ≡ Unarmed
-unarmed-is Unarmed h = refl
-unarmed-is (ArmedCut k fill) h = absurd (cc h)
-unarmed-is (ArmedFail k) h = absurd (cc h)
-
 pub swept-at : (front : List (ℕ × DeckLine)) (l : ℕ × DeckLine) → is_swept front l ≡ true → SweptAt front l
 swept-at front l h =
-    let p = both (is_card_line l.1 && is_unarmed (armed_in (played front))) (nat_le 1 (writes_behind front l)) h in
-    let q = both (is_card_line l.1) (is_unarmed (armed_in (played front))) p.0 in
+    let p = and_parts (is_card_line l.1 && is_unarmed (armed_in (played front))) (nat_le 1 (writes_behind front l)) h in
+    let q = and_parts (is_card_line l.1) (is_unarmed (armed_in (played front))) p.0 in
     record { card = q.0; unarmed = unarmed-is (armed_in (played front)) q.1; some = leb-true 1 (writes_behind front l) p.1 }
 
 module _ (names : List (List ℕ)) (front : List (ℕ × DeckLine)) (l : ℕ × DeckLine) (at : SweptAt front l) where

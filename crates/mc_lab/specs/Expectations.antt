@@ -1,8 +1,8 @@
 -- Expectations: comments of a deck that begin with `#>`, each with a pattern for the result of the statement above it.
-use Rattle.std.specs.Prelude.{ℕ, suc, ◌+◌, Bool, true, false, cond, not, ◌&&◌, nat_lt, List, [], ◌∷◌, ◌++◌, length, filter, flat_map, bytes_eq, codes, decimal, Option, Some, None, Result, Ok, Err}
+use Rattle.std.specs.Prelude.{ℕ, ◌+◌, Bool, true, false, cond, not, ◌&&◌, nat_lt, ◌==◌, List, [], ◌∷◌, ◌++◌, length, filter, flat_map, bytes_eq, codes, decimal, Option, Some, None, Result, Ok, Err}
 use Rattle.mc_model_machine.specs.Text.{trim, trim_front, fields, first_cut, is_blank, lines, numbered}
 use Rattle.mc_model_play.specs.declared.deck.DeckCause.{DeckCause}
-use Rattle.mc_model_play.specs.DeckGrammar.{DeckLine, is_end, deck_read}
+use Rattle.mc_model_play.specs.DeckGrammar.{DeckLine, Mode, Between, Within, LineTurn, stated, within, turn_at, deck_read}
 use Rattle.mc_model_play.specs.DeckGrammar as line
 use Rattle.mc_model_play.specs.Play.{LineResult, State, Step, plays, start, steady_worn}
 use Rattle.mc_model_play.specs.Transcript.{shown}
@@ -28,27 +28,33 @@ first_field l = first_cut is_blank (trim_front l)
 abbrev pub behind_field : List ℕ → List ℕ
 behind_field l = trim (or_nothing (first_field l).1)
 
--- whether the line behind a line with these fields stands in a section, where this one does or does not
-abbrev pub stays_inside : Bool → List (List ℕ) → Bool
-stays_inside false fs = begins_with (codes "app") fs
-stays_inside true fs = not (is_end fs)
+-- whether a line lies in a section, by the mode in which the deck's reader meets it
+abbrev pub in_section : Mode → Bool
+in_section (Between c) = false
+in_section (Within s c) = true
 
 -- the expectation of a line outside of sections, if it is one: the number of the line, and the pattern
 abbrev pub expectation_at : Bool → ℕ × List ℕ → List (ℕ × List ℕ)
 expectation_at true l = (l.0, behind_field l.1) ∷ []
 expectation_at false l = []
 
--- the expectations of lines, the first of which stands in a section or not
-unfoldable pub expectations_from : Bool → List (ℕ × List ℕ) → List (ℕ × List ℕ)
-expectations_from inside [] = []
-expectations_from inside (l ∷ ls) =
-    expectation_at (not inside && begins_with (codes "#>") (fields l.1)) l
-    ++ expectations_from (stays_inside inside (fields l.1)) ls
+-- what follows a line in the mode after it; nothing follows a line that the reader refuses
+abbrev pub after_line : Result LineTurn (ℕ × DeckCause) → (Mode → List (ℕ × List ℕ)) → List (ℕ × List ℕ)
+after_line (Ok t) rest = rest t.mode
+after_line (Err e) rest = []
+
+-- the expectations of lines, the first of which the deck's reader meets in this mode
+unfoldable pub expectations_from : Mode → List (ℕ × List ℕ) → List (ℕ × List ℕ)
+unfolding stated within
+expectations_from m [] = []
+expectations_from m (l ∷ ls) =
+    expectation_at (not (in_section m) && begins_with (codes "#>") (fields l.1)) l
+    ++ after_line (turn_at (l.0 == 20001) m l) (λ n. expectations_from n ls)
 
 -- the expectations of a deck's text
 unfoldable pub expectations : List ℕ → List (ℕ × List ℕ)
 unfolding expectations_from
-expectations text = expectations_from false (numbered 1 (lines text))
+expectations text = expectations_from (Between (record { units = []; powered = false })) (numbered 1 (lines text))
 
 -- ---- what they speak of
 

@@ -8,6 +8,7 @@ pub use Rattle.mc_model_play.specs.Patterns
 pub mod Walks
 pub mod Rising
 pub mod Expectations
+pub mod Scanning
 pub mod Trials
 pub mod Stages
 pub mod Judged

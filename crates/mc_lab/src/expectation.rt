@@ -1,9 +1,10 @@
 // The expectations of a deck's text.
 ghost use Rattle.std.specs.Prelude.{◌≡◌, ◌^◌, ◌<◌, ◌&&◌, ◌++◌, not, bytes_eq, codes, length, IfOk, OnOk};
 ghost use Rattle.mc_model_machine.specs.Text.{fields, is_empty};
-ghost use Rattle.mc_model_play.specs.DeckGrammar.{is_end};
+ghost use Rattle.mc_model_play.specs.DeckGrammar.{deck_read, is_end};
 ghost use Rattle.mc_asm.specs.Passes.{numbered_lines};
-ghost use Rattle.mc_lab.specs.Expectations.{begins_with, behind_field, expectation_at, first_field, expectations, stays_inside};
+ghost use Rattle.mc_lab.specs.Expectations.{begins_with, behind_field, expectation_at, first_field, expectations};
+ghost use Rattle.mc_lab.specs.Scanning.{stays_inside};
 
 use crate::field::first_field;
 use mc_asm::NumberedLine;
@@ -45,7 +46,7 @@ fn behind_field(line: &[u8]) -> &[u8]
     trim(behind)
 }
 
-// Whether the line behind a line stands in a section, where this one does or does not.
+// Whether the line after a line lies in a section, if this one does or does not.
 fn stays_inside(inside: bool, line: &[u8]) -> bool
     ensures { result ≡ stays_inside inside (fields line.now) }
 {
@@ -84,11 +85,11 @@ fn push_expectation<'a>(
     }
 }
 
-/// The expectations of a deck's text, each with the number of its line and its pattern: the comment lines whose first field is
-/// `#>`. A line inside a section is assembly, where `#` is no comment.
+/// Returns the expectations of a deck's text, each with the number of its line and its pattern: the comment lines whose first field
+/// is `#>`. A line inside a section is assembly, where `#` is no comment. Of a text that is no deck it may return any lines.
 pub fn expectations(alloc: Global, text: &[u8]) -> Result<Vec<NumberedLine<'_>>, NoMemory>
     requires { length text.now < 2 ^ 32 }
-    ensures { IfOk result (λ v. numbered_lines v.items ≡ expectations text.now) }
+    ensures { IfOk result (λ v. OnOk (deck_read text.now) (numbered_lines v.items ≡ expectations text.now)) }
 {
     let mut expectations = Vec::new(alloc);
     let mut inside = false;

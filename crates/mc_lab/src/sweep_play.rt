@@ -17,14 +17,11 @@ use arrayvec::ArrayVec;
 use mc_base::{Aid, NoMemory, Steps, Word};
 use mc_blocks::Unusable;
 use mc_deck::{Deck, Line};
-use mc_nvm::{Bench, Nvm, SimNvm};
+use mc_nvm::{Bench, DEVICE_WORDS, Nvm, SimNvm};
 use mc_script::{Answer, Player, Silent};
 use std::alloc::Global;
 use std::marker::Model;
 use std::sync::ledger::Ledger;
-
-/// How many words the laboratory's device has.
-const WORDS: u32 = 8192;
 
 /// A device in memory, which is blank again for each play.
 #[derive(Drop)]
@@ -35,12 +32,13 @@ pub struct Laboratory {
 impl Model for Laboratory {
     ghost use Rattle.std.specs.Prelude.{◌≡◌, length};
     ghost use Rattle.mc_nvm.specs.Sim.{Sim};
+    ghost use Rattle.mc_model_device.specs.Device.{device_words};
 
     ghost Value = { Sim };
 
     ghost view = { λ a. a.device };
 
-    ghost invariant = { λ a. length a.device.words ≡ 8192 };
+    ghost invariant = { λ a. length a.device.words ≡ device_words };
 }
 
 // Whether a cut hit a line.
@@ -256,7 +254,7 @@ fn play_blank<L: Ledger>(
     into: &mut Account,
     steps: &mut Steps<L>,
 ) -> bool
-    requires size { length device.old.words ≡ 8192 }
+    requires size { length device.old.words ≡ device_words }
     requires at { IsPlace place.now }
     requires room { AccountFits into.old place.now }
     requires cuts { CanCut behind }
@@ -264,7 +262,7 @@ fn play_blank<L: Ledger>(
     ensures hit { result ≡ hit_in place.now behind }
     ensures few { IsFewBehind place.now behind }
     ensures room { AccountFits into.new place.now }
-    ensures size { length device.new.words ≡ 8192 }
+    ensures size { length device.new.words ≡ device_words }
 {
     device.erase();
     let (_device, hit) = play_trial(&mut *device, place, behind, into, steps);
@@ -275,7 +273,7 @@ impl Laboratory {
     /// A laboratory with room for its device.
     pub fn new(alloc: Global) -> Result<Laboratory, NoMemory> {
         Ok(Laboratory {
-            device: SimNvm::new(alloc, WORDS)?,
+            device: SimNvm::new(alloc, DEVICE_WORDS)?,
         })
     }
 }

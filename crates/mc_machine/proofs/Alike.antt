@@ -1,9 +1,8 @@
 -- A row does the same to frames that read the same, whichever pieces their pending bytes come from.
-use Rattle.std.proofs.Common.{◌≡◌, ℕ, List, Option, Some, None, refl, sym, ap, subst, ◌∙◌}
-use Rattle.std.specs.Prelude.{◌+◌, ◌*◌, IfSome, slice_index}
+use Rattle.std.proofs.Common.{◌≡◌, ℕ, List, Option, Some, None, refl, sym, ap, ◌∙◌}
 use Rattle.mc_model_machine.specs.declared.instruction.Ins.{Ins}
 use Rattle.mc_model_machine.specs.declared.machine.Abend.{Abend}
-use Rattle.mc_model_device.specs.Pieces.{laid_pieces, touched, pending_at, HoldPieces}
+use Rattle.mc_model_device.specs.Pieces.{laid_pieces, touched}
 use Rattle.mc_model_machine.specs.Frame.{Frame}
 use Rattle.mc_model_machine.specs.Primitives.{Around, Done}
 use Rattle.mc_model_machine.specs.Row.{RowEnd, Abends, Does, causes, effect, first_cause, judged, row}
@@ -15,6 +14,7 @@ use Rattle.mc_machine.specs.Alike.{seen_end, seen_change, IsGuarded, SameDone, S
 use Rattle.mc_machine.proofs.AlikeBytes.{SamePieces, with_pieces}
 use Rattle.mc_machine.proofs.AlikeCauses.{causes_same}
 use Rattle.mc_machine.proofs.AlikeEffects.{effect_same}
+use Rattle.mc_model_device.proofs.PieceLemmas.{held_same}
 
 judged_same : (fixed : List ℕ) (o : Option Abend) (d e : Done) → SameDone fixed d e → seen_end fixed (judged o d) ≡ seen_end fixed (judged o e)
 judged_same fixed (Some a) d e s = refl
@@ -89,13 +89,6 @@ changed_seen fixed None (Some qs) e = absurd (cc e)
 changed_seen fixed (Some ps) None e = absurd (cc e)
 changed_seen fixed (Some ps) (Some qs) e = (some_seen fixed ps qs e).0
 
-hold_seen : (fixed : List ℕ) (ps qs ws : List (ℕ × List ℕ)) → touched ps ≡ touched qs → laid_pieces fixed ps ≡ laid_pieces fixed qs → HoldPieces fixed ps ws → HoldPieces fixed qs ws
-hold_seen fixed ps qs ws words laid held = record {
-  pending = held.pending;
-  touched_words = held.touched_words ∙ words;
-  bytes = λ n k lt within. subst (λ (l : List ℕ). IfSome (pending_at ws n) (λ b. slice_index b k ≡ slice_index l (8 * n + k))) laid (held.bytes n k lt within);
-}
-
 pub committed_seen : {B : Type 0} (did : B → BankItem → Answer → B → Type 0) (name fixed : List ℕ) (c d : Option (List (ℕ × List ℕ))) (b : B) (a : Answer) (e : B)
     → seen_change fixed c ≡ seen_change fixed d → IsOneCommit did name fixed c b a e → IsOneCommit did name fixed d b a e
 committed_seen did name fixed None None b a e s done = done
@@ -103,4 +96,4 @@ committed_seen did name fixed None (Some qs) b a e s done = absurd (cc s)
 committed_seen did name fixed (Some ps) None b a e s done = absurd (cc s)
 committed_seen did name fixed (Some ps) (Some qs) b a e s done =
     let same = some_seen fixed ps qs s in
-    (done.0, hold_seen fixed ps qs done.0 same.1 same.0 done.1, done.2, done.3)
+    (done.0, held_same fixed ps qs done.0 same.1 same.0 done.1, done.2, done.3)

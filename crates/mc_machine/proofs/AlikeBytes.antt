@@ -5,7 +5,8 @@ use Rattle.mc_model_device.specs.Bytes.{zeros}
 use Rattle.mc_model_device.specs.Pieces.{laid_pieces, touched, with_touched}
 use Rattle.mc_model_machine.specs.Frame.{Frame, Place, Static, Dynamic, Public, where_is, bytes_in, bytes_at, passes_limit, too_many}
 use Rattle.mc_segs.specs.HeldFrames.{no_pieces}
-use Rattle.mc_model_device.proofs.ListLemmas.{laid-append, touched-append}
+use Rattle.mc_model_device.proofs.PieceLemmas.{laid-append, touched-append}
+use Rattle.mc_segs.proofs.StoreLemmas.{no_pieces-append}
 
 -- pieces that lay the same bytes over a segment, and touch the same words
 pub record SamePieces (fixed : List ℕ) (ps qs : List (ℕ × List ℕ)) : Type 0 where
@@ -16,10 +17,6 @@ pub record SamePieces (fixed : List ℕ) (ps qs : List (ℕ × List ℕ)) : Type
 -- a frame with other pieces
 abbrev pub with_pieces : List (ℕ × List ℕ) → Frame → Frame
 with_pieces qs f = record f { pieces = qs }
-
-no_pieces-append : (ps : List (ℕ × List ℕ)) (p : ℕ × List ℕ) → no_pieces (ps ++ p ∷ []) ≡ false
-no_pieces-append [] p = refl
-no_pieces-append (q ∷ ps) p = refl
 
 -- pieces stay the same with one more
 pub same_pushed : (fixed : List ℕ) (ps qs : List (ℕ × List ℕ)) (p : ℕ × List ℕ) → SamePieces fixed ps qs → SamePieces fixed (ps ++ p ∷ []) (qs ++ p ∷ [])

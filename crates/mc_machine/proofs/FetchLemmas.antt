@@ -8,6 +8,7 @@ use Rattle.mc_model_machine.specs.declared.instruction.Ins.{Ins}
 use Rattle.mc_model_machine.specs.Code.{Form, Plain, OneByte, TwoBytes, Word, TwoWords, Near, Target, Primitive, Offset, ByteOffset, WordOffset, Kind, U8, U16, I16, operands, total, form, kinds, spell, made_of, DecodesTo, decoded, from_place}
 use Rattle.mc_isa.proofs.PlaceLemmas.{decoded_only}
 use Rattle.mc_isa.proofs.RowLemmas.{Good, GoodRow, good_form}
+use Rattle.std.proofs.lemmas.List.{take-take}
 
 -- ---- lengths
 
@@ -55,12 +56,6 @@ byte_of : (code : List ℕ) (at : ℕ) → slice_index (drop at code) 0 ≡ slic
 byte_of code zero = refl
 byte_of [] (suc at) = refl
 byte_of (x ∷ code) (suc at) = byte_of code at
-
-take_front : (k n : ℕ) (l : List ℕ) → k ≤ n → take k (take n l) ≡ take k l
-take_front zero n l h = refl
-take_front (suc k) zero l h = absurd (omega (arith, h))
-take_front (suc k) (suc n) [] h = refl
-take_front (suc k) (suc n) (x ∷ l) h = ap (λ (t : List ℕ). x ∷ t) (take_front k n l (omega (arith, h)))
 
 -- a window of six bytes whose front is the code that is left
 pub record IsWindow (code window : List ℕ) (at left : ℕ) : Type 0 where
@@ -121,5 +116,5 @@ stands_there code window at left i n w d short =
       shaped = d.shaped;
       place = omega (arith, place);
       inside = omega (arith, end, short);
-      bytes = sym (take_front (length (spell i)) (min left 6) (drop at code) few) ∙ ap (take (length (spell i))) (sym w.front) ∙ take_front (length (spell i)) (min left 6) window few ∙ d.bytes;
+      bytes = sym (take-take (length (spell i)) (min left 6) (drop at code) few) ∙ ap (take (length (spell i))) (sym w.front) ∙ take-take (length (spell i)) (min left 6) window few ∙ d.bytes;
     }

@@ -16,7 +16,6 @@ use Rattle.mc_model_machine.specs.Primitives.{Around}
 use Rattle.mc_model_machine.specs.Row.{RowEnd, Abends, Does, causes, effect, first_cause, judged, row}
 use Rattle.mc_model_machine.specs.Chain.{Chain, Write, abends_at, delegator_in, around, write_of, row_turn, stepped}
 use Rattle.mc_machine_laws.specs.FewWords.{words_in, most_words, EndsWithin, IsToldName}
-use Rattle.mc_machine_laws.proofs.MapLemmas.{same_name}
 use Rattle.mc_machine_laws.proofs.RowWords.{row-words, told-any, most-is}
 use Rattle.mc_bank.specs.Bank.{BankState, IsApplication, AreApps}
 use Rattle.mc_segs.specs.HeldFrames.{Held}
@@ -24,6 +23,7 @@ use Rattle.mc_machine.specs.Chains.{Chained, ReadAll, RunsAs, ChainWrote}
 use Rattle.mc_machine.specs.Turns.{ActDone, WritesFew, is_exit}
 use Rattle.mc_machine.specs.declared.outcome.Step.{Step}
 use Rattle.mc_machine.proofs.ReadsLemmas.{app_is}
+use Rattle.mc_model_device.proofs.MapLemmas.{same_name}
 
 -- ---- exits
 

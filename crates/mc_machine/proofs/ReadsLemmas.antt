@@ -30,7 +30,7 @@ module _ (s : BankState) (named : ℕ → Option (List ℕ)) where
   pub app_is : (h : Held) (f : Frame) → FrameReadsAs s named h f → lookup s.apps f.name ≡ Some (app_under s named h)
   app_is h f r = app_by s.apps (named h.slot) f.name (name_is h f r) r.fits.app
 
-  session_is : (h : Held) (f : Frame) → FrameReadsAs s named h f → session_of h.frame ≡ session_of f
+  pub session_is : (h : Held) (f : Frame) → FrameReadsAs s named h f → session_of h.frame ≡ session_of f
   session_is h f r = ap (λ (t : Seen). session_of (record h.frame { session = t.session; dyn = t.dyn })) r.same
 
   -- ---- the frames that wait

@@ -1,5 +1,5 @@
 -- A run by its turns: what is left to run leads where the whole leads.
-use Rattle.std.proofs.Common.{◌≡◌, ℕ, zero, suc, ◌+◌, ◌-◌, ◌≤◌, ◌<◌, ◌≢◌, false, List, [], ◌∷◌, take, Option, Some, None, Result, Ok, Err, arith, refl, sym, ap, subst, ◌∙◌}
+use Rattle.std.proofs.Common.{◌≡◌, ℕ, zero, suc, ◌+◌, ◌-◌, ◌≤◌, ◌<◌, ◌≢◌, false, List, [], Option, Some, None, Result, Ok, Err, arith, refl, sym, ap, subst, ◌∙◌}
 use Rattle.std.specs.Prelude.{option_map, IfOk, OnOk, OnErr}
 use Rattle.mc_model_machine.specs.declared.instruction.Ins.{Ins}
 use Rattle.mc_model_machine.specs.declared.instruction.DecodeFault.{DecodeFault}
@@ -11,14 +11,13 @@ use Rattle.mc_model_device.proofs.OrdersLemmas.{InOrder-append, InOrder-stopped}
 use Rattle.mc_model_card.specs.Items.{BankItem}
 use Rattle.mc_model_machine.specs.Code.{decoded}
 use Rattle.mc_model_device.specs.Bytes.{lookup}
-use Rattle.mc_model_machine.specs.Frame.{Frame, session_of}
 use Rattle.mc_model_machine.specs.Row.{RowEnd, Abends, Does, row}
 use Rattle.mc_model_machine.specs.Chain.{Chain, Outcome, Abended, Acted, Ran, Follows, Continues, Ends, around, code_in, stepped, first_frame, chain_session, row_turn, fetched, acted, spent, turn_of, end_of, ends_with, goes_on, ran_on, ran, called}
 use Rattle.mc_bank.specs.Bank.{BankState}
-use Rattle.mc_segs.specs.HeldFrames.{Held, Seen}
 use Rattle.mc_machine.specs.declared.outcome.End.{End}
 use Rattle.mc_machine.specs.declared.outcome.Step.{Step}
-use Rattle.mc_machine.specs.Chains.{Chained, FrameReadsAs, ReadAll, RunsAs, ChainWrote, first_held, session_in}
+use Rattle.mc_machine.proofs.ReadsLemmas.{session_runs}
+use Rattle.mc_machine.specs.Chains.{Chained, RunsAs, ChainWrote, session_in}
 use Rattle.mc_machine.specs.Lone.{EndDone, Delegated, Finished, RanDone}
 use Rattle.mc_machine.specs.declared.outcome.Outcome.{Outcome as CodeOutcome}
 use Rattle.mc_machine.specs.Turns.{Follow, TurnActs, ActDone, end_value, outcome_value}
@@ -85,21 +84,6 @@ turn_count n ch (Ends o) e =
 turn_count n ch (Continues next) e =
     let same : (ran n ch).count ≡ (turn_of n ch).count + (ran (n - 1) next).count = ap (λ (r : Ran). r.count) (ran_goes n (n - 1) ch next e (goes_some n ch next e)) in
     omega (arith, same)
-
--- ---- session bytes of the first frame
-
-session_read : (s : BankState) (named : ℕ → Option (List ℕ)) (h : Held) (f : Frame) → FrameReadsAs s named h f → session_of h.frame ≡ session_of f
-session_read s named h f r = ap (λ (x : Seen). take x.session x.dyn) r.same
-
-session_first : (s : BankState) (named : ℕ → Option (List ℕ)) (h : Held) (hs : List Held) (f : Frame) (fs : List Frame) → FrameReadsAs s named h f → ReadAll s named hs fs → session_of (first_held h hs).frame ≡ session_of (first_frame f fs)
-session_first s named h [] f [] r all = session_read s named h f r
-session_first s named h [] f (g ∷ fs) r all = absurd all
-session_first s named h (k ∷ hs) f [] r all = absurd all
-session_first s named h (k ∷ hs) f (g ∷ fs) r all = session_first s named k hs g fs all.0 all.1
-
--- the code's session bytes are the definition's
-session_runs : (s : BankState) (named : ℕ → Option (List ℕ)) (c : Chained) (ch : Chain) → RunsAs s named c ch → session_in c ≡ chain_session ch
-session_runs s named c ch r = session_first s named c.running c.below ch.frame ch.below r.running r.below
 
 -- ---- a run that is underway
 

@@ -16,10 +16,10 @@ use Rattle.mc_model_machine.specs.Row.{RowEnd, Abends, Does, row}
 use Rattle.mc_model_machine.specs.Chain.{Chain, Write, Acted, Follows, Continues, Ends, code_in, around, first_frame, chain_session, with_pieces, changed_app, map_changed, write_of, settled, called, called_app, is_active, depth_of, exited, follows, row_turn, stepped, fetched, acted, turn_of}
 use Rattle.mc_model_card.specs.Items.{done, write_items}
 use Rattle.mc_bank.specs.Bank.{no_app, app_of}
-use Rattle.mc_bank.specs.NameLaws.{same_name, lookup-inserted, lookup-beside}
 use Rattle.mc_machine.specs.Sound.{IsSoundFrame, IsSoundChain}
 use Rattle.mc_machine_laws.specs.FewWords.{PiecesWithin}
 use Rattle.mc_machine.proofs.SoundRows.{ChangesWithin, KeepsPartsOf, RowKeeps, row_keeps, length-pieces}
+use Rattle.mc_model_device.proofs.MapLemmas.{same_name, lookup-inserted, lookup-beside}
 
 -- ---- applications whose sizes stay
 

@@ -11,13 +11,13 @@ use Rattle.mc_model_device.specs.Card.{App}
 use Rattle.mc_model_machine.specs.Frame.{Frame, Effect}
 use Rattle.mc_model_machine.specs.Chain.{Chain, changed_app, map_changed, write_of, settled}
 use Rattle.mc_bank.specs.Bank.{BankState, app_of, name_or, no_app, with_words, committed, Changes}
-use Rattle.mc_bank.specs.NameLaws.{lookup-inserted, lookup-beside}
 use Rattle.mc_segs.specs.HeldFrames.{Held, Seen, app_under}
 use Rattle.mc_segs.specs.Ends.{IsOneCommit, changed_bytes, scene, EffectDone}
 use Rattle.mc_machine.specs.Alike.{SameEffect, KeepsEffect}
 use Rattle.mc_machine.specs.Chains.{Chained, ReadAll, RunsAs, ChainWrote}
 use Rattle.mc_machine.proofs.Alike.{committed_seen, changed_seen}
 use Rattle.mc_machine.proofs.ReadsLemmas.{name_is, app_is, moved_reads}
+use Rattle.mc_model_device.proofs.MapLemmas.{lookup-inserted, lookup-beside}
 
 -- what the lemmas use of a bank: what a commit does to the applications and to the slots
 pub record BankLaws {B : Type 0} (did : B → BankItem → Answer → B → Type 0) (state : B → BankState) (named : B → ℕ → Option (List ℕ)) : Type 0 where

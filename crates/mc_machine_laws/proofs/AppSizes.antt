@@ -13,8 +13,8 @@ use Rattle.mc_model_device.specs.Limits.{most_static}
 use Rattle.std.specs.Prelude.{nat_le, ◌==◌}
 use Rattle.mc_machine_laws.specs.FewWords.{PiecesWithin}
 use Rattle.mc_machine_laws.specs.Limited.{AreLimited}
-use Rattle.mc_machine_laws.proofs.MapLemmas.{same_name, lookup-inserted, lookup-beside, lookup-removed, lookup-left}
 use Rattle.mc_machine_laws.proofs.RowSizes.{length-laid}
+use Rattle.mc_model_device.proofs.MapLemmas.{same_name, lookup-inserted, lookup-beside, lookup-removed, lookup-left}
 
 -- the lengths of static and session bytes
 abbrev pub SegmentSizes : Type 0
@@ -141,11 +141,6 @@ pub fit-append : (is js : List Item) (m : List (List ℕ × App)) → ItemsFit m
 fit-append [] js m f g = g
 fit-append (Plain ∷ is) js m f g = fit-append is js m f g
 fit-append (Atomic w c ∷ is) js m f g = (f.0, fit-append is js (changed c m) f.1 g)
-
-pub done-append : (is js : List Item) (m : List (List ℕ × App)) → done m (is ++ js) ≡ done (done m is) js
-done-append [] js m = refl
-done-append (Plain ∷ is) js m = done-append is js m
-done-append (Atomic w c ∷ is) js m = done-append is js (changed c m)
 
 pub limited-from : (m : List (List ℕ × App)) → AreLimited m → Limited m
 limited-from m h n = by (lookup m n) refl

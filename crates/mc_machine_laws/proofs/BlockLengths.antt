@@ -3,8 +3,8 @@ use Rattle.std.proofs.Common.{◌≡◌, ℕ, zero, suc, ◌+◌, ◌-◌, ◌*�
 use Rattle.std.specs.Prelude.{◌==◌, reverse, slice_index}
 use Rattle.std.specs.Int.{w32, to_be_bytes}
 use Rattle.sha1.specs.Sha1.{sha1, hash_after, padded_message, digest_bytes}
-use Rattle.std.proofs.lemmas.List.{length-append, length-take, length-map, length-replicate}
-use Rattle.mc_model_device.specs.Bytes.{bytes, zeros}
+use Rattle.std.proofs.lemmas.List.{length-append, length-take, length-map}
+use Rattle.mc_model_device.specs.Bytes.{bytes}
 use Rattle.mc_model_machine.specs.Blocks.{each_byte}
 use Rattle.mc_model_machine.specs.Modes.{added, blocks_of, each, chained, ecb}
 use Rattle.mc_model_machine.specs.Des.{bits_of, bytes_of, with_keys, ciphered, des_encipher, des_decipher, tdes_encipher, tdes_decipher, des_signature, tdes_signature}
@@ -13,12 +13,10 @@ use Rattle.mc_model_machine.specs.Aes as aes
 use Rattle.mc_model_machine.specs.Des as des
 use Rattle.mc_model_machine.specs.Frame.{Frame, Place, Static, Dynamic, Public, dynamic_base, where_is, static_bytes, bytes_in, bytes_at, stacked}
 use Rattle.mc_model_machine.specs.Primitives.{Cipher, Des, TripleDes, Aes, block_len, enciphered, deciphered, signature}
+use Rattle.mc_model_device.proofs.ListLemmas.{length-bytes}
+use Rattle.mc_model_machine.proofs.ModesLemmas.{length-added}
 
 -- ---- lists
-
-pub length-bytes : (n v : ℕ) → length (bytes n v) ≡ n
-length-bytes zero v = refl
-length-bytes (suc n) v = ap suc (length-bytes n v)
 
 pub worked-short : (a : List ℕ) (n v : ℕ) → length a ≤ n → length (bytes (length a) v) ≤ n
 worked-short a n v few = omega (arith, length-bytes (length a) v)
@@ -32,9 +30,6 @@ each-short op (x ∷ a) (y ∷ b) n few =
 
 pub map-short : (op : ℕ → ℕ) (a : List ℕ) (n : ℕ) → length a ≤ n → length (map op a) ≤ n
 map-short op a n few = omega (arith, length-map a op)
-
-pub zeros-short : (n : ℕ) → length (zeros n) ≤ n
-zeros-short n = omega (arith, length-replicate {A = ℕ} n 0)
 
 pub stacked-short : (f : Frame) (k n : ℕ) → length (stacked f k n) ≤ n
 stacked-short f k n = omega (arith, length-take n (drop (f.dt - k - dynamic_base) f.dyn))
@@ -79,11 +74,6 @@ length-tdes key block = length-des (take 8 key) (des_decipher (drop 8 key) (des_
 length-tdes_back : (key block : List ℕ) → length (tdes_decipher key block) ≡ 8
 unfolding tdes_decipher
 length-tdes_back key block = length-des_back (take 8 key) (des_encipher (drop 8 key) (des_decipher (take 8 key) block))
-
-length-added : (a b : List ℕ) → length (added a b) ≡ length a
-length-added [] b = refl
-length-added (x ∷ a) [] = refl
-length-added (x ∷ a) (y ∷ b) = ap suc (length-added a b)
 
 last-16 : (k s : List ℕ) → length (last_round k s) ≡ 16
 unfolding last_round

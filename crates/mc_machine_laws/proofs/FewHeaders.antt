@@ -2,14 +2,15 @@
 use Rattle.std.proofs.Common.{◌≡◌, ℕ, suc, ◌+◌, ◌-◌, ◌≤◌, Bool, true, false, cond, ◌||◌, not, List, [], ◌∷◌, ◌++◌, length, refl, ap, ◌∙◌, arith}
 use Rattle.std.specs.Prelude.{◌==◌, nat_lt, bytes_eq, filter}
 use Rattle.std.specs.List.{list_any}
-use Rattle.std.proofs.lemmas.Bool.{and_from, eq-eqb}
+use Rattle.std.proofs.lemmas.Bool.{and_from, eq-eqb, or_left, or_right}
 use Rattle.std.proofs.lemmas.List.{length-append}
 use Rattle.std.proofs.lemmas.Slice.Eq.{bytes_eq-Decides}
 use Rattle.mc_model_device.specs.Bytes.{insert, remove, name_before}
 use Rattle.mc_model_device.specs.Card.{App, Card, needed, heap_start}
 use Rattle.mc_model_device.specs.Layout.{put_at, spans_of, spans, gap, gaps_from, gaps, first_place, used_header, root, chained, with_used, layout, same_pair, step_of}
-use Rattle.mc_model_device.proofs.ListLemmas.{or-swap}
 use Rattle.mc_machine_laws.specs.FewHeaders.{FewHeadersLaw}
+use Rattle.mc_model_device.proofs.BoolLemmas.{or-swap}
+use Rattle.mc_model_device.proofs.LayoutLemmas.{length-spans}
 
 abbrev Pair : Type 0
 Pair = ℕ × List ℕ
@@ -108,34 +109,12 @@ any-spans : (q : Pair → Bool) (m : List (List ℕ × App)) → any_span q (spa
 any-spans q [] = refl
 any-spans q (e ∷ es) = any-span-put q (e.1).place (needed e.1) (spans_of es) ∙ ap (λ (b : Bool). q (header_of e) || b) (any-spans q es)
 
-put-length : (p x : ℕ) (ss : List (ℕ × ℕ)) → length (put_at p x ss) ≡ length ss + 1
-put-length p x [] = refl
-put-length p x (s ∷ ss) = by (nat_lt p s.0) (put-length p x ss)
-  where
-    by : (b : Bool) → length (put_at p x ss) ≡ length ss + 1 → length (cond b ((p, x) ∷ s ∷ ss) (s ∷ put_at p x ss)) ≡ suc (length ss) + 1
-    by true r = omega arith
-    by false r = omega (arith, r)
-
-spans-length : (m : List (List ℕ × App)) → length (spans_of m) ≡ length m
-spans-length [] = refl
-spans-length (e ∷ es) =
-    let one : length (put_at (e.1).place (needed e.1) (spans_of es)) ≡ length (spans_of es) + 1 = put-length (e.1).place (needed e.1) (spans_of es) in
-    let rest : length (spans_of es) ≡ length es = spans-length es in
-    omega arith
-
 used-count : (t : Pair → Bool) (ss : List (ℕ × ℕ)) (hs : List Pair) → count t (with_used ss hs) ≡ count_spans t ss + count t hs
 used-count t [] hs = omega arith
 used-count t (s ∷ ss) hs =
     let one : count t (put_at s.0 (used_header s.1) (with_used ss hs)) ≡ one_if (t (span_header s)) + count t (with_used ss hs) = count-put t s.0 (used_header s.1) (with_used ss hs) in
     let rest : count t (with_used ss hs) ≡ count_spans t ss + count t hs = used-count t ss hs in
     omega arith
-
-or-first : (a b : Bool) → a ≡ true → (a || b) ≡ true
-or-first a b h = ap (λ (c : Bool). c || b) h
-
-or-last : (a b : Bool) → b ≡ true → (a || b) ≡ true
-or-last true b h = refl
-or-last false b h = h
 
 used-any : (q : Pair → Bool) (ss : List (ℕ × ℕ)) (hs : List Pair) → any_span q ss ≡ true → list_any q (with_used ss hs) ≡ true
 used-any q [] hs h = absurd (cc h)
@@ -175,8 +154,8 @@ self-pair e = and_from (e.0 == e.0) (bytes_eq e.1 e.1) (eq-eqb e.0 e.0 refl) ((b
 none-new : (t : Pair → Bool) (m es : List (List ℕ × App)) → ((q : Pair → Bool) → any_app q es ≡ true → any_app q m ≡ true) → ((e : Pair) → any_app (same_pair e) m ≡ true → t e ≡ false) → count_apps t es ≡ 0
 none-new t m [] into old = refl
 none-new t m (e ∷ es) into old =
-    let first : t (header_of e) ≡ false = old (header_of e) (into (same_pair (header_of e)) (or-first (same_pair (header_of e) (header_of e)) (any_app (same_pair (header_of e)) es) (self-pair (header_of e)))) in
-    let rest : count_apps t es ≡ 0 = none-new t m es (λ q h. into q (or-last (q (header_of e)) (any_app q es) h)) old in
+    let first : t (header_of e) ≡ false = old (header_of e) (into (same_pair (header_of e)) (or_left (same_pair (header_of e) (header_of e)) (any_app (same_pair (header_of e)) es) (self-pair (header_of e)))) in
+    let rest : count_apps t es ≡ 0 = none-new t m es (λ q h. into q (or_right (q (header_of e)) (any_app q es) h)) old in
     let zero-first : one_if (t (header_of e)) ≡ 0 = ap one_if first in
     omega arith
 
@@ -226,7 +205,7 @@ module _ (c d : Card) where
   unfolding fresh layout
   old-header e h =
       let used : list_any (same_pair e) (with_used (spans c) (chained (gaps c))) ≡ true = used-any (same_pair e) (spans c) (chained (gaps c)) (any-spans (same_pair e) c.apps ∙ h) in
-      ap not (or-last (same_pair e (0, root c.layout c.size (first_place (gaps c)))) (list_any (same_pair e) (with_used (spans c) (chained (gaps c)))) used)
+      ap not (or_right (same_pair e (0, root c.layout c.size (first_place (gaps c)))) (list_any (same_pair e) (with_used (spans c) (chained (gaps c)))) used)
 
   few-changes : (k : ℕ) → count_apps fresh d.apps ≤ count_apps fresh c.apps + k → length (step_of c d) ≤ length d.apps + k + 2
   unfolding fresh layout step_of
@@ -240,7 +219,7 @@ module _ (c d : Card) where
       let rest : count fresh hs ≤ length hs = count-most fresh hs in
       let chain : length hs ≡ length (gaps d) = chained-length (gaps d) in
       let free : length (gaps d) ≤ length (spans d) + 1 = gaps-most heap_start (spans d) d.size in
-      let each : length (spans d) ≡ length d.apps = spans-length d.apps in
+      let each : length (spans d) ≡ length d.apps = length-spans d.apps in
       let one : one_if (fresh head) ≤ 1 = one-most (fresh head) in
       let most : count fresh (head ∷ with_used (spans d) hs) ≤ length d.apps + k + 2 = omega arith in
       most

@@ -10,7 +10,6 @@ use Rattle.mc_model_device.specs.Bytes.{lookup, insert, zeros}
 use Rattle.mc_model_machine.specs.Apdu.{ApduParts}
 use Rattle.mc_model_machine.specs.Code.{Shaped, decoded}
 use Rattle.mc_model_device.specs.Card.{App}
-use Rattle.mc_model_device.specs.Pieces.{touched}
 use Rattle.mc_model_machine.specs.Frame.{Frame, new_frame, la_of}
 use Rattle.mc_model_machine.specs.Primitives.{Then, Goes, Exits, Delegates}
 use Rattle.mc_model_machine.specs.Row.{Does, causes, effect, first_cause, judged, row}
@@ -18,10 +17,11 @@ use Rattle.mc_model_machine.specs.Chain.{Outcome, Write, Chain, Ran, Acted, Foll
 use Rattle.mc_model_device.proofs.ImageLemmas.{all-append}
 use Rattle.mc_machine_laws.specs.FewWords.{HoldsFew, words_in, most_words}
 use Rattle.mc_machine_laws.specs.FewRuns.{AreCoded, FewRunsLaw}
-use Rattle.mc_machine_laws.proofs.MapLemmas.{same_name, lookup-inserted, lookup-beside}
 use Rattle.mc_machine_laws.proofs.RowWords.{none_holds, DoneRowFacts, row-few, held-after, told-any, delegates-short, most-64}
 use Rattle.mc_machine_laws.proofs.AppSizes.{SameSizes, Limited, limited-from, are-limited, limited-same}
 use Rattle.mc_machine_laws.proofs.RunSizes.{ChainFits, changed-by, NextFits, acted-fits, start-fits}
+use Rattle.mc_model_device.proofs.MapLemmas.{same_name, lookup-inserted, lookup-beside}
+use Rattle.mc_model_device.proofs.PieceLemmas.{none-touched}
 
 -- ---- code
 
@@ -77,12 +77,8 @@ record ActFew (t : Acted) : Type 0 where
   writes : AllByRecursion FewOfWrite t.writes
   next : FewNext t.follows
 
-none-few : length (touched []) ≤ 64
-unfolding touched
-none-few = omega arith
-
 new-few : (n : List ℕ) (a : App) (session : List ℕ) → length n ≤ 16 → length a.fixed ≤ 4096 → FewFrame (new_frame n (length a.code) a.deny a.fixed session)
-new-few n a session short small = record { held = record { fixed = small; inside = tt; few = none-few }; name = short }
+new-few n a session short small = record { held = record { fixed = small; inside = tt; few = none-touched }; name = short }
 
 cond-ends : (b : Bool) (o p : Outcome) → FewNext (cond b (Ends o) (Ends p))
 cond-ends true o p = tt

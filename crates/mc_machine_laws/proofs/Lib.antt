@@ -1,5 +1,3 @@
-pub mod MapLemmas
-pub mod AscendingMaps
 pub mod RowNames
 pub mod TouchedWords
 pub mod BlockLengths

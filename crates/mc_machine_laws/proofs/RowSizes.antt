@@ -10,6 +10,7 @@ use Rattle.mc_model_device.proofs.ImageLemmas.{all-append}
 use Rattle.mc_model_device.proofs.ListLemmas.{length-splice, splice-longer}
 use Rattle.mc_machine_laws.specs.FewWords.{PiecesWithin, words_in}
 use Rattle.mc_machine_laws.proofs.TouchedWords.{one-piece, shorter-piece, empty-piece}
+use Rattle.mc_model_device.proofs.PieceLemmas.{none-touched}
 
 -- ---- pieces that lie inside
 
@@ -198,10 +199,6 @@ module _ (f : Frame) (P : Type 0) where
   committed-few : (ps : List (ℕ × List ℕ)) → length (touched ps) ≤ 64 → words_in (committed f ps) ≤ 64
   committed-few [] h = omega arith
   committed-few (p ∷ ps) h = h
-
-  none-touched : length (touched []) ≤ 64
-  unfolding touched
-  none-touched = omega arith
 
   cond-few : (most : ℕ) (b : Bool) (d e : Effect) → KeepsSizes f P most d → KeepsSizes f P most e → KeepsSizes f P most (cond b d e)
   cond-few most true d e s t = s

@@ -15,9 +15,9 @@ use Rattle.mc_model_machine.specs.Frame.{Frame, Effect, bytes_at, address_at, is
 use Rattle.mc_model_machine.specs.Primitives.{Around, Exits, Delegates, framed, effect_flagged, Cipher, Des, TripleDes, Aes, block_len, key_len, Primitive, CheckCase, LoadCcr, StoreCcr, Lookup, MemoryCompare, MemoryCopy, DelegateTo, DelegatorAid, Digest, CompareFixed, CopyFixed, SetProtection, Encipher, Decipher, Sign, BitByte, ShiftLeft, ShiftRight, BitWord, primitive, in_range, named, count_at, told_causes, cipher_causes, later_causes, prim_causes, prim_effect, prim_done, manipulated, enciphered, deciphered}
 use Rattle.mc_model_machine.specs.Blocks.{shift_left_block, shift_right_block, add_blocks, sub_blocks, inc_block, dec_block, and_blocks, or_blocks, xor_blocks, not_block}
 use Rattle.mc_model_machine.specs.Row.{on_stack, indexed, holds, gone, called, target, operand, known, writes, immediate_writes, pair_writes, place_of, value_of, first_of, causes, effect, first_cause, judged, row}
-use Rattle.mc_model_device.proofs.ListLemmas.{splice-longer}
+use Rattle.mc_model_device.proofs.ListLemmas.{splice-longer, zeros-short}
 use Rattle.mc_machine_laws.specs.FewWords.{PiecesWithin, HoldsFew, IsToldName, most_of, most_words, EndsFew, EndsWithin, FewWordsLaw, FewWritesLaw}
-use Rattle.mc_machine_laws.proofs.BlockLengths.{worked-short, each-short, map-short, zeros-short, stacked-short, at-short, enciphered-message, deciphered-message, signature-short, length-sha1}
+use Rattle.mc_machine_laws.proofs.BlockLengths.{worked-short, each-short, map-short, stacked-short, at-short, enciphered-message, deciphered-message, signature-short, length-sha1}
 use Rattle.mc_machine_laws.proofs.RowSizes.{KeepsSizes, WriteFacts, still, pushes-few, tops-few, writes-few, flagged-few, protects-few, looks-few, tells-few}
 
 -- ---- no cause holds

@@ -17,7 +17,6 @@ use Rattle.mc_model_card.specs.Manager.{Open, Seat, Accepted, Managed, first_sta
 use Rattle.mc_model_card.specs.Units.{name_of}
 use Rattle.mc_apdu.specs.declared.reply.Reply.{Reply}
 use Rattle.mc_bank.specs.Bank.{part_len, no_app, app_of, name_or, entered, Changes}
-use Rattle.mc_bank.specs.NameLaws.{name_is_itself}
 use Rattle.mc_manager.specs.declared.selection.Selection.{Selection}
 use Rattle.mc_manager.specs.declared.routed.Routed.{Routed}
 use Rattle.mc_manager.specs.declared.routed.Routed.TheVariants as routed
@@ -27,6 +26,7 @@ use Rattle.mc_manager.specs.CommandDue.{CommandDue, Refuses, Selects, Does, due_
 use Rattle.mc_manager.specs.Calls.{CanSelect, CanCreate, CanDelete, has_selected, delete_causes}
 use Rattle.mc_manager.specs.Ends.{CommandEnds}
 use Rattle.mc_manager.proofs.LoadLemmas.{length_got, same_size, fresh_entered}
+use Rattle.mc_model_device.proofs.MapLemmas.{name_is_itself}
 
 -- ---- causes
 

@@ -10,9 +10,9 @@ use Rattle.mc_model_device.specs.Bytes.{splice}
 use Rattle.mc_model_card.specs.Items.{Site}
 use Rattle.mc_model_card.specs.Manager.{got_of, size_of, with_got, is_complete, can_create, fresh}
 use Rattle.mc_bank.specs.Bank.{part_len, IsGoodSite, StayGood, entered}
-use Rattle.mc_bank.proofs.LeftLemmas.{length-spliced}
 use Rattle.mc_manager.specs.ManagerState.{BankView, Loaded, got_len, got_at, open_of, FitsLoad}
 use Rattle.mc_manager.specs.Load.{with_more, is_full}
+use Rattle.mc_model_device.proofs.ListLemmas.{length-splice}
 
 -- ---- sections
 
@@ -168,7 +168,7 @@ fits_filled v w l p b h =
               subst (λ (r : Part). length (w.standing l.site r) ≡ part_len r l.site.sizes) (sym is)
               (let room = h.room in
               let parts = h.fits.parts p in
-              ap length h.piece ∙ length-spliced (v.standing l.site p) (got_len p l) b (omega (arith, room, parts)) ∙ parts)
+              ap length h.piece ∙ length-splice (v.standing l.site p) (got_len p l) b (omega (arith, room, parts)) ∙ parts)
           | no other ↦ ap length (h.others q other) ∙ h.fits.parts q
         ]
 

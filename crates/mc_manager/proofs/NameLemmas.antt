@@ -5,7 +5,7 @@ use Rattle.mc_base.specs.Name.{IsName}
 use Rattle.mc_model_device.specs.Bytes.{lookup}
 use Rattle.mc_model_device.specs.Card.{App}
 use Rattle.mc_bank.specs.Bank.{IsApplication, AreApps}
-use Rattle.mc_bank.specs.NameLaws.{same_name}
+use Rattle.mc_model_device.proofs.MapLemmas.{same_name}
 
 -- what is no name is under none of the entries
 pub not_among : (apps : List (List ℕ × App)) (n : List ℕ) → AllByRecursion IsApplication apps → (IsName n → ⊥) → lookup apps n ≡ None

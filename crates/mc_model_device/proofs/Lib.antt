@@ -9,5 +9,9 @@ pub mod StoppedLemmas
 pub mod RecoveryLemmas
 pub mod CallLemmas
 pub mod LoopLemmas
+pub mod BoolLemmas
 pub mod ListLemmas
+pub mod PieceLemmas
+pub mod MapLemmas
+pub mod LayoutLemmas
 pub mod JournalLemmas

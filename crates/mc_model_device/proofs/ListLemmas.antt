@@ -1,11 +1,11 @@
--- Lists with bytes spliced in, pieces laid one behind the other, names, and truth values: what several crates prove with.
-use Rattle.std.proofs.Common.{◌≡◌, ℕ, suc, ◌+◌, ◌*◌, ◌/◌, ◌%◌, ◌<◌, ◌≤◌, Bool, true, false, ◌||◌, List, [], ◌∷◌, ◌++◌, length, take, drop, refl, sym, ap, ◌∙◌, arith}
-use Rattle.std.specs.Prelude.{◌&&◌, map, bytes_eq}
-use Rattle.std.proofs.lemmas.Bool.{false_from_ne_true}
-use Rattle.std.proofs.lemmas.List.{length-append, length-take, length-drop}
-use Rattle.std.proofs.lemmas.Slice.Eq.{bytes_eq-Decides}
-use Rattle.mc_model_device.specs.Bytes.{splice}
-use Rattle.mc_model_device.specs.Pieces.{laid_pieces, touched, with_words, with_touched}
+-- Lists and numbers: bytes spliced into a list, the bytes of numbers, and what std's lemmas on lists leave out.
+use Rattle.std.proofs.Common.{◌≡◌, ℕ, zero, suc, ◌+◌, ◌*◌, ◌/◌, ◌%◌, ◌^◌, ◌<◌, ◌≤◌, ◌⊎◌, inl, inr, false, List, [], ◌∷◌, ◌++◌, length, take, drop, get_or, refl, ap, ◌∙◌, arith, Fits, w8}
+use Rattle.std.specs.Prelude.{map, nat_eq}
+use Rattle.std.specs.Int.Bits.{bit_xor}
+use Rattle.std.proofs.lemmas.Bool.{cases_lt}
+use Rattle.std.proofs.lemmas.Nat.{xor_shr, xor_mod}
+use Rattle.std.proofs.lemmas.List.{append-nil, take-append-drop, length-append, length-take, length-drop, length-replicate}
+use Rattle.mc_model_device.specs.Bytes.{AreBytes, zeros, bytes2, bytes, splice}
 
 -- ---- bytes spliced in
 
@@ -19,46 +19,60 @@ pub splice-longer : (l : List ℕ) (at : ℕ) (b : List ℕ) → length l ≤ le
 splice-longer l at b =
     omega (arith, length-append (take at l ++ b) (drop (at + length b) l), length-append (take at l) b, length-take at l, length-drop (at + length b) l)
 
--- ---- pieces
+-- no bytes written change nothing
+pub splice-none : (l : List ℕ) (at : ℕ) → splice l at [] ≡ l
+splice-none l at =
+    let same : at + 0 ≡ at = omega arith in
+    ap (λ (x : List ℕ). x ++ drop (at + 0) l) (append-nil (take at l)) ∙ ap (λ (n : ℕ). take at l ++ drop n l) same ∙ take-append-drop at l
 
--- pieces that are laid behind others
-pub laid-append : (l : List ℕ) (ps qs : List (ℕ × List ℕ)) → laid_pieces l (ps ++ qs) ≡ laid_pieces (laid_pieces l ps) qs
-laid-append l [] qs = refl
-laid-append l (p ∷ ps) qs = laid-append (splice l p.0 p.1) ps qs
-
--- the words that they touch
-pub with_touched-append : (ns : List ℕ) (ps qs : List (ℕ × List ℕ)) → with_touched ns (ps ++ qs) ≡ with_touched (with_touched ns ps) qs
-with_touched-append ns [] qs = refl
-with_touched-append ns (p ∷ ps) qs = with_touched-append (with_words p.0 p.1 ns) ps qs
-
-pub touched-append : (ps qs : List (ℕ × List ℕ)) → touched (ps ++ qs) ≡ with_touched (touched ps) qs
-unfolding touched
-touched-append ps qs = with_touched-append [] ps qs
-
--- ---- lists and numbers
+-- ---- lists
 
 -- a list whose elements are changed one by one
 pub length-map : {A B : Type 0} (f : A → B) (xs : List A) → length (map f xs) ≡ length xs
 length-map f [] = refl
 length-map f (x ∷ xs) = ap suc (length-map f xs)
 
+-- a list of no elements has nothing after its first n
+pub drop_none : (n : ℕ) → drop {A = ℕ} n [] ≡ []
+drop_none zero = refl
+drop_none (suc n) = refl
+
+-- a list whose length is not 0
+pub some_bytes : (l : List ℕ) → nat_eq (length l) 0 ≡ false → 0 < length l
+some_bytes [] none = absurd (cc none)
+some_bytes (x ∷ xs) none = omega arith
+
+-- ---- bytes of numbers
+
 -- a number below 65,536 by its two bytes
 pub two-bytes : (n : ℕ) → n < 65536 → 256 * (n / 256 % 256) + n % 256 ≡ n
 two-bytes n h = omega arith
 
--- ---- names and truth values
+pub pair-bytes : (n : ℕ) → AreBytes (bytes2 n)
+pair-bytes n = (omega arith, (omega arith, tt))
 
--- a name that is not another, looked at from the other
-pub other-name : (a b : List ℕ) → bytes_eq a b ≡ false → bytes_eq b a ≡ false
-other-name a b h = false_from_ne_true (bytes_eq b a) (λ e. absurd (cc (sym ((bytes_eq-Decides a b).1 (sym ((bytes_eq-Decides b a).0 e))) ∙ h)))
+pub length-bytes : (n v : ℕ) → length (bytes n v) ≡ n
+length-bytes zero v = refl
+length-bytes (suc n) v = ap suc (length-bytes n v)
 
--- two that are true
-pub and-true : (a b : Bool) → a ≡ true → b ≡ true → (a && b) ≡ true
-and-true true b h k = k
-and-true false b h k = absurd (cc h)
+pub zeros-short : (n : ℕ) → length (zeros n) ≤ n
+zeros-short n = omega (arith, length-replicate {A = ℕ} n 0)
 
--- the first two of three, the other way round
-pub or-swap : (a b c : Bool) → (a || (b || c)) ≡ (b || (a || c))
-or-swap true true c = refl
-or-swap true false c = refl
-or-swap false b c = refl
+-- elements that fit a byte each are bytes
+pub all_bytes : (l : List ℕ) → ((i : ℕ) → Fits w8 (get_or l i 0)) → AreBytes l
+all_bytes [] h = tt
+all_bytes (b ∷ l) h = (omega (arith, h 0), all_bytes l (λ i. h (suc i)))
+
+pub bytes_from : (l : List ℕ) (i : ℕ) → AreBytes l → AreBytes (drop i l)
+bytes_from l zero h = h
+bytes_from [] (suc i) h = tt
+bytes_from (b ∷ l) (suc i) h = bytes_from l i h.1
+
+-- ---- bits
+
+-- the byte above k bits of a sum of two
+pub byte_xor : (a b k : ℕ) → bit_xor a b / 2 ^ k % 256 ≡ bit_xor (a / 2 ^ k % 256) (b / 2 ^ k % 256)
+byte_xor a b k = ap (λ (x : ℕ). x % 256) (xor_shr a b k) ∙ xor_mod (a / 2 ^ k) (b / 2 ^ k) 8
+
+pub bit_cases : (p : ℕ) → p < 2 → (p ≡ 0) ⊎ (p ≡ 1)
+bit_cases p h = elim (cases_lt p 1) [ inl low ↦ inl (omega arith) | inr high ↦ inr (omega arith) ]

@@ -1,11 +1,11 @@
 -- A look at a journal depends on the journal's words alone, and finds what was written there.
-use Rattle.std.proofs.Common.{◌≡◌, ℕ, zero, suc, ◌+◌, ◌-◌, ◌*◌, ◌<◌, ◌≤◌, Bool, true, false, ◌&&◌, List, [], ◌∷◌, ◌++◌, length, take, drop, Option, Some, None, Result, Ok, Err, refl, sym, ◌∙◌, ap, subst, inl, inr, arith, add-one, length-append, length-take}
-use Rattle.std.proofs.lemmas.Bool.{leb-true}
+use Rattle.std.proofs.Common.{◌≡◌, ◌⊎◌, ℕ, zero, suc, ◌+◌, ◌-◌, ◌*◌, ◌<◌, ◌≤◌, Bool, true, false, ◌&&◌, List, [], ◌∷◌, ◌++◌, length, take, drop, Option, Some, None, Result, Ok, Err, refl, sym, ◌∙◌, ap, subst, inl, inr, arith, add-one, length-append, length-take}
+use Rattle.std.proofs.lemmas.Bool.{leb-true, and_parts}
 use Rattle.std.specs.Prelude.{nat_le, bytes_eq}
 use Rattle.std.specs.List.{AllByRecursion}
 use Rattle.mc_model_device.specs.Bytes.{AreBytes, up, zeros, be2}
 use Rattle.mc_model_device.specs.Device.{IsImage}
-use Rattle.mc_model_device.specs.Image.{Journal, One, Two, opening, gate, word_at, is_open, is_count, within, when, number, count, one_before, targets_1, four, all_zero, ascend, after_all, all_before, targets_2, targets, value, pairs, Pending, aimed, headed, opened, look_j}
+use Rattle.mc_model_device.specs.Image.{Journal, One, Two, opening, gate, word_at, is_open, is_count, within, when, number, count, one_before, targets_1, four, all_zero, ascend, after_all, all_before, targets_2, targets, value, pairs, Look, Refused, Closed, Pending, debt, aimed, headed, opened, look_j}
 use Rattle.mc_model_device.specs.Stopped.{InJournal}
 use Rattle.mc_model_device.proofs.ImageLemmas.{all-append}
 
@@ -16,13 +16,19 @@ pub record SameInside (j : Journal) (m n : List (List ℕ)) : Type 0 where
   pub size : length m ≡ length n
   pub words : (i : ℕ) → InJournal j i → word_at m i ≡ word_at n i
 
-gate-inside : (j : Journal) → InJournal j (gate j)
+pub gate-inside : (j : Journal) → InJournal j (gate j)
 gate-inside One = (omega arith, omega arith)
 gate-inside Two = inr refl
 
-head-inside : (j : Journal) → InJournal j 2
+pub head-inside : (j : Journal) → InJournal j 2
 head-inside One = (omega arith, omega arith)
 head-inside Two = inl (omega arith, omega arith)
+
+pub outside_two : (i : ℕ) → (i ≡ 0) ⊎ (131 ≤ i) → InJournal Two i → ⊥
+outside_two i (inl z) (inl h) = absurd (omega (arith, z, h.0))
+outside_two i (inl z) (inr e) = absurd (omega (arith, z, e))
+outside_two i (inr g) (inl h) = absurd (omega (arith, g, h.1))
+outside_two i (inr g) (inr e) = absurd (omega (arith, g, e))
 
 same-1 : (m n : List (List ℕ)) → SameInside One m n → (c i : ℕ) → i + c ≤ 64 → targets_1 m i c ≡ targets_1 n i c
 unfolding targets_1
@@ -55,10 +61,6 @@ same-pairs j m n s (t ∷ ts) i h =
 
 -- ---- what a look that is pending has
 
-pub both : (a b : Bool) → (a && b) ≡ true → (a ≡ true) × (b ≡ true)
-both true b h = (refl, h)
-both false b h = absurd (cc h)
-
 when-some : (b : Bool) (n c : ℕ) → when b n ≡ Some c → (b ≡ true) × (n ≡ c)
 when-some true n c h = (refl, cc)
 when-some false n c h = absurd (cc h)
@@ -67,11 +69,11 @@ when-some false n c h = absurd (cc h)
 number-test : (test : ℕ → Bool) (g : List ℕ) (c : ℕ) → number test g ≡ Some c → test c ≡ true
 number-test test g c h =
     let w : ((bytes_eq (take 6 g) (zeros 6) && test (be2 g 6)) ≡ true) × (be2 g 6 ≡ c) = when-some (bytes_eq (take 6 g) (zeros 6) && test (be2 g 6)) (be2 g 6) c h in
-    let t : test (be2 g 6) ≡ true = (both (bytes_eq (take 6 g) (zeros 6)) (test (be2 g 6)) w.0).1 in
+    let t : test (be2 g 6) ≡ true = (and_parts (bytes_eq (take 6 g) (zeros 6)) (test (be2 g 6)) w.0).1 in
     subst (λ (n : ℕ). test n ≡ true) w.1 t
 
 pub count-range : (c : ℕ) → is_count c ≡ true → (1 ≤ c) × (c ≤ 64)
-count-range c h = let b : (nat_le 1 c ≡ true) × (nat_le c 64 ≡ true) = both (nat_le 1 c) (nat_le c 64) h in (leb-true 1 c b.0, leb-true c 64 b.1)
+count-range c h = let b : (nat_le 1 c ≡ true) × (nat_le c 64 ≡ true) = and_parts (nat_le 1 c) (nat_le c 64) h in (leb-true 1 c b.0, leb-true c 64 b.1)
 
 -- targets that were found: each is within, and there are at most 64
 pub record GoodTargets (size most : ℕ) (ts : List ℕ) : Type 0 where
@@ -98,8 +100,8 @@ good-1 m i (suc c) ts h =
 pub all-within : (size least : ℕ) (ts : List ℕ) → ascend size least ts ≡ true → AllByRecursion (λ t. within size t ≡ true) ts
 all-within size least [] h = tt
 all-within size least (t ∷ ts) h =
-    let a : (nat_le least t ≡ true) × ((within size t && ascend size (t + 1) ts) ≡ true) = both (nat_le least t) (within size t && ascend size (t + 1) ts) h in
-    let b : (within size t ≡ true) × (ascend size (t + 1) ts ≡ true) = both (within size t) (ascend size (t + 1) ts) a.1 in
+    let a : (nat_le least t ≡ true) × ((within size t && ascend size (t + 1) ts) ≡ true) = and_parts (nat_le least t) (within size t && ascend size (t + 1) ts) h in
+    let b : (within size t ≡ true) × (ascend size (t + 1) ts ≡ true) = and_parts (within size t) (ascend size (t + 1) ts) a.1 in
     (b.0, all-within size (t + 1) ts b.1)
 
 good-all : (size least most p : ℕ) (past now : List ℕ) (rest : Result (List ℕ) ℕ) (ts : List ℕ) → length now ≤ 4
@@ -111,7 +113,7 @@ good-all size least most p past now (Ok us) ts few hr true hb h =
     let good : GoodTargets size most us = hr us refl in
     subst (λ (l : List ℕ). GoodTargets size (most + 4) l) is
     (record {
-      all = all-append (λ t. within size t ≡ true) now us (all-within size least now (both (all_zero past) (ascend size least now) hb).1) good.all;
+      all = all-append (λ t. within size t ≡ true) now us (all-within size least now (and_parts (all_zero past) (ascend size least now) hb).1) good.all;
       few = let fewer : length us ≤ most = good.few in omega (arith, length-append now us);
     })
 
@@ -216,3 +218,9 @@ same-opened j m n s true =
 
 pub look-same : (j : Journal) (m n : List (List ℕ)) → SameInside j m n → look_j j m ≡ look_j j n
 look-same j m n s = ap (λ (w : List ℕ). opened j m (bytes_eq w (opening j))) (s.words (gate j) (gate-inside j)) ∙ same-opened j m n s (is_open j n)
+
+-- a look owes at most 65 writes
+pub owed-few : (j : Journal) (m : List (List ℕ)) (l : Look) → look_j j m ≡ l → debt l ≤ 65
+owed-few j m (Refused p) h = omega arith
+owed-few j m Closed h = omega arith
+owed-few j m (Pending k ps) h = let few : length ps ≤ 64 = (good-pending j k m ps h).few in omega arith

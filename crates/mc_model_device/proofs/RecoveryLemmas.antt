@@ -3,17 +3,13 @@ use Rattle.std.proofs.Common.{◌≡◌, ◌≢◌, ℕ, ◌+◌, ◌<◌, ◌�
 use Rattle.std.specs.Prelude.{bytes_eq, slice_set}
 use Rattle.std.specs.List.{AllByRecursion}
 use Rattle.std.proofs.lemmas.List.{get_or-set_same, get_or-set_other, length-set}
-use Rattle.std.proofs.lemmas.Bool.{cases_lt, le-leb, lt-leb}
+use Rattle.std.proofs.lemmas.Bool.{cases_lt, le-leb, lt-leb, or_parts}
 use Rattle.std.proofs.lemmas.Bool.Decides.{eqb_tells}
 use Rattle.mc_model_device.specs.Image.{Journal, One, Two, opening, shut, gate, word_at, is_open, laid, Look, Pending, look_j, look_at, look, which_of, replayed, debt}
 use Rattle.mc_model_device.specs.Stopped.{InJournal, remains, replay, torn, SameBut, Resumes}
 use Rattle.mc_model_device.proofs.ImageLemmas.{covers, covers-append, length-laid, laid-other, laid-same, laid-last, uncovered}
 use Rattle.mc_model_device.proofs.LookLemmas.{look-same, GoodPending, good-pending}
 use Rattle.mc_model_device.proofs.StoppedLemmas.{length-torn, torn-other, torn-within, torn-past, open-same, targets-outside, closed-look, gate-bound}
-
-neither : (a b : Bool) → (a || b) ≡ false → (a ≡ false) × (b ≡ false)
-neither true b h = absurd (cc h)
-neither false b h = (refl, h)
 
 -- a pending image with the same words in the journal, and the same but for targets and gate, means the same
 pending-resumes : (j : Journal) (n t : List (List ℕ)) (ps : List (ℕ × List ℕ)) → look_j j n ≡ Pending j ps → laid n (replay j ps) ≡ t → Resumes j n (length ps + 1) t
@@ -41,7 +37,7 @@ module _ (j : Journal) (m : List (List ℕ)) (list : List (ℕ × List ℕ)) (lo
 
   -- what a replay covers: its targets and the gate
   free-list : (i : ℕ) → covers (replay j list) i ≡ false → (covers list i ≡ false) × (covers ((gate j, shut) ∷ []) i ≡ false)
-  free-list i h = neither (covers list i) (covers ((gate j, shut) ∷ []) i) (sym (covers-append list ((gate j, shut) ∷ []) i) ∙ h)
+  free-list i h = or_parts (covers list i) (covers ((gate j, shut) ∷ []) i) (sym (covers-append list ((gate j, shut) ∷ []) i) ∙ h)
 
   in-targets : (k : ℕ) (x : List ℕ) → Resumes j (torn m list k x) (length list + 1) (laid m (replay j list))
   in-targets k x =

@@ -3,14 +3,13 @@ use Rattle.std.proofs.Common.{◌≡◌, ◌≢◌, ◌⊎◌, ℕ, zero, suc, �
 use Rattle.std.specs.Prelude.{bytes_eq, nat_le, nat_lt, slice_set}
 use Rattle.std.specs.List.{AllByRecursion}
 use Rattle.std.proofs.lemmas.List.{get_or-set_same, get_or-set_other, length-set}
-use Rattle.std.proofs.lemmas.Bool.{cases_lt, le-ltb, lt-ltb, leb-true, eqb-true, ltb-true}
+use Rattle.std.proofs.lemmas.Bool.{cases_lt, le-ltb, lt-ltb, leb-true, eqb-true, ltb-true, and_parts, or_cases}
 use Rattle.std.proofs.lemmas.Bool.Decides.{eqb_tells}
 use Rattle.std.specs.Cmp.Lexicographic.{same_text}
 use Rattle.mc_model_device.specs.Image.{Journal, One, Two, opening, shut, gate, word_at, is_open, within, ascend, laid, Look, Closed, Pending, opened, look_j, replayed, debt}
 use Rattle.mc_model_device.specs.Stopped.{InJournal, cost, opens_at, stands, owes, numbered, entries, replay, writes, IsAtomic, torn, stood, SameOutside, LeavesOwing, LaidWhole}
 use Rattle.mc_model_device.proofs.ImageLemmas.{HoldsWords, all-map, length-laid, laid-append, laid-other, laid-point, laid-holds, laid-last, uncovered, covers, holds-point, Ascends}
-use Rattle.mc_model_device.proofs.LookLemmas.{look-same, both}
-use Rattle.mc_model_device.proofs.WrittenLemmas.{either}
+use Rattle.mc_model_device.proofs.LookLemmas.{look-same, gate-inside, head-inside}
 use Rattle.mc_model_device.proofs.GeometryLemmas.{InEntries, Geometry, geometry, look-written, targets-within}
 
 -- ---- lists of writes that were stopped
@@ -57,9 +56,9 @@ eqb-here a b h = elim (eqb_tells a b) [ inl here ↦ here.0 | inr apart ↦ absu
 -- a target is no place of a journal
 target-is : (size t : ℕ) → within size t ≡ true → (t ≡ 0) ⊎ (131 ≤ t)
 target-is size t h =
-    elim (either (t == 0) (nat_le 131 t && nat_lt t size) h) [
+    elim (or_cases (t == 0) (nat_le 131 t && nat_lt t size) h) [
       | inl is ↦ inl (eqb-true t 0 is)
-      | inr heap ↦ inr (leb-true 131 t (both (nat_le 131 t) (nat_lt t size) heap).0)
+      | inr heap ↦ inr (leb-true 131 t (and_parts (nat_le 131 t) (nat_lt t size) heap).0)
     ]
 
 outside-is : (j : Journal) (t : ℕ) → (t ≡ 0) ⊎ (131 ≤ t) → InJournal j t → ⊥
@@ -75,24 +74,16 @@ targets-outside j size list i a inside =
 
 pub within-below : (size t : ℕ) → 256 ≤ size → within size t ≡ true → t < size
 within-below size t h w =
-    elim (either (t == 0) (nat_le 131 t && nat_lt t size) w) [
+    elim (or_cases (t == 0) (nat_le 131 t && nat_lt t size) w) [
       | inl is ↦ let e : t ≡ 0 = eqb-true t 0 is in omega arith
-      | inr heap ↦ ltb-true t size (both (nat_le 131 t) (nat_lt t size) heap).1
+      | inr heap ↦ ltb-true t size (and_parts (nat_le 131 t) (nat_lt t size) heap).1
     ]
 
 pub ascends-list : (size least : ℕ) (list : List (ℕ × List ℕ)) → ascend size least (map (λ p. p.0) list) ≡ true → Ascends least list
 ascends-list size least [] h = tt
 ascends-list size least (p ∷ ps) h =
-    let a = both (nat_le least p.0) (within size p.0 && ascend size (p.0 + 1) (map (λ q. q.0) ps)) h in
-    (leb-true least p.0 a.0, ascends-list size (p.0 + 1) ps (both (within size p.0) (ascend size (p.0 + 1) (map (λ q. q.0) ps)) a.1).1)
-
-gate-inside : (j : Journal) → InJournal j (gate j)
-gate-inside One = (omega arith, omega arith)
-gate-inside Two = inr refl
-
-head-inside : (j : Journal) → InJournal j 2
-head-inside One = (omega arith, omega arith)
-head-inside Two = inl (omega arith, omega arith)
+    let a = and_parts (nat_le least p.0) (within size p.0 && ascend size (p.0 + 1) (map (λ q. q.0) ps)) h in
+    (leb-true least p.0 a.0, ascends-list size (p.0 + 1) ps (and_parts (within size p.0) (ascend size (p.0 + 1) (map (λ q. q.0) ps)) a.1).1)
 
 pub gate-bound : (j : Journal) → (gate j ≤ 130) × (gate j ≢ 2)
 gate-bound One = (omega arith, λ e. absurd (omega (arith, e)))

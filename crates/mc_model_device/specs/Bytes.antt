@@ -1,6 +1,6 @@
 -- Bytes, numbers of several bytes, lists changed at a place, and finite maps that are keyed by names.
 -- A byte is a number below 256, and every number of several bytes is big endian.
-use Rattle.std.specs.Prelude.{ℕ, zero, suc, ◌+◌, ◌-◌, ◌*◌, ◌/◌, ◌%◌, ◌^◌, ◌<◌, Bool, true, false, cond, ◌&&◌, ◌||◌, nat_lt, ◌==◌, List, [], ◌∷◌, ◌++◌, length, take, drop, replicate, slice_index, bytes_eq, Option, Some, None}
+use Rattle.std.specs.Prelude.{◌≡◌, ⊤, ℕ, zero, suc, ◌+◌, ◌-◌, ◌*◌, ◌/◌, ◌%◌, ◌^◌, ◌<◌, Bool, true, false, cond, ◌&&◌, ◌||◌, nat_lt, ◌==◌, List, [], ◌∷◌, ◌++◌, length, take, drop, replicate, slice_index, bytes_eq, Option, Some, None}
 use Rattle.std.specs.List.{AllByRecursion}
 
 -- each of these numbers is a byte
@@ -58,6 +58,11 @@ has_name n (k ∷ ks) = bytes_eq k n || has_name n ks
 -- a finite map: pairs with distinct names, ascending
 abbrev pub Map : Type 0 → Type 0
 Map A = List (List ℕ × A)
+
+-- names ascend, so that no two are the same
+abbrev pub AscendByName : {A : Type 0} → List (List ℕ × A) → Type 0
+AscendByName [] = ⊤
+AscendByName (e ∷ es) = AllByRecursion (λ f. name_before e.0 f.0 ≡ true) es × AscendByName es
 
 -- the value under a name
 abbrev pub lookup : {A : Type 0} → List (List ℕ × A) → List ℕ → Option A

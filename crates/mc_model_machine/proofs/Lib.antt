@@ -1,1 +1,2 @@
 pub mod ModesLemmas
+pub mod TextLemmas

@@ -1,5 +1,5 @@
 -- Addresses that lie in segments, and a stack whose top is replaced.
-use Rattle.std.proofs.Common.{◌≡◌, ℕ, ◌+◌, ◌≤◌, ◌<◌, Bool, true, false, ◌||◌, List, length, refl, arith}
+use Rattle.std.proofs.Common.{◌≡◌, ℕ, ◌+◌, ◌≤◌, ◌<◌, true, false, List, length, arith}
 use Rattle.mc_model_machine.specs.Primitives.{Cipher, Des, TripleDes, Aes, is_message}
 use Rattle.mc_model_machine.specs.Frame.{Frame, is_outside, is_under, pushed, popped, topped}
 
@@ -10,11 +10,6 @@ inside_low f a inside fixed dt = grind arith
 -- what was popped comes back in its length
 pub pushed_popped : (f : Frame) (n : ℕ) (b : List ℕ) → length b ≡ n → is_under f n ≡ false → pushed (popped f n) b ≡ topped f b
 pushed_popped f n b size under = grind arith
-
--- a cause of several holds where the last of them does
-pub or_last : (a b : Bool) → b ≡ true → (a || b) ≡ true
-or_last true b last = refl
-or_last false b last = last
 
 -- a message has a byte
 pub message_some : (c : Cipher) (n : ℕ) → is_message c n ≡ true → 1 ≤ n

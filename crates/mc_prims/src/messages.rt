@@ -14,7 +14,7 @@ use mc_bank::Bank;
 use mc_segs::{Frame, Halt, Next, Public, store};
 
 /// Enciphers or deciphers a message of so many bytes: its address, that of the result and that of the key are on the stack.
-#[tactic(auto, using(crate::proofs::FrameLemmas::or_last, crate::proofs::FrameLemmas::message_some))]
+#[tactic(auto, using(std::proofs::lemmas::Bool::or_right, crate::proofs::FrameLemmas::message_some))]
 pub fn turn_message<B: Bank>(
     way: Way,
     cipher: Cipher,
@@ -40,7 +40,7 @@ pub fn turn_message<B: Bank>(
 }
 
 /// Signs a message: the addresses of the start block, the message, the signature and the key are on the stack.
-#[tactic(auto, using(crate::proofs::FrameLemmas::or_last, crate::proofs::FrameLemmas::message_some), unfolding(mc_model_machine::specs::Primitives::later_causes, mc_model_machine::specs::Primitives::prim_effect))]
+#[tactic(auto, using(std::proofs::lemmas::Bool::or_right, crate::proofs::FrameLemmas::message_some), unfolding(mc_model_machine::specs::Primitives::later_causes, mc_model_machine::specs::Primitives::prim_effect))]
 pub fn sign_message<B: Bank>(
     cipher: Cipher,
     args: &[u8; 3],

@@ -12,7 +12,6 @@ use Rattle.mc_script.specs.declared.player.Player.{Player}
 use Rattle.mc_script.specs.Players.{IsPlayerAt}
 use Rattle.mc_script.specs.Plays.{Bench}
 use Rattle.mc_script.specs.Lines.{bench_of}
-use Rattle.mc_script.proofs.LineLemmas.{player_stands}
 use Rattle.mc_reader.specs.Frames.{framed, framed_all, first_frame}
 use Rattle.mc_reader.specs.Meanings.{meaning, power_after}
 use Rattle.mc_reader.specs.Lines.{line_in, number_after}
@@ -25,6 +24,7 @@ use Rattle.mc_reader.specs.declared.serve_error.ServeError.TheVariants as fault
 use Rattle.mc_reader.proofs.FrameLemmas.{LengthFits, each_bytes, frames_are, framed_more, fits_more}
 use Rattle.mc_reader.proofs.AnswerLemmas.{written_more, written_cut}
 use Rattle.mc_reader.proofs.ServingLemmas.{frames_none, frames_on}
+use Rattle.mc_script.proofs.LinedLemmas.{at_stands}
 
 -- what was told of source and sink and bench when a loop began
 pub record Start : Type 0 where
@@ -142,7 +142,7 @@ module _ {N : Type 0} (state : N → DeviceState) (bench : N → BenchState) whe
   served_end s n v count p powered left next reads more out h part result took less counted ends =
       let b = bench_of state bench p in
       finish s n v h.frames h.answers part next more out b result (Took-append v.left left next (framed_all h.frames) part h.took took) h.fit less (omega (arith, h.counted, counted))
-      (h.rest [] [] b (frames_none h.here h.number powered b (player_stands state bench p h.here h.at) h.at.unfused)) ends
+      (h.rest [] [] b (frames_none h.here h.number powered b (at_stands state bench p h.here h.at) h.at.unfused)) ends
 
   -- the input ended between two frames
   pub served_whole : (s : State) (n : ℕ) (v : Start) (count : ℕ) (p : Player N) (powered : Bool) (left next : Option (List ℕ)) (reads more : ℕ) (out : Sunk)
@@ -183,5 +183,5 @@ module _ {N : Type 0} (state : N → DeviceState) (bench : N → BenchState) whe
       (Took-append v.left next next (framed_all fs) [] (took_on v h.frames f left next h.took took) (Took-none next))
       (fits_more h.frames f h.fit fits) refl (omega (arith, h.counted, counted))
       (rest_on s n v count p q powered left reads out h f served.after served.told served.moves [] [] b
-      (frames_none served.after (number_after h.number (line_in (meaning powered f))) (power_after powered (meaning powered f)) b (player_stands state bench q served.after served.at) served.at.unfused))
+      (frames_none served.after (number_after h.number (line_in (meaning powered f))) (power_after powered (meaning powered f)) b (at_stands state bench q served.after served.at) served.at.unfused))
       (record { between = refl; written = written_cut v.out out wrote h.answers o h.written served.puts })

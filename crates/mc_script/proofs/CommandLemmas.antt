@@ -20,8 +20,9 @@ use Rattle.mc_card.specs.Parts.{device_in, card_in, seat_in, due, with_session, 
 use Rattle.mc_card.specs.Ends.{is_passed, Commanded, PassedToChain, Answered, ChainTurned}
 use Rattle.mc_script.specs.Runs.{StoppedAtWrite, TellsTurns, RanAndTold}
 use Rattle.mc_script.proofs.StopLemmas.{stopped_in, at_number}
-use Rattle.mc_script.proofs.RanLemmas.{MadeBy, RunOf, run_ends, run_stops, run_goes, run_on}
+use Rattle.mc_script.proofs.RanLemmas.{RunOf, run_ends, run_stops, run_goes, run_on}
 use Rattle.mc_script.proofs.UpLemmas.{up_on}
+use Rattle.mc_card.proofs.MadeLemmas.{MadeBy}
 
 -- ---- commands without turns
 

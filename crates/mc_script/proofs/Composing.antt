@@ -12,7 +12,7 @@ use Rattle.mc_script.specs.Players.{IsUnfused, IsPlayerAt}
 use Rattle.mc_script.specs.Plays.{Bench, PlayedLine, Played, LeadsTo}
 use Rattle.mc_script.specs.Lines.{bench_of, LineDone, DeckPlayed}
 use Rattle.mc_script.proofs.PlayLemmas.{plays_on, plays_none, played_none, played_on}
-use Rattle.mc_script.proofs.LineLemmas.{player_stands}
+use Rattle.mc_script.proofs.LinedLemmas.{at_stands}
 
 -- ---- steps
 
@@ -95,7 +95,7 @@ module _ {N : Type 0} (state : N → DeviceState) (bench : N → BenchState) whe
   -- the same of a player that stands for the state that was reached
   pub player_played : (s : State) (ls : List (ℕ × DeckLine)) (ws : List (Option WornAt)) (a : Bench) (u : State) (p : Player N) → LeadsTo s ls ws a u (bench_of state bench p) → IsPlayerAt state bench p u
       → Played s ls ws a (bench_of state bench p)
-  player_played s ls ws a u p h at = leads_played s ls ws a u (bench_of state bench p) h (player_stands state bench p u at) at.unfused
+  player_played s ls ws a u p h at = leads_played s ls ws a u (bench_of state bench p) h (at_stands state bench p u at) at.unfused
 
   -- one line of a player
   pub line_leads : {R : Type 0} (told : R → List Turn → R → Type 0) (p q : Player N) (s : State) (n : ℕ) (l : DeckLine) (before after : R) (answer : Option Answer) → LineDone state bench told p l before after answer q

@@ -18,7 +18,7 @@ use Rattle.mc_script.specs.Writers.{ended, text_by}
 use Rattle.mc_script.specs.Plays.{Bench, PlaysFrom}
 use Rattle.mc_model_play.proofs.PlayLemmas.{step_is}
 use Rattle.mc_script.proofs.PlayLemmas.{from_on, from_cut, from_none}
-use Rattle.mc_script.proofs.LineLemmas.{player_stands}
+use Rattle.mc_script.proofs.LinedLemmas.{at_stands}
 
 module _ {N : Type 0} (state : N → DeviceState) (bench : N → BenchState) where
   -- a player at a state of a play, with these lines left: whatever they play from there, all lines play from the start
@@ -33,7 +33,7 @@ module _ {N : Type 0} (state : N → DeviceState) (bench : N → BenchState) whe
 
   -- all lines were played
   pub reached_end : (f : Step → List ℕ) (s : State) (ls : List (ℕ × DeckLine)) (a : Bench) (x y : Sunk) (p : Player N) → PlayReached f s ls a x [] p y → PlaysFrom f s ls a x (Ok tt) (bench_of state bench p) y
-  reached_end f s ls a x y p h = h.rest (Ok tt) (bench_of state bench p) y (from_none f h.here (bench_of state bench p) y (player_stands state bench p h.here h.at) h.at.unfused)
+  reached_end f s ls a x y p h = h.rest (Ok tt) (bench_of state bench p) y (from_none f h.here (bench_of state bench p) y (at_stands state bench p h.here h.at) h.at.unfused)
 
   module _ {R : Type 0} (told : R → List Turn → R → Type 0) (text : List Turn → List ℕ) where
     -- what is written of a line, whatever turns were told in it
@@ -69,7 +69,7 @@ module _ {N : Type 0} (state : N → DeviceState) (bench : N → BenchState) whe
         let puts = line_puts p q h.here (n, l) line.0 before after answer y z (Err e) line.1 tells in
         let end = line.1.stepped in
         h.rest (Err e) (bench_of state bench q) z
-        (from_cut (text_by text) h.here (n, l) line.0 left (bench_of state bench p) (bench_of state bench q) y z e end.played (player_stands state bench q (step h.here (n, l) line.0).after end.at) end.at.unfused puts)
+        (from_cut (text_by text) h.here (n, l) line.0 left (bench_of state bench p) (bench_of state bench q) y z e end.played (at_stands state bench q (step h.here (n, l) line.0).after end.at) end.at.unfused puts)
 
     -- a line whose text failed, by what the script says
     pub reached_failed : (s : State) (ls : List (ℕ × DeckLine)) (a : Bench) (x y z : Sunk) (left : List (ℕ × DeckLine)) (n : ℕ) (l : DeckLine) (p q : Player N) (before after : R) (answer : Option Answer) (r : Result (Unit {0}) WriteFault)

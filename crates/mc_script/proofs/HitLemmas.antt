@@ -17,6 +17,7 @@ use Rattle.mc_script.specs.Counting.{raised, cuts_due, fails_due}
 use Rattle.mc_script.specs.Arming.{armed_bench}
 use Rattle.mc_script.proofs.FuseLemmas.{Past}
 use Rattle.mc_script.proofs.BenchLemmas.{FusedAt, SameCalls}
+use Rattle.std.proofs.lemmas.Option.{same_Some, none-some}
 
 -- ---- no stop
 
@@ -46,14 +47,11 @@ pub record HitBy (a : play.Armed) (m : ℕ) (t : Bool) (s : Stop) (k : ℕ) (x :
   pub first : s ≡ Worn → IsBeforeCut a k
   pub steady : (l : DeckLine) → is_card_line l ≡ true → t ≡ true → w ≡ steady_at a l m
 
-none_some : (X : Type 0) (x : X) → None ≡ Some x → ⊥
-none_some X x h = cc h
-
 uncut : (b : BenchState) (f : Fuse) → IsUnfused b → b.cut ≡ Some f → ⊥
-uncut b f free h = none_some Fuse f (sym free.cut ∙ h)
+uncut b f free h = none-some f (sym free.cut ∙ h)
 
 unworn : (b : BenchState) (f : Fuse) → IsUnfused b → b.worn ≡ Some f → ⊥
-unworn b f free h = none_some Fuse f (sym free.worn ∙ h)
+unworn b f free h = none-some f (sym free.worn ∙ h)
 
 cut_hits : (k m : ℕ) (x : StopAt) → k ≤ m → cond (nat_le k m) (Some x) None ≡ Some x
 cut_hits k m x h = ap (λ (b : Bool). cond b (Some x) None) (le-leb k m h)
@@ -63,12 +61,9 @@ worn_hits true true x h g = refl
 worn_hits true false x h g = absurd (cc g)
 worn_hits false c x h g = absurd (cc h)
 
-some_injective : (X : Type 0) (x y : X) → Some x ≡ Some y → x ≡ y
-some_injective X x y h = cc
-
 same_fuse : (k j : ℕ) (x y : List ℕ) → ◌≡◌ {A = Option Fuse} (Some (record { writes = j; fill = y })) (Some (record { writes = k; fill = x })) → (j ≡ k) × (y ≡ x)
 same_fuse k j x y h =
-    let e : ◌≡◌ {A = Fuse} (record { writes = j; fill = y }) (record { writes = k; fill = x }) = some_injective Fuse _ _ h in
+    let e : ◌≡◌ {A = Fuse} (record { writes = j; fill = y }) (record { writes = k; fill = x }) = same_Some {A = Fuse} _ _ h in
     (ap (λ (f : Fuse). f.writes) e, ap (λ (f : Fuse). f.fill) e)
 
 pub hit_by : (a : Armed) (b : BenchState) (m : ℕ) (s : Stop) (k : ℕ) (x : List ℕ) → CanArm a → IsUnfused b → FusedAt s (armed_bench a b) k x → k ≤ m

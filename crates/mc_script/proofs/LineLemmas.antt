@@ -1,13 +1,9 @@
 -- One line of a player as one line of a play.
 use Rattle.std.specs.Prelude.{option_map}
 use Rattle.std.proofs.Common.{◌≡◌, ℕ, List, Option, Some, None, refl, sym, subst, ◌∙◌, ap}
-use Rattle.mc_model_device.specs.declared.cause.Cause.{Cause}
 use Rattle.mc_model_device.specs.Device.{DeviceState, BenchState}
-use Rattle.mc_model_device.specs.Card.{means, App}
-use Rattle.mc_model_device.specs.Layout.{fault}
-use Rattle.mc_model_device.specs.PowerUp.{Base, OnCard, AtFault, base_of, owing}
-use Rattle.mc_model_play.specs.Play.{Warm, State, Cold, Hot, StandsForState, StandsForBase, static_of, Static}
-use Rattle.mc_store.specs.Power.{HoldsBase}
+use Rattle.mc_model_device.specs.Card.{App}
+use Rattle.mc_model_play.specs.Play.{State, Cold, Hot, static_of, Static}
 use Rattle.mc_script.specs.declared.player.Player.{Player}
 use Rattle.mc_card.specs.Parts.{card_in, IsReadyCard}
 use Rattle.mc_script.specs.declared.player.Power.{Power}
@@ -15,27 +11,7 @@ use Rattle.mc_script.specs.declared.player.Power.TheVariants as power
 use Rattle.mc_model_device.specs.Bytes.{lookup}
 use Rattle.mc_card.specs.declared.card.Card.{Card}
 use Rattle.mc_script.specs.declared.answer.Answer.TheVariants as answer
-use Rattle.mc_script.specs.Players.{answer_value, device_of, dump_value, statics_by, statics_in, LiveIs, IsPlayerAt}
-
--- words that are a card, and words that are a fault
-on_card : (f : Option (Cause × ℕ)) (m : List (List ℕ)) (c : _) → base_of f m ≡ OnCard c → (f ≡ None) × (means m ≡ c)
-on_card None m c e = (refl, cc e)
-on_card (Some f) m c e = absurd (cc e)
-
-at_fault : (f : Option (Cause × ℕ)) (m : List (List ℕ)) (cause : Cause) (p : ℕ) → base_of f m ≡ AtFault cause p → f ≡ Some (cause, p)
-at_fault None m cause p e = absurd (cc e)
-at_fault (Some (k, n)) m cause p e = cc e
-
-stands_base : (b : Base) (m : List (List ℕ)) (w : Warm) → HoldsBase b w.owed w.by m → StandsForBase m b w
-stands_base (OnCard c) m w h = let is = on_card (fault m) m c h.base in record { sound = is.0; meaning = is.1; owed = h.owed }
-stands_base (AtFault cause p) m w h = record { unsound = at_fault (fault m) m cause p h.base; owed = h.owed }
-
--- the device of a player that stands for a state of a play holds the words that the state has
-pub player_stands : {N : Type 0} (state : N → DeviceState) (bench : N → BenchState) (p : Player N) (s : State) → IsPlayerAt state bench p s → StandsForState (state (device_of p)).words s
-player_stands state bench p (Cold m b a) at = at.stands.1
-player_stands state bench p (Hot w) at =
-    let is = at.stands.1 in
-    (stands_base w.base (state (device_of p)).words w is, λ some. ap owing (is.by some))
+use Rattle.mc_script.specs.Players.{answer_value, dump_value, statics_by, statics_in, LiveIs, IsPlayerAt}
 
 -- the card of a player whose card runs
 pub player_ready : {N : Type 0} (state : N → DeviceState) (bench : N → BenchState) (p : Player N) (s : State) → IsPlayerAt state bench p s → p.power ≡ power.On → IsReadyCard state p.card

@@ -1,31 +1,22 @@
 -- A command by the turns of its run: its items, where its writes stop, and what is told of it.
-use Rattle.std.proofs.Common.{◌≡◌, ℕ, zero, suc, ◌+◌, ◌-◌, ◌≤◌, true, List, [], ◌∷◌, ◌++◌, length, Option, Some, None, Result, Ok, Err, refl, arith, sym, ap, subst, ◌∙◌, inl, inr, length-append}
+use Rattle.std.proofs.Common.{◌≡◌, ℕ, zero, suc, ◌+◌, ◌-◌, ◌≤◌, true, List, [], ◌∷◌, ◌++◌, length, Option, Some, None, Result, Ok, Err, refl, arith, sym, ap, subst, ◌∙◌}
 use Rattle.std.specs.Prelude.{option_map, IfOk, OnOk}
 use Rattle.std.proofs.lemmas.List.{append-nil, map-append}
-use Rattle.std.proofs.lemmas.Bool.{cases_lt}
 use Rattle.mc_model_device.specs.declared.device.Stop.{Stop}
 use Rattle.mc_model_machine.specs.declared.machine.Abend.TheVariants.{A07}
 use Rattle.mc_model_device.specs.Orders.{Answer, answer_of}
-use Rattle.mc_model_device.specs.Image.{Two}
 use Rattle.mc_model_device.specs.Device.{DeviceState, Wrote, Makes}
-use Rattle.mc_model_device.specs.Stopped.{torn}
 use Rattle.mc_model_device.specs.Card.{Card}
-use Rattle.mc_model_card.specs.Items.{Item, Atomic, Fixed, Stopped, moves, card_done, at_stop, write_items}
+use Rattle.mc_model_card.specs.Items.{Item, Atomic, Fixed, moves, card_done, write_items}
 use Rattle.mc_model_machine.specs.Chain.{Chain, Turn, Write, Acted, Ran, Follows, Continues, Ends, Abended, Outcome as ModelOutcome, spent, acted, turn_of, end_of, chain_session, ends_with, goes_on, ran_on, ran}
-use Rattle.mc_model_device.specs.PowerUp.{OnCard}
 use Rattle.mc_model_play.specs.TraceText.{before_stop}
-use Rattle.mc_model_device.proofs.OrdersLemmas.{InOrder-append}
-use Rattle.mc_model_device.proofs.DeviceLemmas.{DoneAll, makes-done}
-use Rattle.mc_model_device.proofs.StoppedLemmas.{torn-within, torn-past}
-use Rattle.mc_store.specs.Power.{HoldsBase}
 use Rattle.mc_machine.specs.declared.outcome.Outcome.{Outcome}
 use Rattle.mc_machine.specs.declared.outcome.Turn.{Turn as CodeTurn}
 use Rattle.mc_machine.specs.Turns.{outcome_value, turn_value}
 use Rattle.mc_card.specs.declared.card.Card.{Card as CardOf}
-use Rattle.mc_card.specs.ItemWrites.{IsCardAfterStop, StopsAtEach, CountsWrites, IsCardAfter, ItemsMade}
 use Rattle.mc_card.specs.Parts.{device_in, card_in, seat_in, with_session, IsReadyCard, RunsChain}
 use Rattle.mc_card.specs.Ends.{TurnGoesOn, ChainTurned}
-use Rattle.mc_card.proofs.MadeLemmas.{moves-append, card-append, behind, stop-within, stop-past, card-found}
+use Rattle.mc_card.proofs.MadeLemmas.{card-found, MadeBy, by_made, made_before, made_on}
 use Rattle.mc_script.specs.Runs.{TellsTurns}
 use Rattle.mc_script.proofs.StopLemmas.{stopped_in, at_number, number_done}
 use Rattle.mc_script.proofs.TurnLemmas.{turn_moves, is_told, acted_counts, before_first, before_later}
@@ -86,68 +77,8 @@ end_goes : (f : Follows) → end_of f ≡ None → (ch : Chain) × (f ≡ Contin
 end_goes (Continues ch) e = (ch, refl)
 end_goes (Ends p) e = absurd (cc e)
 
--- ---- the writes of items
-
 module _ {N : Type 0} (state : N → DeviceState) (wrote : N → ℕ → List ℕ → Answer → N → Type 0)
     (obeys : (d : N) (at : ℕ) (w : List ℕ) (a : Answer) (e : N) → (state d).on ≡ true → wrote d at w a e → Wrote (state d) at w a (state e)) where
-  -- items made by these writes
-  pub record MadeBy (c : Card) (is : List Item) (d : N) (a : Answer) (e : N) (ws : List (ℕ × List ℕ)) : Type 0 where
-    pub makes : Makes wrote d ws a e
-    pub number : CountsWrites is a (length ws)
-    pub stops : StopsAtEach c is (state d).words ws
-    pub done : IsCardAfter c is a (state e).words
-
-  pub by_made : (c : Card) (is : List Item) (d e : N) (a : Answer) (m : ItemsMade state wrote c is d a e) → MadeBy c is d a e m.writes
-  by_made c is d e a m = record { makes = m.makes; number = m.number; stops = m.stops; done = m.done }
-
-  -- items that stopped, whatever was to come after them
-  pub made_before : (c : Card) (is js : List Item) (d e : N) (s : Stop) (ws : List (ℕ × List ℕ)) → MadeBy c is d (Err s) e ws → MadeBy c (is ++ js) d (Err s) e ws
-  made_before c is js d e s ws m =
-      let few : length ws ≤ moves is = m.number in
-      let all : moves (is ++ js) ≡ moves is + moves js = moves-append is js in
-      record {
-        makes = m.makes;
-        number = omega (arith, few, all);
-        stops = λ k x low high size.
-            subst (λ (t : Stopped). IsCardAfterStop c t (torn (state d).words ws k x)) (sym (stop-within is js k x low (omega (arith, few, high)))) (m.stops k x low high size);
-        done = tt;
-      }
-
-  number_on : (is js : List Item) (n k : ℕ) (a : Answer) → n ≡ moves is → CountsWrites js a k → CountsWrites (is ++ js) a (n + k)
-  number_on is js n k (Ok u) first second = let all = moves-append is js in omega (arith, first, second, all)
-  number_on is js n k (Err s) first second = let all = moves-append is js in omega (arith, first, second, all)
-
-  done_on : (c : Card) (is js : List Item) (a : Answer) (m : List (List ℕ)) → IsCardAfter (card_done c is) js a m → IsCardAfter c (is ++ js) a m
-  done_on c is js (Ok u) m h = subst (λ (k : Card). HoldsBase (OnCard k) 0 Two m) (sym (card-append is js c)) h
-  done_on c is js (Err s) m h = tt
-
-  -- items behind items that were done
-  pub made_on : (c : Card) (is js : List Item) (d m e : N) (a : Answer) (ws vs : List (ℕ × List ℕ)) → (state d).on ≡ true → MadeBy c is d (Ok tt) m ws → MadeBy (card_done c is) js m a e vs → MadeBy c (is ++ js) d a e (ws ++ vs)
-  made_on c is js d m e a ws vs on first second =
-      let all : DoneAll (state d) ws (state m) = makes-done state wrote obeys ws d m on first.makes in
-      let count : length ws ≡ moves is = first.number in
-      let size : length (ws ++ vs) ≡ length ws + length vs = length-append ws vs in
-      record {
-        makes = InOrder-append (λ d p a e. wrote d p.0 p.1 a e) ws vs d m e a first.makes second.makes;
-        number = subst (λ (n : ℕ). CountsWrites (is ++ js) a n) (sym size) (number_on is js (length ws) (length vs) a count second.number);
-        stops = λ k x low high long. elim (cases_lt (length ws) k) [
-          | inr in-first ↦ subst (λ (t : Stopped). IsCardAfterStop c t (torn (state d).words (ws ++ vs) k x)) (sym (stop-within is js k x low (omega (arith, in-first, count))))
-              (subst (λ (w : List (List ℕ)). IsCardAfterStop c (at_stop is k x) w) (sym (torn-within (state d).words ws vs k x low in-first)) (first.stops k x low in-first long))
-          | inl past ↦
-              let j = k - length ws in
-              let is-k : k ≡ length ws + j = omega (arith, past) in
-              let some : 1 ≤ j = omega (arith, past) in
-              let words : torn (state d).words (ws ++ vs) k x ≡ torn (state m).words vs j x =
-              torn-past (state d).words ws vs k j x some is-k ∙ ap (λ (w : List (List ℕ)). torn w vs j x) (sym all.words) in
-              let stop : at_stop (is ++ js) k x ≡ behind is (at_stop js j x) = stop-past is js k j x some (is-k ∙ ap (λ (n : ℕ). n + j) count) in
-              let there : IsCardAfterStop (card_done c is) (at_stop js j x) (torn (state m).words vs j x) = second.stops j x some (omega (arith, high, size, is-k)) long in
-              subst (λ (t : Stopped). IsCardAfterStop c t (torn (state d).words (ws ++ vs) k x)) (sym stop)
-              (subst (λ (w : List (List ℕ)). IsCardAfterStop c (behind is (at_stop js j x)) w) (sym words)
-              (subst (λ (b : Card). HoldsBase (OnCard b) (at_stop js j x).owed Two (torn (state m).words vs j x)) (sym (card-append is (at_stop js j x).whole c)) there))
-        ];
-        done = done_on c is js a (state e).words second.done;
-      }
-
   -- ---- runs
 
   module _ {R : Type 0} (told : R → List Turn → R → Type 0) (silent : (r : R) → told r [] r)
@@ -155,7 +86,7 @@ module _ {N : Type 0} (state : N → DeviceState) (wrote : N → ℕ → List �
     -- a run on a card, and what was told of it
     pub record RunOf (run : Ran) (c : CardOf N) (result : Result Outcome Stop) (d : CardOf N) (q r : R) : Type 0 where
       pub writes : List (ℕ × List ℕ)
-      pub made : MadeBy (card_in state c) (write_items run.writes) (device_in c) (answer_of result) (device_in d) writes
+      pub made : MadeBy state wrote obeys (card_in state c) (write_items run.writes) (device_in c) (answer_of result) (device_in d) writes
       pub outcome : IfOk result (λ o. outcome_value o ≡ run.outcome)
       pub seat : OnOk result (seat_in state d ≡ with_session run.session (seat_in state c))
       pub ready : OnOk result (IsReadyCard state d)
@@ -175,7 +106,7 @@ module _ {N : Type 0} (state : N → DeviceState) (wrote : N → ℕ → List �
         subst (λ (run : Ran). RunOf run c (Ok o) d q r) (sym (ran_ends n ch (outcome_value o) follows))
         (record {
           writes = turned.made.writes;
-          made = by_made (card_in state c) (write_items t.writes) (device_in c) (device_in d) (Ok tt) turned.made;
+          made = by_made state wrote obeys (card_in state c) (write_items t.writes) (device_in c) (device_in d) (Ok tt) turned.made;
           outcome = refl;
           seat = ended.1;
           ready = ended.0;
@@ -187,7 +118,7 @@ module _ {N : Type 0} (state : N → DeviceState) (wrote : N → ℕ → List �
     run_stops c d ch n s q turned =
         let t = turn_of n ch in
         let all = begins n ch in
-        let made = by_made (card_in state c) (write_items t.writes) (device_in c) (device_in d) (Err s) turned.made in
+        let made = by_made state wrote obeys (card_in state c) (write_items t.writes) (device_in c) (device_in d) (Err s) turned.made in
         let ws = turned.made.writes in
         let at = stopped_in wrote ws (device_in c) (device_in d) s made.makes in
         let few : length ws ≤ moves (write_items t.writes) = made.number in
@@ -196,9 +127,9 @@ module _ {N : Type 0} (state : N → DeviceState) (wrote : N → ℕ → List �
         record {
           writes = ws;
           made =
-              subst (λ (is : List Item). MadeBy (card_in state c) is (device_in c) (Err s) (device_in d) ws)
+              subst (λ (is : List Item). MadeBy state wrote obeys (card_in state c) is (device_in c) (Err s) (device_in d) ws)
               (sym (ap write_items all.all_writes ∙ items_append t.writes all.writes))
-              (made_before (card_in state c) (write_items t.writes) (write_items all.writes) (device_in c) (device_in d) s ws made);
+              (made_before state wrote obeys (card_in state c) (write_items t.writes) (write_items all.writes) (device_in c) (device_in d) s ws made);
           outcome = tt;
           seat = tt;
           ready = tt;
@@ -251,15 +182,15 @@ module _ {N : Type 0} (state : N → DeviceState) (wrote : N → ℕ → List �
         turn_and_run c m d ch n turn result p q r run seat on turned tells rest =
             let t = acted ch in
             let ws = turned.made.writes in
-            let first = by_made (card_in state c) (write_items t.writes) (device_in c) (device_in m) (Ok tt) turned.made in
+            let first = by_made state wrote obeys (card_in state c) (write_items t.writes) (device_in c) (device_in m) (Ok tt) turned.made in
             let now : card_done (card_in state c) (write_items t.writes) ≡ card_in state m = card-found (card_done (card_in state c) (write_items t.writes)) 0 (state (device_in m)).words first.done in
-            let second = subst (λ (k : Card). MadeBy k (write_items run.writes) (device_in m) (answer_of result) (device_in d) rest.writes) (sym now) rest.made in
+            let second = subst (λ (k : Card). MadeBy state wrote obeys k (write_items run.writes) (device_in m) (answer_of result) (device_in d) rest.writes) (sym now) rest.made in
             let size : length ws ≡ turn_moves t.turn.wrote = first.number ∙ (is_told (suc n) ch).moves in
             record {
               writes = ws ++ rest.writes;
               made =
-                  subst (λ (is : List Item). MadeBy (card_in state c) is (device_in c) (answer_of result) (device_in d) (ws ++ rest.writes)) (sym (items_append t.writes run.writes))
-                  (made_on (card_in state c) (write_items t.writes) (write_items run.writes) (device_in c) (device_in m) (device_in d) (answer_of result) ws rest.writes on first second);
+                  subst (λ (is : List Item). MadeBy state wrote obeys (card_in state c) is (device_in c) (answer_of result) (device_in d) (ws ++ rest.writes)) (sym (items_append t.writes run.writes))
+                  (made_on state wrote obeys (card_in state c) (write_items t.writes) (write_items run.writes) (device_in c) (device_in m) (device_in d) (answer_of result) ws rest.writes on first second);
               outcome = rest.outcome;
               seat = seat_on result c m d run.session seat rest.seat;
               ready = rest.ready;

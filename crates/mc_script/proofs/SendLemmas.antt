@@ -20,11 +20,10 @@ use Rattle.mc_machine.specs.Turns.{outcome_value}
 use Rattle.mc_card.specs.declared.card.Card.{Card}
 use Rattle.mc_card.specs.Parts.{device_in, card_in, seat_in, due, IsReadyCard}
 use Rattle.mc_card.specs.Ends.{is_passed}
-use Rattle.mc_card.proofs.MadeLemmas.{card-found}
+use Rattle.mc_card.proofs.MadeLemmas.{card-found, MadeBy, by_made, made_on, made_before}
 use Rattle.mc_script.specs.Classes.{IsManaged}
 use Rattle.mc_script.specs.Runs.{TellsTurns, RanAndTold}
 use Rattle.mc_script.proofs.StopLemmas.{number_done}
-use Rattle.mc_script.proofs.RanLemmas.{MadeBy, by_made, made_on, made_before}
 use Rattle.mc_script.proofs.CommandLemmas.{command_turns}
 use Rattle.mc_script.proofs.UpLemmas.{up_on, up_base}
 

@@ -7,8 +7,7 @@ use Rattle.mc_model_device.specs.Device.{DeviceState, BenchState}
 use Rattle.mc_model_machine.specs.Chain.{Turn}
 use Rattle.mc_model_play.specs.DeckGrammar.{DeckLine}
 use Rattle.mc_model_play.specs.DeckGrammar as line
-use Rattle.mc_model_play.specs.Play.{Live, Running, Unpowered, Muted, Warm, State, Cold, Hot, WornAt, LineResult, Step, plays, step, card_line, first_worn, last_state}
-use Rattle.mc_model_device.specs.PowerUp.{Base, OnCard, AtFault}
+use Rattle.mc_model_play.specs.Play.{State, Cold, Hot, WornAt, LineResult, Step, plays, step, first_worn, last_state}
 use Rattle.mc_model_play.specs.Transcript.{shown}
 use Rattle.mc_model_play.specs.Generator.{is_dump, results, count, dump_lines, count_line, summary, is_reply, is_abend, is_cut, is_off, is_ready}
 use Rattle.mc_model_play.proofs.PlayLemmas.{step_is}
@@ -20,7 +19,7 @@ use Rattle.mc_script.specs.Lines.{bench_of, LineDone}
 use Rattle.mc_script.specs.Plays.{Bench, Played}
 use Rattle.mc_script.specs.Sums.{Counted, listed, DumpsLast, result_line, dump_text, dumps_text, Tallied}
 use Rattle.mc_script.proofs.PlayLemmas.{plays_on, plays_none, played_on, played_none}
-use Rattle.mc_script.proofs.LineLemmas.{player_stands}
+use Rattle.mc_script.proofs.LinedLemmas.{at_stands}
 
 -- ---- counts
 
@@ -172,7 +171,7 @@ module _ {N : Type 0} (state : N → DeviceState) (bench : N → BenchState) whe
 
   pub counting_end : (s : State) (ls : List (ℕ × DeckLine)) (a : Bench) (p : Player N) (c : Counts) (i : ℕ) → Counting s ls a [] p c i → Tallied state bench s ls a p c
   counting_end s ls a p c i h =
-      let all = h.rest [] (bench_of state bench p) (played_none h.here (bench_of state bench p) (player_stands state bench p h.here h.at) h.at.unfused) in
+      let all = h.rest [] (bench_of state bench p) (played_none h.here (bench_of state bench p) (at_stands state bench p h.here h.at) h.at.unfused) in
       let none = plays_none h.here in
       let are : results (plays s ls all.0) ≡ h.done = all.2 ∙ ap (λ (ts : List Step). h.done ++ results ts) none ∙ append-nil h.done in
       let end : last_state s (plays s ls all.0) ≡ h.here = all.3 ∙ ap (λ (ts : List Step). last_state h.here ts) none in

@@ -9,20 +9,17 @@ use Rattle.mc_model_play.specs.Play.{static_of}
 use Rattle.mc_model_device.specs.Words.{cause_text}
 use Rattle.mc_model_machine.specs.Listing.{hex_text}
 use Rattle.mc_model_play.specs.Transcript.{static_text}
+use Rattle.mc_model_device.proofs.ListLemmas.{drop_none}
 
 -- the text of static bytes, where there are some
 pub static_some : (bs : List ℕ) → length bs ≢ 0 → codes "static " ++ hex_text bs ≡ static_text bs
 static_some [] some = absurd (some refl)
 static_some (b ∷ bs) some = refl
 
-drop_nothing : (k : ℕ) → drop {A = ℕ} k [] ≡ []
-drop_nothing zero = refl
-drop_nothing (suc k) = refl
-
 -- what is left behind a front of what is left
 pub left_behind : (at c : ℕ) (f : List ℕ) → drop c (drop at f) ≡ drop (at + c) f
 left_behind zero c f = let e : zero + c ≡ c = omega arith in ap (λ (k : ℕ). drop k f) (sym e)
-left_behind (suc at) c [] = drop_nothing c ∙ sym (drop_nothing (suc at + c))
+left_behind (suc at) c [] = drop_none c ∙ sym (drop_none (suc at + c))
 left_behind (suc at) c (x ∷ f) = let e : suc at + c ≡ suc (at + c) = omega arith in left_behind at c f ∙ ap (λ (k : ℕ). drop k (x ∷ f)) (sym e)
 
 -- a piece of static bytes, behind those before it

@@ -1,19 +1,20 @@
 -- Static bytes as a frame reads them, and places of a frame on a bank.
-use Rattle.std.proofs.Common.{◌≡◌, ℕ, ◌+◌, ◌-◌, ◌≤◌, ◌<◌, Bool, true, false, cond, List, [], ◌∷◌, length, take, drop, get_or, Option, None, refl, sym, ap, subst, ◌∙◌, inl, inr, arith}
+use Rattle.std.proofs.Common.{◌≡◌, ℕ, ◌+◌, ◌-◌, ◌≤◌, ◌<◌, Bool, true, cond, List, [], ◌∷◌, length, take, drop, get_or, Option, None, refl, sym, ap, subst, ◌∙◌, inl, inr, arith}
 use Rattle.std.specs.Prelude.{nat_le, nat_eq, slice_get, unwrap_or}
-use Rattle.std.proofs.lemmas.Bool.{cases_lt, le-leb, ne_eqb}
+use Rattle.std.proofs.lemmas.Bool.{cases_lt, le-leb, ne_eqb, lt-leb}
 use Rattle.std.proofs.lemmas.List.{length-take, length-drop, get_or-take, get_or-drop, ext_get_or, length-replicate}
 use Rattle.mc_model_device.specs.Bytes.{splice}
 use Rattle.mc_model_device.specs.Pieces.{covered, laid_pieces, word_pieces}
 use Rattle.mc_model_machine.specs.Frame.{Frame, Place, where_is, bytes_at, bytes_in}
 use Rattle.mc_bank.specs.Bank.{BankState}
-use Rattle.mc_trans.proofs.Overlay.{length-laid, splice_before, splice_in, splice_behind, get_some, get_none, lt-leb}
+use Rattle.mc_trans.proofs.Overlay.{length-laid, splice_before, splice_in, splice_behind, get_some}
 use Rattle.mc_model_device.proofs.ListLemmas.{length-splice}
 use Rattle.mc_segs.specs.Overlaid.{IsOverlaid}
 use Rattle.mc_segs.specs.HeldFrames.{Held, FitsBank, shown, pieces_of, ArePendingIn}
 use Rattle.mc_segs.specs.Inside.{frame_value, KeepsInside}
 use Rattle.mc_segs.specs.declared.frame.Frame.TheInside.{Inside}
 use Rattle.mc_segs.proofs.PendingLemmas.{read_byte, pieces_lie}
+use Rattle.std.proofs.lemmas.Option.{slice_get_past}
 
 -- ---- a word laid over bytes
 
@@ -41,7 +42,7 @@ overlaid old word at place from to eight low_at low_place high_at high_place som
                       byte ∙ sym (ap (λ (b : _). unwrap_or (cond b (slice_get word (at + i - place)) None) (get_or old i 0)) (le-leb _ _ le) ∙ ap (λ (o : Option ℕ). unwrap_or o (get_or old i 0)) (get_some word (at + i - place) (omega arith)))
                   | inr past ↦
                       splice_behind old begin piece i (omega arith) (omega arith)
-                      ∙ sym (ap (λ (b : _). unwrap_or (cond b (slice_get word (at + i - place)) None) (get_or old i 0)) (le-leb _ _ le) ∙ ap (λ (o : Option ℕ). unwrap_or o (get_or old i 0)) (get_none word (at + i - place) (omega arith)))
+                      ∙ sym (ap (λ (b : _). unwrap_or (cond b (slice_get word (at + i - place)) None) (get_or old i 0)) (le-leb _ _ le) ∙ ap (λ (o : Option ℕ). unwrap_or o (get_or old i 0)) (slice_get_past word (at + i - place) (omega arith)))
                 ]
           ];
     }
@@ -56,7 +57,7 @@ not_overlaid old word at place eight apart =
             | inl out ↦ sym (ap (λ (b : _). unwrap_or (cond b (slice_get word (at + i - place)) None) (get_or old i 0)) (lt-leb place (at + i) out))
             | inr le ↦
                 let past : place + 8 ≤ at + i = elim (cases_lt (at + i) (place + 8)) [ inl within ↦ absurd (apart (at + i) (omega arith) le (omega arith) within) | inr past ↦ past ] in
-                sym (ap (λ (b : _). unwrap_or (cond b (slice_get word (at + i - place)) None) (get_or old i 0)) (le-leb _ _ le) ∙ ap (λ (o : Option ℕ). unwrap_or o (get_or old i 0)) (get_none word (at + i - place) (omega arith)))
+                sym (ap (λ (b : _). unwrap_or (cond b (slice_get word (at + i - place)) None) (get_or old i 0)) (le-leb _ _ le) ∙ ap (λ (o : Option ℕ). unwrap_or o (get_or old i 0)) (slice_get_past word (at + i - place) (omega arith)))
           ];
     }
 
@@ -109,7 +110,3 @@ pub no_bytes : (f : Frame) (public : List ℕ) (a : ℕ) (into : List ℕ) → n
 unfolding bytes_at
 no_bytes f public a [] none = refl
 no_bytes f public a (x ∷ xs) none = absurd (cc (none, ne_eqb (length (x ∷ xs)) 0 (λ same. omega arith)))
-
-pub some_bytes : (into : List ℕ) → nat_eq (length into) 0 ≡ false → 0 < length into
-some_bytes [] none = absurd (cc none)
-some_bytes (x ∷ xs) none = omega arith

@@ -2,30 +2,16 @@
 use Rattle.std.proofs.Common.{◌≡◌, ℕ, zero, suc, ◌+◌, ◌-◌, ◌*◌, ◌/◌, ◌%◌, ◌≤◌, ◌<◌, cond, List, [], ◌∷◌, ◌++◌, length, take, get_or, Option, Some, None, refl, sym, ap, subst, ◌∙◌, inl, inr, arith, append_assoc}
 use Rattle.std.specs.Prelude.{nat_le, slice_get, unwrap_or, option_map, IfSome}
 use Rattle.std.specs.List.{AllByRecursion}
-use Rattle.std.proofs.lemmas.Bool.{cases_lt}
+use Rattle.std.proofs.lemmas.Bool.{cases_lt, lt-leb}
 use Rattle.std.proofs.lemmas.Bool.Decides.{nat_tests}
 use Rattle.std.proofs.lemmas.List.{length-take}
 use Rattle.mc_model_device.specs.Pieces.{covered, laid_pieces, word_pieces, with_number, with_words, with_touched, touched, numbers, pending_at, Ascend, HoldPieces, LieIn}
-use Rattle.mc_trans.proofs.Overlay.{LieIn_begin, laid_covered, lt-leb}
+use Rattle.mc_trans.proofs.Overlay.{LieIn_begin, laid_covered}
 use Rattle.mc_trans.proofs.Touched.{covered_word}
-use Rattle.mc_trans.proofs.Putting.{with_number_twice}
 use Rattle.mc_segs.specs.HeldFrames.{pieces_of, ArePendingIn}
+use Rattle.mc_model_device.proofs.PieceLemmas.{one_word}
 
 -- ---- numbers
-
--- bytes of a word that is there
-same_word : (n at : ℕ) (b ns : List ℕ) → 8 * n ≤ at → at + length b ≤ 8 * n + 8 → with_words at b (with_number n ns) ≡ with_number n ns
-same_word n at [] ns low high = refl
-same_word n at (x ∷ b) ns low high =
-    let here : at / 8 ≡ n = omega arith in
-    let once : with_number (at / 8) (with_number n ns) ≡ with_number n ns = ap (λ (m : ℕ). with_number m (with_number n ns)) here ∙ with_number_twice n ns in
-    ap (with_words (at + 1) b) once ∙ same_word n (at + 1) b ns (omega arith) (omega arith)
-
-one_word : (n at : ℕ) (b ns : List ℕ) → 0 < length b → 8 * n ≤ at → at + length b ≤ 8 * n + 8 → with_words at b ns ≡ with_number n ns
-one_word n at [] ns some low high = absurd (omega arith)
-one_word n at (x ∷ b) ns some low high =
-    let here : at / 8 ≡ n = omega arith in
-    ap (λ (m : ℕ). with_words (at + 1) b (with_number m ns)) here ∙ same_word n (at + 1) b ns (omega arith) (omega arith)
 
 -- a number above all others is the last
 last_number : (n : ℕ) (ns : List ℕ) → AllByRecursion (λ k. k < n) ns → with_number n ns ≡ ns ++ n ∷ []

@@ -4,7 +4,7 @@ use Rattle.std.specs.Prelude.{is_none, is_some, not, IfSome}
 use Rattle.std.specs.List.{AllByRecursion}
 use Rattle.std.proofs.Math.Seq.{take-add}
 use Rattle.std.proofs.lemmas.Bool.Decides.{nat_tests}
-use Rattle.std.proofs.lemmas.List.{take_all}
+use Rattle.std.proofs.lemmas.List.{take_all, append-nil}
 use Rattle.mc_model_device.specs.Bytes.{splice}
 use Rattle.mc_model_device.specs.Pieces.{laid_pieces, numbers, pending_at, put_word, not_pending, Ascend, ArePending, HoldPieces, LieIn}
 use Rattle.mc_model_device.proofs.ImageLemmas.{all-append}
@@ -62,14 +62,10 @@ some_piece_is : (at : ℕ) (b : List ℕ) → 0 < length b → some_piece at b �
 some_piece_is at [] some = absurd (omega arith)
 some_piece_is at (x ∷ b) some = refl
 
-append_nil : (ps : List (ℕ × List ℕ)) → ps ++ [] ≡ ps
-append_nil [] = refl
-append_nil (p ∷ ps) = ap (λ (t : List (ℕ × List ℕ)). p ∷ t) (append_nil ps)
-
 next_held : (l : List ℕ) (ps ws : List (ℕ × List ℕ)) (at n j : ℕ) (a piece word : List ℕ) → LieIn (length l) ps → HoldPieces l (ps ++ some_piece at a) ws → IsWordOf l ws n word → 0 < length piece → j + length piece ≤ 8 → 8 * n + j ≡ at + length a → at + length a + length piece ≤ length l
     → HoldPieces l (ps ++ some_piece at (a ++ piece)) (put_word n (splice word j piece) ws)
 next_held l ps ws at n j [] piece word lie held is some small place range =
-    let base = subst (λ (t : List (ℕ × List ℕ)). HoldPieces l t ws) (append_nil ps) held in
+    let base = subst (λ (t : List (ℕ × List ℕ)). HoldPieces l t ws) (append-nil ps) held in
     let put = piece_put l ps ws n j word piece lie base is.eight (λ k lt within. base_byte l ps ws n k word (pending_at ws n) refl is lie base lt within) some small (omega arith) in
     let begin : 8 * n + j ≡ at = omega arith in
     let moved : HoldPieces l (ps ++ (at, piece) ∷ []) (put_word n (splice word j piece) ws) = subst (λ (i : ℕ). HoldPieces l (ps ++ (i, piece) ∷ []) (put_word n (splice word j piece) ws)) begin put in

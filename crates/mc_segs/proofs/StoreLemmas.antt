@@ -9,7 +9,6 @@ use Rattle.mc_model_device.specs.Card.{App}
 use Rattle.mc_model_device.specs.Pieces.{laid_pieces, touched, not_pending, HoldPieces, LieIn}
 use Rattle.mc_model_machine.specs.Frame.{Frame, Static, static_bytes, static_written, passes_limit, committed as changes_of}
 use Rattle.mc_bank.specs.Bank.{BankState, app_of, name_or, no_app, with_words, committed, Changes}
-use Rattle.mc_bank.specs.NameLaws.{lookup-inserted}
 use Rattle.mc_model_device.proofs.ImageLemmas.{all-append}
 use Rattle.mc_trans.proofs.Overlay.{length-laid}
 use Rattle.mc_trans.proofs.Holding.{words_laid, none_held}
@@ -22,6 +21,7 @@ use Rattle.mc_segs.specs.Puts.{PutsBytes, words_under}
 use Rattle.mc_segs.specs.declared.frame.Frame.TheInside.{Inside}
 use Rattle.mc_segs.proofs.PendingLemmas.{pieces_held, pieces_lie}
 use Rattle.mc_segs.proofs.AccessLemmas.{HasWords}
+use Rattle.mc_model_device.proofs.MapLemmas.{lookup-inserted}
 
 -- ---- counts
 
@@ -143,9 +143,9 @@ some_pieces : (n : ℕ) (ws : List (ℕ × List ℕ)) → 1 ≤ length ws → no
 some_pieces n [] some = absurd (omega arith)
 some_pieces n (w ∷ ws) some = refl
 
-one_more : (ps : List (ℕ × List ℕ)) (p : ℕ × List ℕ) → no_pieces (ps ++ p ∷ []) ≡ false
-one_more [] p = refl
-one_more (q ∷ ps) p = refl
+pub no_pieces-append : (ps : List (ℕ × List ℕ)) (p : ℕ × List ℕ) → no_pieces (ps ++ p ∷ []) ≡ false
+no_pieces-append [] p = refl
+no_pieces-append (q ∷ ps) p = refl
 
 -- words that hold the same pieces
 pieces_same : (l : List ℕ) (ps qs ws : List (ℕ × List ℕ)) → LieIn (length l) ps → LieIn (length l) qs → HoldPieces l ps ws → HoldPieces l qs ws → (laid_pieces l ps ≡ laid_pieces l qs) × (touched ps ≡ touched qs)
@@ -179,7 +179,7 @@ module _ {B : Type 0} (did : B → BankItem → Answer → B → Type 0) (state 
       (record {
         commits = refl;
         bytes = refl;
-        frame = same_seen m (pieces_of n ws) more same.0 same.1 (some_pieces n ws some_words ∙ sym (one_more ps (at, from))) ∙ ap (λ (t : List (ℕ × List ℕ)). seen (record m { pieces = t ++ (at, from) ∷ [] })) (sym has.pieces);
+        frame = same_seen m (pieces_of n ws) more same.0 same.1 (some_pieces n ws some_words ∙ sym (no_pieces-append ps (at, from))) ∙ ap (λ (t : List (ℕ × List ℕ)). seen (record m { pieces = t ++ (at, from) ∷ [] })) (sym has.pieces);
         public = refl;
         slot = refl;
         fits = record { there = fits.there; app = fits.app; code = fits.code; fixed = fits.fixed; deny = fits.deny; session = fits.session };

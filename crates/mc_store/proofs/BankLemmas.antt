@@ -15,9 +15,10 @@ use Rattle.mc_store.specs.declared.store.Store.{Store}
 use Rattle.mc_store.specs.Store.{apps_in, is_going, place_named, store_named, store_standing, name_of_place}
 use Rattle.mc_store.specs.GoingLaws.{Going, going_is}
 use Rattle.mc_store.specs.PlaceLaws.{place-changed}
-use Rattle.mc_store.specs.TurnLaws.{Standing, standing-of, some-is}
+use Rattle.mc_store.specs.TurnLaws.{Standing, standing-of}
 use Rattle.mc_store.specs.Laws.{store_obeys, store_keeps}
 use Rattle.mc_store.specs.StoreItems.{store_did}
+use Rattle.mc_model_device.proofs.BoolLemmas.{some-is}
 
 -- a store that is not stopped runs
 pub running : (d : DeviceState) (c : ℕ) → not (is_going d c) ≡ false → is_going d c ≡ true

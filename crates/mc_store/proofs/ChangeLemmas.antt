@@ -20,7 +20,7 @@ use Rattle.mc_blocks.proofs.Sections.{length-section}
 use Rattle.mc_store.specs.DeletionLaws.{Deletes, deletes-plan, deletes-count}
 use Rattle.mc_blocks.proofs.Statics.{static_from, StaticIn, static-in}
 use Rattle.mc_store.specs.CommitLaws.{placed_words, CommittedCard, commits}
-use Rattle.mc_store.specs.TurnLaws.{Standing, standing-of, some-is}
+use Rattle.mc_store.specs.TurnLaws.{Standing, standing-of}
 use Rattle.mc_store.specs.StoreItems.{SlotIs, slot_is}
 use Rattle.mc_bank.specs.Slots.{slot_place, slot_sizes}
 use Rattle.mc_bank.specs.SlotLaws.{name_there, some_there}
@@ -28,6 +28,7 @@ use Rattle.mc_model_card.specs.declared.card.Part.TheVariants.{Data}
 use Rattle.mc_model_card.specs.declared.card.Sizes.{Sizes}
 use Rattle.mc_store.proofs.ReadLemmas.{of_slot}
 use Rattle.mc_store.proofs.RecordLemmas.{RecordIs, record_is}
+use Rattle.mc_model_device.proofs.BoolLemmas.{some-is}
 
 -- ---- a deletion
 

@@ -9,11 +9,12 @@ use Rattle.mc_model_card.specs.Items.{Site, Blank, Note}
 use Rattle.mc_base.specs.Name.{IsName}
 use Rattle.mc_store.specs.declared.store.Store.{Store}
 use Rattle.mc_store.specs.Store.{is_going, IsGoodIn, IsReadySite}
-use Rattle.mc_store.specs.GoingLaws.{going_is, closed_means}
+use Rattle.mc_store.specs.GoingLaws.{going_is}
 use Rattle.mc_store.specs.StoreItems.{store_did, blank_items}
 use Rattle.mc_store.proofs.FillLemmas.{PlainOn}
 use Rattle.mc_store.proofs.ItemLemmas.{IsPlain, items-on}
 use Rattle.mc_store.proofs.ReadyLemmas.{ready}
+use Rattle.mc_model_device.proofs.LayoutLemmas.{closed_means}
 
 plain-blanks : (s : Site) (cs : List (ℕ × List ℕ)) → AllByRecursion IsPlain (map (λ c. Blank s c.0 (length c.1)) cs)
 plain-blanks s [] = tt

@@ -13,18 +13,16 @@ use Rattle.mc_model_card.specs.Items.{Site, BankItem, Piece, Blank, Note}
 use Rattle.mc_model_card.specs.Manager.{in_words, word_parts}
 use Rattle.mc_bank.specs.Bank.{part_len}
 use Rattle.mc_store.specs.Store.{apps_in, is_going, needed_by, part_from, IsGoodIn, IsInWord, StoreDid}
-use Rattle.mc_store.specs.GoingLaws.{Going, going_is, is_going_of, closed_means}
+use Rattle.mc_store.specs.GoingLaws.{Going, going_is, is_going_of}
 use Rattle.mc_store.specs.CreationLaws.{AtSite, at-site}
 use Rattle.mc_store.specs.TurnLaws.{CardChanged, Standing, standing-of, turns, parted}
+use Rattle.mc_model_device.proofs.LayoutLemmas.{closed_means}
+use Rattle.mc_store.proofs.SiteLemmas.{no_words}
 
 -- ---- the parts of a piece
 
-empty-words : (n at : ℕ) → in_words n at [] ≡ []
-empty-words zero at = refl
-empty-words (suc n) at = refl
-
 words-fuel : (n k at : ℕ) (b : List ℕ) → length b ≤ n → length b ≤ k → in_words n at b ≡ in_words k at b
-words-fuel n k at [] hn hk = empty-words n at ∙ sym (empty-words k at)
+words-fuel n k at [] hn hk = no_words n at ∙ sym (no_words k at)
 words-fuel zero k at (y ∷ b) hn hk = absurd (omega arith)
 words-fuel (suc n) zero at (y ∷ b) hn hk = absurd (omega arith)
 words-fuel (suc n) (suc k) at (y ∷ b) hn hk =
@@ -44,7 +42,7 @@ parts-step at j (y ∷ ys) some few fits least =
           let none : drop j b ≡ [] = drop_all j b (omega (arith, all)) in
           ap (λ (l : List ℕ). (at, l) ∷ in_words (length ys) (at + k) (drop k b)) (take_all k b (omega (arith, all)) ∙ sym (take_all j b (omega (arith, all))))
           ∙ ap (λ (l : List ℕ). (at, take j b) ∷ in_words (length ys) (at + k) l) (drop_all k b (omega (arith, all)))
-          ∙ ap (λ (l : List (ℕ × List ℕ)). (at, take j b) ∷ l) (empty-words (length ys) (at + k) ∙ sym (ap (λ (l : List ℕ). word_parts (at + j) l) none))
+          ∙ ap (λ (l : List (ℕ × List ℕ)). (at, take j b) ∷ l) (no_words (length ys) (at + k) ∙ sym (ap (λ (l : List ℕ). word_parts (at + j) l) none))
       | inr word ↦
           let same : k ≡ j = omega (arith, word) in
           ap (λ (n : ℕ). (at, take n b) ∷ in_words (length ys) (at + n) (drop n b)) same

@@ -1,5 +1,5 @@
 -- The bytes of words of eight bytes, joined.
-use Rattle.std.proofs.Common.{◌≡◌, subst, ℕ, zero, suc, ◌+◌, ◌-◌, ◌*◌, ◌<◌, ◌≤◌, List, [], ◌++◌, length, take, drop, refl, sym, ◌∙◌, ap, arith, length-drop, length-append, append_assoc, append-nil, inl, inr, ◌∷◌, nat_eq, false}
+use Rattle.std.proofs.Common.{◌≡◌, subst, ℕ, zero, suc, ◌+◌, ◌-◌, ◌*◌, ◌<◌, ◌≤◌, List, [], ◌++◌, length, take, drop, refl, sym, ◌∙◌, ap, arith, length-drop, length-append, append_assoc, append-nil, inl, inr}
 use Rattle.std.proofs.lemmas.Bool.{cases_lt}
 use Rattle.std.specs.List.{concat}
 use Rattle.std.proofs.lemmas.List.{drop_more, drop-drop, drop-take, drop_at, take-take, take-append-drop, take-append-le, drop-append-le, take_all, length-take-le}
@@ -17,11 +17,6 @@ take_sum a b l =
     sym (take-append-drop a (take (a + b) l))
     ∙ ap (λ (x : List ℕ). x ++ drop a (take (a + b) l)) (take-take a (a + b) l (omega arith))
     ∙ ap (λ (x : List ℕ). take a l ++ x) (drop-take a b l)
-
--- a list that is not empty
-pub some_bytes : (l : List ℕ) → nat_eq (length l) 0 ≡ false → 0 < length l
-some_bytes [] none = absurd (cc none)
-some_bytes (x ∷ l) none = omega arith
 
 module _ (m : List (List ℕ)) (image : IsSized m) where
   -- a word before the words behind it

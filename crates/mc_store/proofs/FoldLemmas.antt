@@ -21,14 +21,17 @@ use Rattle.mc_bank.specs.Bank.{BankState, IsGoodSite, StayGood, entered, item_do
 use Rattle.mc_store.specs.declared.store.Store.{Store}
 use Rattle.mc_bank.specs.Slots.{slot_place, name_of_slot}
 use Rattle.mc_store.specs.Store.{apps_in, is_going, store_state, store_named, store_room, store_standing, name_of_place, part_in, needed_by, IsGoodIn, IsInWord, item_writes}
-use Rattle.mc_store.specs.GoingLaws.{Going, going_is, closed_means, closed_settled, closed_apps, laid_apps}
+use Rattle.mc_store.specs.GoingLaws.{Going, going_is, closed_settled, closed_apps, laid_apps}
 use Rattle.mc_store.specs.GapLaws.{just-one}
 use Rattle.mc_store.specs.CreationLaws.{at-site}
-use Rattle.mc_store.specs.TurnLaws.{some-is, ChangesCard, Standing, standing-of, turns}
+use Rattle.mc_store.specs.TurnLaws.{ChangesCard, Standing, standing-of, turns}
 use Rattle.mc_store.specs.Laws.{store_obeys, store_keeps}
 use Rattle.mc_store.specs.StoreItems.{store_did}
-use Rattle.mc_store.proofs.SiteLemmas.{piece_part, piece_other, blank_part, note_part, laid_parts, none_laid, part_length}
+use Rattle.mc_store.proofs.SiteLemmas.{piece_part, piece_other, blank_part, note_part, laid_parts, part_length}
 use Rattle.mc_store.proofs.ItemLemmas.{IsPlain}
+use Rattle.mc_model_device.proofs.LayoutLemmas.{closed_means}
+use Rattle.mc_model_device.proofs.ListLemmas.{splice-none}
+use Rattle.mc_model_device.proofs.BoolLemmas.{some-is}
 
 -- ---- changes one after another
 
@@ -348,7 +351,7 @@ module _ {N : Type 0} (state : N → DeviceState) (wrote : N → ℕ → List �
   -- a piece of a section, in its words
   piece_laid : (s e : Store N) (t : Site) (p : Part) (at : ℕ) (b : List ℕ) → at + length b ≤ part_len p t.sizes → InOrder (store_did state wrote) s (map (λ c. Piece t p c.0 c.1) (word_parts at b)) (Ok tt) e
       → laid_pieces (store_standing (state s.device) t p) (word_parts at b) ≡ splice (store_standing (state s.device) t p) at b
-  piece_laid s e t p at [] range h = sym (none_laid (store_standing (state s.device) t p) at)
+  piece_laid s e t p at [] range h = sym (splice-none (store_standing (state s.device) t p) at)
   piece_laid s e t p at (x ∷ xs) range h =
       elim h [
         | inl done ↦

@@ -4,12 +4,12 @@ use Rattle.std.specs.Prelude.{bytes_eq, Result, Ok, Err, ◌⊎◌}
 use Rattle.std.specs.List.{AllByRecursion}
 use Rattle.mc_model_device.specs.declared.cause.Cause.{Cause}
 use Rattle.mc_model_device.specs.Image.{Journal, One, Two, opening, shut, gate, is_open, Only, which, which_of, Look, Refused, Closed, Pending, look_j, look_at, look, laid, After, Words, after, after_j, owed_j, replayed, debt, opened, within, count, aimed, headed, targets}
-use Rattle.mc_model_device.specs.Stopped.{InJournal, replay, remains, torn, Resumes}
+use Rattle.mc_model_device.specs.Stopped.{replay, remains, torn, Resumes}
 use Rattle.mc_model_device.specs.Card.{Card, card_of, means, word, words_after}
 use Rattle.mc_model_device.specs.Layout.{words_fault, fault, fault_of}
 use Rattle.mc_model_device.specs.PowerUp.{Base, OnCard, AtFault, base_of}
 use Rattle.mc_model_device.proofs.ImageLemmas.{all-append, length-laid, laid-other}
-use Rattle.mc_model_device.proofs.LookLemmas.{GoodPending, good-pending}
+use Rattle.mc_model_device.proofs.LookLemmas.{GoodPending, good-pending, gate-inside}
 use Rattle.mc_model_device.proofs.StoppedLemmas.{torn-other, shut-closed, targets-outside, closed-look}
 use Rattle.mc_model_device.proofs.RecoveryLemmas.{resume, resumed, look-one, look-two}
 use Rattle.mc_store.specs.Power.{found, HoldsBase}
@@ -23,10 +23,6 @@ other Two = One
 pub gates_apart : (j : Journal) → gate j ≢ gate (other j)
 gates_apart One h = absurd (cc h)
 gates_apart Two h = absurd (cc h)
-
-gate_within : (j : Journal) → InJournal j (gate j)
-gate_within One = (omega arith, omega arith)
-gate_within Two = inr refl
 
 -- ---- which journal is open
 
@@ -143,7 +139,7 @@ module _ (m : List (List ℕ)) (j : Journal) (ps : List (ℕ × List ℕ)) (low 
   others_gate : AllByRecursion (λ q. q.0 ≢ gate (other j)) (replay j ps)
   others_gate =
       all-append (λ q. q.0 ≢ gate (other j)) ps ((gate j, shut) ∷ [])
-      (targets-outside (other j) (length m) ps (gate (other j)) p.all (gate_within (other j))) (gates_apart j, tt)
+      (targets-outside (other j) (length m) ps (gate (other j)) p.all (gate-inside (other j))) (gates_apart j, tt)
 
   -- once it is done no journal is open
   pub recovered_closed : look (laid m (replay j ps)) ≡ Closed

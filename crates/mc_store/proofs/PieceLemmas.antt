@@ -2,7 +2,6 @@
 use Rattle.std.proofs.Common.{◌≡◌, ◌≢◌, ℕ, suc, ◌+◌, ◌-◌, ◌*◌, ◌%◌, ◌/◌, ◌≤◌, List, [], ◌++◌, length, take, drop, sym, ◌∙◌, ap, inl, inr, arith, append_assoc}
 use Rattle.std.specs.Prelude.{slice_set}
 use Rattle.std.proofs.lemmas.List.{length-set, get_or-set_same, get_or-set_other, take-append-le, drop-append-le, length-take-le, take-append-drop, take_all, drop_all}
-use Rattle.std.proofs.lemmas.List.Edits.{paste_none}
 use Rattle.std.proofs.lemmas.Bool.{cases_lt}
 use Rattle.std.proofs.Math.Seq.{take-append-add, drop-append-add}
 use Rattle.mc_model_device.specs.Bytes.{up, splice}
@@ -11,6 +10,7 @@ use Rattle.mc_model_device.specs.Card.{word, cells, section}
 use Rattle.mc_bank.proofs.LeftLemmas.{front_piece, splice-splice}
 use Rattle.mc_store.specs.Store.{IsInWord}
 use Rattle.mc_blocks.proofs.Sections.{cells-more, cells-append, length-cells, same-cells}
+use Rattle.mc_model_device.proofs.ListLemmas.{splice-none}
 
 -- ---- bytes set in one word
 
@@ -61,9 +61,6 @@ section-write m q len at b image h i =
     ap (λ (l : List ℕ). take len l) one ∙ front_piece len (cells m q (up len 8)) at b ends (omega (arith, whole))
 
 -- ---- a piece in two parts
-
-splice-none : (l : List ℕ) (at : ℕ) → splice l at [] ≡ l
-splice-none l at = sym (paste_none l at [])
 
 -- in two parts, of which the first has k bytes where there are so many
 pub splice-parts : (l : List ℕ) (at k : ℕ) (b : List ℕ) → at ≤ length l → splice (splice l at (take k b)) (at + k) (drop k b) ≡ splice l at b

@@ -15,10 +15,11 @@ use Rattle.mc_model_device.proofs.StoppedLemmas.{torn-within, torn-past}
 use Rattle.mc_model_device.proofs.DeviceLemmas.{DoneAll, StoppedAt, makes-done, makes-stopped}
 use Rattle.mc_store.specs.Store.{settled}
 use Rattle.mc_store.specs.Power.{found, new_root, migrating, power_writes, power_count, HoldsBase, IsHalted, Powered, Runs, Halts, Fails, PowersUp, power_answer, PowerFollows}
-use Rattle.mc_store.specs.GoingLaws.{is_going_of, closed_settled, closed_means}
+use Rattle.mc_store.specs.GoingLaws.{is_going_of, closed_settled}
 use Rattle.mc_store.proofs.HeapLemmas.{same_fault, same_card}
 use Rattle.mc_store.proofs.JournalLemmas.{IsPending, is_pending, NoneOpen, none_open, open_alone, base_in, raw, found_after, recovered_closed, recovery_halted}
 use Rattle.mc_store.proofs.MigrationLemmas.{version_is, upgrade, IsUpgraded, is_upgraded, migration_halted, migration_closed, migration_heap, migration_root}
+use Rattle.mc_model_device.proofs.LayoutLemmas.{closed_means}
 
 -- ---- after the owed writes
 

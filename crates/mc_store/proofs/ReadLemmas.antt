@@ -18,12 +18,13 @@ use Rattle.mc_bank.specs.SlotLaws.{name_there, some_there, slot_sized, slot_name
 use Rattle.mc_blocks.specs.Chains.{looked_at}
 use Rattle.mc_store.specs.Store.{apps_in, search_steps, is_going, place_named, store_named, store_room, store_standing, name_of_place, part_from, part_in, needed_by}
 use Rattle.mc_store.specs.Slots.{first_named, record_sizes, IsUsedBlock, part_of_app, flat}
-use Rattle.mc_store.specs.GoingLaws.{Going, closed_means, closed_fault, closed_settled}
+use Rattle.mc_store.specs.GoingLaws.{Going, closed_settled}
 use Rattle.mc_blocks.proofs.Sections.{length-section}
 use Rattle.mc_store.specs.CreationLaws.{AtSite, at-site}
 use Rattle.mc_store.proofs.RecordLemmas.{RecordIs, record_is}
 use Rattle.mc_store.proofs.FlatLemmas.{section_bytes}
 use Rattle.mc_store.proofs.SlotLemmas.{runs, map_is, name_there as found_there, name_slot, are_apps, sizes_are, fits_limits, Slot, slot}
+use Rattle.mc_model_device.proofs.LayoutLemmas.{closed_fault, closed_means}
 
 -- ---- sections
 

@@ -1,7 +1,6 @@
 -- After the zeros and the words of the record a site is ready to be an application.
 use Rattle.std.proofs.Common.{◌≡◌, ◌≢◌, ℕ, zero, suc, ◌+◌, ◌-◌, ◌%◌, ◌<◌, ◌≤◌, true, List, [], ◌∷◌, ◌++◌, length, take, drop, map, None, Ok, refl, sym, ◌∙◌, ap, subst, inl, inr, arith, length-append, append_assoc, append-nil}
 use Rattle.std.proofs.lemmas.List.{length-replicate, length-drop, drop-drop, take-append-drop, take_all, drop_all, drop_at, length-take-le, length-set, get_or-set_same, get_or-set_other}
-use Rattle.std.proofs.lemmas.List.Edits.{paste_none}
 use Rattle.mc_model_card.specs.declared.card.Part.TheVariants.{Data}
 use Rattle.mc_model_device.specs.Orders.{Answer, InOrder}
 use Rattle.mc_model_device.specs.Bytes.{zeros, bytes2, lookup, splice}
@@ -19,6 +18,7 @@ use Rattle.mc_store.specs.TurnLaws.{standing-of}
 use Rattle.mc_store.specs.StoreItems.{blank_items}
 use Rattle.mc_store.proofs.FillLemmas.{PlainOn, blank-on}
 use Rattle.mc_store.proofs.PieceLemmas.{section-write, splice-parts}
+use Rattle.mc_model_device.proofs.ListLemmas.{splice-none}
 
 -- ---- zeros
 
@@ -44,9 +44,6 @@ cleared l i n long few =
 
 abbrev static_of : List (List ℕ) → Site → List ℕ
 static_of m s = section m (part_from Data s.sizes s.place) s.sizes.fixed
-
-splice-nothing : (l : List ℕ) (at : ℕ) → splice l at [] ≡ l
-splice-nothing l at = sym (paste_none l at [])
 
 -- ---- the words of a record
 
@@ -108,9 +105,9 @@ module _ {D S : Type 0} (dev : S → D) (cnt : S → ℕ) (state : D → DeviceS
   -- zeros in order
   pub blanks-left : (n : ℕ) (x y : S) (s : Site) (at k : ℕ) → k ≤ n → is_going (state (dev x)) (cnt x) ≡ true → (0 < k → at + k ≤ s.sizes.fixed) → InOrder BlanksDid x (map (λ c. Blank s c.0 (length c.1)) (in_words n at (zeros k))) (Ok tt) y
       → static_of (state (dev y)).words s ≡ splice (static_of (state (dev x)).words s) at (zeros k)
-  blanks-left zero x y s at zero few going room h = ap (λ (z : S). static_of (state (dev z)).words s) h ∙ sym (splice-nothing (static_of (state (dev x)).words s) at)
+  blanks-left zero x y s at zero few going room h = ap (λ (z : S). static_of (state (dev z)).words s) h ∙ sym (splice-none (static_of (state (dev x)).words s) at)
   blanks-left zero x y s at (suc k) few going room h = absurd (omega (arith, few))
-  blanks-left (suc n) x y s at zero few going room h = ap (λ (z : S). static_of (state (dev z)).words s) h ∙ sym (splice-nothing (static_of (state (dev x)).words s) at)
+  blanks-left (suc n) x y s at zero few going room h = ap (λ (z : S). static_of (state (dev z)).words s) h ∙ sym (splice-none (static_of (state (dev x)).words s) at)
   blanks-left (suc n) x y s at (suc k) few going room h =
       let j = 8 - at % 8 in
       let c = zeros (suc k) in

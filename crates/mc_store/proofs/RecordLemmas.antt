@@ -3,12 +3,13 @@ use Rattle.std.proofs.Common.{◌≡◌, ℕ, ◌+◌, ◌≤◌, Bool, true, fa
 use Rattle.std.specs.Prelude.{nat_le, ◌==◌, slice_index, bytes_eq, ◌-◌}
 use Rattle.std.proofs.lemmas.Bool.{and_parts, leb-true, eqb-true, false_from_ne_true}
 use Rattle.std.proofs.lemmas.List.{take-take, take-append-le}
-use Rattle.mc_model_device.specs.Bytes.{be2, up, zeros}
+use Rattle.mc_model_device.specs.Bytes.{be2, zeros}
 use Rattle.mc_model_device.specs.Card.{word, needed_of, record_at, name_in, name_at}
 use Rattle.mc_model_device.specs.Layout.{is_record}
-use Rattle.mc_bank.specs.NameLaws.{same_name, name_is_itself}
 use Rattle.mc_blocks.proofs.Records.{record_is as record_bytes_are}
 use Rattle.mc_store.specs.Slots.{IsUsedBlock}
+use Rattle.mc_model_device.proofs.MapLemmas.{same_name, name_is_itself}
+use Rattle.mc_blocks.proofs.Entries.{long_enough}
 
 -- the limits that a good record keeps, and the words of its block
 pub record RecordIs (r : List ℕ) (w : ℕ) : Type 0 where
@@ -62,14 +63,6 @@ record_is r w h =
       deny = leb-true (be2 r 26) 15 p9.1;
       words = eqb-true w (needed_of (be2 r 20) (be2 r 22) (slice_index r 17) (slice_index r 18)) p11.1;
     }
-
-pub long_enough : (r : List ℕ) (w : ℕ) → is_record r w ≡ true → 6 ≤ w
-long_enough r w h =
-    let k : RecordIs r w = record_is r w h in
-    let some : 1 ≤ be2 r 20 = k.code_low in
-    let e : w ≡ 5 + up (be2 r 20) 8 + up (be2 r 22) 8 + up (slice_index r 17) 8 + up (slice_index r 18) 8 = k.words in
-    let one : 1 ≤ up (be2 r 20) 8 = omega arith in
-    omega (arith, e, one)
 
 -- its header and its record end in time
 pub block_fits : (m : List (List ℕ)) (p : ℕ) → IsUsedBlock m p → p + 5 ≤ length m

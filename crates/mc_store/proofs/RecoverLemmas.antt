@@ -15,9 +15,10 @@ use Rattle.mc_store.specs.declared.power.Up.{Up}
 use Rattle.mc_store.specs.declared.power.Up.TheVariants as up
 use Rattle.mc_store.specs.Store.{settled}
 use Rattle.mc_store.specs.Power.{found, new_root, migrating, power_writes, Powered, Runs, Halts, Fails, power_answer, PowerFollows, RecoverFollows, FinishFollows, failed, recovered}
-use Rattle.mc_store.specs.GoingLaws.{closed_settled, closed_means, closed_fault}
+use Rattle.mc_store.specs.GoingLaws.{closed_settled}
 use Rattle.mc_store.proofs.JournalLemmas.{IsPending, is_pending, recovered_closed}
 use Rattle.mc_store.proofs.PowerLemmas.{OwedSettles, settles}
+use Rattle.mc_model_device.proofs.LayoutLemmas.{closed_fault, closed_means}
 
 -- ---- a replay that was done
 

@@ -3,7 +3,6 @@ use Rattle.std.proofs.Common.{◌≡◌, ◌≢◌, ℕ, zero, suc, ◌+◌, ◌
 use Rattle.std.specs.Prelude.{slice_set, ◌⊎◌}
 use Rattle.std.proofs.lemmas.Bool.{cases_lt}
 use Rattle.std.proofs.lemmas.List.{length-take-le, take-take, take-append-le, get_or-set_other, length-set, take_all, drop_all}
-use Rattle.std.proofs.lemmas.List.Edits.{paste_none}
 use Rattle.mc_model_card.specs.declared.card.Part.{Part}
 use Rattle.mc_model_card.specs.declared.card.Part.TheVariants.{Code, Data, Dir, Fci}
 use Rattle.mc_model_card.specs.declared.card.Sizes.{Sizes}
@@ -14,11 +13,11 @@ use Rattle.mc_model_device.specs.Device.{IsSized}
 use Rattle.mc_model_device.specs.Card.{word, section}
 use Rattle.mc_model_card.specs.Items.{Site}
 use Rattle.mc_bank.specs.Bank.{FitsLimits, part_len}
-use Rattle.mc_bank.proofs.LeftLemmas.{length-spliced}
 use Rattle.mc_store.specs.Store.{needed_by, part_from, part_in, piece_write, IsInWord}
 use Rattle.mc_store.proofs.PieceLemmas.{section-write, splice-parts}
 use Rattle.mc_blocks.proofs.Sections.{section-front, same-section, length-section}
 use Rattle.mc_blocks.proofs.Splices.{image-set}
+use Rattle.mc_model_device.proofs.ListLemmas.{length-splice, splice-none}
 
 -- ---- bytes
 
@@ -56,7 +55,7 @@ module _ (m : List (List ℕ)) (image : IsSized m) where
       let x = splice (word m k) (at % 8) b in
       let lt : k < length m = omega arith in
       let eight : length (word m k) ≡ 8 = image.words k lt in
-      let size : length x ≡ 8 = length-spliced (word m k) (at % 8) b (omega (arith, eight)) ∙ eight in
+      let size : length x ≡ 8 = length-splice (word m k) (at % 8) b (omega (arith, eight)) ∙ eight in
       let w = slice_set m k x in
       let long : length w ≡ length m = length-set m k x in
       let whole : length (section m q n) ≡ n = length-section m q n image h in
@@ -139,17 +138,14 @@ module _ (m : List (List ℕ)) (image : IsSized m) (s : Site) (limits : FitsLimi
 
 -- ---- a piece of several words
 
-pub none_laid : (l : List ℕ) (at : ℕ) → splice l at [] ≡ l
-none_laid l at = sym (paste_none l at [])
-
-no_words : (n at : ℕ) → in_words n at [] ≡ []
+pub no_words : (n at : ℕ) → in_words n at [] ≡ []
 no_words zero at = refl
 no_words (suc n) at = refl
 
 laid_words : (n : ℕ) (l : List ℕ) (at : ℕ) (b : List ℕ) → length b ≤ n → at + length b ≤ length l → laid_pieces l (in_words n at b) ≡ splice l at b
-laid_words zero l at [] few h = sym (none_laid l at)
+laid_words zero l at [] few h = sym (splice-none l at)
 laid_words zero l at (x ∷ xs) few h = absurd (omega arith)
-laid_words (suc n) l at [] few h = sym (none_laid l at)
+laid_words (suc n) l at [] few h = sym (splice-none l at)
 laid_words (suc n) l at (x ∷ xs) few h =
     let b = x ∷ xs in
     let k = 8 - at % 8 in
@@ -162,7 +158,7 @@ laid_words (suc n) l at (x ∷ xs) few h =
           ∙ ap (λ (y : List ℕ). splice l at y) (take_all k b (omega (arith, short)))
       | inr long ↦
           let front : length (take k b) ≡ k = length-take-le k b (omega (arith, long)) in
-          let same : length (splice l at (take k b)) ≡ length l = length-spliced l at (take k b) (omega (arith, front, long, h)) in
+          let same : length (splice l at (take k b)) ≡ length l = length-splice l at (take k b) (omega (arith, front, long, h)) in
           laid_words n (splice l at (take k b)) (at + k) (drop k b) (omega (arith, left, few, some)) (omega (arith, left, same, long, h)) ∙ splice-parts l at k b (omega arith)
     ]
 

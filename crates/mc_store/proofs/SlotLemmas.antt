@@ -4,26 +4,28 @@ use Rattle.std.specs.Prelude.{◌==◌, slice_index, bytes_eq, IsSome, is_some, 
 use Rattle.std.specs.List.{AllByRecursion}
 use Rattle.std.proofs.lemmas.Bool.{eqb-true, eq-eqb}
 use Rattle.mc_model_card.specs.declared.card.Sizes.{Sizes}
-use Rattle.mc_model_device.specs.Bytes.{be2, up, lookup, insert, name_before}
+use Rattle.mc_model_device.specs.Bytes.{be2, up, lookup, insert, name_before, AscendByName}
 use Rattle.mc_model_device.specs.Image.{look, Closed}
 use Rattle.mc_model_device.specs.Device.{DeviceState, IsSized}
 use Rattle.mc_model_device.specs.Card.{App, Card, Block, blocks, record_at, name_at, app_at, apps_of, card_of, needed_of}
 use Rattle.mc_model_device.specs.Layout.{words_fault}
 use Rattle.mc_model_device.proofs.ImageLemmas.{all-map}
 use Rattle.mc_base.specs.Name.{IsName}
-use Rattle.mc_bank.specs.Bank.{app_of, no_app, sizes_of, FitsLimits, IsApplication, AscendByName, AreApps}
-use Rattle.mc_bank.specs.NameLaws.{same_name, name_is_itself, not_after, lookup-inserted, lookup-beside, each-inserted, ascend-inserted}
+use Rattle.mc_bank.specs.Bank.{app_of, no_app, sizes_of, FitsLimits, IsApplication, AreApps}
 use Rattle.mc_blocks.proofs.Steps.{blocks_all}
 use Rattle.mc_blocks.proofs.Tiles.{HeadersRead}
-use Rattle.mc_blocks.proofs.Bridge.{some-apps, no-apps, with-block, fault-closed}
+use Rattle.mc_blocks.proofs.Bridge.{some-apps, no-apps, with-block}
 use Rattle.mc_blocks.proofs.Applications.{few-applications}
 use Rattle.mc_store.specs.Store.{apps_in, is_going, name_of_place, place_named}
 use Rattle.mc_store.specs.Slots.{first_named, record_sizes, IsUsedBlock}
-use Rattle.mc_store.specs.GoingLaws.{Going, going_is, closed_apps, closed_means}
+use Rattle.mc_store.specs.GoingLaws.{Going, going_is, closed_apps}
 use Rattle.mc_blocks.proofs.Sections.{length-cells, length-section}
-use Rattle.mc_store.specs.TurnLaws.{some-is}
-use Rattle.mc_store.proofs.RecordLemmas.{RecordIs, record_is, name_size, long_enough}
+use Rattle.mc_store.proofs.RecordLemmas.{RecordIs, record_is, name_size}
 use Rattle.mc_store.proofs.WalkLemmas.{HasRecord, Walk, walk_begins}
+use Rattle.mc_model_device.proofs.MapLemmas.{same_name, name_is_itself, not_after, lookup-inserted, lookup-beside, each-inserted, ascending-inserted, each-found}
+use Rattle.mc_model_device.proofs.LayoutLemmas.{closed_fault, closed_means}
+use Rattle.mc_blocks.proofs.Entries.{long_enough}
+use Rattle.mc_model_device.proofs.BoolLemmas.{some-is}
 
 -- ---- the entries of the map
 
@@ -45,7 +47,7 @@ module _ (m : List (List ℕ)) where
           → AllByRecursion (IsOf m) (cond t (with-block m b bs) (apps_of m bs)) × AscendByName (cond t (with-block m b bs) (apps_of m bs))
       by_kind true e each up = (
         each-inserted (IsOf m) (apps_of m bs) (name_at m b.place) (app_at m b.place) (record { name = refl; app = refl; block = record { words = b.words; good = h.0 e; end = r.1 } }) each,
-        ascend-inserted (apps_of m bs) (name_at m b.place) (app_at m b.place) up,
+        ascending-inserted (apps_of m bs) (name_at m b.place) (app_at m b.place) up,
       )
       by_kind false e each up = (each, up)
 
@@ -80,15 +82,6 @@ module _ (m : List (List ℕ)) where
 
 -- ---- maps
 
--- what holds of all entries holds of one that is found
-each_found : (P : List ℕ × App → Type 0) (es : List (List ℕ × App)) (n : List ℕ) (a : App) → AllByRecursion P es → lookup es n ≡ Some a → P (n, a)
-each_found P [] n a h l = absurd (cc l)
-each_found P (e ∷ es) n a h l = by_test (bytes_eq e.0 n) refl l (λ k. each_found P es n a h.1 k)
-  where
-    by_test : (t : Bool) → bytes_eq e.0 n ≡ t → cond t (Some e.1) (lookup es n) ≡ Some a → (lookup es n ≡ Some a → P (n, a)) → P (n, a)
-    by_test true is k rest = let same : e.1 ≡ a = cc in subst (λ (x : App). P (n, x)) same (subst (λ (x : List ℕ). P (x, e.1)) (same_name e.0 n is) h.0)
-    by_test false is k rest = rest k
-
 module _ (m : List (List ℕ)) where
   place_of : (es : List (List ℕ × App)) (n : List ℕ) (a : App) → AllByRecursion (IsOf m) es → lookup es n ≡ Some a → name_of_place es a.place ≡ Some n
   place_of [] n a h l = absurd (cc l)
@@ -98,7 +91,7 @@ module _ (m : List (List ℕ)) where
       by_test true true is at k rest = ap (λ (x : List ℕ). Some x) (same_name e.0 n is)
       by_test true false is at k rest = let same : e.1 ≡ a = cc in absurd (cc (sym at ∙ eq-eqb (e.1).place a.place (ap (λ (x : App). x.place) same)))
       by_test false true is at k rest =
-          let other : IsOf m (n, a) = each_found (IsOf m) es n a h.1 k in
+          let other : IsOf m (n, a) = each-found (IsOf m) es n a h.1 k in
           ap (λ (x : List ℕ). Some x) (h.0.name ∙ ap (λ (q : ℕ). name_at m q) (eqb-true (e.1).place a.place at) ∙ sym other.name)
       by_test false false is at k rest = rest k
 
@@ -130,7 +123,7 @@ module _ (m : List (List ℕ)) where
           }
       by_test false at j rest =
           let r : IsSlotApplication es k n = rest j in
-          let after : name_before e.0 n ≡ true = each_found (λ f. name_before e.0 f.0 ≡ true) es n (app_at m k) sorted.0 r.app in
+          let after : name_before e.0 n ≡ true = each-found (λ f. name_before e.0 f.0 ≡ true) es n (app_at m k) sorted.0 r.app in
           record { name = r.name; app = behind (bytes_eq e.0 n) refl after (lookup es n) ∙ r.app; block = r.block }
 
 -- ---- words without a fault
@@ -190,7 +183,7 @@ module _ (m : List (List ℕ)) (image : IsSized m) (good : words_fault m ≡ Non
   pub are_apps : look m ≡ Closed → AreApps (card_of m).apps
   are_apps closed =
       record {
-        few = subst (λ (n : ℕ). n ≤ 32) (ap (λ (c : Card). length c.apps) (closed_means m closed)) (few-applications m image closed (fault-closed m closed ∙ good));
+        few = subst (λ (n : ℕ). n ≤ 32) (ap (λ (c : Card). length c.apps) (closed_means m closed)) (few-applications m image closed (closed_fault m closed ∙ good));
         each = all-map (IsOf m) IsApplication (λ e h. entry_is e h) (card_of m).apps all_entries.0;
         ascending = all_entries.1;
       }

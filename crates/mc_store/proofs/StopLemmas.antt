@@ -1,11 +1,11 @@
 -- A stop at any device write of an item of a store, whatever word it leaves.
-use Rattle.std.proofs.Common.{◌≡◌, ℕ, ◌+◌, ◌<◌, ◌≤◌, Bool, true, false, List, [], ◌∷◌, length, Option, Some, None, refl, sym, ◌∙◌, ap, subst, arith, cond, inl, inr}
-use Rattle.std.specs.Prelude.{◌⊎◌, bytes_eq, slice_set, unwrap_or}
+use Rattle.std.proofs.Common.{◌≡◌, ℕ, ◌+◌, ◌<◌, ◌≤◌, Bool, true, false, List, [], ◌∷◌, length, Option, Some, None, refl, sym, ◌∙◌, ap, subst, arith, cond}
+use Rattle.std.specs.Prelude.{bytes_eq, slice_set, unwrap_or}
 use Rattle.std.proofs.lemmas.List.{length-map}
 use Rattle.mc_model_device.specs.Bytes.{up, lookup, insert}
 use Rattle.mc_model_device.specs.Device.{IsSized}
 use Rattle.mc_model_device.specs.Image.{One, Two, opening, look, Closed, laid, debt}
-use Rattle.mc_model_device.specs.Stopped.{writes, cost, stands, owes, torn, stood, IsAtomic, InJournal, LeavesOwing}
+use Rattle.mc_model_device.specs.Stopped.{writes, cost, stands, owes, torn, stood, IsAtomic, LeavesOwing}
 use Rattle.mc_model_device.specs.Card.{App, Card, card_of, means}
 use Rattle.mc_model_device.specs.Layout.{words_fault, gaps, step_of, IsWellLaid}
 use Rattle.mc_model_device.specs.PowerUp.{Base, OnCard}
@@ -16,25 +16,21 @@ use Rattle.mc_model_device.proofs.StoppedLemmas.{torn-other, tear}
 use Rattle.mc_bank.specs.Bank.{no_app, app_of, CanCommit, with_words}
 use Rattle.mc_blocks.specs.Plans.{has_room}
 use Rattle.mc_store.specs.Store.{needed_by, static_writes, card_with, card_without, item_writes, IsGoodIn, Allows}
-use Rattle.mc_store.specs.GoingLaws.{closed_means, closed_fault}
 use Rattle.mc_store.specs.Power.{HoldsBase}
 use Rattle.mc_store.specs.Stops.{card_after, IsStoppedAt}
 use Rattle.mc_store.specs.AlikeLaws.{alike-self}
 use Rattle.mc_store.specs.AtomicLaws.{writes-apart}
-use Rattle.mc_store.specs.PlanningLaws.{first-room}
 use Rattle.mc_store.specs.GapLaws.{KeepsCard, keeps-gap, besides-set}
 use Rattle.mc_store.specs.CommitLaws.{CommittedCard, commits}
 use Rattle.mc_store.specs.CreationLaws.{Creates, creates-plan, creates-card}
 use Rattle.mc_store.specs.DeletionLaws.{Deletes, deletes-plan, deletes-card}
-use Rattle.mc_store.specs.TurnLaws.{some-is, parted, blanked}
+use Rattle.mc_store.specs.TurnLaws.{parted, blanked}
 use Rattle.mc_store.proofs.JournalLemmas.{NoneOpen, none_open, raw, found_after, same_raw, stays}
 use Rattle.mc_store.proofs.PowerLemmas.{raw_card, closed_words}
-
-outside_two : (i : ℕ) → (i ≡ 0) ⊎ (131 ≤ i) → InJournal Two i → ⊥
-outside_two i (inl z) (inl h) = let low = h.0 in absurd (omega (arith, z, low))
-outside_two i (inl z) (inr e) = absurd (omega (arith, z, e))
-outside_two i (inr g) (inl h) = let high = h.1 in absurd (omega (arith, g, high))
-outside_two i (inr g) (inr e) = absurd (omega (arith, g, e))
+use Rattle.mc_model_device.proofs.LookLemmas.{outside_two}
+use Rattle.mc_model_device.proofs.LayoutLemmas.{closed_fault, closed_means}
+use Rattle.mc_blocks.proofs.Plans.{first-room}
+use Rattle.mc_model_device.proofs.BoolLemmas.{some-is}
 
 module _ (m : List (List ℕ)) (image : IsSized m) (closed : look m ≡ Closed) (good : words_fault m ≡ None) where
   well : IsWellLaid m

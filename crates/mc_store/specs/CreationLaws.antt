@@ -22,14 +22,14 @@ use Rattle.mc_blocks.proofs.Bridge.{WellLaid, well-laid, used-above}
 use Rattle.mc_blocks.proofs.Taking.{RoomAt, room-at, room-from}
 use Rattle.mc_blocks.proofs.Search.{holes-above}
 use Rattle.std.proofs.lemmas.List.{length-append, length-replicate}
-use Rattle.mc_blocks.proofs.Plans.{gaps-are, spans-are, TakeIs, take-is}
+use Rattle.mc_blocks.proofs.Plans.{gaps-are, spans-are, TakeIs, take-is, step-plan, first-room}
 use Rattle.mc_blocks.specs.Outcomes.{HoldsApplications}
 use Rattle.mc_blocks.proofs.Outcome.{creates}
 use Rattle.mc_store.specs.Store.{part_in, needed_by, record_bytes, card_with, IsGoodIn, IsReadySite}
 use Rattle.mc_store.specs.AlikeLaws.{HeapsAlike}
 use Rattle.mc_store.specs.RecordLaws.{Fields, fields, is-record}
 use Rattle.mc_blocks.proofs.Sections.{length-section, section-split, same-cells, same-section}
-use Rattle.mc_store.specs.PlanningLaws.{planned, step-plan, first-room}
+use Rattle.mc_store.specs.PlanningLaws.{planned}
 
 -- ---- the place of a hole
 

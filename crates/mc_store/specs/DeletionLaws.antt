@@ -6,20 +6,21 @@ use Rattle.mc_model_device.specs.Image.{look, Closed, laid}
 use Rattle.mc_model_device.specs.Stopped.{IsAtomic}
 use Rattle.mc_model_device.specs.Card.{App, Card, Block, name_at, app_at, apps_of, blocks, means}
 use Rattle.mc_model_device.specs.Layout.{spans, step_of, IsWellLaid}
-use Rattle.mc_bank.specs.NameLaws.{remove-inserted, length-inserted}
 use Rattle.mc_blocks.specs.Plans.{plan, without, has_span}
 use Rattle.mc_blocks.proofs.Maps.{spans-remove}
 use Rattle.mc_blocks.proofs.Applications.{found-application}
-use Rattle.mc_blocks.proofs.Plans.{FreeIs, free-is, spans-are}
+use Rattle.mc_blocks.proofs.Plans.{FreeIs, free-is, spans-are, step-plan}
 use Rattle.mc_blocks.specs.Blocks.{used_spans}
 use Rattle.mc_blocks.specs.Outcomes.{HoldsApplications}
-use Rattle.mc_blocks.proofs.Bridge.{WellLaid, well-laid, means-closed, named, Faultless, faultless, fault-closed}
+use Rattle.mc_blocks.proofs.Bridge.{WellLaid, well-laid, named, Faultless, faultless}
 use Rattle.mc_blocks.proofs.Freeing.{free_in}
 use Rattle.mc_blocks.proofs.Cards.{SameUsed, Deleted, deleted}
 use Rattle.mc_blocks.proofs.Outcome.{deletes}
 use Rattle.mc_store.specs.Store.{card_without}
 use Rattle.mc_store.specs.AlikeLaws.{HeapsAlike}
-use Rattle.mc_store.specs.PlanningLaws.{planned, step-plan}
+use Rattle.mc_store.specs.PlanningLaws.{planned}
+use Rattle.mc_model_device.proofs.MapLemmas.{remove-inserted, length-inserted}
+use Rattle.mc_model_device.proofs.LayoutLemmas.{closed_fault, closed_means}
 
 -- the atomic write of a deletion is a plan
 pub record Deletes (m : List (List ℕ)) (n : List ℕ) (a : App) : Type 0 where
@@ -60,13 +61,13 @@ deletes-count m n a image closed h there =
     let bs = blocks m in
     let p = a.place in
     let l : WellLaid m = well-laid m image closed h in
-    let f : Faultless m = faultless m (sym (fault-closed m closed) ∙ h) in
+    let f : Faultless m = faultless m (sym (closed_fault m closed) ∙ h) in
     let found = found-application m n a image closed h there in
     let span : has_span p (used_spans bs) ≡ true = subst (λ (x : List (ℕ × ℕ)). has_span p x ≡ true) (spans-are m image closed h) found.span in
     let d : Deleted m m [] (name_at m p) (app_at m p) bs (free_in p bs) = deleted m m p 131 false [] bs (length m) l.tiled (named m bs [] 0 f.records) (same-used m p bs) span in
     let es = apps_of m (free_in p bs) in
     let k = name_at m p in
-    let before : (means m).apps ≡ insert es k (app_at m p) = ap (λ (c : Card). c.apps) (means-closed m closed) ∙ d.apps in
+    let before : (means m).apps ≡ insert es k (app_at m p) = ap (λ (c : Card). c.apps) (closed_means m closed) ∙ d.apps in
     let left : remove (means m).apps n ≡ es =
     ap (λ (x : List (List ℕ × App)). remove x n) before ∙ ap (λ (x : List ℕ). remove (insert es k (app_at m p)) x) (sym found.name) ∙ remove-inserted es k (app_at m p) d.gone in
     ap length before ∙ length-inserted es k (app_at m p) d.gone ∙ ap (λ (x : List (List ℕ × App)). suc (length x)) (sym left)

@@ -6,8 +6,9 @@ use Rattle.mc_model_device.specs.declared.cause.Cause.{Cause}
 use Rattle.mc_model_device.specs.Image.{Look, Refused, Closed, Pending, look, replayed}
 use Rattle.mc_model_device.specs.Device.{DeviceState}
 use Rattle.mc_model_device.specs.Card.{Card, card_of, means, words_after}
-use Rattle.mc_model_device.specs.Layout.{words_fault, fault, fault_of}
+use Rattle.mc_model_device.specs.Layout.{words_fault, fault}
 use Rattle.mc_store.specs.Store.{is_closed, settled, apps_in, is_going}
+use Rattle.mc_model_device.proofs.LayoutLemmas.{closed_fault, closed_means}
 
 -- power is on, no journal is open, the words are a card of layout 2 with so many applications
 pub record Going (d : DeviceState) (c : ℕ) : Type 0 where
@@ -29,12 +30,6 @@ none_is (Some x) h = absurd (cc h)
 -- words with no open journal are their own words after it, mean the card that they hold, and have the faults of words
 pub closed_settled : (m : List (List ℕ)) → look m ≡ Closed → settled m ≡ m
 closed_settled m h = ap (λ (l : Look). words_after (replayed m l) m) h
-
-pub closed_means : (m : List (List ℕ)) → look m ≡ Closed → means m ≡ card_of m
-closed_means m h = ap card_of (closed_settled m h)
-
-pub closed_fault : (m : List (List ℕ)) → look m ≡ Closed → fault m ≡ words_fault m
-closed_fault m h = ap (λ (l : Look). fault_of l m) h
 
 pub laid_apps : (m : List (List ℕ)) → fault m ≡ None → apps_in m ≡ (means m).apps
 unfolding apps_in

@@ -21,7 +21,7 @@ use Rattle.mc_blocks.specs.Plans.{has_room}
 use Rattle.mc_blocks.proofs.Maps.{OneAt}
 use Rattle.mc_blocks.proofs.Applications.{found-application}
 use Rattle.mc_store.specs.Store.{settled, apps_in, store_state, place_named, store_named, store_room, store_standing, needed_by, part_from, part_in, static_writes, name_of_place, IsGoodIn, StoreDid}
-use Rattle.mc_store.specs.GoingLaws.{Going, going_is, is_going_of, closed_settled, closed_means, closed_apps, laid_apps}
+use Rattle.mc_store.specs.GoingLaws.{Going, going_is, is_going_of, closed_settled, closed_apps, laid_apps}
 use Rattle.mc_store.specs.AlikeLaws.{HeapsAlike, means-after}
 use Rattle.mc_store.specs.AtomicLaws.{AtomicEnds, atomic-ends}
 use Rattle.mc_blocks.proofs.Sections.{same-section}
@@ -29,7 +29,9 @@ use Rattle.mc_store.specs.CreationLaws.{AtSite, at-site, Creates, creates-plan}
 use Rattle.mc_store.specs.CommitLaws.{CommittedCard, commits}
 use Rattle.mc_store.specs.PlaceLaws.{place-changed, place-new, place-removed}
 use Rattle.mc_store.specs.StoreItems.{named-there}
-use Rattle.mc_store.specs.TurnLaws.{ChangesCard, Standing, standing-of, some-is, turns}
+use Rattle.mc_store.specs.TurnLaws.{ChangesCard, Standing, standing-of, turns}
+use Rattle.mc_model_device.proofs.LayoutLemmas.{closed_means}
+use Rattle.mc_model_device.proofs.BoolLemmas.{some-is}
 
 -- ---- the applications
 

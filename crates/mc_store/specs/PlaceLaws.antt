@@ -4,9 +4,10 @@ use Rattle.std.specs.Prelude.{◌==◌, bytes_eq}
 use Rattle.std.proofs.lemmas.Bool.{eqb-true, eq-eqb, ne_eqb}
 use Rattle.mc_model_device.specs.Bytes.{lookup, insert, remove, name_before}
 use Rattle.mc_model_device.specs.Card.{App}
-use Rattle.mc_bank.specs.NameLaws.{same_name}
 use Rattle.mc_blocks.proofs.Maps.{OneAt, Free}
 use Rattle.mc_store.specs.Store.{name_of_place}
+use Rattle.mc_model_device.proofs.MapLemmas.{same_name}
+use Rattle.mc_blocks.proofs.Applications.{free-one}
 
 -- ---- an insertion
 
@@ -61,10 +62,6 @@ place-changed es n p k a b at one l =
 free-place : (n : List ℕ) (p : ℕ) (es : List (List ℕ × App)) → Free n p es → name_of_place es p ≡ None
 free-place n p [] f = refl
 free-place n p (e ∷ es) f = ap (λ (t : Bool). cond t (Some e.0) (name_of_place es p)) (ne_eqb (e.1).place p f.1) ∙ free-place n p es f.2
-
-pub free-one : (n : List ℕ) (p : ℕ) (es : List (List ℕ × App)) → Free n p es → OneAt n p es
-free-one n p [] f = tt
-free-one n p (e ∷ es) f = (f.0 ∙ sym (ne_eqb (e.1).place p f.1), free-one n p es f.2)
 
 new-kind : (n x : List ℕ) (p k : ℕ) (o : Option (List ℕ)) (t : Bool) → (p == k) ≡ t → (p ≡ k → o ≡ None) → o ≡ Some x → cond t (Some n) o ≡ Some x
 new-kind n x p k o true h none some = absurd (cc (sym (none (eqb-true p k h)) ∙ some))

@@ -1,16 +1,14 @@
 -- The header words of a plan, laid into words: they stand where they are due, and all else of the heap stays.
-use Rattle.std.proofs.Common.{◌≡◌, ◌⊎◌, ℕ, ◌+◌, ◌<◌, ◌≤◌, Bool, true, false, ◌&&◌, List, [], ◌∷◌, length, Some, cond, refl, sym, ◌∙◌, ap, subst, inl, inr, arith}
+use Rattle.std.proofs.Common.{◌≡◌, ◌⊎◌, ℕ, ◌<◌, ◌≤◌, true, ◌&&◌, List, [], length, sym, ◌∙◌, subst, inl, inr}
 use Rattle.std.specs.Prelude.{◌==◌, nat_le, nat_lt}
 use Rattle.std.specs.List.{AllByRecursion}
-use Rattle.std.proofs.lemmas.Bool.{leb-true, eqb-true, ltb-true, eq-eqb, or_cases, and_parts, and_from, or_left, or_right}
+use Rattle.std.proofs.lemmas.Bool.{leb-true, eqb-true, ltb-true, or_cases, and_parts}
 use Rattle.mc_model_device.specs.Image.{within, laid}
 use Rattle.mc_model_device.specs.Stopped.{IsAtomic}
-use Rattle.mc_model_device.specs.Card.{Card, word, means}
-use Rattle.mc_model_device.specs.Layout.{layout, spans, step_of, first_fitting}
+use Rattle.mc_model_device.specs.Card.{word, means}
 use Rattle.mc_model_device.proofs.ImageLemmas.{HoldsWords, all-map, laid-other, laid-holds, length-laid, holds-point}
 use Rattle.mc_model_device.proofs.GeometryLemmas.{targets-within}
-use Rattle.mc_blocks.specs.Plans.{changes, layout_of, plan, has_room}
-use Rattle.mc_blocks.proofs.Heads.{layout-spans}
+use Rattle.mc_blocks.specs.Plans.{plan}
 use Rattle.mc_blocks.specs.Outcomes.{Planned}
 use Rattle.mc_model_device.proofs.StoppedLemmas.{ascends-list, within-below as below}
 use Rattle.mc_store.specs.AlikeLaws.{HeapsAlike}
@@ -48,27 +46,3 @@ planned m w ss low atomic alike =
       root = λ free. alike.root ∙ laid-other m list 0 free;
       heap = λ q above free. alike.heap q above ∙ laid-other m list q free;
     }
-
--- ---- steps
-
-step-changes : (a b : Card) → step_of a b ≡ changes (layout a) (layout b)
-unfolding step_of
-step-changes a b = refl
-
--- the atomic write between two cards is the plan for the spans of the second
-pub step-plan : (a b : Card) (ss : List (ℕ × ℕ)) → b.layout ≡ a.layout → b.size ≡ a.size → spans b ≡ ss → step_of a b ≡ plan a ss
-step-plan a b ss version size same =
-    step-changes a b
-    ∙ ap (λ (l : List (ℕ × List ℕ)). changes (layout a) l) (layout-spans b)
-    ∙ ap (λ (v : ℕ). changes (layout a) (layout_of v b.size (spans b))) version
-    ∙ ap (λ (s : ℕ). changes (layout a) (layout_of a.layout s (spans b))) size
-    ∙ ap (λ (ss : List (ℕ × ℕ)). changes (layout a) (layout_of a.layout a.size ss)) same
-
-room-test : (need p : ℕ) (g : ℕ × ℕ) (gs : List (ℕ × ℕ)) (t : Bool) → nat_le need g.1 ≡ t → cond t (Some g.0) (first_fitting need gs) ≡ Some p → (first_fitting need gs ≡ Some p → has_room p need gs ≡ true) → has_room p need (g ∷ gs) ≡ true
-room-test need p g gs true e h rest = let is : g.0 ≡ p = cc in or_left (g.0 == p && nat_le need g.1) (has_room p need gs) (and_from (g.0 == p) (nat_le need g.1) (eq-eqb g.0 p is) e)
-room-test need p g gs false e h rest = or_right (g.0 == p && nat_le need g.1) (has_room p need gs) (rest h)
-
--- where the first gap that is long enough is, there is room
-pub first-room : (need p : ℕ) (gs : List (ℕ × ℕ)) → first_fitting need gs ≡ Some p → has_room p need gs ≡ true
-first-room need p [] h = absurd (cc h)
-first-room need p (g ∷ gs) h = room-test need p g gs (nat_le need g.1) refl h (first-room need p gs)

@@ -8,13 +8,14 @@ use Rattle.mc_model_device.specs.Device.{DeviceState, IsSized}
 use Rattle.mc_model_device.specs.Card.{App, means}
 use Rattle.mc_model_card.specs.Items.{Site, BankItem, Blank}
 use Rattle.mc_model_card.specs.Manager.{word_parts}
-use Rattle.mc_bank.specs.NameLaws.{name_is_itself}
 use Rattle.mc_blocks.proofs.Maps.{OneAt}
 use Rattle.mc_blocks.proofs.Applications.{found-application}
 use Rattle.mc_store.specs.declared.store.Store.{Store}
 use Rattle.mc_store.specs.Store.{name_of_place, apps_in, StoreDid}
 use Rattle.mc_store.specs.GoingLaws.{Going}
-use Rattle.mc_store.specs.TurnLaws.{Standing, standing-of, some-is}
+use Rattle.mc_store.specs.TurnLaws.{Standing, standing-of}
+use Rattle.mc_model_device.proofs.MapLemmas.{name_is_itself}
+use Rattle.mc_model_device.proofs.BoolLemmas.{some-is}
 
 -- one item of a store
 abbrev pub store_did : {N : Type 0} → (N → DeviceState) → (N → ℕ → List ℕ → Answer → N → Type 0) → Store N → BankItem → Answer → Store N → Type 0

@@ -14,19 +14,21 @@ use Rattle.mc_model_device.specs.Card.{App, Card, card_of, means}
 use Rattle.mc_model_device.specs.Layout.{gaps, step_of, words_fault, fault, IsWellLaid}
 use Rattle.mc_model_card.specs.Items.{Site, BankItem, Piece, Blank, Note, Commit, Enter, Remove}
 use Rattle.mc_bank.specs.Bank.{FitsLimits, CanCommit, part_len, no_app, app_of, with_words, entered, committed, item_done}
-use Rattle.mc_bank.specs.NameLaws.{length-inserted}
 use Rattle.mc_blocks.specs.Plans.{has_room}
 use Rattle.mc_blocks.proofs.Built.{SameCard}
 use Rattle.mc_blocks.specs.Outcomes.{HoldsApplications}
 use Rattle.mc_store.specs.Store.{settled, apps_in, store_standing, needed_by, part_from, part_in, item_writes, static_writes, card_with, card_without, IsGoodIn, IsInWord, IsReadySite, Allows, count_after, StoreDid}
-use Rattle.mc_store.specs.GoingLaws.{Going, going_is, closed_settled, closed_means, closed_fault, closed_apps}
+use Rattle.mc_store.specs.GoingLaws.{Going, going_is, closed_settled, closed_apps}
 use Rattle.mc_store.specs.AlikeLaws.{HeapsAlike, alike-card, SettlesAlike, Means, means-after}
 use Rattle.mc_store.specs.AtomicLaws.{AtomicEnds, atomic-ends}
 use Rattle.mc_store.specs.GapLaws.{KeepsCard, keeps-gap, OneWrite, one-write, just-one}
-use Rattle.mc_store.specs.PlanningLaws.{first-room}
 use Rattle.mc_store.specs.CreationLaws.{Creates, creates-plan, creates-card}
 use Rattle.mc_store.specs.DeletionLaws.{Deletes, deletes-plan, deletes-card, deletes-count}
 use Rattle.mc_store.specs.CommitLaws.{CommittedCard, commits}
+use Rattle.mc_model_device.proofs.MapLemmas.{length-inserted}
+use Rattle.mc_model_device.proofs.LayoutLemmas.{closed_fault, closed_means}
+use Rattle.mc_blocks.proofs.Plans.{first-room}
+use Rattle.mc_model_device.proofs.BoolLemmas.{some-is}
 
 -- ---- words that turn
 
@@ -64,10 +66,6 @@ parted Fci z q at n limits i = let some = i.some in let ends = i.section in (ome
 
 pub blanked : (z : Sizes) (q at n : ℕ) → IsInWord z.fixed at n → (q < part_from Data z q + down at 8) × (part_from Data z q + down at 8 < q + needed_by z)
 blanked z q at n i = let some = i.some in let ends = i.section in (omega arith, omega arith)
-
-pub some-is : {A : Type 0} → (o : Option A) → IsSome o → (x : A) × (o ≡ Some x)
-some-is None h = absurd (cc h)
-some-is (Some x) h = (x, refl)
 
 -- what the words of a going store are
 pub record Standing (m : List (List ℕ)) : Type 0 where

@@ -1,5 +1,5 @@
 -- Texts that are read: numbers digit by digit, cuts, blanks at the end, pieces and lines.
-use Rattle.std.proofs.Common.{◌≡◌, ℕ, suc, ◌+◌, ◌*◌, ◌-◌, ◌<◌, ◌≤◌, Bool, true, false, cond, List, [], ◌∷◌, ◌++◌, length, take, drop, get_or, drop-cons, add-one, Option, Some, None, arith, refl, sym, ap, subst, ◌∙◌}
+use Rattle.std.proofs.Common.{◌≡◌, ℕ, suc, ◌+◌, ◌*◌, ◌-◌, ◌<◌, ◌≤◌, Bool, true, false, cond, List, [], ◌∷◌, ◌++◌, length, take, Option, Some, None, arith, refl, sym, ap, ◌∙◌}
 use Rattle.std.specs.Prelude.{map, nat_le, nat_lt, option_map, position, slice_index, ◌==◌}
 use Rattle.std.specs.List.{position_or_len}
 use Rattle.mc_model_machine.specs.Text.{before_trimmed, cut_or_joined, cut_or_kept, digits_onto, every, first_cut, is_blank, is_digit, lines, no_last_empty, pieces, trim_end, without_returns}
@@ -103,12 +103,6 @@ trim_end_falls l h e = sym (end_falls (take (length l - 1) l) (slice_index l (le
 
 pub trim_end_stays : (l : List ℕ) → 0 < length l → is_blank (slice_index l (length l - 1)) ≡ false → trim_end l ≡ l
 trim_end_stays l h e = ap trim_end (sym (last_of l h)) ∙ end_stays (take (length l - 1) l) (slice_index l (length l - 1)) e ∙ last_of l h
-
--- ---- what is left of a list
-
--- what is left at a place is the element there and what is left behind it
-pub rest_of : {A : Type 0} (l : List A) (i : ℕ) (x : A) → i < length l → drop i l ≡ get_or l i x ∷ drop (i + 1) l
-rest_of l i x h = subst (λ (k : ℕ). drop i l ≡ get_or l i x ∷ drop k l) (sym (add-one i)) (drop-cons l i x h)
 
 -- ---- pieces
 

@@ -4,9 +4,8 @@ use Rattle.std.specs.Prelude.{nat_eq, is_none}
 use Rattle.std.proofs.lemmas.Bool.{cases_lt, ne_eqb}
 use Rattle.std.proofs.lemmas.Bool.Decides.{nat_tests}
 use Rattle.mc_model_device.specs.Pieces.{touched, numbers, pending_at, not_pending, with_number, with_words, Ascend, HoldPieces}
-use Rattle.mc_model_device.proofs.ListLemmas.{touched-append}
 use Rattle.mc_trans.proofs.Touched.{mem, mem_number}
-use Rattle.mc_trans.proofs.Putting.{with_number_twice}
+use Rattle.mc_model_device.proofs.PieceLemmas.{touched-append, with_number_twice}
 
 -- so many numbers from n on, beside those that are there
 with_numbers : ℕ → ℕ → List ℕ → List ℕ

@@ -2,19 +2,15 @@
 use Rattle.std.proofs.Common.{◌≡◌, ℕ, zero, suc, ◌+◌, ◌-◌, ◌≤◌, ◌<◌, true, false, cond, List, [], ◌∷◌, ◌++◌, length, take, drop, get_or, Option, Some, None, refl, sym, ap, subst, ◌∙◌, inl, inr, arith, append_assoc}
 use Rattle.std.specs.Prelude.{nat_le, slice_get, unwrap_or}
 use Rattle.std.specs.List.{AllByRecursion}
-use Rattle.std.proofs.lemmas.Bool.{cases_lt, le-leb}
-use Rattle.std.proofs.lemmas.Bool.Decides.{nat_tests}
-use Rattle.std.proofs.lemmas.List.{get_or_append_left, get_or-append_right, get_or-take, get_or-drop, length-append, length-take, length-drop, drop-drop, take_at}
+use Rattle.std.proofs.lemmas.Bool.{cases_lt, le-leb, lt-leb}
+use Rattle.std.proofs.lemmas.List.{get_or_append_left, get_or-append_right, get_or-take, get_or-drop, length-append, length-take, drop-drop, take_at}
 use Rattle.std.proofs.Math.Seq.{drop-append-add}
 use Rattle.mc_model_device.specs.Bytes.{splice, or_else}
 use Rattle.mc_model_device.specs.Pieces.{covered, laid_pieces, LieIn}
-use Rattle.mc_model_device.proofs.ListLemmas.{length-splice}
+use Rattle.mc_model_device.proofs.ListLemmas.{length-splice, splice-longer}
+use Rattle.std.proofs.lemmas.Option.{slice_get_past}
 
 -- ---- one piece
-
-pub length-splice_low : (l : List ℕ) (at : ℕ) (b : List ℕ) → at ≤ length l → length l ≤ length (splice l at b)
-length-splice_low l at b fits =
-    omega (arith, length-append (take at l ++ b) (drop (at + length b) l), length-append (take at l) b, length-take at l, length-drop (at + length b) l)
 
 front_len : (l : List ℕ) (at : ℕ) (b : List ℕ) → at ≤ length l → length (take at l ++ b) ≡ at + length b
 front_len l at b fits = omega (arith, length-append (take at l) b, length-take at l)
@@ -54,14 +50,6 @@ get_some [] i lt = absurd (omega arith)
 get_some (x ∷ xs) zero lt = refl
 get_some (x ∷ xs) (suc i) lt = get_some xs i (omega arith)
 
-pub get_none : (b : List ℕ) (i : ℕ) → length b ≤ i → slice_get b i ≡ None
-get_none [] i le = refl
-get_none (x ∷ xs) zero le = absurd (omega arith)
-get_none (x ∷ xs) (suc i) le = get_none xs i (omega arith)
-
-pub lt-leb : (a i : ℕ) → i < a → nat_le a i ≡ false
-lt-leb a i lt = grind (arith, nat_tests)
-
 spliced : (l : List ℕ) (p : ℕ × List ℕ) (i : ℕ) → p.0 ≤ length l → get_or (splice l p.0 p.1) i 0 ≡ unwrap_or (byte_of p i) (get_or l i 0)
 spliced l p i fits =
     elim (cases_lt i p.0) [
@@ -72,7 +60,7 @@ spliced l p i fits =
           let out : nat_le p.0 i ≡ true = le-leb _ _ le in
           elim (cases_lt i (p.0 + length p.1)) [
             | inl lt ↦ rw (out, splice_in l p.0 p.1 i fits le lt, get_some p.1 (i - p.0) (omega arith)) refl
-            | inr past ↦ rw (out, splice_behind l p.0 p.1 i fits past, get_none p.1 (i - p.0) (omega arith)) refl
+            | inr past ↦ rw (out, splice_behind l p.0 p.1 i fits past, slice_get_past p.1 (i - p.0) (omega arith)) refl
           ]
     ]
 
@@ -83,7 +71,7 @@ or_else_or None b d = refl
 pub laid_covered : (n : ℕ) (l : List ℕ) (ps : List (ℕ × List ℕ)) (i : ℕ) → BeginIn n ps → n ≤ length l → get_or (laid_pieces l ps) i 0 ≡ unwrap_or (covered ps i) (get_or l i 0)
 laid_covered n l [] i begin fits = refl
 laid_covered n l (p ∷ ps) i begin fits =
-    let low = length-splice_low l p.0 p.1 (omega (arith, begin.0)) in
+    let low = splice-longer l p.0 p.1 in
     let rest = laid_covered n (splice l p.0 p.1) ps i begin.1 (omega arith) in
     let here = spliced l p i (omega (arith, begin.0)) in
     rest ∙ ap (λ (d : ℕ). unwrap_or (covered ps i) d) here ∙ sym (or_else_or (covered ps i) (byte_of p i) (get_or l i 0))
@@ -97,7 +85,7 @@ length-laid l (p ∷ ps) lie =
 pub length-laid_low : (n : ℕ) (l : List ℕ) (ps : List (ℕ × List ℕ)) → BeginIn n ps → n ≤ length l → length l ≤ length (laid_pieces l ps)
 length-laid_low n l [] begin fits = omega arith
 length-laid_low n l (p ∷ ps) begin fits =
-    let low = length-splice_low l p.0 p.1 (omega (arith, begin.0)) in
+    let low = splice-longer l p.0 p.1 in
     let rest = length-laid_low n (splice l p.0 p.1) ps begin.1 (omega arith) in
     omega arith
 

@@ -1,13 +1,14 @@
 -- Pending words hold a piece more where the word that it lies in is put with its bytes.
-use Rattle.std.proofs.Common.{◌≡◌, ◌≢◌, ℕ, ◌+◌, ◌-◌, ◌*◌, ◌/◌, ◌≤◌, ◌<◌, cond, List, [], ◌∷◌, ◌++◌, length, get_or, Option, Some, None, refl, sym, ap, subst, ◌∙◌, inl, inr, arith}
+use Rattle.std.proofs.Common.{◌≡◌, ◌≢◌, ℕ, ◌+◌, ◌-◌, ◌*◌, ◌/◌, ◌≤◌, ◌<◌, cond, List, [], ◌∷◌, ◌++◌, length, get_or, Option, Some, None, refl, sym, ap, ◌∙◌, inl, inr, arith}
 use Rattle.std.specs.Prelude.{nat_eq, IfSome}
 use Rattle.std.proofs.lemmas.Bool.{cases_lt}
 use Rattle.std.proofs.lemmas.Bool.Decides.{nat_tests, eqb_tells}
 use Rattle.mc_model_device.specs.Bytes.{splice}
 use Rattle.mc_model_device.specs.Pieces.{laid_pieces, touched, numbers, pending_at, put_word, with_number, with_words, HoldPieces, LieIn}
-use Rattle.mc_model_device.proofs.ListLemmas.{length-splice, laid-append, touched-append}
+use Rattle.mc_model_device.proofs.ListLemmas.{length-splice}
 use Rattle.mc_trans.proofs.Overlay.{length-laid, splice_before, splice_in, splice_behind, splice-append}
 use Rattle.mc_trans.proofs.Words.{put_pending}
+use Rattle.mc_model_device.proofs.PieceLemmas.{laid-append, touched-append, one_word, held_same}
 
 -- ---- numbers
 
@@ -18,24 +19,6 @@ numbers_put n b (w ∷ ws) = grind (arith, nat_tests, numbers_put n b ws)
 pending_at_put : (n m : ℕ) (b : List ℕ) (ws : List (ℕ × List ℕ)) → pending_at (put_word n b ws) m ≡ cond (nat_eq n m) (Some b) (pending_at ws m)
 pending_at_put n m b [] = refl
 pending_at_put n m b (w ∷ ws) = grind (arith, nat_tests, pending_at_put n m b ws)
-
-pub with_number_twice : (n : ℕ) (ns : List ℕ) → with_number n (with_number n ns) ≡ with_number n ns
-with_number_twice n [] = grind (arith, nat_tests)
-with_number_twice n (k ∷ ks) = grind (arith, nat_tests, with_number_twice n ks)
-
--- bytes of a word that is there
-same_word : (n at : ℕ) (b ns : List ℕ) → 8 * n ≤ at → at + length b ≤ 8 * n + 8 → with_words at b (with_number n ns) ≡ with_number n ns
-same_word n at [] ns low high = refl
-same_word n at (x ∷ b) ns low high =
-    let here : at / 8 ≡ n = omega arith in
-    let once : with_number (at / 8) (with_number n ns) ≡ with_number n ns = ap (λ (m : ℕ). with_number m (with_number n ns)) here ∙ with_number_twice n ns in
-    ap (with_words (at + 1) b) once ∙ same_word n (at + 1) b ns (omega arith) (omega arith)
-
-one_word : (n at : ℕ) (b ns : List ℕ) → 0 < length b → 8 * n ≤ at → at + length b ≤ 8 * n + 8 → with_words at b ns ≡ with_number n ns
-one_word n at [] ns some low high = absurd (omega arith)
-one_word n at (x ∷ b) ns some low high =
-    let here : at / 8 ≡ n = omega arith in
-    ap (λ (m : ℕ). with_words (at + 1) b (with_number m ns)) here ∙ same_word n (at + 1) b ns (omega arith) (omega arith)
 
 -- ---- the bytes of the words
 
@@ -101,13 +84,6 @@ with_words-append : (at : ℕ) (a b ns : List ℕ) → with_words at (a ++ b) ns
 with_words-append at [] b ns = ap (λ (n : ℕ). with_words n b ns) (omega arith)
 with_words-append at (x ∷ a) b ns =
     with_words-append (at + 1) a b (with_number (at / 8) ns) ∙ ap (λ (n : ℕ). with_words n b (with_words (at + 1) a (with_number (at / 8) ns))) (omega arith)
-
-pub held_same : (l : List ℕ) (ps qs ws : List (ℕ × List ℕ)) → touched ps ≡ touched qs → laid_pieces l ps ≡ laid_pieces l qs → HoldPieces l ps ws → HoldPieces l qs ws
-held_same l ps qs ws words laid held = record {
-  pending = held.pending;
-  touched_words = held.touched_words ∙ words;
-  bytes = λ m k lt within. subst (λ (t : List ℕ). IfSome (pending_at ws m) (HasByte t m k)) laid (held.bytes m k lt within);
-}
 
 pub pieces_joined : (l : List ℕ) (ps ws : List (ℕ × List ℕ)) (at : ℕ) (a b : List ℕ) → LieIn (length l) ps → at + length a ≤ length l → HoldPieces l (ps ++ (at, a) ∷ (at + length a, b) ∷ []) ws → HoldPieces l (ps ++ (at, a ++ b) ∷ []) ws
 pieces_joined l ps ws at a b lie fits held =

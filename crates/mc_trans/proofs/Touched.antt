@@ -2,21 +2,18 @@
 use Rattle.std.proofs.Common.{◌≡◌, ◌≢◌, ℕ, suc, ◌+◌, ◌-◌, ◌*◌, ◌/◌, ◌%◌, ◌≤◌, ◌<◌, Bool, true, false, cond, List, [], ◌∷◌, length, get_or, Option, Some, None, refl, sym, ap, subst, ◌∙◌, inl, inr, arith}
 use Rattle.std.specs.Prelude.{nat_le, nat_eq, ◌||◌, option_map, slice_get}
 use Rattle.std.specs.List.{AllByRecursion}
-use Rattle.std.proofs.lemmas.Bool.{cases_lt, eqb-false, ne_eqb, le-leb}
+use Rattle.std.proofs.lemmas.Bool.{cases_lt, eqb-false, ne_eqb, le-leb, or_parts, lt-leb}
 use Rattle.std.proofs.lemmas.Bool.Decides.{nat_tests, eqb_tells}
 use Rattle.mc_model_device.specs.Bytes.{splice, or_else}
 use Rattle.mc_model_device.specs.Pieces.{covered, laid_pieces, word_pieces, with_number, with_words, with_touched, touched, numbers, pending_at, Ascend, LieIn}
 use Rattle.mc_model_device.proofs.ListLemmas.{length-splice}
-use Rattle.mc_trans.proofs.Overlay.{splice_before, splice_behind, BeginIn, get_some, get_none, lt-leb}
+use Rattle.mc_trans.proofs.Overlay.{splice_before, splice_behind, BeginIn, get_some}
+use Rattle.std.proofs.lemmas.Option.{slice_get_past}
 
 -- whether a number is among some
 abbrev pub mem : ℕ → List ℕ → Bool
 mem m [] = false
 mem m (k ∷ ks) = nat_eq k m || mem m ks
-
-or_false : (a b : Bool) → (a || b) ≡ false → (a ≡ false) × (b ≡ false)
-or_false true b e = absurd cc
-or_false false b e = (refl, e)
 
 -- a number more
 pub mem_number : (m n : ℕ) (ns : List ℕ) → mem m (with_number n ns) ≡ (nat_eq n m || mem m ns)
@@ -31,7 +28,7 @@ not_words : (m at : ℕ) (b ns : List ℕ) → mem m (with_words at b ns) ≡ fa
 not_words m at [] ns none = (none, λ i low high. absurd (omega arith))
 not_words m at (x ∷ b) ns none =
     let rest = not_words m (at + 1) b (with_number (at / 8) ns) none in
-    let split = or_false (nat_eq (at / 8) m) (mem m ns) (sym (mem_number m (at / 8) ns) ∙ rest.0) in
+    let split = or_parts (nat_eq (at / 8) m) (mem m ns) (sym (mem_number m (at / 8) ns) ∙ rest.0) in
     (split.1, λ i low high. one_of m at b i low high split.0 rest.1)
   where
     one_of : (m at : ℕ) (b : List ℕ) (i : ℕ) → at ≤ i → i < at + suc (length b) → nat_eq (at / 8) m ≡ false → ((i : ℕ) → at + 1 ≤ i → i < at + 1 + length b → i / 8 ≢ m) → i / 8 ≢ m
@@ -115,7 +112,7 @@ byte_out : (w : ℕ × List ℕ) (i : ℕ) → length w.1 ≡ 8 → w.0 ≢ i / 
 byte_out w i eight other =
     elim (cases_lt i (8 * w.0)) [
       | inl lt ↦ rw (lt-leb (8 * w.0) i lt) refl
-      | inr le ↦ rw (le-leb (8 * w.0) i le, get_none w.1 (i - 8 * w.0) (omega arith)) refl
+      | inr le ↦ rw (le-leb (8 * w.0) i le, slice_get_past w.1 (i - 8 * w.0) (omega arith)) refl
     ]
 
 pub covered_word : (least i : ℕ) (ws : List (ℕ × List ℕ)) → Ascend least (numbers ws) → AllByRecursion (λ w. length w.1 ≡ 8) ws → covered (word_pieces ws) i ≡ option_map (λ b. get_or b (i % 8) 0) (pending_at ws (i / 8))

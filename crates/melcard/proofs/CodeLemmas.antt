@@ -11,6 +11,7 @@ use Rattle.mc_asm.proofs.PassLemmas.{numbered_some, numbered_none}
 use Rattle.melcard.specs.declared.code.CodeRefusal.{CodeRefusal}
 use Rattle.melcard.specs.declared.code.CodeRefusal.TheVariants.{BadHex, TooLarge, NoMemory}
 use Rattle.melcard.specs.Judging.{line_digits, text_digits, RefusesCode}
+use Rattle.mc_model_device.specs.Limits.{most_code}
 
 -- ---- digits behind others
 
@@ -168,7 +169,7 @@ spells_lines (l ∷ ls) =
 
 -- the code of digits, where the last line has this number
 abbrev pub code_of : ℕ → Option (List ℕ) → Result (List ℕ) CodeFault
-code_of last bytes = ok_or bytes (Text.BadHex last) >>= λ code. only_if (nat_le (length code) 8192) Text.TooLarge code
+code_of last bytes = ok_or bytes (Text.BadHex last) >>= λ code. only_if (nat_le (length code) most_code) Text.TooLarge code
 
 -- the code by the values of its digits
 abbrev pub by_values : ℕ → Result (List ℕ) CodeFault → Result (List ℕ) CodeFault
@@ -209,9 +210,9 @@ module _ (t digits : List ℕ) (last : ℕ) (h : text_digits (numbered 1 (lines 
   code_odd is = spelled_text None is
 
   -- too many bytes
-  pub code_large : (code : List ℕ) → Some code ≡ hex_bytes digits → 8192 < length code → code_text_read t ≡ Err Text.TooLarge
-  code_large code is over = spelled_text (Some code) is ∙ ap (λ b. only_if b Text.TooLarge code) (lt-leb (length code) 8192 over)
+  pub code_large : (code : List ℕ) → Some code ≡ hex_bytes digits → most_code < length code → code_text_read t ≡ Err Text.TooLarge
+  code_large code is over = spelled_text (Some code) is ∙ ap (λ b. only_if b Text.TooLarge code) (lt-leb (length code) most_code over)
 
   -- code within the limit
-  pub code_fits : (code : List ℕ) → Some code ≡ hex_bytes digits → length code ≤ 8192 → code_text_read t ≡ Ok code
-  code_fits code is fits = spelled_text (Some code) is ∙ ap (λ b. only_if b Text.TooLarge code) (le-leb (length code) 8192 fits)
+  pub code_fits : (code : List ℕ) → Some code ≡ hex_bytes digits → length code ≤ most_code → code_text_read t ≡ Ok code
+  code_fits code is fits = spelled_text (Some code) is ∙ ap (λ b. only_if b Text.TooLarge code) (le-leb (length code) most_code fits)

@@ -6,6 +6,7 @@ ghost use Rattle.mc_filter.specs.Inputs.{input_limit};
 ghost use Rattle.melcard.specs.Judging.{line_digits, text_digits, RefusesCode};
 
 use hex::FromHexError;
+use mc_base::MOST_CODE;
 use mc_text::{hex_value, is_blank, next_line};
 use std::alloc::{AllocError, Global};
 
@@ -31,9 +32,6 @@ impl From<AllocError> for CodeRefusal {
         CodeRefusal::NoMemory
     }
 }
-
-// The most bytes of code.
-const CODE_LIMIT: usize = 8192;
 
 // Adds one character of a line, and none for a blank.
 fn push_digit(digits: &mut Vec<u8>, number: u32, character: u8) -> Result<(), CodeRefusal>
@@ -105,7 +103,7 @@ pub fn read_code(alloc: Global, text: &[u8]) -> Result<Vec<u8>, CodeRefusal>
     let Some(code) = bytes_of(alloc, digits.as_slice())? else {
         return Err(CodeRefusal::BadHex(lines));
     };
-    if code.len() > CODE_LIMIT {
+    if code.len() > MOST_CODE {
         return Err(CodeRefusal::TooLarge);
     }
     Ok(code)

@@ -4,7 +4,7 @@ ghost use Rattle.std.specs.Prelude.{◌≡◌, ◌<◌};
 use crate::running::melcard;
 use crate::tests::{ended, words};
 use mc_base::{MemSink, MemSource, NoMemory, Steps, Stop};
-use mc_nvm::{Entry, TapeNvm};
+use mc_nvm::{DEVICE_WORDS, Entry, TapeNvm};
 use std::alloc::{AllocError, Global};
 use std::marker::Brand;
 use std::sync::ledger::{Blank, Ledger};
@@ -195,7 +195,7 @@ fn over_tape<L: Ledger>(
     let mut steps = Steps::<L>::new(blank);
     let mut source = MemSource::new(alloc, input, &[])?;
     let mut sink = MemSink::new(alloc, 400, &[])?;
-    let mut device = TapeNvm::new(alloc, 8192, 256, worn)?;
+    let mut device = TapeNvm::new(alloc, DEVICE_WORDS, 256, worn)?;
     let status = melcard(
         alloc,
         play.as_slice(),

@@ -4,7 +4,7 @@ ghost use Rattle.std.specs.Prelude.{◌≡◌, ◌≤◌, ◌<◌};
 use crate::tests::{ended, words};
 use mc_base::{MemSink, NoMemory, Steps};
 use mc_deck::{Deck, generate};
-use mc_nvm::SimNvm;
+use mc_nvm::{DEVICE_WORDS, SimNvm};
 use mc_script::play;
 use std::alloc::{AllocError, Global};
 use std::marker::Brand;
@@ -91,7 +91,7 @@ fn played<L: Ledger>(alloc: Global, blank: Blank, deck: &Deck) -> Result<Vec<u8>
 {
     let mut steps = Steps::<L>::new(blank);
     let mut sink = MemSink::new(alloc, 131_072, &[])?;
-    let mut device = SimNvm::new(alloc, 8192)?;
+    let mut device = SimNvm::new(alloc, DEVICE_WORDS)?;
     let _whole = play(deck, &mut device, &mut sink, &mut steps);
     Ok(Vec::from_slice(alloc, sink.bytes())?)
 }

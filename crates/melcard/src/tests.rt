@@ -7,7 +7,7 @@ use crate::worked_rows::{CUTS, DELEGATIONS, IMAGES, PLAYS, SMALL_DEVICE, TRACES}
 use mc_base::{
     MemSink, MemSource, NoMemory, ReadAll, StdSink, StdSource, Steps, put_all, read_all,
 };
-use mc_nvm::SimNvm;
+use mc_nvm::{DEVICE_WORDS, SimNvm};
 use std::alloc::{AllocError, Global};
 use std::marker::Brand;
 use std::sync::ledger::{Blank, Ledger};
@@ -15,9 +15,6 @@ use std::test::Fail;
 
 const COUNTER: &[u8] =
     b"format\npower\nunit counter 0000000000000000000FB902000039020000460200000600020000000961074F05A00000000100096F078405A00000000100000000\nload counter 2 0\nselect A000000001\napdu 8001000002\napdu 8001000002\n";
-
-// How many words the program's device has.
-const DEVICE_WORDS: u32 = 8192;
 
 const TEXT: &[u8] = b"1 formatted\n2 ready 0\n4 9000\n5 9000\n6 00019000\n7 00029000\n";
 

@@ -1,7 +1,7 @@
 // Words that are no card, and some that are.
 use crate::stores::bench::{Power, format, power_up, set_number};
 use mc_blocks::Cause;
-use mc_nvm::SimNvm;
+use mc_nvm::{DEVICE_WORDS, SimNvm};
 use std::test::Fail;
 
 /// The words that open the journals of layout 1 and of layout 2.
@@ -211,7 +211,7 @@ fn damaged_words(rt: HostRuntime) -> Result<(), Fail> {
         (HELD, RECORDS),
     ] {
         for (i, (words, due)) in rows.iter().enumerate() {
-            let mut device = SimNvm::new(rt.alloc(), 8192)?;
+            let mut device = SimNvm::new(rt.alloc(), DEVICE_WORDS)?;
             assert_eq!(rt; came(&mut device, base, words), *due, "row {i}");
         }
     }

@@ -6,7 +6,7 @@ use crate::stores::card::{COUNTER, Came, Unit, counter};
 use crate::stores::changes::{App, Change, Shown, Went, play, show};
 use crate::stores::rule::{OPEN_2, ZERO};
 use mc_base::{NoMemory, Steps, Stop, Word};
-use mc_nvm::SimNvm;
+use mc_nvm::{DEVICE_WORDS, SimNvm};
 use std::alloc::Global;
 use std::marker::Brand;
 use std::sync::ledger::{Blank, Ledger};
@@ -130,7 +130,7 @@ fn one_load(rt: HostRuntime) -> Result<(), Fail> {
         (131, 0x5500000C00000000),
         (143, 0x48001F7100000000),
     ];
-    assert_eq!(rt; words_after(rt.alloc(), 8192, &rows, &words)?, WELL);
+    assert_eq!(rt; words_after(rt.alloc(), DEVICE_WORDS, &rows, &words)?, WELL);
     Ok(())
 }
 
@@ -194,8 +194,11 @@ fn hole_chain(rt: HostRuntime) -> Result<(), Fail> {
         (143, 0x4800002401730000),
         (371, 0x48001E8D00000000),
     ];
-    assert_eq!(rt; words_after(rt.alloc(), 8192, &rows[..22], &two)?, WELL);
-    assert_eq!(rt; words_after(rt.alloc(), 8192, &rows, &one)?, WELL);
+    assert_eq!(rt;
+        words_after(rt.alloc(), DEVICE_WORDS, &rows[..22], &two)?,
+        WELL
+    );
+    assert_eq!(rt; words_after(rt.alloc(), DEVICE_WORDS, &rows, &one)?, WELL);
     Ok(())
 }
 
@@ -226,7 +229,7 @@ fn left_by<L: Ledger>(
     requires parts { blank.parts ≡ L.parts }
     requires some { 0 < blank.parts }
 {
-    let mut device = SimNvm::new(alloc, 8192)?;
+    let mut device = SimNvm::new(alloc, DEVICE_WORDS)?;
     let mut steps = Steps::<L>::new(blank);
     format(&mut device);
     stop_at(&mut device, Stop::Off, k, fill);

@@ -8,7 +8,7 @@ use crate::stores::image::{Image, due_word, image_of, restore, writes_of};
 use crate::stores::rule::{Atomic, OPEN_1, OPEN_2, ZERO};
 use mc_base::{NoMemory, Steps, Stop, Word};
 use mc_blocks::Cause;
-use mc_nvm::{SimNvm, TapeNvm};
+use mc_nvm::{DEVICE_WORDS, SimNvm, TapeNvm};
 use std::alloc::Global;
 use std::marker::Brand;
 use std::sync::ledger::{Blank, Ledger};
@@ -84,7 +84,7 @@ fn first_other(
 #[test]
 fn migrations(rt: HostRuntime) -> Result<(), Fail> {
     for (i, (words, ups)) in ROWS.iter().enumerate() {
-        let mut device = SimNvm::new(rt.alloc(), 8192)?;
+        let mut device = SimNvm::new(rt.alloc(), DEVICE_WORDS)?;
         assert_eq!(rt; first_other(&mut device, words, ups), None, "row {i}");
     }
     Ok(())

@@ -15,7 +15,7 @@ use crate::stores::counting::Counting;
 use mc_bank::{Bank, Slot};
 use mc_base::{Aid, NoMemory, Steps};
 use mc_blocks::{first_fit, fits_room, free_plan, take_plan};
-use mc_nvm::{Bench, Nvm, Probe, SimNvm};
+use mc_nvm::{Bench, DEVICE_WORDS, Nvm, Probe, SimNvm};
 use mc_store::Store;
 use std::alloc::Global;
 use std::cell::Cell;
@@ -165,7 +165,7 @@ fn count_fetches<B: Bank>(bank: &B, slot: Slot, reads: &Cell<u32>) -> Option<Fet
 fn empty_card(alloc: Global) -> Result<SimNvm, NoMemory>
     ensures { IfOk result (λ device. (sim_state device).on ≡ true) }
 {
-    let mut device = SimNvm::new(alloc, 8192)?;
+    let mut device = SimNvm::new(alloc, DEVICE_WORDS)?;
     format(&mut device);
     device.power();
     Ok(device)

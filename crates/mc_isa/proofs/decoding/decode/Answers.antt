@@ -4,8 +4,9 @@ use Rattle.std.proofs.lemmas.Grind.{common_steps}
 use Rattle.mc_model_machine.specs.Code.{decoded, form, DecodesTo}
 use Rattle.mc_model_machine.specs.declared.instruction.DecodeFault.{DecodeFault}
 use Rattle.mc_model_machine.specs.declared.instruction.Ins.{Ins}
-use Rattle.mc_isa.proofs.PlaceLemmas.{all_bytes, decoded_stands}
+use Rattle.mc_isa.proofs.PlaceLemmas.{decoded_stands}
 use Rattle.mc_isa.proofs.ReadingLemmas.{made_of_inside}
+use Rattle.mc_model_device.proofs.ListLemmas.{all_bytes}
 use Rattle.mc_isa.proofs.decoding.decode.Goals as goal
 
 pub overflow_add-result : goal.overflow_add-result

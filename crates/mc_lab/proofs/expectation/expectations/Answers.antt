@@ -2,19 +2,22 @@ use Rattle.std.proofs.Common.{◌≡◌, ◌+◌, ◌≤◌, arith, ℕ, List, B
 use Rattle.std.specs.Prelude.{option_map}
 use Rattle.mc_asm.specs.declared.line.NumberedLine.{NumberedLine}
 use Rattle.mc_asm.specs.Passes.{numbered_lines}
-use Rattle.mc_lab.specs.Expectations.{expectations}
-use Rattle.mc_lab.proofs.ExpectationLemmas.{with_left, line-read, lines-done, expectations-are}
+use Rattle.mc_lab.specs.Scanning.{scanned}
+use Rattle.std.proofs.lemmas.Result.{on_ok_weaker}
+use Rattle.mc_model_play.specs.DeckGrammar.{deck_read}
+use Rattle.mc_lab.proofs.SectionLemmas.{scanned-is}
+use Rattle.mc_lab.proofs.ExpectationLemmas.{with_left, line-read, lines-done, scanned-are}
 use Rattle.mc_lab.proofs.expectation.expectations.Goals as goal
 
 pub loop-line-init : goal.loop-line-init
 loop-line-init c = record {
-  all = ap (λ (v : List NumberedLine). with_left (numbered_lines v) false 1 c.args.text.now) c.new-expectations.ensures.items ∙ expectations-are c.args.text.now;
+  all = ap (λ (v : List NumberedLine). with_left (numbered_lines v) false 1 c.args.text.now) c.new-expectations.ensures.items ∙ scanned-are c.args.text.now;
   few = omega arith;
 }
 
 pub loop-line-preserved : goal.loop-line-preserved
 loop-line-preserved c =
-    let whole = expectations c.args.text.now in
+    let whole = scanned c.args.text.now in
     let n = c.loop-line.number + 1 in
     let next = ap (option_map (λ (l : Bor (List ℕ) × Bor (List ℕ)). (l.0.now, l.1.now))) (sym c.in-Some.is) ∙ c.next_line.ensures.line in
     let now = numbered_lines c.push_expectation.new.expectations.items in
@@ -28,4 +31,5 @@ loop-line-preserved c =
 pub returns : goal.returns
 returns c =
     let next = ap (option_map (λ (l : Bor (List ℕ) × Bor (List ℕ)). (l.0.now, l.1.now))) (sym c.in_default.is) ∙ c.next_line.ensures.line in
-    lines-done (numbered_lines c.loop-line.expectations.items) (expectations c.args.text.now) c.loop-line.inside (c.loop-line.number + 1) c.loop-line.rest.now next c.loop-line.invariant.all
+    let all = lines-done (numbered_lines c.loop-line.expectations.items) (scanned c.args.text.now) c.loop-line.inside (c.loop-line.number + 1) c.loop-line.rest.now next c.loop-line.invariant.all in
+    on_ok_weaker (deck_read c.args.text.now) (λ same. all ∙ same) (scanned-is c.args.text.now)

@@ -1,13 +1,13 @@
 use Rattle.std.proofs.Common.{◌≡◌, ◌+◌, ◌≤◌, length}
 use Rattle.mc_asm.specs.Passes.{numbered_lines}
-use Rattle.mc_lab.specs.Expectations.{expectations}
+use Rattle.mc_lab.specs.Scanning.{scanned}
 use Rattle.mc_lab.proofs.ExpectationLemmas.{with_left}
 use Rattle.mc_lab.proofs.expectation.expectations.Given as goal
 
 -- what is there and what is left are all expectations
 abbrev pub invariant-loop-line : goal.invariant-loop-line
 invariant-loop-line l = record {
-  all : with_left (numbered_lines l.expectations.items) l.inside (l.number + 1) l.rest ≡ expectations l.fn.text;
+  all : with_left (numbered_lines l.expectations.items) l.inside (l.number + 1) l.rest ≡ scanned l.fn.text;
   few : l.number + length l.rest ≤ length l.fn.text;
 }
 

@@ -1,9 +1,12 @@
-use Rattle.std.proofs.Common.{◌≡◌, ◌∙◌, ap, sym, subst, ℕ, List, Some, None}
+use Rattle.std.proofs.Common.{◌≡◌, ◌∙◌, ap, sym, subst, ℕ, List, Some, None, Ok}
+use Rattle.std.specs.Prelude.{OnOk}
+use Rattle.std.proofs.lemmas.Result.{IfOk-at_ok}
+use Rattle.mc_model_play.specs.DeckGrammar.{DeckLine, deck_read}
 use Rattle.mc_asm.specs.Passes.{numbered_lines}
 use Rattle.mc_lab.specs.Rising.{Rising}
 use Rattle.mc_lab.specs.declared.trial.TrialRefusal.{TrialRefusal}
 use Rattle.mc_lab.specs.Trials.{RefusesTrial}
-use Rattle.mc_lab.specs.Expectations.{first_unanswered, line_number, trial_read}
+use Rattle.mc_lab.specs.Expectations.{expectations, first_unanswered, line_number, trial_read}
 use Rattle.mc_lab.proofs.ExpectationLemmas.{expectations-rise}
 use Rattle.mc_lab.proofs.RisingLemmas.{deck-rising}
 use Rattle.mc_lab.proofs.TrialLemmas.{read-trial, refused-deck}
@@ -15,23 +18,31 @@ returns-in-Err-clause-refused c = subst (λ (e : TrialRefusal). RefusesTrial (tr
 pub first_unanswered-requires-clause-lines : goal.first_unanswered-requires-clause-lines
 first_unanswered-requires-clause-lines c = deck-rising c.args.text.now c.in-Ok.deck c.in-Ok.ensures.lines
 
+-- the expectations of a text that is a deck
+found : (text : List ℕ) (ls : List (ℕ × DeckLine)) (es : List (ℕ × List ℕ)) → deck_read text ≡ Ok ls → OnOk (deck_read text) (es ≡ expectations text) → es ≡ expectations text
+found text ls es deck h = IfOk-at_ok (λ (ls : List (ℕ × DeckLine)). es ≡ expectations text) deck h
+
 pub first_unanswered-requires-clause-expectations : goal.first_unanswered-requires-clause-expectations
 first_unanswered-requires-clause-expectations c =
-    subst (λ (es : List (ℕ × List ℕ)). Rising line_number 1 es) (sym (ap numbered_lines c.as_slice.ensures.value ∙ c.in_ok-expectations.ensures)) (expectations-rise c.args.text.now)
+    let is = found c.args.text.now c.in-Ok.deck (numbered_lines c.in_ok-expectations.expectations.items) c.in-Ok.ensures.lines c.in_ok-expectations.ensures in
+    subst (λ (es : List (ℕ × List ℕ)). Rising line_number 1 es) (sym (ap numbered_lines c.as_slice.ensures.value ∙ is)) (expectations-rise c.args.text.now)
 
 pub returns-in-Some-clause-refused : goal.returns-in-Some-clause-refused
 returns-in-Some-clause-refused c =
     let es = numbered_lines c.as_slice.result.now in
-    read-trial c.args.text.now c.in-Ok.deck es (Some c.in-Some.number) (ap numbered_lines c.as_slice.ensures.value ∙ c.in_ok-expectations.ensures) c.in-Ok.ensures.lines (sym c.in-Some.is ∙ c.first_unanswered.ensures)
+    let is = found c.args.text.now c.in-Ok.deck (numbered_lines c.in_ok-expectations.expectations.items) c.in-Ok.ensures.lines c.in_ok-expectations.ensures in
+    read-trial c.args.text.now c.in-Ok.deck es (Some c.in-Some.number) (ap numbered_lines c.as_slice.ensures.value ∙ is) c.in-Ok.ensures.lines (sym c.in-Some.is ∙ c.first_unanswered.ensures)
 
 pub returns-clause-trial : goal.returns-clause-trial
 returns-clause-trial c =
     let es = numbered_lines c.in_ok-expectations.expectations.items in
     let same = ap numbered_lines c.as_slice.ensures.value in
-    read-trial c.args.text.now c.in-Ok.deck es None c.in_ok-expectations.ensures c.in-Ok.ensures.lines (sym c.in-None.is ∙ c.first_unanswered.ensures ∙ ap (first_unanswered c.in-Ok.deck) same)
+    read-trial c.args.text.now c.in-Ok.deck es None (found c.args.text.now c.in-Ok.deck es c.in-Ok.ensures.lines c.in_ok-expectations.ensures) c.in-Ok.ensures.lines (sym c.in-None.is ∙ c.first_unanswered.ensures ∙ ap (first_unanswered c.in-Ok.deck) same)
 
 pub returns-clause-rising : goal.returns-clause-rising
-returns-clause-rising c = record {
-  lines = deck-rising c.args.text.now c.in-Ok.deck c.in-Ok.ensures.lines;
-  expected = subst (λ (es : List (ℕ × List ℕ)). Rising line_number 1 es) (sym c.in_ok-expectations.ensures) (expectations-rise c.args.text.now);
-}
+returns-clause-rising c =
+    let is = found c.args.text.now c.in-Ok.deck (numbered_lines c.in_ok-expectations.expectations.items) c.in-Ok.ensures.lines c.in_ok-expectations.ensures in
+    record {
+      lines = deck-rising c.args.text.now c.in-Ok.deck c.in-Ok.ensures.lines;
+      expected = subst (λ (es : List (ℕ × List ℕ)). Rising line_number 1 es) (sym is) (expectations-rise c.args.text.now);
+    }

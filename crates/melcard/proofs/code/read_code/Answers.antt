@@ -1,6 +1,7 @@
 use Rattle.std.proofs.Common.{◌<◌, ◌≤◌, arith, length, Some, None}
 use Rattle.std.proofs.lemmas.Result.{err_from_is_err_and}
 use Rattle.melcard.proofs.CodeLemmas.{digits_refused, code_odd, code_large, code_fits, bytes_found}
+use Rattle.mc_model_device.specs.Limits.{most_code}
 use Rattle.melcard.proofs.code.read_code.Goals as goal
 
 pub returns-in_err-digits-clause-refused : goal.returns-in_err-digits-clause-refused
@@ -13,14 +14,14 @@ returns-in_default-clause-refused c =
     let bytes = bytes_found (λ v. v.items) c.in_ok-code.field-0 None c.as_slice.result.now c.in_ok-digits.digits.items c.in_default.is c.as_slice.ensures.value c.in_ok-code.ensures in
     code_odd c.args.text.now c.in_ok-digits.digits.items c.in_ok-digits.lines c.in_ok-digits.ensures.digits c.in_ok-digits.ensures.lines bytes
 
-pub returns-then-len-gt-CODE_LIMIT-clause-refused : goal.returns-then-len-gt-CODE_LIMIT-clause-refused
-returns-then-len-gt-CODE_LIMIT-clause-refused c =
+pub returns-then-len-gt-MOST_CODE-clause-refused : goal.returns-then-len-gt-MOST_CODE-clause-refused
+returns-then-len-gt-MOST_CODE-clause-refused c =
     let bytes = bytes_found (λ v. v.items) c.in_ok-code.field-0 (Some c.in-Some.code) c.as_slice.result.now c.in_ok-digits.digits.items c.in-Some.is c.as_slice.ensures.value c.in_ok-code.ensures in
-    let over : 8192 < length c.in-Some.code.items = omega arith in
+    let over : most_code < length c.in-Some.code.items = omega arith in
     code_large c.args.text.now c.in_ok-digits.digits.items c.in_ok-digits.lines c.in_ok-digits.ensures.digits c.in_ok-digits.ensures.lines c.in-Some.code.items bytes over
 
 pub returns-clause-code : goal.returns-clause-code
 returns-clause-code c =
     let bytes = bytes_found (λ v. v.items) c.in_ok-code.field-0 (Some c.in-Some.code) c.as_slice.result.now c.in_ok-digits.digits.items c.in-Some.is c.as_slice.ensures.value c.in_ok-code.ensures in
-    let fits : length c.in-Some.code.items ≤ 8192 = omega arith in
+    let fits : length c.in-Some.code.items ≤ most_code = omega arith in
     code_fits c.args.text.now c.in_ok-digits.digits.items c.in_ok-digits.lines c.in_ok-digits.ensures.digits c.in_ok-digits.ensures.lines c.in-Some.code.items bytes fits

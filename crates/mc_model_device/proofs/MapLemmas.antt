@@ -1,12 +1,11 @@
--- Laws of maps that are keyed by names: their order, and insertions that may change places.
-use Rattle.std.specs.Prelude.{◌≡◌, ℕ, Bool, true, false, cond, List, [], ◌∷◌, length, bytes_eq, Some, None}
+-- Names and the maps that they key: the order of names, what a map has under a name after an insertion or a removal, and maps whose names ascend.
+use Rattle.std.specs.Prelude.{◌≡◌, ℕ, Bool, true, false, cond, not, List, [], ◌∷◌, length, bytes_eq, Some, None}
 use Rattle.std.specs.List.{AllByRecursion}
-use Rattle.std.proofs.Common.{suc, refl, ap, subst, ◌∙◌, arith}
+use Rattle.std.proofs.Common.{suc, refl, ap, sym, subst, ◌∙◌, arith}
 use Rattle.std.proofs.lemmas.Slice.Eq.{bytes_eq-Decides}
 use Rattle.std.proofs.lemmas.Bool.{false_from_ne_true}
 use Rattle.std.proofs.lemmas.Bool.Decides.{nat_tests}
-use Rattle.mc_model_device.specs.Bytes.{lookup, insert, remove, name_before}
-use Rattle.mc_bank.specs.Bank.{AscendByName}
+use Rattle.mc_model_device.specs.Bytes.{AscendByName, has_name, lookup, insert, remove, name_before}
 
 -- ---- names
 
@@ -39,9 +38,26 @@ before_both (x ∷ xs) [] c h k = absurd (cc h)
 before_both (x ∷ xs) (y ∷ ys) [] h k = absurd (cc k)
 before_both (x ∷ xs) (y ∷ ys) (z ∷ zs) h k = grind (arith, nat_tests, h, k, before_both xs ys zs)
 
+-- names on two sides of a list of names are two
+two_names : (K : List (List ℕ)) (a b : List ℕ) (x : Bool) → has_name a K ≡ x → has_name b K ≡ not x → a ≡ b → ⊥
+two_names K a b true p q e = cc (ap (λ n. has_name n K) e)
+two_names K a b false p q e = cc (ap (λ n. has_name n K) e)
+
+pub apart : (K : List (List ℕ)) (a b : List ℕ) (x : Bool) → has_name a K ≡ x → has_name b K ≡ not x → bytes_eq a b ≡ false
+apart K a b x p q = false_from_ne_true (bytes_eq a b) (λ e. two_names K a b x p q (same_name a b e))
+
 -- ---- maps
 
 module _ {A : Type 0} where
+  -- an entry of this name, and one of another
+  pub lookup-here : (e : List ℕ × A) (es : List (List ℕ × A)) (n : List ℕ) → bytes_eq e.0 n ≡ true → lookup (e ∷ es) n ≡ Some e.1
+  lookup-here e es n h = ap (λ b. cond b (Some e.1) (lookup es n)) h
+
+  pub lookup-there : (e : List ℕ × A) (es : List (List ℕ × A)) (n : List ℕ) → bytes_eq e.0 n ≡ false → lookup (e ∷ es) n ≡ lookup es n
+  lookup-there e es n h = ap (λ b. cond b (Some e.1) (lookup es n)) h
+
+  -- ---- insertion
+
   -- the first entry, by the two tests of an insertion
   pub insert-here : (e : List ℕ × A) (es : List (List ℕ × A)) (n : List ℕ) (a : A) → bytes_eq e.0 n ≡ true → insert (e ∷ es) n a ≡ (n, a) ∷ es
   insert-here e es n a h = ap (λ b. cond b ((n, a) ∷ es) (cond (name_before n e.0) ((n, a) ∷ e ∷ es) (e ∷ insert es n a))) h
@@ -66,14 +82,6 @@ module _ {A : Type 0} where
   pub insert-twice : (es : List (List ℕ × A)) (n : List ℕ) (a b : A) → insert (insert es n a) n b ≡ insert es n b
   insert-twice [] n a b = grind (arith, name_is_itself n)
   insert-twice (e ∷ es) n a b = grind (arith, name_is_itself n, insert-twice es n a b)
-
-  pub remove-none : (es : List (List ℕ × A)) (n : List ℕ) → lookup es n ≡ None → remove es n ≡ es
-  remove-none [] n h = refl
-  remove-none (e ∷ es) n h = grind (arith, h, remove-none es n)
-
-  pub remove-inserted : (es : List (List ℕ × A)) (n : List ℕ) (a : A) → lookup es n ≡ None → remove (insert es n a) n ≡ es
-  remove-inserted [] n a h = grind (arith, name_is_itself n)
-  remove-inserted (e ∷ es) n a h = grind (arith, h, name_is_itself n, remove-none es n, remove-inserted es n a)
 
   pub length-inserted : (es : List (List ℕ × A)) (n : List ℕ) (a : A) → lookup es n ≡ None → length (insert es n a) ≡ suc (length es)
   length-inserted [] n a h = refl
@@ -109,7 +117,46 @@ module _ {A : Type 0} where
         insert-swap es n a m b p,
       )
 
-  -- an insertion keeps what holds of all entries, and their order
+  -- ---- removal
+
+  pub lookup-removed : (es : List (List ℕ × A)) (n : List ℕ) → lookup (remove es n) n ≡ None
+  lookup-removed [] n = refl
+  lookup-removed (e ∷ es) n = by_test (bytes_eq e.0 n) refl (lookup-removed es n)
+    where
+      by_test : (x : Bool) → bytes_eq e.0 n ≡ x → lookup (remove es n) n ≡ None → lookup (cond x (remove es n) (e ∷ remove es n)) n ≡ None
+      by_test true h r = r
+      by_test false h r = lookup-there e (remove es n) n h ∙ r
+
+  pub lookup-left : (es : List (List ℕ × A)) (n k : List ℕ) → bytes_eq n k ≡ false → lookup (remove es n) k ≡ lookup es k
+  lookup-left [] n k p = refl
+  lookup-left (e ∷ es) n k p = by_test (bytes_eq e.0 n) refl (lookup-left es n k p)
+    where
+      by_test : (x : Bool) → bytes_eq e.0 n ≡ x → lookup (remove es n) k ≡ lookup es k → lookup (cond x (remove es n) (e ∷ remove es n)) k ≡ lookup (e ∷ es) k
+      by_test true h r = r ∙ sym (lookup-there e es k (subst (λ (m : List ℕ). bytes_eq m k ≡ false) (sym (same_name e.0 n h)) p))
+      by_test false h r = ap (λ o. cond (bytes_eq e.0 k) (Some e.1) o) r
+
+  pub remove-none : (es : List (List ℕ × A)) (n : List ℕ) → lookup es n ≡ None → remove es n ≡ es
+  remove-none [] n h = refl
+  remove-none (e ∷ es) n h = grind (arith, h, remove-none es n)
+
+  pub remove-inserted : (es : List (List ℕ × A)) (n : List ℕ) (a : A) → lookup es n ≡ None → remove (insert es n a) n ≡ es
+  remove-inserted [] n a h = grind (arith, name_is_itself n)
+  remove-inserted (e ∷ es) n a h = grind (arith, h, name_is_itself n, remove-none es n, remove-inserted es n a)
+
+  -- ---- what holds of every entry
+
+  -- what holds of all entries, holds of one that is found
+  pub each-found : (P : List ℕ × A → Type 0) (es : List (List ℕ × A)) (n : List ℕ) (a : A) → AllByRecursion P es → lookup es n ≡ Some a → P (n, a)
+  each-found P [] n a h e = absurd (cc e)
+  each-found P (f ∷ es) n a h e = by (bytes_eq f.0 n) refl e (λ k. each-found P es n a h.1 k)
+    where
+      by : (b : Bool) → bytes_eq f.0 n ≡ b → cond b (Some f.1) (lookup es n) ≡ Some a → (lookup es n ≡ Some a → P (n, a)) → P (n, a)
+      by true is e rest =
+          let same : f.1 ≡ a = cc e in
+          subst (λ (x : A). P (n, x)) same (subst (λ (k : List ℕ). P (k, f.1)) (same_name f.0 n is) h.0)
+      by false is e rest = rest e
+
+  -- an insertion keeps what holds of all entries
   pub each-inserted : (P : List ℕ × A → Type 0) (es : List (List ℕ × A)) (n : List ℕ) (a : A) → P (n, a) → AllByRecursion P es → AllByRecursion P (insert es n a)
   each-inserted P [] n a p h = (p, tt)
   each-inserted P (e ∷ es) n a p h = by_tests (bytes_eq e.0 n) (name_before n e.0) (each-inserted P es n a p h.1)
@@ -119,16 +166,46 @@ module _ {A : Type 0} where
       by_tests false true r = (p, h)
       by_tests false false r = (h.0, r)
 
+  pub each-removed : (P : List ℕ × A → Type 0) (es : List (List ℕ × A)) (n : List ℕ) → AllByRecursion P es → AllByRecursion P (remove es n)
+  each-removed P [] n h = tt
+  each-removed P (e ∷ es) n h = by (bytes_eq e.0 n) (each-removed P es n h.1)
+    where
+      by : (b : Bool) → AllByRecursion P (remove es n) → AllByRecursion P (cond b (remove es n) (e ∷ remove es n))
+      by true r = r
+      by false r = (h.0, r)
+
+  -- ---- ascending names
+
   -- what comes behind an entry comes behind what is before the entry
   behind-all : (m n : List ℕ) (es : List (List ℕ × A)) → name_before m n ≡ true → AllByRecursion (λ f. name_before n f.0 ≡ true) es → AllByRecursion (λ f. name_before m f.0 ≡ true) es
   behind-all m n [] b h = tt
   behind-all m n (e ∷ es) b h = (before_both m n e.0 b h.0, behind-all m n es b h.1)
 
-  pub ascend-inserted : (es : List (List ℕ × A)) (n : List ℕ) (a : A) → AscendByName es → AscendByName (insert es n a)
-  ascend-inserted [] n a h = (tt, tt)
-  ascend-inserted (e ∷ es) n a h = by_tests (bytes_eq e.0 n) (name_before n e.0) refl refl (ascend-inserted es n a h.1)
+  pub ascending-inserted : (es : List (List ℕ × A)) (n : List ℕ) (a : A) → AscendByName es → AscendByName (insert es n a)
+  ascending-inserted [] n a h = (tt, tt)
+  ascending-inserted (e ∷ es) n a h = by_tests (bytes_eq e.0 n) (name_before n e.0) refl refl (ascending-inserted es n a h.1)
     where
       by_tests : (x y : Bool) → bytes_eq e.0 n ≡ x → name_before n e.0 ≡ y → AscendByName (insert es n a) → AscendByName (cond x ((n, a) ∷ es) (cond y ((n, a) ∷ e ∷ es) (e ∷ insert es n a)))
       by_tests true y p q r = (subst (λ (m : List ℕ). AllByRecursion (λ f. name_before m f.0 ≡ true) es) (same_name e.0 n p) h.0, h.1)
       by_tests false true p q r = ((q, behind-all n e.0 es q h.0), h)
       by_tests false false p q r = (each-inserted (λ f. name_before e.0 f.0 ≡ true) es n a (one_before n e.0 (other_way e.0 n p) q) h.0, r)
+
+  pub ascending-removed : (es : List (List ℕ × A)) (n : List ℕ) → AscendByName es → AscendByName (remove es n)
+  ascending-removed [] n h = tt
+  ascending-removed (e ∷ es) n h = by (bytes_eq e.0 n) (ascending-removed es n h.1)
+    where
+      by : (b : Bool) → AscendByName (remove es n) → AscendByName (cond b (remove es n) (e ∷ remove es n))
+      by true r = r
+      by false r = (each-removed (λ f. name_before e.0 f.0 ≡ true) es n h.0, r)
+
+  -- an insertion under a name that is there makes no entry more
+  pub length-again : (es : List (List ℕ × A)) (n : List ℕ) (a b : A) → AscendByName es → lookup es n ≡ Some a → length (insert es n b) ≡ length es
+  length-again [] n a b h e = absurd (cc e)
+  length-again (f ∷ es) n a b h e = by (bytes_eq f.0 n) e (λ k. length-again es n a b h.1 k)
+    where
+      by : (x : Bool) → cond x (Some f.1) (lookup es n) ≡ Some a → (lookup es n ≡ Some a → length (insert es n b) ≡ length es)
+          → length (cond x ((n, b) ∷ es) (cond (name_before n f.0) ((n, b) ∷ f ∷ es) (f ∷ insert es n b))) ≡ suc (length es)
+      by true e rest = refl
+      by false e rest =
+          let before : name_before f.0 n ≡ true = each-found (λ g. name_before f.0 g.0 ≡ true) es n a h.0 e in
+          ap (λ (y : Bool). length (cond y ((n, b) ∷ f ∷ es) (f ∷ insert es n b))) (not_after f.0 n before) ∙ ap suc (rest e)

@@ -1,0 +1,54 @@
+-- Pieces of bytes that are laid over a list: pieces after others, the words that they touch, and the pending words that hold them.
+use Rattle.std.proofs.Common.{◌≡◌, ℕ, ◌+◌, ◌*◌, ◌/◌, ◌<◌, ◌≤◌, List, [], ◌∷◌, ◌++◌, length, refl, ap, subst, ◌∙◌, arith}
+use Rattle.std.specs.Prelude.{IfSome, slice_index}
+use Rattle.std.proofs.lemmas.Bool.Decides.{nat_tests}
+use Rattle.mc_model_device.specs.Bytes.{splice}
+use Rattle.mc_model_device.specs.Pieces.{laid_pieces, touched, with_number, with_words, with_touched, pending_at, HoldPieces}
+
+-- pieces that are laid after others
+pub laid-append : (l : List ℕ) (ps qs : List (ℕ × List ℕ)) → laid_pieces l (ps ++ qs) ≡ laid_pieces (laid_pieces l ps) qs
+laid-append l [] qs = refl
+laid-append l (p ∷ ps) qs = laid-append (splice l p.0 p.1) ps qs
+
+-- the words that they touch
+pub with_touched-append : (ns : List ℕ) (ps qs : List (ℕ × List ℕ)) → with_touched ns (ps ++ qs) ≡ with_touched (with_touched ns ps) qs
+with_touched-append ns [] qs = refl
+with_touched-append ns (p ∷ ps) qs = with_touched-append (with_words p.0 p.1 ns) ps qs
+
+pub touched-append : (ps qs : List (ℕ × List ℕ)) → touched (ps ++ qs) ≡ with_touched (touched ps) qs
+unfolding touched
+touched-append ps qs = with_touched-append [] ps qs
+
+-- no pieces touch no word, so few enough to be pending
+pub none-touched : length (touched []) ≤ 64
+unfolding touched
+none-touched = omega arith
+
+-- ---- the words of a piece's bytes
+
+pub with_number_twice : (n : ℕ) (ns : List ℕ) → with_number n (with_number n ns) ≡ with_number n ns
+with_number_twice n [] = grind (arith, nat_tests)
+with_number_twice n (k ∷ ks) = grind (arith, nat_tests, with_number_twice n ks)
+
+-- bytes of a word that is there
+pub same_word : (n at : ℕ) (b ns : List ℕ) → 8 * n ≤ at → at + length b ≤ 8 * n + 8 → with_words at b (with_number n ns) ≡ with_number n ns
+same_word n at [] ns low high = refl
+same_word n at (x ∷ b) ns low high =
+    let here : at / 8 ≡ n = omega arith in
+    let once : with_number (at / 8) (with_number n ns) ≡ with_number n ns = ap (λ (m : ℕ). with_number m (with_number n ns)) here ∙ with_number_twice n ns in
+    ap (with_words (at + 1) b) once ∙ same_word n (at + 1) b ns (omega arith) (omega arith)
+
+-- bytes that lie in one word
+pub one_word : (n at : ℕ) (b ns : List ℕ) → 0 < length b → 8 * n ≤ at → at + length b ≤ 8 * n + 8 → with_words at b ns ≡ with_number n ns
+one_word n at [] ns some low high = absurd (omega arith)
+one_word n at (x ∷ b) ns some low high =
+    let here : at / 8 ≡ n = omega arith in
+    ap (λ (m : ℕ). with_words (at + 1) b (with_number m ns)) here ∙ same_word n (at + 1) b ns (omega arith) (omega arith)
+
+-- words that hold pieces hold others that touch the same words and leave the same bytes
+pub held_same : (l : List ℕ) (ps qs ws : List (ℕ × List ℕ)) → touched ps ≡ touched qs → laid_pieces l ps ≡ laid_pieces l qs → HoldPieces l ps ws → HoldPieces l qs ws
+held_same l ps qs ws words laid held = record {
+  pending = held.pending;
+  touched_words = held.touched_words ∙ words;
+  bytes = λ n k lt within. subst (λ (t : List ℕ). IfSome (pending_at ws n) (λ b. slice_index b k ≡ slice_index t (8 * n + k))) laid (held.bytes n k lt within);
+}
