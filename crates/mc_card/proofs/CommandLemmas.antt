@@ -10,21 +10,22 @@ use Rattle.mc_model_card.specs.Items.{BankItem, write_items}
 use Rattle.mc_model_machine.specs.Chain.{Chain, Ran, start, run}
 use Rattle.mc_model_card.specs.Manager.{Selected, Seat, Route, WrongClass, ToSelect, ToManager, ToApplication, routed, route}
 use Rattle.mc_model_card.specs.Commands.{Command, command, status, ran_command, passed, by_route}
+use Rattle.mc_apdu.specs.declared.reply.Reply.{Reply}
 use Rattle.mc_bank.specs.Bank.{BankState, app_of, name_or}
 use Rattle.mc_manager.specs.declared.selection.Selection.{Selection}
 use Rattle.mc_manager.specs.CommandDue.{most_ticks}
+use Rattle.mc_machine.specs.declared.outcome.End.{End}
 use Rattle.mc_machine.specs.declared.outcome.Outcome.{Outcome}
 use Rattle.mc_machine.specs.Chains.{Chained, RunsAs, ChainWrote}
-use Rattle.mc_machine.specs.Turns.{outcome_value}
-use Rattle.mc_machine.specs.Lone.{RanDone}
+use Rattle.mc_machine.specs.Turns.{outcome_value, outcome_by, placed}
 use Rattle.mc_store.specs.declared.store.Store.{Store}
 use Rattle.mc_store.specs.Store.{apps_in, store_state, store_named}
 use Rattle.mc_store.specs.StoreItems.{store_did}
 use Rattle.mc_store.specs.GoingLaws.{going_is}
 use Rattle.mc_card.specs.declared.card.Card.{Card}
-use Rattle.mc_card.specs.Parts.{card_in, seat_in, view_in, due, IsReadyCard}
-use Rattle.mc_card.specs.Ends.{RunSteps, PassedSteps, RouteSteps, is_passed, most_weight, Commanded, PassedToChain, Answered}
-use Rattle.mc_card.specs.ItemWrites.{MadeWithin}
+use Rattle.mc_card.specs.Parts.{device_in, card_in, seat_in, view_in, due, IsReadyCard}
+use Rattle.mc_card.specs.Ends.{RunSteps, PassedSteps, RouteSteps, is_passed, most_weight, put_in, Commanded, PassedToChain, Answered}
+use Rattle.mc_card.specs.ItemWrites.{ItemsMade, MadeWithin}
 use Rattle.mc_card.specs.Managing.{IsAnswered, IsPassed}
 use Rattle.mc_card.proofs.StaticLemmas.{going-apps}
 use Rattle.mc_card.proofs.ManagerLemmas.{going-base}
@@ -105,16 +106,17 @@ module _ {N : Type 0} (state : N → DeviceState) (wrote : N → ℕ → List �
     pub session : OnOk result (bytes ≡ r.session)
     pub going : OnOk result ((bank_state e).stopped ≡ false)
 
-  -- a run by its result did so
-  pub run-did : (c : Card N) (r : Ran) (result : Result Outcome Stop) (e : Store N) (bytes : List ℕ) (old new : ℕ) → RanDone did bank_state c.store e c.session bytes old new r result → RunDid c r result e bytes
-  run-did c r (Ok o) e bytes old new h = record { writes = h.writes; outcome = h.outcome; session = h.session; going = h.going }
-  run-did c r (Err s) e bytes old new h = record { writes = h.writes; outcome = tt; session = tt; going = tt }
+  -- a run by its result did so, whose reply was written to a place
+  pub run-did : (c : Card N) (r : Ran) (x : Result End Stop) (reply : Reply) (e : Store N) (bytes : List ℕ) → InOrder (ChainWrote did bank_state) c.store r.writes (answer_of x) e
+      → IfOk x (λ o. outcome_value (outcome_by o reply) ≡ r.outcome) → OnOk x (bytes ≡ r.session) → OnOk x ((bank_state e).stopped ≡ false) → RunDid c r (placed x reply) e bytes
+  run-did c r (Ok o) reply e bytes writes outcome session going = record { writes = writes; outcome = outcome; session = session; going = going }
+  run-did c r (Err s) reply e bytes writes outcome session going = record { writes = writes; outcome = tt; session = tt; going = tt }
 
   -- and it counted its steps
-  pub run-counted : (c : Card N) (r : Ran) (result : Result Outcome Stop) (e : Store N) (bytes : List ℕ) (old new : ℕ) → RanDone did bank_state c.store e c.session bytes old new r result
-      → OnOk result (new ≡ old + r.count) × OnErr result (new ≤ old + r.count)
-  run-counted c r (Ok o) e bytes old new h = (h.count, tt)
-  run-counted c r (Err s) e bytes old new h = (tt, h.count)
+  pub run-counted : (r : Ran) (x : Result End Stop) (reply : Reply) (old new : ℕ) → OnOk x (new ≡ old + r.count) → OnErr x (new ≤ old + r.count)
+      → OnOk (placed x reply) (new ≡ old + r.count) × OnErr (placed x reply) (new ≤ old + r.count)
+  run-counted r (Ok o) reply old new ticks most = (ticks, tt)
+  run-counted r (Err s) reply old new ticks most = (tt, most)
 
   -- the run of the application of a slot
   abbrev pub run_of : Card N → ℕ → ApduParts → ℕ → Ran
@@ -273,3 +275,11 @@ module _ {N : Type 0} (state : N → DeviceState) (wrote : N → ℕ → List �
       subst (λ (x : Card N). PassedToChain state wrote c bytes budget (record x { chain = Some k })) (sym p.unchanged)
       (begun-done c ready p.selected p.is a budget slot bytes k p.slot_is read p.route
       (subst (λ (x : Card N). RunsAs (view_in state x).state (view_in state x).named k (start (apps_in (state x.store.device).words) (name_or (store_named (state x.store.device) slot)) x.session a)) p.unchanged runs) left)
+
+-- ---- a command whose outcome was written to a place
+
+pub commanded_into : {N : Type 0} (state : N → DeviceState) (wrote : N → ℕ → List ℕ → Answer → N → Type 0) (c d : Card N) (r : Command) (x : Result (Unit {0}) Stop) (o : Outcome)
+    → ItemsMade state wrote (card_in state c) r.items (device_in c) (answer_of x) (device_in d) → OnOk x (outcome_value o ≡ r.outcome) → OnOk x (seat_in state d ≡ r.seat) → OnOk x (IsReadyCard state d)
+    → Commanded state wrote c r (put_in x o) d
+commanded_into state wrote c d r (Ok u) o made outcome seat ready = record { made = made; outcome = outcome; seat = seat; ready = ready }
+commanded_into state wrote c d r (Err s) o made outcome seat ready = record { made = made; outcome = tt; seat = tt; ready = tt }

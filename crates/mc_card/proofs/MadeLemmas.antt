@@ -29,7 +29,7 @@ use Rattle.mc_store.specs.CreationLaws.{creates-plan}
 use Rattle.mc_store.specs.DeletionLaws.{deletes-plan}
 use Rattle.mc_store.specs.TurnLaws.{CardChanged, Standing, standing-of, turns}
 use Rattle.mc_store.proofs.StopLemmas.{item_stops}
-use Rattle.mc_card.specs.ItemWrites.{IsCardAfterStop, CountsWrites, IsCardAfter, ItemsMade}
+use Rattle.mc_card.specs.ItemWrites.{IsCardAfterStop, CountsWrites, IsCardAfter, ItemsMade, StopsAtEach}
 use Rattle.mc_model_device.proofs.LayoutLemmas.{closed_fault, closed_means}
 use Rattle.mc_model_card.proofs.ItemLemmas.{moves-append, card-append, behind, stop-within, stop-past}
 use Rattle.mc_model_device.proofs.BoolLemmas.{some-is}

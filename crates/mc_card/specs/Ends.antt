@@ -11,7 +11,6 @@ use Rattle.mc_model_card.specs.Manager.{Selected, Route, WrongLength, WrongClass
 use Rattle.mc_model_card.specs.Commands.{Command}
 use Rattle.mc_model_card.specs.Items.{write_items}
 use Rattle.mc_machine.specs.declared.outcome.Outcome.{Outcome}
-use Rattle.mc_machine.specs.declared.outcome.Outcome.TheVariants as outcome
 use Rattle.mc_machine.specs.declared.outcome.Turn.{Turn}
 use Rattle.mc_machine.specs.Turns.{outcome_value, turn_value}
 use Rattle.mc_manager.specs.CommandDue.{most_ticks}
@@ -71,11 +70,6 @@ restarted c (Err u) = failed u
 abbrev pub device_after : {N : Type 0} → Result (Card N × ℕ) (N × Up) → N
 device_after (Ok p) = device_in p.0
 device_after (Err p) = p.0
-
--- an outcome is a reply
-abbrev pub IsReply : Outcome → Type 0
-IsReply (outcome.Reply r) = Unit {0}
-IsReply (outcome.Abend a) = ⊥
 
 -- the result of a command whose outcome was put in a place
 abbrev pub put_in : Result (Unit {0}) Stop → Outcome → Result Outcome Stop

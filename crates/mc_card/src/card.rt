@@ -8,12 +8,12 @@ ghost use Rattle.mc_model_machine.specs.Code.{Shaped};
 ghost use Rattle.mc_model_card.specs.Commands.{status};
 ghost use Rattle.mc_bank.specs.Bank.{app_of};
 ghost use Rattle.mc_machine.specs.declared.outcome.Outcome.TheVariants as outcome;
-ghost use Rattle.mc_machine.specs.Turns.{outcome_value, put_out, placed, WritesFew};
+ghost use Rattle.mc_machine.specs.Turns.{outcome_value, put_out, placed, IsReply, WritesFew};
 ghost use Rattle.mc_store.specs.Power.{power_writes, power_answer, PowersUp};
 ghost use Rattle.mc_card.specs.Parts.{device_in, card_in, seat_in, due, IsUp, IsReadyCard, RunsChain, IsRunning};
 ghost use Rattle.mc_card.specs.Ends.{powered, restarted, device_after, Commanded, Begun, ChainTurned, RouteSteps};
-ghost use Rattle.mc_card.specs.Ends.{BeginSteps, IsReply, put_in, most_weight};
-ghost use Rattle.mc_card.specs.ItemWrites.{MadeWithin};
+ghost use Rattle.mc_card.specs.Ends.{BeginSteps, most_weight};
+ghost use Rattle.mc_card.specs.ItemWrites.{ItemsMade, MadeWithin};
 
 use crate::managing::Directed;
 use arrayvec::ArrayVec;
@@ -38,33 +38,38 @@ pub struct Card<N: Nvm> {
 }
 
 impl<N: Nvm> Card<N> {
-    /// The card in a device whose power is on, and the number of device writes that it took: those that are owed, a journal that is open
-    /// being replayed, and the six of a migration where the card has layout 1. Nothing is selected and no load is open. It gives the
-    /// device back where a write stops, and with the first fault and its place where the words are no card.
+    /// Returns the card in `dev`, whose power is on, and the number of device writes that recovery and migration made (at most 71).
+    /// Nothing is selected and no load is open.
+    ///
+    /// It is `restart` of a card that is `asleep` over `dev`.
+    ///
+    /// # Errors
+    ///
+    /// Returns the device with `Up::Stop` if it cut or refused a write, and with `Up::Unusable`, the first fault and its place, if the
+    /// words are no card.
     pub fn power_up(dev: N) -> Result<(Card<N>, u16), (N, Up)>
         requires power { (N.state dev).on ≡ true }
+        // Up to the first one that stops it makes the writes that recovery still has to make and then those of the migration.
         ensures makes { Makes N.wrote dev (power_writes (N.state dev).words) (power_answer (powered result))
             (device_after result) }
+        // The applications are those that the words meant; after a fault or a stop the words are what the rule of stops says.
         ensures ends { PowersUp (N.state dev) (powered result) (N.state (device_after result)) }
+        // The card runs, and no command does.
         ensures ready { IfOk result (λ p. IsReadyCard N.state p.0) }
+        // Nothing is selected, and no load is open.
         ensures seat { IfOk result (λ p. seat_in N.state p.0 ≡ empty_seat) }
+        // The device is the one that came in.
         ensures lent { N.same dev (device_after result) }
     {
-        match Store::power_up(dev) {
-            Err(failed) => Err(failed),
-            Ok((store, writes)) => Ok((
-                Card {
-                    store,
-                    manager: Manager::new(),
-                    session: Session::new(0),
-                    chain: None,
-                },
-                writes,
-            )),
+        let mut card = Card::asleep(dev);
+        match card.restart() {
+            Ok(writes) => Ok((card, writes)),
+            Err(up) => Err((card.into_dev(), up)),
         }
     }
 
-    /// A card in a device that holds none yet: it is good for its device alone until it is restarted.
+    /// Returns a card over a device whose words are not looked at yet. Until a `restart` succeeds only `into_dev` and `restart` may be
+    /// called.
     pub fn asleep(dev: N) -> Card<N>
         ensures { device_in result ≡ dev }
     {
@@ -76,16 +81,26 @@ impl<N: Nvm> Card<N> {
         }
     }
 
-    /// The same as `power_up`, in place, of a card whose device's power was turned on: the number of device writes that it took. Where it
-    /// fails, the card is good for its device and for another restart alone.
+    /// Looks for the card in its device, whose power was turned on, and returns the number of device writes that recovery and migration
+    /// made (at most 71). Nothing is selected and no load is open then, and no command runs.
+    ///
+    /// # Errors
+    ///
+    /// Returns `Up::Stop` if the device cut or refused a write, and `Up::Unusable`, the first fault and its place, if the words are no
+    /// card. After either only `into_dev` and `restart` may be called.
     pub fn restart(&mut self) -> Result<u16, Up>
         requires power { (N.state (device_in self.old)).on ≡ true }
+        // Up to the first one that stops it makes the writes that recovery still has to make and then those of the migration.
         ensures makes { Makes N.wrote (device_in self.old) (power_writes (N.state (device_in self.old)).words)
             (power_answer (restarted self.new result)) (device_in self.new) }
+        // The applications are those that the words meant; after a fault or a stop the words are what the rule of stops says.
         ensures ends { PowersUp (N.state (device_in self.old)) (restarted self.new result)
             (N.state (device_in self.new)) }
+        // The card runs, and no command does.
         ensures ready { IfOk result (λ n. IsReadyCard N.state self.new) }
+        // Nothing is selected, and no load is open.
         ensures seat { IfOk result (λ n. seat_in N.state self.new ≡ empty_seat) }
+        // The device is the one that was there.
         ensures lent { N.same (device_in self.old) (device_in self.new) }
     {
         let writes = self.store.restart()?;
@@ -106,11 +121,14 @@ impl<N: Nvm> Card<N> {
         self.chain = None;
     }
 
-    /// One command, as its bytes come (ISO/IEC 7816-4), with a budget of 1 to 65,536 instructions for an application that runs it. A
-    /// wrong length answers 6700. The outcome is a reply, or the abend of the application.
+    /// Runs one command, `bytes` as they come (ISO/IEC 7816-4), and returns its outcome: a reply, or the abend of the application that
+    /// ran it. `budget` is 1 to 65,536 instructions for that application. A command of a wrong length is answered 6700.
     ///
-    /// A `Stop` comes only where a count of cuts or faults of the device rose; after it the card is good for `into_dev` alone. Each
-    /// instruction of an application is one step, and each word that an OPEN reads in its search for room.
+    /// It is `command_into` with an outcome of its own.
+    ///
+    /// # Errors
+    ///
+    /// Returns the `Stop` of the device. After a `Stop` only `into_dev` and `restart` may be called.
     pub fn command<L: Ledger>(
         &mut self,
         bytes: &[u8],
@@ -120,22 +138,41 @@ impl<N: Nvm> Card<N> {
         requires ready { IsReadyCard N.state self.old }
         requires some { 1 ≤ budget }
         requires budget { budget ≤ 65536 }
-        ensures done { Commanded N.state N.wrote self.old (due N.state self.old bytes.now budget) result self.new }
+        // Its device writes are those of its items in order; wherever one stops, the words are the card after the items that are
+        // whole then, and without a stop after all of them.
+        ensures made { ItemsMade N.state N.wrote (card_in N.state self.old)
+            (due N.state self.old bytes.now budget).items (device_in self.old) (answer_of result)
+            (device_in self.new) }
+        // The outcome is that of its row.
+        ensures outcome { IfOk result (λ o. outcome_value o ≡ (due N.state self.old bytes.now budget).outcome) }
+        // So are the selection, its session bytes and the open load.
+        ensures seat { OnOk result (seat_in N.state self.new ≡ (due N.state self.old bytes.now budget).seat) }
+        // The card is ready for the next command.
+        ensures on { OnOk result (IsReadyCard N.state self.new) }
+        // Each instruction of an application is one step, and of the other commands OPEN alone makes any.
         ensures steps { RouteSteps (card_in N.state self.old) (seat_in N.state self.old).selected budget
             (route bytes.now) (answer_of result) steps.old steps.new }
+        // Each item that was begun makes at most 147 device writes if an application runs, and 84 if the manager answers.
         ensures few { IsSized (N.state (device_in self.old)).words → MadeWithin N.wrote (most_weight (route bytes.now))
             (due N.state self.old bytes.now budget).items (device_in self.old) (answer_of result)
             (device_in self.new) }
+        // A stop comes only if the device's count of cuts or faults rose.
         ensures ended { Ended (answer_of result) (N.state (device_in self.old)) (N.state (device_in self.new)) }
+        // The device is the one that was there.
         ensures lent { N.same (device_in self.old) (device_in self.new) }
     {
-        let mut outcome = done();
+        let mut outcome = Outcome::done();
         self.command_into(bytes, budget, &mut outcome, steps)?;
         Ok(outcome)
     }
 
-    /// The same command, whose outcome is put in place of another. A reply of 1,024 bytes is dear to hand on; after a `Stop` what is left
-    /// in its place tells nothing.
+    /// Runs one command, `bytes` as they come (ISO/IEC 7816-4), and writes its outcome to `into`, in place to avoid copying it: a reply,
+    /// or the abend of the application that ran it. `budget` is 1 to 65,536 instructions for that application. A command of a wrong
+    /// length is answered 6700.
+    ///
+    /// # Errors
+    ///
+    /// Returns the `Stop` of the device. The contents of `into` are unspecified then, and only `into_dev` and `restart` may be called.
     pub fn command_into<L: Ledger>(
         &mut self,
         bytes: &[u8],
@@ -146,14 +183,27 @@ impl<N: Nvm> Card<N> {
         requires ready { IsReadyCard N.state self.old }
         requires some { 1 ≤ budget }
         requires budget { budget ≤ 65536 }
-        ensures done { Commanded N.state N.wrote self.old (due N.state self.old bytes.now budget)
-            (put_in result into.new) self.new }
+        // Its device writes are those of its items in order; wherever one stops, the words are the card after the items that are
+        // whole then, and without a stop after all of them.
+        ensures made { ItemsMade N.state N.wrote (card_in N.state self.old)
+            (due N.state self.old bytes.now budget).items (device_in self.old) (answer_of result)
+            (device_in self.new) }
+        // The outcome is that of its row.
+        ensures outcome { OnOk result (outcome_value into.new ≡ (due N.state self.old bytes.now budget).outcome) }
+        // So are the selection, its session bytes and the open load.
+        ensures seat { OnOk result (seat_in N.state self.new ≡ (due N.state self.old bytes.now budget).seat) }
+        // The card is ready for the next command.
+        ensures on { OnOk result (IsReadyCard N.state self.new) }
+        // Each instruction of an application is one step, and of the other commands OPEN alone makes any.
         ensures steps { RouteSteps (card_in N.state self.old) (seat_in N.state self.old).selected budget
             (route bytes.now) (answer_of result) steps.old steps.new }
+        // Each item that was begun makes at most 147 device writes if an application runs, and 84 if the manager answers.
         ensures few { IsSized (N.state (device_in self.old)).words → MadeWithin N.wrote (most_weight (route bytes.now))
             (due N.state self.old bytes.now budget).items (device_in self.old) (answer_of result)
             (device_in self.new) }
+        // A stop comes only if the device's count of cuts or faults rose.
         ensures ended { Ended (answer_of result) (N.state (device_in self.old)) (N.state (device_in self.new)) }
+        // The device is the one that was there.
         ensures lent { N.same (device_in self.old) (device_in self.new) }
     {
         make_reply(into);
@@ -166,7 +216,7 @@ impl<N: Nvm> Card<N> {
         }
     }
 
-    // The same command, whose reply is put in place of another where it ends with one. An outcome that is a reply has that place.
+    // Runs one command, whose reply is written to the reply that an outcome is, if it ends with one.
     fn perform_in<L: Ledger>(
         &mut self,
         bytes: &[u8],
@@ -192,7 +242,7 @@ impl<N: Nvm> Card<N> {
         }
     }
 
-    // The same command, whose reply is put in place of another where it ends with one.
+    // Runs one command, whose reply is written to `reply`, if it ends with one.
     fn perform<L: Ledger>(
         &mut self,
         bytes: &[u8],
@@ -332,30 +382,11 @@ fn make_reply(outcome: &mut Outcome)
 {
     match outcome {
         Outcome::Reply(_) => {}
-        Outcome::Abend(_) => put_done(outcome),
+        Outcome::Abend(_) => outcome.put_done(),
     }
 }
 
-// An outcome before a command: a reply without data.
-fn done() -> Outcome
-    ensures { IsReply result }
-{
-    Outcome::Reply(Reply {
-        body: ArrayVec::new(),
-        sw: 0x9000,
-    })
-}
-
-// Puts a reply without data in place of an outcome. The new outcome's place is cleared where it is made, so this is a call of its own.
-#[cold]
-#[inline(never)]
-fn put_done(outcome: &mut Outcome)
-    ensures { IsReply outcome.new }
-{
-    *outcome = done();
-}
-
-// The same of an abend.
+// Puts an abend in place of an outcome. The new outcome's place is cleared where it is made, so this is a call of its own.
 #[cold]
 #[inline(never)]
 fn put_abend(into: &mut Outcome, abend: Abend)

@@ -1,6 +1,7 @@
 -- A run by its turns: what is left to run leads where the whole leads.
 use Rattle.std.proofs.Common.{◌≡◌, ℕ, zero, suc, ◌+◌, ◌-◌, ◌≤◌, ◌<◌, ◌≢◌, false, List, [], Option, Some, None, Result, Ok, Err, arith, refl, sym, ap, subst, ◌∙◌}
 use Rattle.std.specs.Prelude.{option_map, IfOk, OnOk, OnErr}
+use Rattle.std.specs.List.{AllByRecursion}
 use Rattle.mc_model_machine.specs.declared.instruction.Ins.{Ins}
 use Rattle.mc_model_machine.specs.declared.instruction.DecodeFault.{DecodeFault}
 use Rattle.mc_model_machine.specs.declared.instruction.DecodeFault.TheVariants.{Undefined, Past}
@@ -12,7 +13,8 @@ use Rattle.mc_model_card.specs.Items.{BankItem}
 use Rattle.mc_model_machine.specs.Code.{decoded}
 use Rattle.mc_model_device.specs.Bytes.{lookup}
 use Rattle.mc_model_machine.specs.Row.{RowEnd, Abends, Does, row}
-use Rattle.mc_model_machine.specs.Chain.{Chain, Outcome, Abended, Acted, Ran, Follows, Continues, Ends, around, code_in, stepped, first_frame, chain_session, row_turn, fetched, acted, spent, turn_of, end_of, ends_with, goes_on, ran_on, ran, called}
+use Rattle.mc_model_machine.specs.Chain.{Chain, Outcome, Abended, Acted, Write, Ran, Follows, Continues, Ends, around, code_in, stepped, first_frame, chain_session, row_turn, fetched, acted, spent, turn_of, end_of, ends_with, goes_on, ran_on, ran, called}
+use Rattle.mc_apdu.specs.declared.reply.Reply.{Reply}
 use Rattle.mc_bank.specs.Bank.{BankState}
 use Rattle.mc_machine.specs.declared.outcome.End.{End}
 use Rattle.mc_machine.specs.declared.outcome.Step.{Step}
@@ -20,7 +22,8 @@ use Rattle.mc_machine.proofs.ReadsLemmas.{session_runs}
 use Rattle.mc_machine.specs.Chains.{Chained, RunsAs, ChainWrote, session_in}
 use Rattle.mc_machine.specs.Lone.{EndDone, Delegated, Finished, RanDone}
 use Rattle.mc_machine.specs.declared.outcome.Outcome.{Outcome as CodeOutcome}
-use Rattle.mc_machine.specs.Turns.{Follow, TurnActs, ActDone, end_value, outcome_value}
+use Rattle.mc_machine.specs.Turns.{Follow, TurnActs, ActDone, end_value, outcome_value, outcome_by, placed}
+use Rattle.mc_machine.proofs.FewLemmas.{all_few}
 
 -- ---- turns of the definition
 
@@ -244,31 +247,35 @@ something_left budget turn lt = omega (arith, lt)
 pub lone_left : (n turn budget : ℕ) → n + turn ≡ budget → n ≡ budget - turn
 lone_left n turn budget e = omega (arith, e)
 
-module _ {B : Type 0} (did : B → BankItem → Answer → B → Type 0) (state : B → BankState) (b e : B) (bytes left : List ℕ) (ticks steps : ℕ) (whole : Ran) where
-  pub ran_writes : (r : Result CodeOutcome Stop) → RanDone did state b e bytes left ticks steps whole r → InOrder (ChainWrote did state) b whole.writes (answer_of r) e
+module _ {B : Type 0} (did : B → BankItem → Answer → B → Type 0) (state : B → BankState) (b e : B) (bytes left : List ℕ) (ticks steps : ℕ) (whole : Ran) (reply : Reply) where
+  pub ran_writes : (x : Result End Stop) → RanDone did state b e bytes left ticks steps whole (placed x reply) → InOrder (ChainWrote did state) b whole.writes (answer_of x) e
   ran_writes (Ok o) f = f.writes
   ran_writes (Err s) h = h.writes
 
-  pub ran_outcome : (r : Result CodeOutcome Stop) → RanDone did state b e bytes left ticks steps whole r → IfOk r (λ o. outcome_value o ≡ whole.outcome)
+  pub ran_few : (x : Result End Stop) → RanDone did state b e bytes left ticks steps whole (placed x reply) → OnOk x (AllByRecursion (λ (w : Write). w.words ≤ 64) whole.writes)
+  ran_few (Ok o) f = all_few did state whole.writes b e f.writes
+  ran_few (Err s) h = tt
+
+  pub ran_outcome : (x : Result End Stop) → RanDone did state b e bytes left ticks steps whole (placed x reply) → IfOk x (λ o. outcome_value (outcome_by o reply) ≡ whole.outcome)
   ran_outcome (Ok o) f = f.outcome
   ran_outcome (Err s) h = tt
 
-  pub ran_session : (r : Result CodeOutcome Stop) → RanDone did state b e bytes left ticks steps whole r → OnOk r (left ≡ whole.session)
+  pub ran_session : (x : Result End Stop) → RanDone did state b e bytes left ticks steps whole (placed x reply) → OnOk x (left ≡ whole.session)
   ran_session (Ok o) f = f.session
   ran_session (Err s) h = tt
 
-  pub ran_ticks : (r : Result CodeOutcome Stop) → RanDone did state b e bytes left ticks steps whole r → OnOk r (steps ≡ ticks + whole.count)
+  pub ran_ticks : (x : Result End Stop) → RanDone did state b e bytes left ticks steps whole (placed x reply) → OnOk x (steps ≡ ticks + whole.count)
   ran_ticks (Ok o) f = f.count
   ran_ticks (Err s) h = tt
 
-  pub ran_most : (r : Result CodeOutcome Stop) → RanDone did state b e bytes left ticks steps whole r → OnErr r (steps ≤ ticks + whole.count)
+  pub ran_most : (x : Result End Stop) → RanDone did state b e bytes left ticks steps whole (placed x reply) → OnErr x (steps ≤ ticks + whole.count)
   ran_most (Ok o) f = tt
   ran_most (Err s) h = h.count
 
-  pub ran_going : (r : Result CodeOutcome Stop) → RanDone did state b e bytes left ticks steps whole r → OnOk r ((state e).stopped ≡ false)
+  pub ran_going : (x : Result End Stop) → RanDone did state b e bytes left ticks steps whole (placed x reply) → OnOk x ((state e).stopped ≡ false)
   ran_going (Ok o) f = f.going
   ran_going (Err s) h = tt
 
-  pub ran_unchanged : (r : Result CodeOutcome Stop) → RanDone did state b e bytes left ticks steps whole r → OnErr r (left ≡ bytes)
+  pub ran_unchanged : (x : Result End Stop) → RanDone did state b e bytes left ticks steps whole (placed x reply) → OnErr x (left ≡ bytes)
   ran_unchanged (Ok o) f = tt
   ran_unchanged (Err s) h = h.session

@@ -31,6 +31,11 @@ abbrev pub outcome_value : Outcome → model.Outcome
 outcome_value (outcome.Reply r) = model.Reply r.body.items r.sw
 outcome_value (outcome.Abend a) = model.Abended a
 
+-- an outcome is a reply
+abbrev pub IsReply : Outcome → Type 0
+IsReply (outcome.Reply r) = Unit {0}
+IsReply (outcome.Abend a) = ⊥
+
 -- the outcome of an end, with these public bytes and this Le
 abbrev pub end_value : List ℕ → ℕ → End → model.Outcome
 end_value public le end.Reply = model.Reply (take (min (la_of public) le) public) (sw_of public)

@@ -1,7 +1,8 @@
 // How turns and chains end.
 ghost use Rattle.std.specs.Prelude.{◌≡◌, ◌≤◌, ℕ, min, take, Some, None};
 ghost use Rattle.mc_model_machine.specs.Frame.{la_of, sw_of};
-ghost use Rattle.mc_machine.specs.Turns.{end_value, last_end, outcome_by, outcome_value, EndFits};
+ghost use Rattle.mc_model_card.specs.Commands.{status};
+ghost use Rattle.mc_machine.specs.Turns.{end_value, last_end, outcome_by, outcome_value, EndFits, IsReply};
 
 use crate::chain::Chain;
 use arrayvec::ArrayVec;
@@ -15,6 +16,47 @@ use mc_segs::{Abend, Frame, Public};
 pub enum Outcome {
     Reply(Reply),
     Abend(Abend),
+}
+
+impl Outcome {
+    /// Returns the reply 9000 without data.
+    pub fn done() -> Outcome
+        // It is a reply.
+        ensures reply { IsReply result }
+        // Its status is 9000, and it has no data.
+        ensures value { outcome_value result ≡ status 0x9000 }
+    {
+        Outcome::Reply(Reply {
+            body: ArrayVec::new(),
+            sw: 0x9000,
+        })
+    }
+
+    /// Makes this outcome the reply 9000 without data. A reply is changed in place.
+    pub fn put_done(&mut self)
+        // It is a reply.
+        ensures reply { IsReply self.new }
+        // Its status is 9000, and it has no data.
+        ensures value { outcome_value self.new ≡ status 0x9000 }
+    {
+        match self {
+            Outcome::Reply(reply) => {
+                reply.body.clear();
+                reply.sw = 0x9000;
+            }
+            Outcome::Abend(_) => self.replace_by_done(),
+        }
+    }
+
+    // The place of a new reply is cleared where it is made, so this is a call of its own.
+    #[cold]
+    #[inline(never)]
+    fn replace_by_done(&mut self)
+        ensures reply { IsReply self.new }
+        ensures value { outcome_value self.new ≡ status 0x9000 }
+    {
+        *self = Outcome::done();
+    }
 }
 
 /// One executed instruction, or a fetch that ends the chain: the depth of its frame from 1 to 4, the code address it was at,

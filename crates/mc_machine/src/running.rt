@@ -7,7 +7,7 @@ ghost use Rattle.mc_model_machine.specs.Chain.{Chain as ModelChain, called, ran}
 ghost use Rattle.mc_bank.specs.Bank.{app_of};
 ghost use Rattle.mc_machine.specs.Chains.{FitsChain, RunsAs, ChainWrote, ran_of};
 ghost use Rattle.mc_machine.specs.Lone.{lone_chain, RanDone};
-ghost use Rattle.mc_machine.specs.Turns.{outcome_value, placed};
+ghost use Rattle.mc_machine.specs.Turns.{outcome_value, outcome_by, placed};
 
 use crate::chain::{Chain, first_frame};
 use crate::lone::{Lone, lone_turn};
@@ -21,10 +21,17 @@ use mc_base::{Aid, Steps, Stop};
 use mc_segs::{Abend, Frame, Public, Session};
 use std::sync::ledger::Ledger;
 
-/// A command to the application of a slot: all turns of its chain, under a budget of 1 to 65,536 instructions. It begins with
-/// the session bytes of the selection and leaves them as they are at its end. Each decoded instruction is one step. The
-/// outcome is a reply of ISO/IEC 7816-4 or an abend. A `Stop` is that of the bank in a change of static bytes, each of which is
-/// one atomic write of at most 64 words; the changes before it stand.
+/// Runs a command for the application of slot `first`, from its first turn to its end, and returns its outcome: a reply of
+/// ISO/IEC 7816-4 or an abend.
+///
+/// `session` is the session bytes of the selection, which the run changes. `budget` is 1 to 65,536 instructions. Each change of static
+/// bytes is one atomic write of at most 64 words.
+///
+/// It is `run_into` with a reply of its own.
+///
+/// # Errors
+///
+/// Returns the `Stop` of the bank in a change of static bytes. The changes before it are kept, and `session` is unchanged.
 pub fn run<B: Bank, L: Ledger>(
     bank: &mut B,
     first: Slot,
@@ -39,20 +46,28 @@ pub fn run<B: Bank, L: Ledger>(
     requires some { 1 ≤ budget }
     requires budget { budget ≤ 65536 }
     requires data { length apdu.now.body.now ≤ 1024 }
+    // The atomic writes of the run are made in its order, up to the first that stops.
     ensures writes { InOrder (ChainWrote B.did B.state) bank.old
         (ran_of (B.state bank.old) (B.named bank.old) first session.old apdu.now budget).writes
         (answer_of result) bank.new }
+    // Each of them touches at most 64 words.
     ensures few { OnOk result (AllByRecursion (λ w. w.words ≤ 64)
         (ran_of (B.state bank.old) (B.named bank.old) first session.old apdu.now budget).writes) }
+    // The outcome is that of the run.
     ensures outcome { IfOk result (λ outcome. outcome_value outcome
         ≡ (ran_of (B.state bank.old) (B.named bank.old) first session.old apdu.now budget).outcome) }
+    // The session bytes are those that the run leaves.
     ensures session { OnOk result (session.new
         ≡ (ran_of (B.state bank.old) (B.named bank.old) first session.old apdu.now budget).session) }
+    // Each decoded instruction is one step.
     ensures ticks { OnOk result (steps.new
         ≡ steps.old + (ran_of (B.state bank.old) (B.named bank.old) first session.old apdu.now budget).count) }
+    // A run that is stopped makes no more steps than the whole one.
     ensures most { OnErr result (steps.new
         ≤ steps.old + (ran_of (B.state bank.old) (B.named bank.old) first session.old apdu.now budget).count) }
+    // The bank goes on.
     ensures going { OnOk result ((B.state bank.new).stopped ≡ false) }
+    // A stop leaves the session bytes as they were.
     ensures unchanged { OnErr result (session.new ≡ session.old) }
 {
     let mut reply = Reply {
@@ -65,9 +80,61 @@ pub fn run<B: Bank, L: Ledger>(
     }
 }
 
-/// The same command, whose reply is put in place of another where it ends with one. A reply of 1,024 bytes is dear to hand on; after an
-/// abend or a `Stop` what is left in its place tells nothing.
+/// Runs a command for the application of slot `first`, from its first turn to its end, and returns how it ends. A reply is written to
+/// `reply`, in place to avoid copying it.
+///
+/// `session` is the session bytes of the selection, which the run changes. `budget` is 1 to 65,536 instructions. Each change of static
+/// bytes is one atomic write of at most 64 words. After an abend the contents of `reply` are unspecified.
+///
+/// # Errors
+///
+/// Returns the `Stop` of the bank in a change of static bytes. The changes before it are kept, `session` is unchanged, and the contents of
+/// `reply` are unspecified.
 pub fn run_into<B: Bank, L: Ledger>(
+    bank: &mut B,
+    first: Slot,
+    session: &mut Session,
+    apdu: &Apdu,
+    budget: u32,
+    reply: &mut Reply,
+    steps: &mut Steps<L>,
+) -> Result<End, Stop>
+    requires going { (B.state bank.old).stopped ≡ false }
+    requires there { IsSome (B.named bank.old first) }
+    requires session { length session.old ≡ (app_of (B.state bank.old).apps (B.named bank.old first)).session }
+    requires some { 1 ≤ budget }
+    requires budget { budget ≤ 65536 }
+    requires data { length apdu.now.body.now ≤ 1024 }
+    // The atomic writes of the run are made in its order, up to the first that stops.
+    ensures writes { InOrder (ChainWrote B.did B.state) bank.old
+        (ran_of (B.state bank.old) (B.named bank.old) first session.old apdu.now budget).writes
+        (answer_of result) bank.new }
+    // Each of them touches at most 64 words.
+    ensures few { OnOk result (AllByRecursion (λ w. w.words ≤ 64)
+        (ran_of (B.state bank.old) (B.named bank.old) first session.old apdu.now budget).writes) }
+    // The outcome is that of the run.
+    ensures outcome { IfOk result (λ end. outcome_value (outcome_by end reply.new)
+        ≡ (ran_of (B.state bank.old) (B.named bank.old) first session.old apdu.now budget).outcome) }
+    // The session bytes are those that the run leaves.
+    ensures session { OnOk result (session.new
+        ≡ (ran_of (B.state bank.old) (B.named bank.old) first session.old apdu.now budget).session) }
+    // Each decoded instruction is one step.
+    ensures ticks { OnOk result (steps.new
+        ≡ steps.old + (ran_of (B.state bank.old) (B.named bank.old) first session.old apdu.now budget).count) }
+    // A run that is stopped makes no more steps than the whole one.
+    ensures most { OnErr result (steps.new
+        ≤ steps.old + (ran_of (B.state bank.old) (B.named bank.old) first session.old apdu.now budget).count) }
+    // The bank goes on.
+    ensures going { OnOk result ((B.state bank.new).stopped ≡ false) }
+    // A stop leaves the session bytes as they were.
+    ensures unchanged { OnErr result (session.new ≡ session.old) }
+{
+    run_turns(bank, first, session, apdu, budget, reply, steps)
+}
+
+// The turns of a command, from the first to its end. It is the body of `run_into`, by the relation that its loop keeps.
+#[inline(always)]
+fn run_turns<B: Bank, L: Ledger>(
     bank: &mut B,
     first: Slot,
     session: &mut Session,

@@ -1,6 +1,6 @@
 -- How each command ends, from what its parts ensure.
 use Rattle.std.proofs.Common.{◌≡◌, ◌≢◌, ℕ, ◌+◌, ◌≤◌, Bool, true, false, List, [], ◌∷◌, length, Option, Some, None, Ok, Err, refl, sym, ap, subst, ◌∙◌, arith}
-use Rattle.std.specs.Prelude.{map, option_map, IsSome, is_some, is_none, Result, nat_lt, not, cond, ◌==◌, bytes_eq, unwrap_or, IfOk, ◌&&◌}
+use Rattle.std.specs.Prelude.{map, option_map, IsSome, is_some, is_none, Result, nat_lt, not, cond, ◌==◌, bytes_eq, unwrap_or, IfOk, OnOk, ◌&&◌}
 use Rattle.std.specs.Option.{ForSome}
 use Rattle.std.proofs.lemmas.Bool.Decides.{nat_tests}
 use Rattle.mc_model_card.specs.declared.card.Part.{Part}
@@ -25,6 +25,8 @@ use Rattle.mc_manager.specs.ManagerState.{BankView, Loaded, ManagerState, got_le
 use Rattle.mc_manager.specs.CommandDue.{CommandDue, Refuses, Selects, Does, due_select, due_manager, due_on, due, items_of, apps_after, RepliesWith, CommandLeaves}
 use Rattle.mc_manager.specs.Calls.{CanSelect, CanCreate, CanDelete, has_selected, delete_causes}
 use Rattle.mc_manager.specs.Ends.{CommandEnds}
+use Rattle.mc_manager.specs.declared.routed.Ruling.{Ruling}
+use Rattle.mc_manager.specs.Ruled.{ruled, placed}
 use Rattle.mc_manager.proofs.LoadLemmas.{length_got, same_size, fresh_entered}
 use Rattle.mc_model_device.proofs.MapLemmas.{name_is_itself}
 
@@ -388,3 +390,26 @@ module _ {B : Type 0} (did : B → BankItem → Answer → B → Type 0) where
   ends_managed i v m a b x w n e is =
       ends_as (λ s. due_manager (manage v.room v.state.apps (seat_of v.standing s m) a)) (λ s. due_manager (by_ins i v.room v.state.apps (seat_of v.standing s m) a)) v m b x w n e
       (λ s. ap due_manager (manage_is i v.room v.state.apps (seat_of v.standing s m) a is))
+
+  -- ---- the promises of a command whose reply was written beside its ruling
+
+  module _ (of : List ℕ → CommandDue) (v : BankView) (m : ManagerState) (b : B) (w : BankView) (n : ManagerState) (e : B) (r : Reply) where
+    pub ends_items : (x : Result Ruling Stop) → CommandEnds did of v m b (placed x r) w n e → (s : List ℕ) → InOrder did b (items_of (of s)) (answer_of x) e
+    ends_items (Ok y) ends = ends.items
+    ends_items (Err t) ends = ends.items
+
+    pub ends_apps : (x : Result Ruling Stop) → CommandEnds did of v m b (placed x r) w n e → (s : List ℕ) → Changes v.state (apps_after (of s) v.state.apps) (answer_of x) w.state
+    ends_apps (Ok y) ends = ends.apps
+    ends_apps (Err t) ends = ends.apps
+
+    pub ends_leaves : (x : Result Ruling Stop) → CommandEnds did of v m b (placed x r) w n e → (s : List ℕ) → IfOk x (λ y. CommandLeaves (of s) s v m (ruled y r) w n)
+    ends_leaves (Ok y) ends = ends.leaves
+    ends_leaves (Err t) ends = λ s. tt
+
+    pub ends_fits : (x : Result Ruling Stop) → CommandEnds did of v m b (placed x r) w n e → OnOk x (ManagerFits w n)
+    ends_fits (Ok y) ends = ends.fits
+    ends_fits (Err t) ends = tt
+
+    pub ends_going : (x : Result Ruling Stop) → CommandEnds did of v m b (placed x r) w n e → OnOk x (w.state.stopped ≡ false)
+    ends_going (Ok y) ends = ends.going
+    ends_going (Err t) ends = tt

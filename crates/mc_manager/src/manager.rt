@@ -1,9 +1,11 @@
-ghost use Rattle.std.specs.Prelude.{◌≡◌, ◌+◌, ◌≤◌, ◌==◌, cond, ℕ, List, false, Ok, None};
+ghost use Rattle.std.specs.Prelude.{◌≡◌, ◌+◌, ◌≤◌, ◌==◌, cond, ℕ, List, false, Ok, None, IfOk, OnOk};
+ghost use Rattle.mc_model_device.specs.Orders.{InOrder, answer_of};
 ghost use Rattle.mc_model_card.specs.Manager.{select, open_load, load_part, create, delete, manage};
 ghost use Rattle.mc_apdu.specs.Command.{parts_of};
+ghost use Rattle.mc_bank.specs.Bank.{Changes};
 ghost use Rattle.mc_manager.specs.ManagerState.{BankView, view_of, selected_of, seat_of, load_of, ManagerFits};
 ghost use Rattle.mc_manager.specs.CommandDue.{due, due_application, due_select, due_manager, CommandLeaves, most_ticks};
-ghost use Rattle.mc_manager.specs.CommandDue.{NoneStale};
+ghost use Rattle.mc_manager.specs.CommandDue.{items_of, apps_after, NoneStale};
 ghost use Rattle.mc_manager.specs.Ends.{CommandEnds};
 ghost use Rattle.mc_manager.specs.Ruled.{ruled, placed};
 
@@ -51,13 +53,17 @@ impl Manager {
         }
     }
 
-    /// One command: `Answer` with its reply, `Fresh` with a new selection and its reply, or `Pass` where the selected
-    /// application is to run it. The class FF is refused; SELECT (00 A4 04 of ISO/IEC 7816-4) and the commands of class BE
-    /// are the manager's; all else is for the selected application.
+    /// Runs one command and returns its answer: `Answer` with its reply, `Fresh` with the new selection and its reply, or `Pass` if the
+    /// selected application is to run it.
     ///
-    /// Each command answers the first refusal of its row, and a refusal changes nothing. A `Stop` comes only where a count of
-    /// cuts or faults below the bank rose; the applications are the old or the new ones then, and the manager is of no more
-    /// use. OPEN alone ticks.
+    /// The class FF is refused; SELECT (00 A4 04 of ISO/IEC 7816-4) and the commands of class BE are the manager's; all else is for the
+    /// selected application. Each command is answered by the first refusal of its row, and a refusal changes nothing.
+    ///
+    /// It is `rule` with a reply of its own.
+    ///
+    /// # Errors
+    ///
+    /// Returns the `Stop` of the bank, which comes only if a count of cuts or faults below it rose. The manager is of no more use then.
     pub fn command<B: Bank, L: Ledger>(
         &mut self,
         bank: &mut B,
@@ -66,13 +72,29 @@ impl Manager {
     ) -> Result<Routed, Stop>
         requires going { (B.state bank.old).stopped ≡ false }
         requires fits { ManagerFits (view_of B.state B.named B.room B.standing bank.old) self.old }
-        ensures ends { CommandEnds B.did (λ s. due (view_of B.state B.named B.room B.standing bank.old) s self.old
-            (parts_of apdu.now)) (view_of B.state B.named B.room B.standing bank.old) self.old bank.old result
-            (view_of B.state B.named B.room B.standing bank.new) self.new bank.new }
+        // Its items are made on the bank in order, up to the first that stops.
+        ensures items { (s : List ℕ) → InOrder B.did bank.old
+            (items_of (due (view_of B.state B.named B.room B.standing bank.old) s self.old (parts_of apdu.now)))
+            (answer_of result) bank.new }
+        // The applications change as its row says; after a stop they are the old or the new ones.
+        ensures apps { (s : List ℕ) → Changes (B.state bank.old)
+            (apps_after (due (view_of B.state B.named B.room B.standing bank.old) s self.old (parts_of apdu.now))
+            (B.state bank.old).apps) (answer_of result) (B.state bank.new) }
+        // It is answered as its row says, or passed on: the first refusal changes nothing.
+        ensures leaves { (s : List ℕ) → IfOk result (λ r. CommandLeaves
+            (due (view_of B.state B.named B.room B.standing bank.old) s self.old (parts_of apdu.now)) s
+            (view_of B.state B.named B.room B.standing bank.old) self.old r
+            (view_of B.state B.named B.room B.standing bank.new) self.new) }
+        // The manager fits the bank again.
+        ensures fits { OnOk result (ManagerFits (view_of B.state B.named B.room B.standing bank.new) self.new) }
+        // The bank goes on.
+        ensures going { OnOk result ((B.state bank.new).stopped ≡ false) }
         // An application that is there now was there before, or is what its own load sent.
         ensures no_stale_byte { NoneStale (load_of (B.standing bank.old) self.old) (B.state bank.old).apps
             (B.state bank.new).apps }
+        // Steps are never taken back.
         ensures rises { steps.old ≤ steps.new }
+        // OPEN alone makes steps, at most as many as the bank allows.
         ensures ticks { steps.new ≤ steps.old + most_ticks (parts_of apdu.now) (B.state bank.old).ticks }
     {
         let mut reply = Reply {
@@ -86,9 +108,56 @@ impl Manager {
         }
     }
 
-    /// The same command, whose reply is put in place of another. A reply of 1,024 bytes is dear to hand on; where the command is passed or
-    /// stopped, what is left in its place tells nothing.
+    /// Runs one command and returns how it is dealt with: `Answer` or `Fresh`, with the reply written to `reply`, or `Pass` if the selected
+    /// application is to run it. The reply is written in place to avoid copying it; its contents are unspecified after `Pass`.
+    ///
+    /// The class FF is refused; SELECT (00 A4 04 of ISO/IEC 7816-4) and the commands of class BE are the manager's; all else is for the
+    /// selected application. Each command is answered by the first refusal of its row, and a refusal changes nothing.
+    ///
+    /// # Errors
+    ///
+    /// Returns the `Stop` of the bank, which comes only if a count of cuts or faults below it rose. The contents of `reply` are unspecified
+    /// then, and the manager is of no more use.
     pub fn rule<B: Bank, L: Ledger>(
+        &mut self,
+        bank: &mut B,
+        apdu: &Apdu,
+        reply: &mut Reply,
+        steps: &mut Steps<L>,
+    ) -> Result<Ruling, Stop>
+        requires going { (B.state bank.old).stopped ≡ false }
+        requires fits { ManagerFits (view_of B.state B.named B.room B.standing bank.old) self.old }
+        // Its items are made on the bank in order, up to the first that stops.
+        ensures items { (s : List ℕ) → InOrder B.did bank.old
+            (items_of (due (view_of B.state B.named B.room B.standing bank.old) s self.old (parts_of apdu.now)))
+            (answer_of result) bank.new }
+        // The applications change as its row says; after a stop they are the old or the new ones.
+        ensures apps { (s : List ℕ) → Changes (B.state bank.old)
+            (apps_after (due (view_of B.state B.named B.room B.standing bank.old) s self.old (parts_of apdu.now))
+            (B.state bank.old).apps) (answer_of result) (B.state bank.new) }
+        // It is answered as its row says, or passed on: the first refusal changes nothing.
+        ensures leaves { (s : List ℕ) → IfOk result (λ r. CommandLeaves
+            (due (view_of B.state B.named B.room B.standing bank.old) s self.old (parts_of apdu.now)) s
+            (view_of B.state B.named B.room B.standing bank.old) self.old (ruled r reply.new)
+            (view_of B.state B.named B.room B.standing bank.new) self.new) }
+        // The manager fits the bank again.
+        ensures fits { OnOk result (ManagerFits (view_of B.state B.named B.room B.standing bank.new) self.new) }
+        // The bank goes on.
+        ensures going { OnOk result ((B.state bank.new).stopped ≡ false) }
+        // An application that is there now was there before, or is what its own load sent.
+        ensures no_stale_byte { NoneStale (load_of (B.standing bank.old) self.old) (B.state bank.old).apps
+            (B.state bank.new).apps }
+        // Steps are never taken back.
+        ensures rises { steps.old ≤ steps.new }
+        // OPEN alone makes steps, at most as many as the bank allows.
+        ensures ticks { steps.new ≤ steps.old + most_ticks (parts_of apdu.now) (B.state bank.old).ticks }
+    {
+        self.route(bank, apdu, reply, steps)
+    }
+
+    // A command by its route. It is the body of `rule`, by the relation that its parts keep.
+    #[inline(always)]
+    fn route<B: Bank, L: Ledger>(
         &mut self,
         bank: &mut B,
         apdu: &Apdu,
@@ -100,7 +169,6 @@ impl Manager {
         ensures ends { CommandEnds B.did (λ s. due (view_of B.state B.named B.room B.standing bank.old) s self.old
             (parts_of apdu.now)) (view_of B.state B.named B.room B.standing bank.old) self.old bank.old
             (placed result reply.new) (view_of B.state B.named B.room B.standing bank.new) self.new bank.new }
-        // An application that is there now was there before, or is what its own load sent.
         ensures no_stale_byte { NoneStale (load_of (B.standing bank.old) self.old) (B.state bank.old).apps
             (B.state bank.new).apps }
         ensures rises { steps.old ≤ steps.new }

@@ -58,10 +58,6 @@ present [] = []
 present (None ∷ os) = present os
 present (Some a ∷ os) = a ∷ present os
 
--- the answers of frames
-abbrev pub answers_of : Bool → List (List ℕ) → List Step → List (List ℕ)
-answers_of powered fs ts = present (answer_each powered fs ts)
-
 -- for each frame of a session what it is answered, by the steps of the whole play
 abbrev pub session_answers : List (ℕ × DeckLine) → List (List ℕ) → List Step → List (Option (List ℕ))
 session_answers deck fs ts = answer_each false fs (drop (length deck) ts)

@@ -5,7 +5,6 @@ ghost use Rattle.mc_model_device.specs.Limits.{most_code};
 ghost use Rattle.mc_model_device.specs.Bytes.{bytes2};
 ghost use Rattle.mc_model_card.specs.Units.{FitsUnit};
 ghost use Rattle.mc_model_play.specs.Play.{is_done, load_commands, section_commands, send};
-ghost use Rattle.mc_model_card.specs.Commands.{status};
 ghost use Rattle.mc_unit.specs.Parts.{parts_of};
 ghost use Rattle.mc_machine.specs.Turns.{outcome_value};
 ghost use Rattle.mc_card.specs.Parts.{device_in, card_in, seat_in, IsReadyCard};
@@ -15,7 +14,6 @@ ghost use Rattle.mc_card.specs.Ends.{put_in};
 
 use crate::runner::Runner;
 use arrayvec::ArrayVec;
-use mc_apdu::Reply;
 use mc_base::{Steps, Stop, bytes_of};
 use mc_card::Card;
 use mc_machine::Outcome;
@@ -218,29 +216,6 @@ fn is_done(outcome: &Outcome) -> bool
     }
 }
 
-/// The outcome of commands that were all answered by 9000 alone.
-pub fn done() -> Outcome
-    ensures { outcome_value result ≡ status 0x9000 }
-{
-    Outcome::Reply(Reply {
-        body: ArrayVec::new(),
-        sw: 0x9000,
-    })
-}
-
-// Puts the outcome of commands that were all answered by 9000 alone in place of another.
-fn put_done(into: &mut Outcome)
-    ensures { outcome_value into.new ≡ status 0x9000 }
-{
-    match into {
-        Outcome::Reply(reply) => {
-            reply.body.clear();
-            reply.sw = 0x9000;
-        }
-        Outcome::Abend(_) => *into = done(),
-    }
-}
-
 /// Sends commands of class BE to a card in turn, up to the first that is not answered by 9000 alone. Its outcome is put in place of
 /// another.
 pub fn send<N: Nvm, R: Runner, L: Ledger>(
@@ -266,6 +241,6 @@ pub fn send<N: Nvm, R: Runner, L: Ledger>(
             return Ok(());
         }
     }
-    put_done(into);
+    into.put_done();
     Ok(())
 }

@@ -3,7 +3,6 @@ ghost use Rattle.mc_model_play.specs.Play.{start};
 ghost use Rattle.mc_script.specs.Players.{device_of, IsPlayerAt, IsUnfused};
 
 use crate::armed::Armed;
-use crate::loading::done;
 use mc_card::Card;
 use mc_machine::Outcome;
 use mc_nvm::Bench;
@@ -45,7 +44,7 @@ impl<N: Bench> Player<N> {
             power: Power::Cold,
             budget: FIRST_BUDGET,
             armed: Armed::Not,
-            outcome: done(),
+            outcome: Outcome::done(),
         }
     }
 

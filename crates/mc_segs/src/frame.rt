@@ -108,13 +108,6 @@ impl Frame {
         DYNAMIC + self.session_len
     }
 
-    /// LB, the base of the current call.
-    pub fn lb(&self) -> u16
-        ensures { result ≡ self.now.frame.lb }
-    {
-        self.lb
-    }
-
     /// The flag C.
     pub fn c(&self) -> bool
         ensures { result ≡ self.now.frame.c }

@@ -23,24 +23,34 @@ pub struct Store<N: Nvm> {
 }
 
 impl<N: Nvm> Store<N> {
-    /// The store of a card, and the number of writes that it took: the writes that are owed, a journal that is open being
-    /// replayed, and the six of a migration where the card has layout 1. It gives the device back where a write stops,
-    /// and with the first fault and its place where the words are no card.
+    /// Returns the store of the card in `dev`, whose power is on, and the number of device writes that recovery and migration
+    /// made (at most 71).
+    ///
+    /// It is `restart` of a store that is `asleep` over `dev`.
+    ///
+    /// # Errors
+    ///
+    /// Returns the device with `Up::Stop` if it cut or refused a write, and with `Up::Unusable`, the first fault and its place, if the
+    /// words are no card.
     pub fn power_up(dev: N) -> Result<(Store<N>, u16), (N, Up)>
         requires power { (N.state dev).on ≡ true }
+        // Up to the first one that stops it makes the writes that recovery still has to make and then those of the migration.
         ensures makes { Makes N.wrote dev (power_writes (N.state dev).words) (power_answer (powered result))
             (device_after result) }
+        // The applications are those that the words meant; after a fault or a stop the words are what the rule of stops says.
         ensures ends { PowersUp (N.state dev) (powered result) (N.state (device_after result)) }
+        // The device is the one that came in.
         ensures lent { N.same dev (device_after result) }
     {
-        let mut device = dev;
-        match prepare(&mut device) {
-            Ok(Ready { writes, count }) => Ok((Store { device, count }, writes)),
-            Err(up) => Err((device, up)),
+        let mut store = Store::asleep(dev);
+        match store.restart() {
+            Ok(writes) => Ok((store, writes)),
+            Err(up) => Err((store.into_dev(), up)),
         }
     }
 
-    /// A store over a device that holds no card yet: nothing but its device is good until it is restarted.
+    /// Returns a store over a device whose card is not looked for yet. Until a `restart` succeeds only `into_dev` and `restart` may be
+    /// called.
     pub fn asleep(dev: N) -> Store<N>
         ensures { device_of result ≡ dev }
     {
@@ -50,23 +60,29 @@ impl<N: Nvm> Store<N> {
         }
     }
 
-    /// The same as `power_up`, in place, of a device whose power was turned on: the number of writes that it took. Where it fails, the
-    /// store is good for its device and for another restart alone.
+    /// Looks for the card in the device of the store, whose power was turned on, and returns the number of device writes that recovery
+    /// and migration made (at most 71).
+    ///
+    /// A journal that is open is finished first, and then a card of layout 1 is given layout 2, by six writes.
+    ///
+    /// # Errors
+    ///
+    /// Returns `Up::Stop` if the device cut or refused a write, and `Up::Unusable`, the first fault and its place, if the words are no
+    /// card. After either only `into_dev` and `restart` may be called.
     pub fn restart(&mut self) -> Result<u16, Up>
         requires power { (N.state (device_of self.old)).on ≡ true }
+        // Up to the first one that stops it makes the writes that recovery still has to make and then those of the migration.
         ensures makes { Makes N.wrote (device_of self.old) (power_writes (N.state (device_of self.old)).words)
             (power_answer (restarted self.new result)) (device_of self.new) }
+        // The applications are those that the words meant; after a fault or a stop the words are what the rule of stops says.
         ensures ends { PowersUp (N.state (device_of self.old)) (restarted self.new result)
             (N.state (device_of self.new)) }
+        // The device is the one that was there.
         ensures lent { N.same (device_of self.old) (device_of self.new) }
     {
-        match prepare(&mut self.device) {
-            Ok(Ready { writes, count }) => {
-                self.count = count;
-                Ok(writes)
-            }
-            Err(up) => Err(up),
-        }
+        let Ready { writes, count } = prepare(&mut self.device)?;
+        self.count = count;
+        Ok(writes)
     }
 
     /// The number of words of the device, which never changes.

@@ -1,5 +1,5 @@
 -- How texts that are written one behind the other compose.
-use Rattle.std.proofs.Common.{◌≡◌, ℕ, List, [], ◌∷◌, ◌++◌, length, take, drop, Result, Ok, Err, IsErr, refl, arith, sym, ap, subst, ◌∙◌, append_assoc, length-append}
+use Rattle.std.proofs.Common.{◌≡◌, ℕ, List, [], ◌∷◌, ◌++◌, take, drop, Result, Ok, Err, IsErr, refl, arith, sym, ap, subst, ◌∙◌, append_assoc, length-append}
 use Rattle.std.proofs.lemmas.List.{take-append-drop}
 use Rattle.mc_model_machine.specs.Listing.{hex_text}
 use Rattle.mc_base.proofs.StreamsLemmas.{Grew-append, Grew-none, Rose-later}
@@ -67,17 +67,3 @@ hex_text_append (x ∷ xs) ys = grind (arith, hex_text_append xs ys)
 -- bytes in two parts
 pub hex_text_split : (n : ℕ) (xs : List ℕ) → hex_text (take n xs) ++ hex_text (drop n xs) ≡ hex_text xs
 hex_text_split n xs = sym (hex_text_append (take n xs) (drop n xs)) ∙ ap hex_text (take-append-drop n xs)
-
--- what writes the rest of some bytes, behind a piece that was written, writes all of them
-pub hex_on : {a b : Sunk} {p q t : List ℕ} (c : Sunk) (n : ℕ) (xs : List ℕ) (r : Result (Unit {0}) WriteFault) → p ≡ take n xs → q ≡ drop n xs → t ≡ hex_text p → Writes a t b → Puts b (hex_text q) r c → Puts a (hex_text xs) r c
-hex_on {a} {b} {p} {q} {t} c n xs r front back is first rest =
-    puts_as a c r (rw (is, front, back) (hex_text_split n xs)) (puts_then c (hex_text q) r first rest)
-
--- a piece that failed
-pub hex_fails : {a b : Sunk} {p t : List ℕ} (n : ℕ) (xs : List ℕ) → p ≡ take n xs → t ≡ hex_text p → Fails a t b → Fails a (hex_text xs) b
-hex_fails {a} {b} {p} {t} n xs front is f = subst (λ (t : List ℕ). Fails a t b) (rw (is, front) (hex_text_split n xs)) (fails_before (hex_text (drop n xs)) f)
-
--- no byte
-pub hex_none : (a : Sunk) (xs : List ℕ) → length xs ≡ 0 → Writes a (hex_text xs) a
-hex_none a [] e = writes_none a
-hex_none a (x ∷ xs) e = absurd (omega (arith, e))

@@ -8,7 +8,7 @@ mod pieces;
 mod reading;
 
 pub use gather::{add, add_decimal, add_hex};
-pub use pieces::{digit, put, put_decimal, put_hex, put_number};
+pub use pieces::{digit, put, put_decimal, put_number};
 pub use reading::{
     cut, cut_blank, decimal_number, has_name_characters, hex_value, is_blank, is_digit, next_line,
     trim, trim_front,

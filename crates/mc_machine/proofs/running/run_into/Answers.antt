@@ -1,254 +1,44 @@
--- Each turn leads on, and each end is that of the whole run.
-use Rattle.std.proofs.Common.{ℕ, List, Option, ◌+◌, ◌-◌, ◌∙◌, Ok, refl, subst, arith}
-use Rattle.std.proofs.lemmas.Result.{err_from_is_err_and}
-use Rattle.mc_model_machine.specs.Chain.{start, turn_of}
-use Rattle.mc_apdu.specs.Command.{parts_of}
-use Rattle.mc_bank.specs.Bank.{name_or}
-use Rattle.mc_machine.specs.Chains.{Chained, RunsAs, ran_of}
-use Rattle.mc_machine.specs.Lone.{lone_chain, LoneDone, RanDone}
-use Rattle.mc_machine.specs.Turns.{placed}
-use Rattle.mc_machine.specs.declared.lone.Lone.{Lone}
-use Rattle.mc_machine.specs.declared.lone.Lone.TheVariants.{Delegates}
-use Rattle.mc_machine.proofs.LoneLemmas.{name_called}
-use Rattle.mc_machine.proofs.RunLemmas.{Underway, underway, end_goes, end_ends, delegated_ends, underway_stops, underway_most, underway_spent, something_left, lone_left}
+-- Each promise of a run is a part of what its turns do.
+use Rattle.mc_machine.specs.Chains.{ran_of}
+use Rattle.mc_machine.proofs.RunLemmas.{ran_writes, ran_few, ran_outcome, ran_session, ran_ticks, ran_most, ran_going, ran_unchanged}
 use Rattle.mc_machine.proofs.running.run_into.Goals as goal
 
-pub loop-turn-init : goal.loop-turn-init
-loop-turn-init g c =
-    let state = g.B.Bank.state in
-    let named = g.B.Bank.named in
-    let b = c.args.bank.now in
-    let first = start (state b).apps (name_or (named b c.args.first)) c.args.session.now (parts_of c.args.apdu.now) in
-    let here = lone_chain c.first_frame-frame.result c.open.new.self c.case-case.result c.unwrap_or-le.result (c.args.budget - 0) in
-    let runs : RunsAs (state b) (named b) here first =
-    record { map = refl; running = c.first_frame-frame.ensures; below = tt; public = c.open.ensures; case = c.case-case.ensures; le = c.unwrap_or-le.ensures; few = omega arith; apart = (tt, tt) } in
-    record {
-      session = refl;
-      underway = underway g.B.Bank.did state named b here first c.args.budget c.args.steps.now c.requires.going runs (omega arith);
-    }
+pub returns-clause-writes : goal.returns-clause-writes
+returns-clause-writes g c =
+    let whole = ran_of (g.B.Bank.state c.args.bank.now) (g.B.Bank.named c.args.bank.now) c.args.first c.args.session.now c.args.apdu.now c.args.budget in
+    ran_writes g.B.Bank.did g.B.Bank.state c.args.bank.now c.run_turns.new.bank c.args.session.now c.run_turns.new.session c.args.steps.now c.run_turns.new.steps whole c.run_turns.new.reply c.run_turns.result c.run_turns.ensures
 
-pub lone_turn-requires-clause-going : goal.lone_turn-requires-clause-going
-lone_turn-requires-clause-going g c =
-    let did = g.B.Bank.did in
-    let state = g.B.Bank.state in
-    let named = g.B.Bank.named in
-    let start = c.args.bank.now in
-    let budget = c.args.budget in
-    let whole = ran_of (state start) (named start) c.args.first c.args.session.now c.args.apdu.now budget in
-    let ticks = c.args.steps.now in
-    let l = c.loop-turn in
-    let u = l.invariant.underway in
-    let case = c.case-case.result in
-    let le = c.unwrap_or-le.result in
-    let left = budget - l.turn in
-    let here = lone_chain l.frame l.public case le left in
-    u.going
+pub returns-clause-few : goal.returns-clause-few
+returns-clause-few g c =
+    let whole = ran_of (g.B.Bank.state c.args.bank.now) (g.B.Bank.named c.args.bank.now) c.args.first c.args.session.now c.args.apdu.now c.args.budget in
+    ran_few g.B.Bank.did g.B.Bank.state c.args.bank.now c.run_turns.new.bank c.args.session.now c.run_turns.new.session c.args.steps.now c.run_turns.new.steps whole c.run_turns.new.reply c.run_turns.result c.run_turns.ensures
 
-pub lone_turn-requires-clause-fits : goal.lone_turn-requires-clause-fits
-lone_turn-requires-clause-fits g c =
-    let did = g.B.Bank.did in
-    let state = g.B.Bank.state in
-    let named = g.B.Bank.named in
-    let start = c.args.bank.now in
-    let budget = c.args.budget in
-    let whole = ran_of (state start) (named start) c.args.first c.args.session.now c.args.apdu.now budget in
-    let ticks = c.args.steps.now in
-    let l = c.loop-turn in
-    let u = l.invariant.underway in
-    let case = c.case-case.result in
-    let le = c.unwrap_or-le.result in
-    let left = budget - l.turn in
-    let here = lone_chain l.frame l.public case le left in
-    u.runs.running.fits
+pub returns-clause-outcome : goal.returns-clause-outcome
+returns-clause-outcome g c =
+    let whole = ran_of (g.B.Bank.state c.args.bank.now) (g.B.Bank.named c.args.bank.now) c.args.first c.args.session.now c.args.apdu.now c.args.budget in
+    ran_outcome g.B.Bank.did g.B.Bank.state c.args.bank.now c.run_turns.new.bank c.args.session.now c.run_turns.new.session c.args.steps.now c.run_turns.new.steps whole c.run_turns.new.reply c.run_turns.result c.run_turns.ensures
 
-pub unwrap-aid-requires : goal.unwrap-aid-requires
-unwrap-aid-requires g c =
-    let did = g.B.Bank.did in
-    let state = g.B.Bank.state in
-    let named = g.B.Bank.named in
-    let start = c.args.bank.now in
-    let budget = c.args.budget in
-    let whole = ran_of (state start) (named start) c.args.first c.args.session.now c.args.apdu.now budget in
-    let ticks = c.args.steps.now in
-    let l = c.loop-turn in
-    let u = l.invariant.underway in
-    let case = c.case-case.result in
-    let le = c.unwrap_or-le.result in
-    let left = budget - l.turn in
-    let here = lone_chain l.frame l.public case le left in
-    let some = something_left budget l.turn c.loop-turn-test.true in
-    let e = c.lone_turn.new.bank in
-    let now = c.lone_turn.new.steps in
-    let after : ℕ → Chained = λ n. lone_chain c.lone_turn.new.frame c.lone_turn.new.public case le n in
-    let count = c.in_ok-lone_turn.ensures.ticks u.chain le left some u.runs in
-    let called = subst (λ (o : Lone). LoneDone did state named l.bank e here after u.chain (turn_of left u.chain) (Ok o) c.lone_turn.new.callee) c.in-Delegates.is (c.in_ok-lone_turn.ensures.done u.chain le left some u.runs) in
-    name_called did state named l.bank e here after u.chain (turn_of left u.chain) c.lone_turn.new.callee called
+pub returns-clause-session : goal.returns-clause-session
+returns-clause-session g c =
+    let whole = ran_of (g.B.Bank.state c.args.bank.now) (g.B.Bank.named c.args.bank.now) c.args.first c.args.session.now c.args.apdu.now c.args.budget in
+    ran_session g.B.Bank.did g.B.Bank.state c.args.bank.now c.run_turns.new.bank c.args.session.now c.run_turns.new.session c.args.steps.now c.run_turns.new.steps whole c.run_turns.new.reply c.run_turns.result c.run_turns.ensures
 
-pub run_chain-requires-clause-going : goal.run_chain-requires-clause-going
-run_chain-requires-clause-going g c =
-    let did = g.B.Bank.did in
-    let state = g.B.Bank.state in
-    let named = g.B.Bank.named in
-    let start = c.args.bank.now in
-    let budget = c.args.budget in
-    let whole = ran_of (state start) (named start) c.args.first c.args.session.now c.args.apdu.now budget in
-    let ticks = c.args.steps.now in
-    let l = c.loop-turn in
-    let u = l.invariant.underway in
-    let case = c.case-case.result in
-    let le = c.unwrap_or-le.result in
-    let left = budget - l.turn in
-    let here = lone_chain l.frame l.public case le left in
-    let some = something_left budget l.turn c.loop-turn-test.true in
-    let e = c.lone_turn.new.bank in
-    let now = c.lone_turn.new.steps in
-    let after : ℕ → Chained = λ n. lone_chain c.lone_turn.new.frame c.lone_turn.new.public case le n in
-    let count = c.in_ok-lone_turn.ensures.ticks u.chain le left some u.runs in
-    let called = subst (λ (o : Lone). LoneDone did state named l.bank e here after u.chain (turn_of left u.chain) (Ok o) c.lone_turn.new.callee) c.in-Delegates.is (c.in_ok-lone_turn.ensures.done u.chain le left some u.runs) in
-    let done = subst (λ (n : Option (List ℕ)). LoneDone did state named l.bank e here after u.chain (turn_of left u.chain) (Ok Delegates) n) c.unwrap-aid.ensures called in
-    done.going
+pub returns-clause-ticks : goal.returns-clause-ticks
+returns-clause-ticks g c =
+    let whole = ran_of (g.B.Bank.state c.args.bank.now) (g.B.Bank.named c.args.bank.now) c.args.first c.args.session.now c.args.apdu.now c.args.budget in
+    ran_ticks g.B.Bank.did g.B.Bank.state c.args.bank.now c.run_turns.new.bank c.args.session.now c.run_turns.new.session c.args.steps.now c.run_turns.new.steps whole c.run_turns.new.reply c.run_turns.result c.run_turns.ensures
 
-pub run_chain-requires-clause-fits : goal.run_chain-requires-clause-fits
-run_chain-requires-clause-fits g c =
-    let did = g.B.Bank.did in
-    let state = g.B.Bank.state in
-    let named = g.B.Bank.named in
-    let start = c.args.bank.now in
-    let budget = c.args.budget in
-    let whole = ran_of (state start) (named start) c.args.first c.args.session.now c.args.apdu.now budget in
-    let ticks = c.args.steps.now in
-    let l = c.loop-turn in
-    let u = l.invariant.underway in
-    let case = c.case-case.result in
-    let le = c.unwrap_or-le.result in
-    let left = budget - l.turn in
-    let here = lone_chain l.frame l.public case le left in
-    let some = something_left budget l.turn c.loop-turn-test.true in
-    let e = c.lone_turn.new.bank in
-    let now = c.lone_turn.new.steps in
-    let after : ℕ → Chained = λ n. lone_chain c.lone_turn.new.frame c.lone_turn.new.public case le n in
-    let count = c.in_ok-lone_turn.ensures.ticks u.chain le left some u.runs in
-    let called = subst (λ (o : Lone). LoneDone did state named l.bank e here after u.chain (turn_of left u.chain) (Ok o) c.lone_turn.new.callee) c.in-Delegates.is (c.in_ok-lone_turn.ensures.done u.chain le left some u.runs) in
-    let done = subst (λ (n : Option (List ℕ)). LoneDone did state named l.bank e here after u.chain (turn_of left u.chain) (Ok Delegates) n) c.unwrap-aid.ensures called in
-    (done.chain, done.runs)
+pub returns-clause-most : goal.returns-clause-most
+returns-clause-most g c =
+    let whole = ran_of (g.B.Bank.state c.args.bank.now) (g.B.Bank.named c.args.bank.now) c.args.first c.args.session.now c.args.apdu.now c.args.budget in
+    ran_most g.B.Bank.did g.B.Bank.state c.args.bank.now c.run_turns.new.bank c.args.session.now c.run_turns.new.session c.args.steps.now c.run_turns.new.steps whole c.run_turns.new.reply c.run_turns.result c.run_turns.ensures
 
-pub loop-turn-preserved : goal.loop-turn-preserved
-loop-turn-preserved g c =
-    let did = g.B.Bank.did in
-    let state = g.B.Bank.state in
-    let named = g.B.Bank.named in
-    let start = c.args.bank.now in
-    let budget = c.args.budget in
-    let whole = ran_of (state start) (named start) c.args.first c.args.session.now c.args.apdu.now budget in
-    let ticks = c.args.steps.now in
-    let l = c.loop-turn in
-    let u = l.invariant.underway in
-    let case = c.case-case.result in
-    let le = c.unwrap_or-le.result in
-    let left = budget - l.turn in
-    let here = lone_chain l.frame l.public case le left in
-    let some = something_left budget l.turn c.loop-turn-test.true in
-    let e = c.lone_turn.new.bank in
-    let now = c.lone_turn.new.steps in
-    let after : ℕ → Chained = λ n. lone_chain c.lone_turn.new.frame c.lone_turn.new.public case le n in
-    let count = c.in_ok-lone_turn.ensures.ticks u.chain le left some u.runs in
-    let done = subst (λ (o : Lone). LoneDone did state named l.bank e here after u.chain (turn_of left u.chain) (Ok o) c.lone_turn.new.callee) c.in-Goes.is (c.in_ok-lone_turn.ensures.done u.chain le left some u.runs) in
-    let v = end_goes did state named start whole ticks budget l.turn l.bank e here (after done.0) l.steps now u done.1 count in
-    let total = v.left in
-    record {
-      session = l.invariant.session;
-      underway = subst (λ (m : ℕ). Underway did state named start whole ticks budget (l.turn + 1) e (after m) now) (lone_left done.0 (l.turn + 1) budget total) v;
-    }
+pub returns-clause-going : goal.returns-clause-going
+returns-clause-going g c =
+    let whole = ran_of (g.B.Bank.state c.args.bank.now) (g.B.Bank.named c.args.bank.now) c.args.first c.args.session.now c.args.apdu.now c.args.budget in
+    ran_going g.B.Bank.did g.B.Bank.state c.args.bank.now c.run_turns.new.bank c.args.session.now c.run_turns.new.session c.args.steps.now c.run_turns.new.steps whole c.run_turns.new.reply c.run_turns.result c.run_turns.ensures
 
-pub returns-in_err-lone_turn : goal.returns-in_err-lone_turn
-returns-in_err-lone_turn g c =
-    let did = g.B.Bank.did in
-    let state = g.B.Bank.state in
-    let named = g.B.Bank.named in
-    let start = c.args.bank.now in
-    let budget = c.args.budget in
-    let whole = ran_of (state start) (named start) c.args.first c.args.session.now c.args.apdu.now budget in
-    let ticks = c.args.steps.now in
-    let l = c.loop-turn in
-    let u = l.invariant.underway in
-    let case = c.case-case.result in
-    let le = c.unwrap_or-le.result in
-    let left = budget - l.turn in
-    let here = lone_chain l.frame l.public case le left in
-    let some = something_left budget l.turn c.loop-turn-test.true in
-    let e = c.lone_turn.new.bank in
-    let now = c.lone_turn.new.steps in
-    let after : ℕ → Chained = λ n. lone_chain c.lone_turn.new.frame c.lone_turn.new.public case le n in
-    let p = err_from_is_err_and c.from_residual.result c.from_residual.ensures.1 in
-    rw (p.1, p.2) (record {
-      writes = underway_stops did state named start whole ticks budget l.turn l.bank e here l.steps u c.in_err-lone_turn.field-0.0 (c.in_err-lone_turn.ensures.done u.chain le left some u.runs);
-      count = underway_most did state named start whole ticks budget l.turn l.bank here l.steps now u (c.in_err-lone_turn.ensures.ticks u.chain le left some u.runs);
-      session = l.invariant.session;
-    })
-
-pub returns-in-Ends : goal.returns-in-Ends
-returns-in-Ends g c =
-    let did = g.B.Bank.did in
-    let state = g.B.Bank.state in
-    let named = g.B.Bank.named in
-    let start = c.args.bank.now in
-    let budget = c.args.budget in
-    let whole = ran_of (state start) (named start) c.args.first c.args.session.now c.args.apdu.now budget in
-    let ticks = c.args.steps.now in
-    let l = c.loop-turn in
-    let u = l.invariant.underway in
-    let case = c.case-case.result in
-    let le = c.unwrap_or-le.result in
-    let left = budget - l.turn in
-    let here = lone_chain l.frame l.public case le left in
-    let some = something_left budget l.turn c.loop-turn-test.true in
-    let e = c.lone_turn.new.bank in
-    let now = c.lone_turn.new.steps in
-    let after : ℕ → Chained = λ n. lone_chain c.lone_turn.new.frame c.lone_turn.new.public case le n in
-    let count = c.in_ok-lone_turn.ensures.ticks u.chain le left some u.runs in
-    let done = subst (λ (o : Lone). LoneDone did state named l.bank e here after u.chain (turn_of left u.chain) (Ok o) c.lone_turn.new.callee) c.in-Ends.is (c.in_ok-lone_turn.ensures.done u.chain le left some u.runs) in
-    let f = end_ends did state named start whole ticks budget l.turn l.bank e here (after done.0) l.steps now u c.in-Ends.end done.1 count in
-    record { writes = f.writes; going = f.going; count = f.count; session = c.keep_session.ensures ∙ f.session; outcome = c.put_end.ensures ∙ f.outcome }
-
-pub returns-in-Delegates : goal.returns-in-Delegates
-returns-in-Delegates g c =
-    let did = g.B.Bank.did in
-    let state = g.B.Bank.state in
-    let named = g.B.Bank.named in
-    let start = c.args.bank.now in
-    let budget = c.args.budget in
-    let whole = ran_of (state start) (named start) c.args.first c.args.session.now c.args.apdu.now budget in
-    let ticks = c.args.steps.now in
-    let l = c.loop-turn in
-    let u = l.invariant.underway in
-    let case = c.case-case.result in
-    let le = c.unwrap_or-le.result in
-    let left = budget - l.turn in
-    let here = lone_chain l.frame l.public case le left in
-    let some = something_left budget l.turn c.loop-turn-test.true in
-    let e = c.lone_turn.new.bank in
-    let now = c.lone_turn.new.steps in
-    let after : ℕ → Chained = λ n. lone_chain c.lone_turn.new.frame c.lone_turn.new.public case le n in
-    let count = c.in_ok-lone_turn.ensures.ticks u.chain le left some u.runs in
-    let called = subst (λ (o : Lone). LoneDone did state named l.bank e here after u.chain (turn_of left u.chain) (Ok o) c.lone_turn.new.callee) c.in-Delegates.is (c.in_ok-lone_turn.ensures.done u.chain le left some u.runs) in
-    let done = subst (λ (n : Option (List ℕ)). LoneDone did state named l.bank e here after u.chain (turn_of left u.chain) (Ok Delegates) n) c.unwrap-aid.ensures called in
-    subst (λ (x : List ℕ). RanDone did state start c.run_chain.new.bank x c.run_chain.new.session ticks c.run_chain.new.steps whole (placed c.run_chain.result c.run_chain.new.reply)) l.invariant.session
-    (delegated_ends did state named start whole ticks budget l.turn l.bank e here (after (left - 1)) l.steps now u c.unwrap-aid.result done count c.run_chain.new.bank l.session c.run_chain.new.session c.run_chain.new.steps (placed c.run_chain.result c.run_chain.new.reply) (c.run_chain.ensures done.chain done.runs))
-
-pub returns : goal.returns
-returns g c =
-    let did = g.B.Bank.did in
-    let state = g.B.Bank.state in
-    let named = g.B.Bank.named in
-    let start = c.args.bank.now in
-    let budget = c.args.budget in
-    let whole = ran_of (state start) (named start) c.args.first c.args.session.now c.args.apdu.now budget in
-    let ticks = c.args.steps.now in
-    let l = c.loop-turn in
-    let u = l.invariant.underway in
-    let case = c.case-case.result in
-    let le = c.unwrap_or-le.result in
-    let left = budget - l.turn in
-    let here = lone_chain l.frame l.public case le left in
-    let f = underway_spent did state named start whole ticks budget l.turn l.bank here l.steps u c.loop-turn-test.false in
-    record { writes = f.writes; going = f.going; count = f.count; session = c.keep_session-2.ensures ∙ f.session; outcome = f.outcome }
+pub returns-clause-unchanged : goal.returns-clause-unchanged
+returns-clause-unchanged g c =
+    let whole = ran_of (g.B.Bank.state c.args.bank.now) (g.B.Bank.named c.args.bank.now) c.args.first c.args.session.now c.args.apdu.now c.args.budget in
+    ran_unchanged g.B.Bank.did g.B.Bank.state c.args.bank.now c.run_turns.new.bank c.args.session.now c.run_turns.new.session c.args.steps.now c.run_turns.new.steps whole c.run_turns.new.reply c.run_turns.result c.run_turns.ensures

@@ -36,4 +36,4 @@ loop-bytes-preserved g c =
 pub returns-clause-done : goal.returns-clause-done
 returns-clause-done g c =
     let sends = subst (λ (left : List (List ℕ)). Sends g.N.Nvm.state g.N.Nvm.wrote g.met.N.Nvm.obeys g.R.Runner.told g.met.R.Runner.silent g.met.R.Runner.onward c.args.card.now c.args.budget c.args.commands.now c.args.runner.now left c.loop-bytes.card c.loop-bytes.runner) c.in_default.ensures.none c.loop-bytes.invariant.sends in
-    sends_none g.N.Nvm.state g.N.Nvm.wrote g.met.N.Nvm.obeys g.R.Runner.told g.met.R.Runner.silent g.met.R.Runner.onward c.args.card.now c.loop-bytes.card c.args.budget c.args.commands.now c.args.runner.now c.loop-bytes.runner c.put_done.new.into sends c.put_done.ensures
+    sends_none g.N.Nvm.state g.N.Nvm.wrote g.met.N.Nvm.obeys g.R.Runner.told g.met.R.Runner.silent g.met.R.Runner.onward c.args.card.now c.loop-bytes.card c.args.budget c.args.commands.now c.args.runner.now c.loop-bytes.runner c.put_done.new.self sends c.put_done.ensures.value

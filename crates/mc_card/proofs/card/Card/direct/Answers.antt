@@ -17,7 +17,7 @@ returns-in-Answer-clause-done g c =
     let new = record old { store = c.rule.new.bank; manager = c.rule.new.self } in
     let a = parts_of c.args.apdu.now in
     answered-done g.N.Nvm.state g.N.Nvm.wrote g.met.N.Nvm.obeys a old new c.rule.new.reply c.requires.ready refl refl
-    (subst (λ (x : Ruling). DirectEnds g.N.Nvm.state g.N.Nvm.wrote old a (Ok (ruled x c.rule.new.reply)) new) c.in-Answer.is c.in_ok-rule.ensures.ends)
+    (subst (λ (x : Ruling). DirectEnds g.N.Nvm.state g.N.Nvm.wrote old a (Ok (ruled x c.rule.new.reply)) new) c.in-Answer.is (record { items = c.in_ok-rule.ensures.items; apps = c.in_ok-rule.ensures.apps; leaves = c.in_ok-rule.ensures.leaves; fits = c.in_ok-rule.ensures.fits; going = c.in_ok-rule.ensures.going }))
 
 pub returns-in-Fresh-clause-done : goal.returns-in-Fresh-clause-done
 returns-in-Fresh-clause-done g c =
@@ -25,7 +25,7 @@ returns-in-Fresh-clause-done g c =
     let new = record old { store = c.rule.new.bank; manager = c.rule.new.self; session = c.session_of-self.result } in
     let a = parts_of c.args.apdu.now in
     selected-done g.N.Nvm.state g.N.Nvm.wrote g.met.N.Nvm.obeys a old new c.in-Fresh.slot c.rule.new.reply c.requires.ready c.session_of-self.ensures refl
-    (subst (λ (x : Ruling). DirectEnds g.N.Nvm.state g.N.Nvm.wrote old a (Ok (ruled x c.rule.new.reply)) new) c.in-Fresh.is c.in_ok-rule.ensures.ends)
+    (subst (λ (x : Ruling). DirectEnds g.N.Nvm.state g.N.Nvm.wrote old a (Ok (ruled x c.rule.new.reply)) new) c.in-Fresh.is (record { items = c.in_ok-rule.ensures.items; apps = c.in_ok-rule.ensures.apps; leaves = c.in_ok-rule.ensures.leaves; fits = c.in_ok-rule.ensures.fits; going = c.in_ok-rule.ensures.going }))
 
 pub session_of-self-requires-clause-there : goal.session_of-self-requires-clause-there
 session_of-self-requires-clause-there g c =
@@ -33,7 +33,7 @@ session_of-self-requires-clause-there g c =
     let new = record old { store = c.rule.new.bank; manager = c.rule.new.self } in
     let a = parts_of c.args.apdu.now in
     fresh-slot g.N.Nvm.state g.N.Nvm.wrote g.met.N.Nvm.obeys a old new c.in-Fresh.slot c.rule.new.reply c.requires.ready
-    (subst (λ (x : Ruling). DirectEnds g.N.Nvm.state g.N.Nvm.wrote old a (Ok (ruled x c.rule.new.reply)) new) c.in-Fresh.is c.in_ok-rule.ensures.ends)
+    (subst (λ (x : Ruling). DirectEnds g.N.Nvm.state g.N.Nvm.wrote old a (Ok (ruled x c.rule.new.reply)) new) c.in-Fresh.is (record { items = c.in_ok-rule.ensures.items; apps = c.in_ok-rule.ensures.apps; leaves = c.in_ok-rule.ensures.leaves; fits = c.in_ok-rule.ensures.fits; going = c.in_ok-rule.ensures.going }))
 
 pub returns-in-Pass-clause-done : goal.returns-in-Pass-clause-done
 returns-in-Pass-clause-done g c =
@@ -41,7 +41,7 @@ returns-in-Pass-clause-done g c =
     let new = record old { store = c.rule.new.bank; manager = c.rule.new.self } in
     let a = parts_of c.args.apdu.now in
     passed-done g.N.Nvm.state g.N.Nvm.wrote g.met.N.Nvm.obeys a old new c.in-Pass.slot refl refl
-    (subst (λ (x : Ruling). DirectEnds g.N.Nvm.state g.N.Nvm.wrote old a (Ok (ruled x c.rule.new.reply)) new) c.in-Pass.is c.in_ok-rule.ensures.ends)
+    (subst (λ (x : Ruling). DirectEnds g.N.Nvm.state g.N.Nvm.wrote old a (Ok (ruled x c.rule.new.reply)) new) c.in-Pass.is (record { items = c.in_ok-rule.ensures.items; apps = c.in_ok-rule.ensures.apps; leaves = c.in_ok-rule.ensures.leaves; fits = c.in_ok-rule.ensures.fits; going = c.in_ok-rule.ensures.going }))
 
 pub returns-in_err-rule-clause-done : goal.returns-in_err-rule-clause-done
 returns-in_err-rule-clause-done g c =
@@ -50,7 +50,7 @@ returns-in_err-rule-clause-done g c =
     let a = parts_of c.args.apdu.now in
     let p = err_from_is_err_and c.from_residual.result c.from_residual.ensures.1 in
     subst (λ (r : Result Directed Stop). Directs g.N.Nvm.state g.N.Nvm.wrote old a r c.rule.new.reply new) (sym (p.1 ∙ ap (λ (s : Stop). Err s) p.2))
-    (stopped-done g.N.Nvm.state g.N.Nvm.wrote g.met.N.Nvm.obeys a old new c.in_err-rule.field-0.0 c.requires.ready c.in_err-rule.ensures.ends)
+    (stopped-done g.N.Nvm.state g.N.Nvm.wrote g.met.N.Nvm.obeys a old new c.in_err-rule.field-0.0 c.requires.ready (record { items = c.in_err-rule.ensures.items; apps = c.in_err-rule.ensures.apps; leaves = c.in_err-rule.ensures.leaves; fits = c.in_err-rule.ensures.fits; going = c.in_err-rule.ensures.going }))
 
 pub returns-in_err-rule-clause-lent : goal.returns-in_err-rule-clause-lent
 returns-in_err-rule-clause-lent g c =
@@ -58,7 +58,7 @@ returns-in_err-rule-clause-lent g c =
     let new = record old { store = c.rule.new.bank; manager = c.rule.new.self } in
     let a = parts_of c.args.apdu.now in
     answered-same g.N.Nvm.state g.N.Nvm.wrote g.N.Nvm.same g.met.N.Nvm.keeps g.met.N.Nvm.itself g.met.N.Nvm.onward a old new _
-    (stopped-done g.N.Nvm.state g.N.Nvm.wrote g.met.N.Nvm.obeys a old new c.in_err-rule.field-0.0 c.requires.ready c.in_err-rule.ensures.ends)
+    (stopped-done g.N.Nvm.state g.N.Nvm.wrote g.met.N.Nvm.obeys a old new c.in_err-rule.field-0.0 c.requires.ready (record { items = c.in_err-rule.ensures.items; apps = c.in_err-rule.ensures.apps; leaves = c.in_err-rule.ensures.leaves; fits = c.in_err-rule.ensures.fits; going = c.in_err-rule.ensures.going }))
 
 pub returns-in-Answer-clause-lent : goal.returns-in-Answer-clause-lent
 returns-in-Answer-clause-lent g c =

@@ -48,13 +48,13 @@ returns-in-Passed-clause-done g c =
     passed-commanded g.N.Nvm.state g.N.Nvm.wrote g.met.N.Nvm.obeys old c.direct.new.self a c.in-Passed.slot c.args.budget c.args.bytes.now (placed c.run_into.result c.run_into.new.reply) c.run_into.new.bank c.run_into.new.session c.requires.ready
     (subst (λ (x : Directed). Directs g.N.Nvm.state g.N.Nvm.wrote old a (Ok x) c.direct.new.reply c.direct.new.self) c.in-Passed.is c.in_ok-direct.ensures.done)
     c.in-Ok.ensures.read
-    (run-did g.N.Nvm.state g.N.Nvm.wrote g.met.N.Nvm.obeys c.direct.new.self (run_of g.N.Nvm.state g.N.Nvm.wrote g.met.N.Nvm.obeys c.direct.new.self c.in-Passed.slot a c.args.budget) (placed c.run_into.result c.run_into.new.reply) c.run_into.new.bank c.run_into.new.session c.direct.new.steps c.run_into.new.steps c.run_into.ensures)
+    (run-did g.N.Nvm.state g.N.Nvm.wrote g.met.N.Nvm.obeys c.direct.new.self (run_of g.N.Nvm.state g.N.Nvm.wrote g.met.N.Nvm.obeys c.direct.new.self c.in-Passed.slot a c.args.budget) c.run_into.result c.run_into.new.reply c.run_into.new.bank c.run_into.new.session c.run_into.ensures.writes c.run_into.ensures.outcome c.run_into.ensures.session c.run_into.ensures.going)
 
 pub returns-in-Passed-clause-steps : goal.returns-in-Passed-clause-steps
 returns-in-Passed-clause-steps g c =
     let old = c.args.self.now in
     let a = parts_of c.in-Ok.apdu in
-    let counted = run-counted g.N.Nvm.state g.N.Nvm.wrote g.met.N.Nvm.obeys c.direct.new.self (run_of g.N.Nvm.state g.N.Nvm.wrote g.met.N.Nvm.obeys c.direct.new.self c.in-Passed.slot a c.args.budget) (placed c.run_into.result c.run_into.new.reply) c.run_into.new.bank c.run_into.new.session c.direct.new.steps c.run_into.new.steps c.run_into.ensures in
+    let counted = run-counted g.N.Nvm.state g.N.Nvm.wrote g.met.N.Nvm.obeys (run_of g.N.Nvm.state g.N.Nvm.wrote g.met.N.Nvm.obeys c.direct.new.self c.in-Passed.slot a c.args.budget) c.run_into.result c.run_into.new.reply c.direct.new.steps c.run_into.new.steps c.run_into.ensures.ticks c.run_into.ensures.most in
     passed-steps g.N.Nvm.state g.N.Nvm.wrote g.met.N.Nvm.obeys old c.direct.new.self a c.in-Passed.slot c.args.budget c.args.bytes.now (placed c.run_into.result c.run_into.new.reply) c.args.steps.now c.direct.new.steps c.run_into.new.steps _ c.requires.ready
     (subst (λ (x : Directed). Directs g.N.Nvm.state g.N.Nvm.wrote old a (Ok x) c.direct.new.reply c.direct.new.self) c.in-Passed.is c.in_ok-direct.ensures.done)
     c.in-Ok.ensures.read c.in_ok-direct.ensures.rises c.in_ok-direct.ensures.ticks counted.0 counted.1
@@ -91,4 +91,4 @@ returns-in-Passed-clause-few g c image =
     passed-within g.N.Nvm.state g.N.Nvm.wrote g.met.N.Nvm.obeys old c.direct.new.self a c.in-Passed.slot c.args.budget c.args.bytes.now (placed c.run_into.result c.run_into.new.reply) c.run_into.new.bank c.run_into.new.session c.requires.ready
     (subst (λ (x : Directed). Directs g.N.Nvm.state g.N.Nvm.wrote old a (Ok x) c.direct.new.reply c.direct.new.self) c.in-Passed.is c.in_ok-direct.ensures.done)
     c.in-Ok.ensures.read
-    (run-did g.N.Nvm.state g.N.Nvm.wrote g.met.N.Nvm.obeys c.direct.new.self (run_of g.N.Nvm.state g.N.Nvm.wrote g.met.N.Nvm.obeys c.direct.new.self c.in-Passed.slot a c.args.budget) (placed c.run_into.result c.run_into.new.reply) c.run_into.new.bank c.run_into.new.session c.direct.new.steps c.run_into.new.steps c.run_into.ensures)
+    (run-did g.N.Nvm.state g.N.Nvm.wrote g.met.N.Nvm.obeys c.direct.new.self (run_of g.N.Nvm.state g.N.Nvm.wrote g.met.N.Nvm.obeys c.direct.new.self c.in-Passed.slot a c.args.budget) c.run_into.result c.run_into.new.reply c.run_into.new.bank c.run_into.new.session c.run_into.ensures.writes c.run_into.ensures.outcome c.run_into.ensures.session c.run_into.ensures.going)

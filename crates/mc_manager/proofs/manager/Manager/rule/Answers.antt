@@ -1,25 +1,18 @@
-use Rattle.std.proofs.Common.{[]}
-use Rattle.mc_model_device.specs.Orders.{answer_of}
-use Rattle.mc_model_card.specs.Manager.{manage}
-use Rattle.mc_apdu.specs.Command.{parts_of}
-use Rattle.mc_manager.specs.ManagerState.{view_of, seat_of}
-use Rattle.mc_manager.specs.CommandDue.{due_manager, due}
-use Rattle.mc_manager.specs.Ruled.{placed}
-use Rattle.mc_manager.proofs.EndsLemmas.{ends_as, manager_due}
-use Rattle.mc_manager.proofs.StaleLemmas.{none_stale}
+-- Each promise of a command is a part of how it ends.
+use Rattle.mc_manager.proofs.EndsLemmas.{ends_items, ends_apps, ends_leaves, ends_fits, ends_going}
 use Rattle.mc_manager.proofs.manager.Manager.rule.Goals as goal
 
-pub returns-then-apdu-3-clause-ends : goal.returns-then-apdu-3-clause-ends
-returns-then-apdu-3-clause-ends g c =
-    let v = view_of g.B.Bank.state g.B.Bank.named g.B.Bank.room g.B.Bank.standing c.args.bank.now in
-    let w = view_of g.B.Bank.state g.B.Bank.named g.B.Bank.room g.B.Bank.standing c.manage.new.bank in
-    let m = c.args.self.now in
-    let a = parts_of c.args.apdu.now in
-    ends_as g.B.Bank.did (λ s. due v s m a) (λ s. due_manager (manage v.room v.state.apps (seat_of v.standing s m) a)) v m c.args.bank.now (placed c.manage.result c.manage.new.reply) w c.manage.new.self c.manage.new.bank
-    (λ s. manager_due v s m a c.if-apdu-3.true) c.manage.ensures.ends
+pub returns-clause-items : goal.returns-clause-items
+returns-clause-items g c = ends_items g.B.Bank.did _ _ _ _ _ _ _ c.route.new.reply c.route.result c.route.ensures.ends
 
-pub returns-then-apdu-3-clause-no_stale_byte : goal.returns-then-apdu-3-clause-no_stale_byte
-returns-then-apdu-3-clause-no_stale_byte g c =
-    let v = view_of g.B.Bank.state g.B.Bank.named g.B.Bank.room g.B.Bank.standing c.args.bank.now in
-    let ends = returns-then-apdu-3-clause-ends g c in
-    none_stale v [] c.args.self.now (parts_of c.args.apdu.now) (answer_of (placed c.manage.result c.manage.new.reply)) (g.B.Bank.state c.manage.new.bank) (ends.apps [])
+pub returns-clause-apps : goal.returns-clause-apps
+returns-clause-apps g c = ends_apps g.B.Bank.did _ _ _ _ _ _ _ c.route.new.reply c.route.result c.route.ensures.ends
+
+pub returns-clause-leaves : goal.returns-clause-leaves
+returns-clause-leaves g c = ends_leaves g.B.Bank.did _ _ _ _ _ _ _ c.route.new.reply c.route.result c.route.ensures.ends
+
+pub returns-clause-fits : goal.returns-clause-fits
+returns-clause-fits g c = ends_fits g.B.Bank.did _ _ _ _ _ _ _ c.route.new.reply c.route.result c.route.ensures.ends
+
+pub returns-clause-going : goal.returns-clause-going
+returns-clause-going g c = ends_going g.B.Bank.did _ _ _ _ _ _ _ c.route.new.reply c.route.result c.route.ensures.ends

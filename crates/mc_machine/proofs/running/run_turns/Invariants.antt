@@ -2,7 +2,7 @@ use Rattle.std.proofs.Common.{◌≡◌, ◌-◌}
 use Rattle.mc_machine.specs.Chains.{ran_of}
 use Rattle.mc_machine.specs.Lone.{lone_chain}
 use Rattle.mc_machine.proofs.RunLemmas.{Underway}
-use Rattle.mc_machine.proofs.running.run_into.Given as goal
+use Rattle.mc_machine.proofs.running.run_turns.Given as goal
 
 -- what is left to run leads where the whole run leads, and the session bytes of the selection are as they were
 abbrev pub invariant-loop-turn : goal.invariant-loop-turn
