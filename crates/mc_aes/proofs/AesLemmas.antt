@@ -1,4 +1,4 @@
--- The public calls, from the rounds.
+-- The contracts of the public calls, from the rounds.
 use Rattle.std.proofs.Common.{◌≡◌, ℕ, ◌+◌, ◌-◌, ◌*◌, ◌/◌, ◌<◌, ◌≤◌, List, length, take, drop, reverse, refl, sym, ap, ◌∙◌, arith}
 use Rattle.std.proofs.Math.Nat.{sub-zero}
 use Rattle.mc_model_machine.proofs.ModesLemmas.{chain_step}
@@ -23,7 +23,7 @@ aes_encipher_is key block r b ks ek eb er = er ∙ ap (λ (k : List (List ℕ)).
 pub aes_decipher_is : (key block r b : List ℕ) (ks : List (List ℕ)) → ks ≡ round_keys key → b ≡ block → r ≡ deciphered (reverse ks) b → r ≡ aes_decipher key block
 aes_decipher_is key block r b ks ek eb er = er ∙ ap (λ (k : List (List ℕ)). deciphered (reverse k) b) ek ∙ ap (deciphered (reverse (round_keys key))) eb ∙ sym (aes_decipher-open key block)
 
--- the chain of the code, with its round keys
+-- before the first block of the message, the chain over all its blocks is the definition's
 pub signature_init : (key start message last : List ℕ) → last ≡ start
     → chained (aes_encipher key) last (blocks_of (length message / 16 - 0) 16 (drop (16 * 0) message)) ≡ aes_signature key start message
 signature_init key start message last e =

@@ -32,7 +32,7 @@ pub deciphered-cons : (k : List ℕ) (ks : List (List ℕ)) (b : List ℕ) → d
 unfolding deciphered
 deciphered-cons k ks b = refl
 
--- ---- at a place of the list
+-- ---- at an index of the list
 
 two : (ls : List (List ℕ)) (i : ℕ) → suc i < length ls → drop i ls ≡ get_or ls i [] ∷ get_or ls (suc i) [] ∷ drop (suc (suc i)) ls
 two ls i h = drop-cons ls i [] (omega arith) ∙ ap (λ (t : List (List ℕ)). get_or ls i [] ∷ t) (drop-cons ls (suc i) [] h)

@@ -1,4 +1,4 @@
--- The key schedule on words.
+-- The key expansion of FIPS 197 on words.
 use Rattle.std.proofs.Common.{◌≡◌, ℕ, ◌/◌, ◌%◌, ◌^◌, List, [], ◌∷◌, ◌++◌, refl}
 use Rattle.std.specs.Prelude.{bit_xor}
 use Rattle.mc_model_machine.specs.Modes.{added}

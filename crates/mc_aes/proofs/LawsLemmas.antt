@@ -36,7 +36,7 @@ sub_back_undone b h = eqb-true _ _ (and_parts _ _ (below_at (λ b. (sub (sub_bac
 sub_back-low : (b : ℕ) → b < 256 → sub_back b < 256
 sub_back-low b h = ltb-true _ _ (and_parts _ _ (below_at (λ b. (sub (sub_back b) == b) && nat_lt (sub_back b) 256) 256 sub_back_test b h)).1
 
--- two maps of bytes that undo each other
+-- two maps of bytes, of which h is the inverse of g
 module _ (g h : ℕ → ℕ) (undone : (b : ℕ) → b < 256 → h (g b) ≡ b) (low : (b : ℕ) → b < 256 → g b < 256) where
   map_undone : (l : List ℕ) → AllBelow 256 l → map h (map g l) ≡ l
   map_undone [] a = refl
@@ -200,7 +200,7 @@ matrix-xor p q r s a b c d a' b' c' d' ha hb hc hd ha' hb' hc' hd' =
     let e3 = dot-xor q r s p a b c d a' b' c' d' ha hb hc hd ha' hb' hc' hd' in
     four_bytes _ _ _ _ _ _ _ _ e0 e1 e2 e3
 
--- two matrices one after the other, on a sum of columns
+-- the product of two matrices on a sum of columns
 both-xor : (p q r s x y z w a b c d a' b' c' d' : ℕ) → a < 256 → b < 256 → c < 256 → d < 256 → a' < 256 → b' < 256 → c' < 256 → d' < 256
     → times_matrix x y z w (times_matrix p q r s (bit_xor a a' ∷ bit_xor b b' ∷ bit_xor c c' ∷ bit_xor d d' ∷ []))
     ≡ added (times_matrix x y z w (times_matrix p q r s (a ∷ b ∷ c ∷ d ∷ []))) (times_matrix x y z w (times_matrix p q r s (a' ∷ b' ∷ c' ∷ d' ∷ [])))
@@ -211,7 +211,7 @@ both-xor p q r s x y z w a b c d a' b' c' d' ha hb hc hd ha' hb' hc' hd' =
     (dot-low p q r s a b c d ha hb hc hd) (dot-low s p q r a b c d ha hb hc hd) (dot-low r s p q a b c d ha hb hc hd) (dot-low q r s p a b c d ha hb hc hd)
     (dot-low p q r s a' b' c' d' ha' hb' hc' hd') (dot-low s p q r a' b' c' d' ha' hb' hc' hd') (dot-low r s p q a' b' c' d' ha' hb' hc' hd') (dot-low q r s p a' b' c' d' ha' hb' hc' hd')
 
--- each byte alone is given back
+-- the product of two matrices maps each column with one byte b and three zeros to itself
 abbrev alone_back : ℕ → ℕ → ℕ → ℕ → ℕ → ℕ → ℕ → ℕ → ℕ → Bool
 alone_back p q r s x y z w b =
     (bytes_eq (times_matrix x y z w (times_matrix p q r s (b ∷ 0 ∷ 0 ∷ 0 ∷ []))) (b ∷ 0 ∷ 0 ∷ 0 ∷ [])
@@ -359,7 +359,7 @@ last_round_undone k s ok =
 
 -- ---- the law
 
--- every key of a list is a block
+-- each key of a list is a block
 abbrev AllBlocks : List (List ℕ) → Type 0
 AllBlocks [] = Unit {0}
 AllBlocks (k ∷ ks) = IsBlock 16 k × AllBlocks ks
@@ -461,7 +461,7 @@ aes_back key b key_ok ok =
     ap (aes_decipher key) (aes_encipher-open key b) ∙ aes_decipher-open key (enciphered (round_keys key) b)
     ∙ list_undone (round_keys key) b (round_keys-long key) all ok
 
--- ---- and the other way round
+-- ---- enciphering is the inverse of deciphering
 
 round_forth : (k s : List ℕ) → IsBlock 16 k → IsBlock 16 s → round k (round_back k s) ≡ s
 round_forth k s k_ok ok =
@@ -490,7 +490,7 @@ first_back : (y : List ℕ) (ys : List (List ℕ)) (k t : List ℕ) → rounds_b
 first_back y [] k t = rounds_back-cons y k [] t
 first_back y (x ∷ ys) k t = rounds_back-cons y x (ys ++ (k ∷ [])) t
 
--- the keys ys in reverse order are behind, the last of them is only added, and the keys ks are still before
+-- the rounds back under ys and k, and then the rounds under ys in reverse, cancel before the rounds under the other keys
 back_forth : (ys : List (List ℕ)) (k i : List ℕ) (ks : List (List ℕ)) (t : List ℕ) → AllBlocks ys → IsBlock 16 t
     → rounds (reverse ys ++ (i ∷ ks)) (added (rounds_back (ys ++ (k ∷ [])) t) k) ≡ rounds (i ∷ ks) t
 back_forth [] k i ks t all ok =
@@ -510,7 +510,7 @@ AllBlocks-reverse : (ks : List (List ℕ)) → AllBlocks ks → AllBlocks (rever
 AllBlocks-reverse [] a = tt
 AllBlocks-reverse (k ∷ ks) a = subst (λ (l : List (List ℕ)). AllBlocks l) (sym (reverse-append (k ∷ []) ks)) (AllBlocks-append (reverse ks) (k ∷ []) (AllBlocks-reverse ks a.1) (a.0, tt))
 
--- the keys after the first, in reverse, are not none
+-- enciphering is the inverse of deciphering if there is at least one key after the first
 forth_from : (k : List ℕ) (rs : List (List ℕ)) (b : List ℕ) → 0 < length rs → IsBlock 16 k → AllBlocks rs → IsBlock 16 b
     → enciphered (k ∷ reverse rs) (deciphered (rs ++ (k ∷ [])) b) ≡ b
 forth_from k [] b h k_ok all ok = absurd (omega arith)

@@ -1,4 +1,4 @@
--- The rounds, from the columns of their results.
+-- The rounds, from the columns that the code computes.
 use Rattle.std.proofs.Common.{◌≡◌, ℕ, List, ◌++◌, map, refl, ap, ◌∙◌}
 use Rattle.mc_model_machine.specs.Modes.{added}
 use Rattle.mc_model_machine.specs.Aes.{sub_back, times_matrix, round, last_round, mix_columns_back, shift_rows_back, round_back, last_round_back}
@@ -68,7 +68,7 @@ module _ (s k r : State) where
       → state_bytes r ≡ mix_columns_back (state_bytes s)
   mixed_back_is ea eb ec ed = columns_are r _ _ _ _ ea eb ec ed ∙ mixed_columns
 
--- the rounds back, opened
+-- the inverse rounds, unfolded
 pub last_round_back_is : (s k : State) (sum r : List ℕ) → sum ≡ added (state_bytes s) (state_bytes k) → r ≡ map sub_back (shift_rows_back sum)
     → r ≡ last_round_back (state_bytes k) (state_bytes s)
 unfolding last_round_back

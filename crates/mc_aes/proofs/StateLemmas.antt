@@ -1,4 +1,4 @@
--- Words and their bytes: sums, and what the bytes of a word are.
+-- Words and their bytes: sums, and the bytes of a word.
 use Rattle.std.proofs.Common.{◌≡◌, ℕ, ◌*◌, ◌/◌, ◌%◌, ◌^◌, ◌<◌, List, [], ◌∷◌, ◌++◌, length, get_or, refl, sym, ap, ◌∙◌, arith}
 use Rattle.std.specs.Int.{w32, from_be_bytes, to_be_bytes}
 use Rattle.std.specs.Int.Bits.{bit_xor, xor_zero_r}
@@ -20,15 +20,15 @@ word-parts : (w a b c d : ℕ) → w / 2 ^ 24 % 256 ≡ a → w / 2 ^ 16 % 256 �
 unfolding word
 word-parts w a b c d ea eb ec ed = rw (ea, eb, ec, ed) refl
 
--- the word that is written by four bytes
+-- the bytes of the word of four bytes
 pub word-from : (w a b c d : ℕ) → a < 256 → b < 256 → c < 256 → d < 256 → w ≡ from_be_bytes w32 (a ∷ b ∷ c ∷ d ∷ []) → word w ≡ a ∷ b ∷ c ∷ d ∷ []
 word-from w a b c d ha hb hc hd e = word-parts w a b c d (omega arith) (omega arith) (omega arith) (omega arith)
 
--- a word of known bytes, with a word added
+-- the bytes of the sum of a word of known bytes and a word
 pub word-xor-of : (a k : ℕ) (xs : List ℕ) → word a ≡ xs → word (bit_xor a k) ≡ added xs (word k)
 word-xor-of a k xs e = word-xor a k ∙ ap (λ (l : List ℕ). added l (word k)) e
 
--- the sum of the four columns that a column step adds
+-- the bytes of a sum of four columns and a word
 columns_sum : (a b c d k : ℕ) (xa xb xc xd : List ℕ) → word a ≡ xa → word b ≡ xb → word c ≡ xc → word d ≡ xd
     → word (bit_xor (bit_xor (bit_xor (bit_xor a b) c) d) k) ≡ added (added (added (added xa xb) xc) xd) (word k)
 columns_sum a b c d k xa xb xc xd ea eb ec ed = rw (word-xor, word-xor, word-xor, word-xor, ea, eb, ec, ed) refl
@@ -37,7 +37,7 @@ columns_sum_alone : (a b c d : ℕ) (xa xb xc xd : List ℕ) → word a ≡ xa �
     → word (bit_xor (bit_xor (bit_xor a b) c) d) ≡ added (added (added xa xb) xc) xd
 columns_sum_alone a b c d xa xb xc xd ea eb ec ed = rw (word-xor, word-xor, word-xor, ea, eb, ec, ed) refl
 
--- the word of four bytes, put together by shifts
+-- the bytes of the word of four bytes that are joined by shifts
 pub joined_is : (a b c d : ℕ) → a < 256 → b < 256 → c < 256 → d < 256
     → word (bit_xor (bit_xor (bit_xor (a * 2 ^ 24 % 2 ^ 32) (b * 2 ^ 16 % 2 ^ 32)) (c * 2 ^ 8 % 2 ^ 32)) d) ≡ a ∷ b ∷ c ∷ d ∷ []
 joined_is a b c d ha hb hc hd =
@@ -48,7 +48,7 @@ joined_is a b c d ha hb hc hd =
     (word-parts _ _ _ _ _ (omega arith) (omega arith) (omega arith) (omega arith))
     ∙ simp (xor_zero_r)
 
--- the column that a word's bytes make through a matrix, from the tables' columns for its four bytes
+-- the product of a matrix and a column, plus a word, as the sum of the tables' columns of its four bytes
 pub matrix_column : (p q r s : ℕ) (x0 x1 x2 x3 y0 y1 y2 y3 : ℕ) (a b c d k : ℕ)
     → word a ≡ mul p x0 ∷ mul s x0 ∷ mul r x0 ∷ mul q x0 ∷ []
     → word b ≡ mul q x1 ∷ mul p x1 ∷ mul s x1 ∷ mul r x1 ∷ []
@@ -59,7 +59,7 @@ pub matrix_column : (p q r s : ℕ) (x0 x1 x2 x3 y0 y1 y2 y3 : ℕ) (a b c d k :
 matrix_column p q r s x0 x1 x2 x3 y0 y1 y2 y3 a b c d k ea eb ec ed e0 e1 e2 e3 =
     rw (← e0, ← e1, ← e2, ← e3) (columns_sum a b c d k _ _ _ _ ea eb ec ed)
 
--- without a sum
+-- the product of a matrix and a column, as the sum of the tables' columns of its four bytes
 pub matrix_column_alone : (p q r s : ℕ) (x0 x1 x2 x3 y0 y1 y2 y3 : ℕ) (a b c d : ℕ)
     → word a ≡ mul p x0 ∷ mul s x0 ∷ mul r x0 ∷ mul q x0 ∷ []
     → word b ≡ mul q x1 ∷ mul p x1 ∷ mul s x1 ∷ mul r x1 ∷ []
@@ -70,7 +70,7 @@ pub matrix_column_alone : (p q r s : ℕ) (x0 x1 x2 x3 y0 y1 y2 y3 : ℕ) (a b c
 matrix_column_alone p q r s x0 x1 x2 x3 y0 y1 y2 y3 a b c d ea eb ec ed e0 e1 e2 e3 =
     rw (← e0, ← e1, ← e2, ← e3) (columns_sum_alone a b c d _ _ _ _ ea eb ec ed)
 
--- a list of sixteen
+-- a list of sixteen entries is the list of its entries
 pub sixteen : (l : List ℕ) → length l ≡ 16 → l ≡ get_or l 0 0 ∷ get_or l 1 0 ∷ get_or l 2 0 ∷ get_or l 3 0 ∷ get_or l 4 0 ∷ get_or l 5 0 ∷ get_or l 6 0 ∷ get_or l 7 0
     ∷ get_or l 8 0 ∷ get_or l 9 0 ∷ get_or l 10 0 ∷ get_or l 11 0 ∷ get_or l 12 0 ∷ get_or l 13 0 ∷ get_or l 14 0 ∷ get_or l 15 0 ∷ []
 unfolding listed_from
@@ -81,13 +81,13 @@ parts-added : (s k : State) → added (word s.first) (word k.first) ++ added (wo
 unfolding word
 parts-added s k = refl
 
--- the words of two states, added
+-- the sum of two states, word by word, is the sum of their bytes
 pub state-added : (s k : State) → state_bytes (record { first = bit_xor s.first k.first; second = bit_xor s.second k.second; third = bit_xor s.third k.third; fourth = bit_xor s.fourth k.fourth })
     ≡ added (state_bytes s) (state_bytes k)
 unfolding state_bytes
 state-added s k = rw (word-xor, word-xor, word-xor, word-xor) (parts-added s k)
 
--- a state that was read, and one that is written
+-- the bytes of a state that was read from a block, and of one that is written
 pub loaded : (b : List ℕ) (w0 w1 w2 w3 : ℕ) → length b ≡ 16 → ((k : ℕ) → k < length b → get_or b k 0 < 256)
     → w0 ≡ from_be_bytes w32 (get_or b 0 0 ∷ get_or b 1 0 ∷ get_or b 2 0 ∷ get_or b 3 0 ∷ [])
     → w1 ≡ from_be_bytes w32 (get_or b 4 0 ∷ get_or b 5 0 ∷ get_or b 6 0 ∷ get_or b 7 0 ∷ [])

@@ -1,4 +1,4 @@
--- The rule of each table, from a test that is computed over the whole table.
+-- The rule of each table, from a test that is computed over all its entries.
 use Rattle.std.proofs.Common.{◌≡◌, ℕ, inl, inr, ◌+◌, ◌<◌, ◌==◌, ◌||◌, true, [], ◌∷◌, get_or, refl, arith}
 use Rattle.std.specs.Prelude.{bytes_eq}
 use Rattle.std.proofs.lemmas.Bool.{eqb-true, or_cases}
@@ -22,7 +22,7 @@ back_test = refl
 pub back_at : (b : ℕ) → b < 256 → get_or BYTES_OF_SUBSTITUTES b 0 ≡ sub_back b
 back_at b h = eqb-true _ _ (below_at (λ b. get_or BYTES_OF_SUBSTITUTES b 0 == sub_back b) 256 back_test b h)
 
--- each row of a table of columns
+-- each of the four parts of a table of columns, one for each row of the state
 
 columns0_test : all_below (λ b. bytes_eq (word (get_or COLUMNS b 0)) (mul 2 (sub b) ∷ mul 1 (sub b) ∷ mul 1 (sub b) ∷ mul 3 (sub b) ∷ [])) 256 ≡ true
 unfolding all_below sub mul word

@@ -1,9 +1,9 @@
--- Known answers of public standards, as numbers of 16 bytes: a key, a block, and the block enciphered.
+-- Known answers of public standards, as numbers of 16 bytes: a key, a block, and the enciphered block.
 use Rattle.std.specs.Prelude.{ℕ, Bool, true, ◌&&◌, List, [], ◌∷◌, bytes_eq}
 use Rattle.mc_model_device.specs.Bytes.{bytes}
 use Rattle.mc_model_machine.specs.Aes.{aes_encipher, aes_decipher}
 
--- a known answer
+-- a known answer: a key, a block and the enciphered block
 pub record KnownAesAnswer : Type 0 where
   pub key : ℕ
   pub block : ℕ
@@ -13,13 +13,13 @@ pub record KnownAesAnswer : Type 0 where
 abbrev pub row : ℕ → ℕ → ℕ → KnownAesAnswer
 row key block enciphered = record { key = key; block = block; enciphered = enciphered }
 
--- whether the definition enciphers each block of a list as the row says
+-- whether the definition enciphers the block of each row to the row's enciphered block
 unfoldable pub all_encipher : List KnownAesAnswer → Bool
 unfolding aes_encipher
 all_encipher [] = true
 all_encipher (r ∷ rs) = bytes_eq (aes_encipher (bytes 16 r.key) (bytes 16 r.block)) (bytes 16 r.enciphered) && all_encipher rs
 
--- and deciphers it
+-- whether the definition deciphers the enciphered block of each row to the row's block
 unfoldable pub all_decipher : List KnownAesAnswer → Bool
 unfolding aes_decipher
 all_decipher [] = true
@@ -54,7 +54,7 @@ blocks =
     row 0x00000000000000000000000000000000 0xE0000000000000000000000000000000 0xF031D4D74F5DCBF39DAAF8CA3AF6E527 ∷
     row 0x00000000000000000000000000000000 0xF0000000000000000000000000000000 0x96D9FD5CC4F07441727DF0F33E401A36 ∷ []
 
--- NIST AESAVS, appendices C.1 (KeySbox) and E.1 (variable key): zeros under a key.
+-- NIST AESAVS, appendices C.1 (KeySbox) and E.1 (variable key): the block of zeros under several keys.
 abbrev pub keys : List KnownAesAnswer
 keys =
     row 0x10A58869D74BE5A374CF867CFB473859 0x00000000000000000000000000000000 0x6D251E6944B051E04EAA6FB4DBF78465 ∷

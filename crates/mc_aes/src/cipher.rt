@@ -1,4 +1,4 @@
-// A block through all rounds.
+// The cipher and the inverse cipher of FIPS 197 on a state, with given round keys.
 
 ghost use Rattle.std.specs.Prelude.{◌≡◌, map, reverse};
 ghost use Rattle.mc_model_machine.specs.Aes.{enciphered, deciphered};
@@ -7,7 +7,7 @@ ghost use Rattle.mc_aes.specs.State.{state_bytes};
 use crate::rounds::{last_round, last_round_back, round, round_back};
 use crate::state::{State, add};
 
-// The rounds stand one behind the other and in their callers: a loop would put words of the state into memory.
+// The rounds are unrolled and inlined: a loop would put words of the state into memory.
 #[inline(always)]
 pub fn encipher_with(keys: &[State; 11], block: State) -> State
     ensures { state_bytes result ≡ enciphered (map state_bytes keys.now) (state_bytes block) }

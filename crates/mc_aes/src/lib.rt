@@ -1,6 +1,6 @@
 #![tactic(auto)]
 
-//! AES with keys of 128 bits (FIPS 197), and the last block of its chain (NIST SP 800-38A, CBC).
+//! AES-128 (FIPS 197), and the last block of its CBC mode (NIST SP 800-38A).
 
 ghost use Rattle.std.specs.Prelude.{◌≡◌, ◌%◌, ◌<◌, length};
 ghost use Rattle.mc_model_machine.specs.Aes.{aes_encipher, aes_decipher, aes_signature};
@@ -19,22 +19,23 @@ use cipher::{decipher_with, encipher_with};
 use keys::round_keys;
 use state::{add, load, store};
 
-/// Enciphers one block of 16 bytes under a key of 16 bytes, by AES-128 of FIPS 197.
+/// Enciphers one block of 16 bytes by AES-128 (FIPS 197) under a key of 16 bytes.
 pub fn aes_encipher(key: &[u8; 16], block: &[u8; 16]) -> [u8; 16]
     ensures { result ≡ aes_encipher key.now block.now }
 {
     store(encipher_with(&round_keys(key), load(block)))
 }
 
-/// Deciphers one block of 16 bytes under a key of 16 bytes, by the inverse cipher of FIPS 197.
+/// Deciphers one block of 16 bytes by the inverse cipher of AES-128 (FIPS 197) under a key of 16 bytes.
 pub fn aes_decipher(key: &[u8; 16], block: &[u8; 16]) -> [u8; 16]
     ensures { result ≡ aes_decipher key.now block.now }
 {
     store(decipher_with(&round_keys(key), load(block)))
 }
 
-/// The last block of CBC over a message, from a start block: each block of 16 bytes is added bit by bit to the block
-/// enciphered before it, the first one to `start`, and enciphered. The message is one or more whole blocks.
+/// Returns the last block of CBC mode (NIST SP 800-38A) by AES-128 over a message of one or more whole blocks
+/// of 16 bytes, with the start block `start`: the exclusive or of each block with the enciphered block before
+/// it, the first with `start`, is enciphered.
 pub fn aes_signature(key: &[u8; 16], start: &[u8; 16], message: &[u8]) -> [u8; 16]
     requires whole { length message.now % 16 ≡ 0 }
     requires some { 0 < length message.now }

@@ -1,4 +1,4 @@
-// The rounds, column by column.
+// The rounds of FIPS 197 and their inverses, column by column.
 
 ghost use Rattle.std.specs.Prelude.{◌≡◌, ℕ, [], ◌∷◌, slice_index, map};
 ghost use Rattle.mc_model_machine.specs.Modes.{added};
@@ -11,7 +11,8 @@ use crate::tables::{
     substitute, substitute_back,
 };
 
-// A column of the next state: the substitutes of one byte of each word, through the column step, and the key's word.
+// A column of the next state: SubBytes and ShiftRows of one byte of each word, MixColumns, and AddRoundKey
+// with the key's word.
 #[inline]
 fn round_column(row0: u32, row1: u32, row2: u32, row3: u32, key: u32) -> u32
     ensures { word result ≡ added (times_matrix 2 3 1 1 (substitutes_of row0 row1 row2 row3)) (word key) }
@@ -31,7 +32,8 @@ pub fn round(s: State, key: State) -> State
     }
 }
 
-// The same without the column step.
+// A column of the last state: SubBytes and ShiftRows of one byte of each word, and AddRoundKey with the key's
+// word.
 #[inline]
 fn last_column(row0: u32, row1: u32, row2: u32, row3: u32, key: u32) -> u32
     ensures { word result ≡ added (substitutes_of row0 row1 row2 row3) (word key) }
@@ -57,7 +59,7 @@ pub fn last_round(s: State, key: State) -> State
     }
 }
 
-// A column through the inverse column step.
+// InvMixColumns of a column.
 #[inline]
 fn mixed_back(w: u32) -> u32
     ensures { word result ≡ times_matrix 14 11 13 9 (word w) }
@@ -68,7 +70,7 @@ fn mixed_back(w: u32) -> u32
         ^ column_back3(byte3(w))
 }
 
-// The bytes of which a column's substitutes were made.
+// InvShiftRows and InvSubBytes of one byte of each word, as a column.
 #[inline]
 fn bytes_back(row0: u32, row1: u32, row2: u32, row3: u32) -> u32
     ensures { word result ≡ bytes_back_of row0 row1 row2 row3 }

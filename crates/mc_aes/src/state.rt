@@ -1,4 +1,4 @@
-// The state: four columns of four bytes, each in a word, the byte of row 0 highest.
+// The state of FIPS 197: four columns of four bytes, each in a word, the byte of row 0 highest.
 
 ghost use Rattle.std.specs.Prelude.{◌≡◌, [], ◌∷◌, length, ◌/◌, ◌%◌, ◌^◌};
 ghost use Rattle.mc_model_machine.specs.Modes.{added};
@@ -78,7 +78,7 @@ pub fn byte3(w: u32) -> u8
     (w & 0xFF) as u8
 }
 
-// And a word from them.
+// The word of four bytes, from the one in row 0 on.
 #[inline]
 pub fn joined(row0: u8, row1: u8, row2: u8, row3: u8) -> u32
     ensures { word result ≡ row0 ∷ row1 ∷ row2 ∷ row3 ∷ [] }

@@ -1,10 +1,10 @@
-// The tables of bytes and columns. Each is read by one function, whose contract says what an entry is.
+// The tables of bytes and columns. Each is read by one function, whose contract is the meaning of an entry.
 
 ghost use Rattle.std.specs.Prelude.{◌≡◌, [], ◌∷◌};
 ghost use Rattle.mc_model_machine.specs.Aes.{mul, sub, sub_back};
 ghost use Rattle.mc_aes.specs.State.{word};
 
-// The substitute of each byte.
+// The S-box of FIPS 197: the substitute of each byte.
 const SUBSTITUTES: [u8; 256] = [
     0x63, 0x7c, 0x77, 0x7b, 0xf2, 0x6b, 0x6f, 0xc5, 0x30, 0x01, 0x67, 0x2b, 0xfe, 0xd7, 0xab, 0x76,
     0xca, 0x82, 0xc9, 0x7d, 0xfa, 0x59, 0x47, 0xf0, 0xad, 0xd4, 0xa2, 0xaf, 0x9c, 0xa4, 0x72, 0xc0,
@@ -24,7 +24,7 @@ const SUBSTITUTES: [u8; 256] = [
     0x8c, 0xa1, 0x89, 0x0d, 0xbf, 0xe6, 0x42, 0x68, 0x41, 0x99, 0x2d, 0x0f, 0xb0, 0x54, 0xbb, 0x16,
 ];
 
-// The byte of each substitute.
+// The inverse S-box of FIPS 197: the byte of each substitute.
 const BYTES_OF_SUBSTITUTES: [u8; 256] = [
     0x52, 0x09, 0x6a, 0xd5, 0x30, 0x36, 0xa5, 0x38, 0xbf, 0x40, 0xa3, 0x9e, 0x81, 0xf3, 0xd7, 0xfb,
     0x7c, 0xe3, 0x39, 0x82, 0x9b, 0x2f, 0xff, 0x87, 0x34, 0x8e, 0x43, 0x44, 0xc4, 0xde, 0xe9, 0xcb,
@@ -44,8 +44,8 @@ const BYTES_OF_SUBSTITUTES: [u8; 256] = [
     0x17, 0x2b, 0x04, 0x7e, 0xba, 0x77, 0xd6, 0x26, 0xe1, 0x69, 0x14, 0x63, 0x55, 0x21, 0x0c, 0x7d,
 ];
 
-// What the column step makes of a byte's substitute, as a column: 2, 1, 1 and 3 times it for a byte in row 0, and for
-// one in each row below it the same, turned down by one. An entry stands at 256 times the row plus the byte.
+// MixColumns of a byte's substitute, as a column: 2, 1, 1 and 3 times it for a byte in row 0, and for one in
+// each row below it that column rotated down by one. An entry has the index 256 times the row plus the byte.
 const COLUMNS: [u32; 1024] = [
     0xc66363a5, 0xf87c7c84, 0xee777799, 0xf67b7b8d, 0xfff2f20d, 0xd66b6bbd, 0xde6f6fb1, 0x91c5c554,
     0x60303050, 0x02010103, 0xce6767a9, 0x562b2b7d, 0xe7fefe19, 0xb5d7d762, 0x4dababe6, 0xec76769a,
@@ -177,7 +177,8 @@ const COLUMNS: [u32; 1024] = [
     0x4141c382, 0x9999b029, 0x2d2d775a, 0x0f0f111e, 0xb0b0cb7b, 0x5454fca8, 0xbbbbd66d, 0x16163a2c,
 ];
 
-// What the inverse column step makes of a byte: 14, 9, 13 and 11 times it for one in row 0, and so on as above.
+// InvMixColumns of a byte, as a column: 14, 9, 13 and 11 times it for one in row 0, and for one in each row
+// below it that column rotated down by one. An entry has the index 256 times the row plus the byte.
 const COLUMNS_BACK: [u32; 1024] = [
     0x00000000, 0x0e090d0b, 0x1c121a16, 0x121b171d, 0x3824342c, 0x362d3927, 0x24362e3a, 0x2a3f2331,
     0x70486858, 0x7e416553, 0x6c5a724e, 0x62537f45, 0x486c5c74, 0x4665517f, 0x547e4662, 0x5a774b69,
@@ -323,7 +324,7 @@ pub fn substitute_back(byte: u8) -> u8
     BYTES_OF_SUBSTITUTES[byte as usize]
 }
 
-// The column step, of a substitute in one row alone.
+// MixColumns of a substitute in one row and zeros in the others.
 
 #[inline]
 pub fn column0(byte: u8) -> u32
@@ -353,7 +354,7 @@ pub fn column3(byte: u8) -> u32
     COLUMNS[768 + byte as usize]
 }
 
-// The inverse column step, of a byte in one row alone.
+// InvMixColumns of a byte in one row and zeros in the others.
 
 #[inline]
 pub fn column_back0(byte: u8) -> u32

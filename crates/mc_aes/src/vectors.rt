@@ -1,16 +1,16 @@
-// Known answers of public standards, as theorems: the definition computes them.
+// Known answers of public standards, as theorems about the definition.
 
 ghost use Rattle.std.specs.Prelude.{◌≡◌, true, ℕ, ◌<◌, take};
 ghost use Rattle.mc_model_device.specs.Bytes.{bytes};
 ghost use Rattle.mc_model_machine.specs.Aes.{aes_signature, inverse, mul};
 ghost use Rattle.mc_aes.specs.Vectors.{all_encipher, all_decipher, cipher_examples, ecb_examples, blocks, keys};
 
-/// The definition's inverse is the inverse in the field: it times the byte is 1.
+/// The definition's inverse is the inverse in the field GF(2^8): its product with the byte is 1.
 pub fn inverses()
     ensures { (b : ℕ) → 0 < b → b < 256 → mul b (inverse b) ≡ 1 }
 {}
 
-/// FIPS 197, appendices C.1 and B, both ways.
+/// FIPS 197, appendices C.1 and B, enciphered and deciphered.
 pub fn cipher_examples()
     ensures enciphered { all_encipher cipher_examples ≡ true }
     ensures deciphered { all_decipher cipher_examples ≡ true }
@@ -26,7 +26,7 @@ pub fn blocks()
     ensures { all_encipher blocks ≡ true }
 {}
 
-/// NIST AESAVS: zeros under a key.
+/// NIST AESAVS: the block of zeros under several keys.
 pub fn keys()
     ensures { all_encipher keys ≡ true }
 {}

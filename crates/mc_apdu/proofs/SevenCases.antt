@@ -1,4 +1,4 @@
--- The seven cases of a command, as what is read and as a relation.
+-- The seven cases of a command (ISO/IEC 7816-4): the parser's function and the relation agree.
 use Rattle.std.proofs.Common.{◌≡◌, ◌≢◌, ℕ, zero, suc, ◌+◌, ◌*◌, ◌≤◌, ◌⊎◌, Bool, true, false, cond, ◌&&◌, List, [], ◌∷◌, length, take, drop, get_or, get_or-drop, Option, Some, None, refl, sym, ap, subst, inl, inr, add_assoc, lit≤, arith}
 use Rattle.std.specs.Prelude.{nat_eq, nat_le, option_map}
 use Rattle.std.proofs.lemmas.Bool.{eqb-true}
@@ -6,7 +6,7 @@ use Rattle.std.proofs.lemmas.Bool.Decides.{nat_tests}
 use Rattle.mc_model_device.specs.Bytes.{be2}
 use Rattle.mc_model_machine.specs.Apdu.{ApduParts, Rest, short_le, extended_le, short_rest, extended_body, extended_rest, rest_read, apdu_read, HasHeader, IsShort3, IsShort4, IsExtended3, IsExtended4, IsApdu}
 
--- which way a choice went
+-- the two branches of a conditional
 chosen : {A : Type 0} (b : Bool) (x y z : A) → cond b x y ≡ z → ((b ≡ true) × (x ≡ z)) ⊎ ((b ≡ false) × (y ≡ z))
 chosen true x y z e = inl (refl, e)
 chosen false x y z e = inr (refl, e)
@@ -14,7 +14,7 @@ chosen false x y z e = inr (refl, e)
 some_is : {A : Type 0} {x y : A} → Some x ≡ Some y → x ≡ y
 some_is e = cc
 
--- an option that was mapped to something
+-- an option whose image under a map is `Some`
 read_some : {A B : Type 0} (f : A → B) (o : Option A) (y : B) → option_map f o ≡ Some y → (x : A) × (o ≡ Some x) × (f x ≡ y)
 read_some f None y e = absurd cc
 read_some f (Some x) y e = (x, refl, some_is e)
@@ -32,7 +32,7 @@ too_short b a c short =
       | inr (inr (inr (inr (inr (inr w))))) ↦ omega (arith, w)
     ]
 
--- two bytes further on
+-- a big-endian word, n bytes further on
 be2_drop : (n : ℕ) (l : List ℕ) (i : ℕ) → be2 (drop n l) i ≡ be2 l (n + i)
 be2_drop n l i = rw (get_or-drop n l i 0, get_or-drop n l (i + 1) 0, ← add_assoc n i 1) refl
 
@@ -41,18 +41,18 @@ abbrev joined : ℕ → ℕ → ℕ → ℕ → Rest → ApduParts
 joined cla ins p1 p2 r = record { cla = cla; ins = ins; p1 = p1; p2 = p2; p3 = r.p3; body = r.body; le = r.le }
 
 module _ (cla ins p1 p2 : ℕ) where
-  -- the bytes behind a header
+  -- the header followed by the bytes after it
   abbrev behind : List ℕ → List ℕ
   behind rest = cla ∷ ins ∷ p1 ∷ p2 ∷ rest
 
   abbrev Case : List ℕ → Rest → Type 0
   Case rest r = IsApdu (behind rest) (joined cla ins p1 p2 r)
 
-  -- the header of what stands behind it
+  -- these bytes have this header
   headed : (rest : List ℕ) (r : Rest) → HasHeader (behind rest) (joined cla ins p1 p2 r)
   headed rest r = record { cla = refl; ins = refl; p1 = refl; p2 = refl }
 
-  -- what is read of nothing and of one byte is one of the cases, and they are read so
+  -- with no byte or one byte after the header, what is read is one of the cases, and each case is read
   none_is : (r : Rest) → rest_read [] ≡ Some r → Case [] r
   none_is r e = grind (arith, nat_tests)
 
@@ -114,7 +114,7 @@ module _ (cla ins p1 p2 : ℕ) where
         | inr w ↦ absurd cc
       ]
 
-  -- what stands behind a header and has one of the cases is read so
+  -- bytes after a header that have one of the cases are read as that case
   is_short : (lc x : ℕ) (xs : List ℕ) (r : Rest) → lc ≢ 0 → Case (lc ∷ x ∷ xs) r → rest_read (lc ∷ x ∷ xs) ≡ Some r
   is_short lc x xs r some c =
       elim c.1 [
@@ -153,7 +153,7 @@ module _ (cla ins p1 p2 : ℕ) where
       extended4 : IsExtended4 (behind (0 ∷ h ∷ l ∷ x ∷ xs)) (joined cla ins p1 p2 r) → rest_read (0 ∷ h ∷ l ∷ x ∷ xs) ≡ Some r
       extended4 w = let v = rw (← be2_drop 7 (behind (0 ∷ h ∷ l ∷ x ∷ xs)) (256 * h + l)) at w in grind (arith, nat_tests, v)
 
-  -- what is read behind a header has one of the cases, and the other way round
+  -- the bytes after a header are read as r exactly if they have one of the cases with r
   rest_is : (rest : List ℕ) (r : Rest) → rest_read rest ≡ Some r → Case rest r
   rest_is [] r e = none_is r e
   rest_is (p3 ∷ []) r e = one_is p3 r e

@@ -2,8 +2,8 @@ ghost use Rattle.std.specs.Prelude.{◌≡◌, ◌≢◌, ◌+◌, ◌*◌, ◌�
 ghost use Rattle.mc_model_machine.specs.Apdu.{apdu_read, apdu_case, extended_body, extended_le, extended_rest, rest_read, short_le, short_rest};
 ghost use Rattle.mc_apdu.specs.Command.{parts_of, rest_of};
 
-/// A command of ISO/IEC 7816-4: its header, P3, its data, and Le, how many bytes of data its reply
-/// may have. P3 is the fifth byte in the short cases 2 to 4, and else 0. An extended Le of 65,536
+/// A command APDU of ISO/IEC 7816-4: its header, P3, its data, and Le, the greatest number of data bytes that
+/// its reply may have. P3 is the fifth byte in the short cases 2 to 4, and else 0. An extended Le of 65,536
 /// is held as 65,535.
 #[derive(Clone, Copy, Debug, PartialEq, Eq)]
 pub struct Apdu<'a> {
@@ -16,13 +16,13 @@ pub struct Apdu<'a> {
     pub le: Option<u16>,
 }
 
-/// The bytes have the length of none of the cases.
+/// The bytes have the length of none of the cases that [`parse`] reads.
 #[derive(Clone, Copy, Debug, PartialEq, Eq)]
 pub struct WrongLength;
 
 impl Apdu<'_> {
-    /// The number of the command's case in ISO/IEC 7816-4: 1 without data and Le, 2 with Le alone,
-    /// 3 with data alone, 4 with both.
+    /// Returns the number of the command's case in ISO/IEC 7816-4: 1 without data and Le, 2 with Le alone, 3
+    /// with data alone, 4 with both.
     pub fn case(&self) -> u8
         ensures { result ≡ apdu_case (parts_of self.now) }
     {
@@ -35,15 +35,19 @@ impl Apdu<'_> {
     }
 }
 
-// What stands behind the header.
+// The fields after the header.
 struct Fields<'a> {
     p3: u8,
     body: &'a [u8],
     le: Option<u16>,
 }
 
-/// Takes a command apart by the four short cases and the three extended ones of ISO/IEC 7816-4, with
-/// at most 1,024 bytes of data. The data are borrowed from the command's bytes.
+/// Parses a command by the four short cases and the three extended ones of ISO/IEC 7816-4, with at most 1,024
+/// bytes of data. The data are borrowed from `bytes`.
+///
+/// # Errors
+///
+/// Returns `WrongLength` if the bytes have none of these cases.
 #[tactic(auto, unfolding(mc_model_machine::specs::Apdu::apdu_read))]
 pub fn parse(bytes: &[u8]) -> Result<Apdu<'_>, WrongLength>
     ensures read { MatchResult result (λ a. apdu_read bytes.now ≡ Some (parts_of a)) (λ _. apdu_read bytes.now ≡ None) }
@@ -86,7 +90,7 @@ fn fields_of(bytes: &[u8]) -> Option<Fields<'_>>
     }
 }
 
-// The short cases 3 and 4: Lc, and what stands behind it.
+// The short cases 3 and 4: Lc, and the bytes after it.
 fn short_fields(lc: u8, rest: &[u8]) -> Option<Fields<'_>>
     ensures read { MatchOption result (short_rest lc rest.now ≡ None) (λ r. short_rest lc rest.now ≡ Some (rest_of r)) }
     ensures body { IfSome result (λ r. length r.body.now ≤ 1024) }
@@ -110,7 +114,7 @@ fn short_fields(lc: u8, rest: &[u8]) -> Option<Fields<'_>>
     None
 }
 
-// The extended cases, behind the zero: a two-byte number, which alone is Le, and else Lc.
+// The extended cases, after the zero byte: a two-byte number, which is Le if no byte follows, and else Lc.
 fn extended_fields(bytes: &[u8]) -> Option<Fields<'_>>
     ensures read { MatchOption result (extended_rest bytes.now ≡ None)
         (λ r. extended_rest bytes.now ≡ Some (rest_of r)) }
@@ -133,7 +137,7 @@ fn extended_fields(bytes: &[u8]) -> Option<Fields<'_>>
     extended_data(number, rest)
 }
 
-// The extended cases 3 and 4: Lc, and what stands behind it.
+// The extended cases 3 and 4: Lc, and the bytes after it.
 fn extended_data(lc: u16, rest: &[u8]) -> Option<Fields<'_>>
     requires { lc ≤ 1024 }
     ensures read { MatchOption result (extended_body lc rest.now ≡ None)
@@ -159,7 +163,7 @@ fn extended_data(lc: u16, rest: &[u8]) -> Option<Fields<'_>>
     None
 }
 
-// An extended Le, where 0 stands for 65,536.
+// An extended Le, of which 0 means 65,536; that is held as 65,535.
 fn extended_number(le: u16) -> u16
     ensures { result ≡ extended_le le }
 {

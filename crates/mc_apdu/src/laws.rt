@@ -1,7 +1,7 @@
 ghost use Rattle.std.specs.Prelude.{◌≡◌, ◌↔◌, ℕ, List, [], ◌∷◌, ◌++◌, replicate, Some, None};
 ghost use Rattle.mc_model_machine.specs.Apdu.{apdu_read, ApduParts, IsApdu};
 
-/// What is read is one of the seven cases, and each of the seven is read.
+/// A command is parsed exactly if it has one of the seven cases, with the parts of that case.
 pub fn seven_cases()
     ensures { (b : List ℕ) (a : ApduParts) → (apdu_read b ≡ Some a) ↔ IsApdu b a }
 {}
@@ -57,7 +57,7 @@ pub fn short_rows()
         ≡ Some (record { cla = 0x80; ins = 1; p1 = 0; p2 = 0; p3 = 2; body = 0x11 ∷ 0x22 ∷ []; le = Some 256 }) }
 {}
 
-/// Commands with a two-byte number behind a zero.
+/// Commands with a two-byte number after a zero byte.
 #[tactic(auto, unfolding(mc_model_machine::specs::Apdu::apdu_read))]
 pub fn extended_rows()
     ensures data_and_le { apdu_read (0x80 ∷ 1 ∷ 0 ∷ 0 ∷ 0 ∷ 0 ∷ 2 ∷ 0x11 ∷ 0x22 ∷ 0 ∷ 4 ∷ [])

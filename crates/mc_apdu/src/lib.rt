@@ -1,6 +1,6 @@
 #![tactic(auto)]
 
-//! Commands as a card gets them, and replies as it gives them.
+//! Command and response APDUs of ISO/IEC 7816-4.
 
 mod command;
 mod laws;

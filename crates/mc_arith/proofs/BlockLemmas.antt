@@ -24,7 +24,7 @@ num_below (b ∷ l) h =
     let top = times_at_most (256 ^ length l) b 255 (omega (arith, h.0)) in
     rw (pow_more (length l)) (omega (arith, below, top))
 
--- the block of a number that is a block's, whatever stands before it
+-- the last n bytes of the number of a block of n bytes are the block, whatever digits precede them
 pub bytes_of : (l : List ℕ) (k : ℕ) → AreBytes l → bytes (length l) (num l + k * 256 ^ length l) ≡ l
 bytes_of [] k h = refl
 bytes_of (b ∷ l) k h =
@@ -50,7 +50,7 @@ num_bytes (suc n) v =
     let reduced : v % (256 * p) ≡ v / p % 256 * p + v % p = ap (λ k. k % (256 * p)) whole ∙ digits_mod (v / p / 256) inside in
     rw (length-bytes n v, num_bytes n v, pow_more n) (sym reduced)
 
--- a block with its flags is the result of v where v is its number with k in front
+-- a block with its flags is the result of v if v is its number with k in front
 pub worked_is : (v : ℕ) (l : List ℕ) (k : ℕ) (c z c' : Bool) → AreBytes l → v ≡ num l + k * 256 ^ length l → c ≡ c' → z ≡ is_zero l → ◌≡◌ {A = Worked} (record { value = l; c = c; z = z }) (worked (length l) v c')
 worked_is v l k c z c' h e ec ez =
     let same : bytes (length l) v ≡ l = rw e (bytes_of l k h) in

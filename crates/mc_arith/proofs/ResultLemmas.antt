@@ -16,7 +16,7 @@ lt_or_at x y ne false e = inr (grind (arith, e, ne))
 lt_or : (x y : ℕ) → x ≢ y → (x < y) ⊎ (y < x)
 lt_or x y ne = lt_or_at x y ne (nat_lt x y) refl
 
--- a carry out of p
+-- the carry of a sum v modulo p
 carried : (p r v : ℕ) (c : Bool) → r < p → r + carry_of c * p ≡ v → c ≡ nat_le p v
 carried p r v true h e = grind (arith, h, e)
 carried p r v false h e = grind (arith, h, e)
@@ -39,7 +39,7 @@ inc_is a r c z l g h e ez =
     let w = worked_is (num a + 1) r (carry_of c) c z (nat_eq (num a + 1) (256 ^ length a)) h s f ez in
     subst (λ n. ◌≡◌ {A = Worked} (record { value = r; c = c; z = z }) (worked n (num a + 1) (nat_eq (num a + 1) (256 ^ length a)))) l w
 
--- a borrow from p, and the number that p and the first make without the second
+-- the borrow of the difference of a and b modulo p
 borrowed : (p r a b : ℕ) (c : Bool) → r < p → r + b ≡ a + carry_of c * p → c ≡ nat_lt a b
 borrowed p r a b true h e = grind (arith, h, e)
 borrowed p r a b false h e = grind (arith, h, e)
@@ -84,7 +84,7 @@ not_zero l i h k = ap (λ n. nat_eq n 0) (num_drop l (i + 1) i refl h) ∙ nonze
 rest_below : (l : List ℕ) (i : ℕ) → AreBytes l → num (drop i l) < 256 ^ (length l - i)
 rest_below l i h = subst (λ n. num (drop i l) < 256 ^ n) (length-drop i l) (num_below (drop i l) (bytes_from l i h))
 
--- the first byte that differs decides
+-- the first bytes that differ decide the order of two numbers
 abbrev pub Decided : ℕ → ℕ → ℕ → ℕ → Type 0
 Decided x y a b = (nat_lt x y ≡ nat_lt a b) × (a ≢ b)
 

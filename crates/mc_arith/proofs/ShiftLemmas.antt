@@ -20,7 +20,7 @@ carry_bit : (q : ℕ) (c : Bool) → c ≡ nat_eq ((2 * q + carry_of c) % 2) 1
 carry_bit q true = grind arith
 carry_bit q false = grind arith
 
--- the last bit out of 8n is the bit that the whole shift pushes out
+-- the bit shifted out last, of a block of n bytes shifted left by j bits
 top_bit : (n v j : ℕ) → j ≤ 8 * n → v * 2 ^ j / 256 ^ n ≡ v / 2 ^ (8 * n - j)
 top_bit n v j h =
     let e : 8 * n ≡ j + (8 * n - j) = omega arith in
@@ -32,7 +32,7 @@ pub record Doubled (n v j r : ℕ) (c : Bool) : Type 0 where
   pub value : r ≡ v * 2 ^ (j + 1) % 256 ^ n
   pub left : c ≡ bit (8 * n - (j + 1)) v
 
--- one more bit to the left
+-- a block shifted left by one more bit
 pub doubled : (n v j w r : ℕ) (c : Bool) → w ≡ v * 2 ^ j % 256 ^ n → r + carry_of c * 256 ^ n ≡ w + w → r < 256 ^ n → j + 1 ≤ 8 * n → Doubled n v j r c
 doubled n v j w r c ew e h top =
     let p = 256 ^ n in
@@ -47,7 +47,7 @@ doubled n v j w r c ew e h top =
       left = carry_bit q c ∙ ap (λ k. nat_eq (k % 2) 1) (sym out ∙ top_bit n v (j + 1) top);
     }
 
--- no bit to the left
+-- a block shifted left by no bit
 pub unshifted : (n v : ℕ) → v < 256 ^ n → v ≡ v * 2 ^ 0 % 256 ^ n
 unshifted n v h = sym (ap (λ k. k % 256 ^ n) (omega arith) ∙ digits_mod 0 h)
 
@@ -59,7 +59,7 @@ half_of : (w r : ℕ) (c : Bool) → 2 * r + carry_of c ≡ w → r ≡ w / 2
 half_of w r true e = omega (arith, e)
 half_of w r false e = omega (arith, e)
 
--- one more bit to the right
+-- a block shifted right by one more bit
 pub halved : (v j w r : ℕ) (c : Bool) → w ≡ v / 2 ^ j → 2 * r + carry_of c ≡ w → Halved v j r c
 halved v j w r c ew e =
     let power : 2 ^ (j + 1) ≡ 2 ^ j * 2 = ap (λ k. 2 ^ k) (omega arith) ∙ pow-succ' 2 j ∙ omega arith in

@@ -1,4 +1,4 @@
--- One byte of a loop over blocks: from the bytes behind a place to the bytes from it on.
+-- One byte of a loop over blocks: from the bytes after an index to the bytes from it on.
 use Rattle.std.proofs.Common.{◌≡◌, ℕ, zero, suc, ◌+◌, ◌-◌, ◌*◌, ◌/◌, ◌%◌, ◌^◌, ◌<◌, List, [], ◌∷◌, length, get_or, drop, set, refl, sym, ◌∙◌, ap, arith, drop-cons, length-drop, length-set}
 use Rattle.std.proofs.lemmas.List.{drop-set, drop-set-lt}
 use Rattle.mc_model_device.specs.Bytes.{num}
@@ -23,13 +23,13 @@ num_drop_set l i j v e h =
     let s : length (drop i l) ≡ length l - i = length-drop i l in
     ap num d ∙ ap (λ k. v * 256 ^ k + num (drop i l)) s
 
--- digits of a sum: p is the weight, the rests behind are r, s and t
+-- one digit of a sum: p is its weight, and r, s and t are the numbers of the digits after it
 sum_digit : (p d s t r x y c : ℕ) → r + c * p ≡ s + t → d ≡ x + y + c → (d % 256) * p + r + d / 256 * (256 * p) ≡ (x * p + s) + (y * p + t)
 sum_digit p d s t r x y c h e =
     let parts : (d % 256 + 256 * (d / 256)) * p ≡ (x + y + c) * p = ap (λ k. k * p) (omega arith) in
     omega (arith, parts, h)
 
--- a sum from i on is one from j on
+-- if the bytes from i on have their sum, so have those from j on, one byte before
 pub sum_step : (a s b : List ℕ) (i j c d : ℕ) → i ≡ j + 1 → j < length a → length s ≡ length a → length b ≡ length a → get_or a j 0 ≡ get_or s j 0 → d ≡ get_or a j 0 + get_or b j 0 + c
     → num (drop i a) + c * 256 ^ (length a - i) ≡ num (drop i s) + num (drop i b)
     → num (drop j (set a j (d % 256))) + d / 256 * 256 ^ (length (set a j (d % 256)) - j) ≡ num (drop j s) + num (drop j b)
@@ -48,7 +48,7 @@ one_digit p d s r x c h e =
     let parts : (d % 256 + 256 * (d / 256)) * p ≡ (x + c) * p = ap (λ k. k * p) (omega arith) in
     omega (arith, parts, h)
 
--- one more from i on is one more from j on
+-- if the bytes from i on are increased by 1, so are those from j on, one byte before
 pub one_step : (a s : List ℕ) (i j c d : ℕ) → i ≡ j + 1 → j < length a → length s ≡ length a → get_or a j 0 ≡ get_or s j 0 → d ≡ get_or a j 0 + c
     → num (drop i a) + c * 256 ^ (length a - i) ≡ num (drop i s) + 1
     → num (drop j (set a j (d % 256))) + d / 256 * 256 ^ (length (set a j (d % 256)) - j) ≡ num (drop j s) + 1
@@ -60,13 +60,13 @@ one_step a s i j c d e h ls same ed before =
     let core = one_digit (256 ^ (length a - i)) d (num (drop i s)) (num (drop i a)) (get_or s j 0) c before (omega (arith, same, ed)) in
     rw (length-set, na, ns, q) core
 
--- digits of a difference: c is the borrow from the digits behind
+-- one digit of a difference: c is the borrow from the digits after it
 difference_digit : (p d s t r x y c : ℕ) → r + t ≡ s + c * p → d + y + c ≡ 256 + x → d < 512 → ((d % 256) * p + r) + (y * p + t) ≡ (x * p + s) + (1 - d / 256) * (256 * p)
 difference_digit p d s t r x y c h e top =
     let parts : (d % 256 + y + c) * p ≡ (x + 256 * (1 - d / 256)) * p = ap (λ k. k * p) (omega arith) in
     omega (arith, parts, h)
 
--- a difference from i on is one from j on
+-- if the bytes from i on have their difference, so have those from j on, one byte before
 pub difference_step : (a s b : List ℕ) (i j c d : ℕ) → i ≡ j + 1 → j < length a → length s ≡ length a → length b ≡ length a → get_or a j 0 ≡ get_or s j 0 → d + get_or b j 0 + c ≡ 256 + get_or a j 0 → d < 512
     → num (drop i a) + num (drop i b) ≡ num (drop i s) + c * 256 ^ (length a - i)
     → num (drop j (set a j (d % 256))) + num (drop j b) ≡ num (drop j s) + (1 - d / 256) * 256 ^ (length (set a j (d % 256)) - j)
@@ -85,7 +85,7 @@ one_less_digit p d s r x c h e top =
     let parts : (d % 256 + c) * p ≡ (x + 256 * (1 - d / 256)) * p = ap (λ k. k * p) (omega arith) in
     omega (arith, parts, h)
 
--- one less from i on is one less from j on
+-- if the bytes from i on are decreased by 1, so are those from j on, one byte before
 pub one_less_step : (a s : List ℕ) (i j c d : ℕ) → i ≡ j + 1 → j < length a → length s ≡ length a → get_or a j 0 ≡ get_or s j 0 → d + c ≡ 256 + get_or a j 0 → d < 512
     → num (drop i a) + 1 ≡ num (drop i s) + c * 256 ^ (length a - i)
     → num (drop j (set a j (d % 256))) + 1 ≡ num (drop j s) + (1 - d / 256) * 256 ^ (length (set a j (d % 256)) - j)
@@ -97,7 +97,7 @@ one_less_step a s i j c d e h ls same ed top before =
     let core = one_less_digit (256 ^ (length a - i)) d (num (drop i s)) (num (drop i a)) (get_or s j 0) c before (omega (arith, same, ed)) top in
     rw (length-set, na, ns, q) core
 
--- a byte that is written in its place
+-- the number of a block after one byte is set
 num_set : (l : List ℕ) (j v : ℕ) → j < length l → num (set l j v) + get_or l j 0 * 256 ^ (length l - (j + 1)) ≡ num l + v * 256 ^ (length l - (j + 1))
 num_set [] j v h = absurd (omega (arith, h))
 num_set (b ∷ l) zero v h =
@@ -114,7 +114,7 @@ half_digit p d n r k a x v c h w e ev =
     let parts : (2 * v + d % 2) * p ≡ (256 * c + x) * p = ap (λ k. k * p) (omega arith) in
     omega (arith, parts, h, w)
 
--- the bytes before j are halved, and so are those before i
+-- if the bytes before j are halved, so are those before i, one byte after
 pub half_step : (n : ℕ) (a : List ℕ) (j i c d : ℕ) → i ≡ j + 1 → j < length a → d ≡ 256 * c + get_or a j 0
     → n + num (drop j a) ≡ 2 * num a + c * 256 ^ (length a - j)
     → n + num (drop i (set a j (d / 2))) ≡ 2 * num (set a j (d / 2)) + d % 2 * 256 ^ (length (set a j (d / 2)) - i)

@@ -6,8 +6,8 @@ ghost use Rattle.mc_arith.specs.Carry.{carry_of};
 
 use crate::flags::{Flags, zero};
 
-/// Adds the second block to the first, modulo 256 to the power of its length. Both have the same length, from 1 to 16.
-/// C is the carry.
+/// Adds the second block to the first, modulo 256 to the power of its length, and returns the flags. Both
+/// have the same length, from 1 to 16. C is the carry.
 pub fn add(a: &mut [u8], b: &[u8]) -> Flags
     requires same { length a.old ≡ length b.now }
     requires low { 1 ≤ length a.old }
@@ -19,7 +19,8 @@ pub fn add(a: &mut [u8], b: &[u8]) -> Flags
     Flags { c, z }
 }
 
-/// Adds 1 to a block of 1 to 16 bytes, modulo 256 to the power of its length. C is the carry.
+/// Adds 1 to a block of 1 to 16 bytes, modulo 256 to the power of its length, and returns the flags. C is the
+/// carry.
 pub fn inc(a: &mut [u8]) -> Flags
     requires low { 1 ≤ length a.old }
     requires high { length a.old ≤ 16 }
@@ -32,7 +33,7 @@ pub fn inc(a: &mut [u8]) -> Flags
     }
 }
 
-// The sum of two blocks of one length in the first; whether a carry is left.
+// Adds the second block to the first, of the same length, and returns the carry.
 fn ripple_sum(a: &mut [u8], b: &[u8]) -> bool
     requires { length a.old ≡ length b.now }
     ensures { num a.new + carry_of result * 256 ^ length a.old ≡ num a.old + num b.now }
@@ -46,7 +47,7 @@ fn ripple_sum(a: &mut [u8], b: &[u8]) -> bool
     carry == 1
 }
 
-// One more in the block; whether a carry is left.
+// Adds 1 to the block, and returns the carry.
 fn ripple_one(a: &mut [u8]) -> bool
     ensures { num a.new + carry_of result * 256 ^ length a.old ≡ num a.old + 1 }
 {

@@ -4,7 +4,8 @@ ghost use Rattle.mc_model_machine.specs.Blocks.{and_blocks, is_zero, not_block, 
 
 use crate::flags::zero;
 
-/// The bitwise and of two blocks of the same length, from 1 to 255, in the first; whether it is zero.
+/// Replaces the first block by the bitwise and of both, and returns whether it is zero. Both have the same
+/// length, from 1 to 255.
 pub fn and(a: &mut [u8], b: &[u8]) -> bool
     requires same { length a.old ≡ length b.now }
     requires low { 1 ≤ length a.old }
@@ -18,7 +19,8 @@ pub fn and(a: &mut [u8], b: &[u8]) -> bool
     zero(a)
 }
 
-/// The bitwise or of two blocks of the same length, from 1 to 255, in the first; whether it is zero.
+/// Replaces the first block by the bitwise or of both, and returns whether it is zero. Both have the same
+/// length, from 1 to 255.
 pub fn or(a: &mut [u8], b: &[u8]) -> bool
     requires same { length a.old ≡ length b.now }
     requires low { 1 ≤ length a.old }
@@ -32,7 +34,8 @@ pub fn or(a: &mut [u8], b: &[u8]) -> bool
     zero(a)
 }
 
-/// The bitwise exclusive or of two blocks of the same length, from 1 to 255, in the first; whether it is zero.
+/// Replaces the first block by the bitwise exclusive or of both, and returns whether it is zero. Both have
+/// the same length, from 1 to 255.
 pub fn xor(a: &mut [u8], b: &[u8]) -> bool
     requires same { length a.old ≡ length b.now }
     requires low { 1 ≤ length a.old }
@@ -46,7 +49,7 @@ pub fn xor(a: &mut [u8], b: &[u8]) -> bool
     zero(a)
 }
 
-/// Inverts each bit of a block of 1 to 255 bytes; whether the result is zero.
+/// Inverts each bit of a block of 1 to 255 bytes, and returns whether the result is zero.
 pub fn not(a: &mut [u8]) -> bool
     requires low { 1 ≤ length a.old }
     requires high { length a.old ≤ 255 }

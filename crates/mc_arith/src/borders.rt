@@ -1,8 +1,9 @@
-// What the definitions give at the borders. The results were computed with whole numbers elsewhere.
+// The definitions' results at the borders. The expected results were computed independently, on whole
+// numbers.
 ghost use Rattle.std.specs.Prelude.{◌≡◌, [], ◌∷◌, true, false};
 ghost use Rattle.mc_model_machine.specs.Blocks.{add_blocks, sub_blocks, inc_block, dec_block, shift_left_block, shift_right_block, and_blocks, or_blocks, xor_blocks, not_block};
 
-/// Sums at the borders, with the carry and zero.
+/// Sums at the borders, with the carry and the zero flag.
 pub fn sums()
     ensures row_1 { record { value = 0x00 ∷ []; c = false; z = true } ≡ add_blocks (0x00 ∷ []) (0x00 ∷ []) }
     ensures row_2 { record { value = 0x00 ∷ []; c = true; z = true } ≡ add_blocks (0xFF ∷ []) (0x01 ∷ []) }
@@ -25,7 +26,7 @@ pub fn sums()
         ∷ 0x00 ∷ 0x00 ∷ 0x02 ∷ []) }
 {}
 
-/// Differences at the borders, with the borrow and zero.
+/// Differences at the borders, with the borrow and the zero flag.
 pub fn differences()
     ensures row_1 { record { value = 0x00 ∷ []; c = false; z = true } ≡ sub_blocks (0x00 ∷ []) (0x00 ∷ []) }
     ensures row_2 { record { value = 0xFF ∷ []; c = true; z = false } ≡ sub_blocks (0x00 ∷ []) (0x01 ∷ []) }
@@ -48,7 +49,7 @@ pub fn differences()
         ∷ 0x00 ∷ 0x00 ∷ 0x01 ∷ []) }
 {}
 
-/// One more at the borders.
+/// Increments at the borders.
 pub fn one_more()
     ensures row_1 { record { value = 0x01 ∷ []; c = false; z = false } ≡ inc_block (0x00 ∷ []) }
     ensures row_2 { record { value = 0x00 ∷ []; c = true; z = true } ≡ inc_block (0xFF ∷ []) }
@@ -64,7 +65,7 @@ pub fn one_more()
         ∷ 0xFF ∷ 0xFF ∷ []) }
 {}
 
-/// One less at the borders.
+/// Decrements at the borders.
 pub fn one_less()
     ensures row_1 { record { value = 0xFF ∷ []; c = true; z = false } ≡ dec_block (0x00 ∷ []) }
     ensures row_2 { record { value = 0x00 ∷ []; c = false; z = true } ≡ dec_block (0x01 ∷ []) }
@@ -81,7 +82,7 @@ pub fn one_less()
         ∷ 0x00 ∷ 0x00 ∷ []) }
 {}
 
-/// Shifts to the left, with the last bit that left.
+/// Shifts to the left, with the bit shifted out last.
 pub fn shifts_to_the_left()
     ensures row_1 { record { value = 0x00 ∷ []; c = true; z = true } ≡ shift_left_block (0x80 ∷ []) 1 }
     ensures row_2 { record { value = 0x80 ∷ []; c = false; z = false } ≡ shift_left_block (0x01 ∷ []) 7 }
@@ -99,7 +100,7 @@ pub fn shifts_to_the_left()
         ∷ 0x00 ∷ 0x00 ∷ 0x03 ∷ []) 127 }
 {}
 
-/// Shifts to the right, with the last bit that left.
+/// Shifts to the right, with the bit shifted out last.
 pub fn shifts_to_the_right()
     ensures row_1 { record { value = 0x00 ∷ []; c = true; z = true } ≡ shift_right_block (0x01 ∷ []) 1 }
     ensures row_2 { record { value = 0x01 ∷ []; c = false; z = false } ≡ shift_right_block (0x80 ∷ []) 7 }
@@ -117,7 +118,7 @@ pub fn shifts_to_the_right()
         ∷ 0xFF ∷ 0xFF ∷ 0xFF ∷ []) 127 }
 {}
 
-/// Bits of two blocks, and of one.
+/// Bitwise operations on two blocks, and on one.
 pub fn bits_of_blocks()
     ensures and { and_blocks (0x0F ∷ 0xA5 ∷ 0xFF ∷ []) (0x3C ∷ 0x5A ∷ 0xFF ∷ []) ≡ 0x0C ∷ 0x00 ∷ 0xFF ∷ [] }
     ensures or { or_blocks (0x0F ∷ 0xA5 ∷ 0xFF ∷ []) (0x3C ∷ 0x5A ∷ 0xFF ∷ []) ≡ 0x3F ∷ 0xFF ∷ 0xFF ∷ [] }

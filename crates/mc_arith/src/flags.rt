@@ -1,14 +1,15 @@
 ghost use Rattle.std.specs.Prelude.{◌≡◌};
 ghost use Rattle.mc_model_machine.specs.Blocks.{is_zero};
 
-/// The flags that a row sets: C is the carry, the borrow, or the last bit shifted out, and Z says that the result is zero.
+/// The flags that an instruction sets: C is the carry, the borrow, or the bit shifted out last, and Z is set
+/// if the result is zero.
 #[derive(Clone, Copy, Debug, PartialEq, Eq)]
 pub struct Flags {
     pub c: bool,
     pub z: bool,
 }
 
-// Whether the block is the number 0.
+// Returns whether the block is the number 0.
 pub fn zero(block: &[u8]) -> bool
     ensures { result ≡ is_zero block.now }
 {

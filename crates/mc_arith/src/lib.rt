@@ -1,6 +1,6 @@
 #![tactic(auto)]
 
-//! Arithmetic on blocks of bytes as whole numbers, unsigned and high byte first.
+//! Arithmetic on blocks of bytes as unsigned big-endian numbers.
 
 mod addition;
 mod bitwise;

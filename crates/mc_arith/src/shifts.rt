@@ -6,7 +6,8 @@ ghost use Rattle.mc_arith.specs.Carry.{carry_of};
 
 use crate::flags::{Flags, zero};
 
-/// Shifts a block of n bytes, 1 to 16, to the left by 1 to 8n - 1 bits. C is the last bit that left.
+/// Shifts a block of n bytes, 1 to 16, to the left by 1 to 8n - 1 bits, and returns the flags. C is the bit
+/// shifted out last.
 pub fn shift_left(a: &mut [u8], by: u8) -> Flags
     requires low { 1 ≤ length a.old }
     requires high { length a.old ≤ 16 }
@@ -24,7 +25,8 @@ pub fn shift_left(a: &mut [u8], by: u8) -> Flags
     }
 }
 
-/// Shifts a block of n bytes, 1 to 16, to the right by 1 to 8n - 1 bits; zeros enter. C is the last bit that left.
+/// Shifts a block of n bytes, 1 to 16, to the right by 1 to 8n - 1 bits, and returns the flags; zeros enter.
+/// C is the bit shifted out last.
 pub fn shift_right(a: &mut [u8], by: u8) -> Flags
     requires low { 1 ≤ length a.old }
     requires high { length a.old ≤ 16 }
@@ -42,7 +44,7 @@ pub fn shift_right(a: &mut [u8], by: u8) -> Flags
     }
 }
 
-// One bit to the left; the bit that left.
+// Shifts left by one bit, and returns the bit shifted out.
 fn double(a: &mut [u8]) -> bool
     ensures { num a.new + carry_of result * 256 ^ length a.old ≡ num a.old + num a.old }
 {
@@ -55,7 +57,7 @@ fn double(a: &mut [u8]) -> bool
     carry == 1
 }
 
-// One bit to the right; the bit that left.
+// Shifts right by one bit, and returns the bit shifted out.
 fn halve(a: &mut [u8]) -> bool
     ensures { 2 * num a.new + carry_of result ≡ num a.old }
 {

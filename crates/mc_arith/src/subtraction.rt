@@ -6,8 +6,8 @@ ghost use Rattle.mc_arith.specs.Carry.{carry_of};
 
 use crate::flags::{Flags, zero};
 
-/// Subtracts the second block from the first, modulo 256 to the power of its length. Both have the same length, from 1 to 16.
-/// C is the borrow.
+/// Subtracts the second block from the first, modulo 256 to the power of its length, and returns the flags.
+/// Both have the same length, from 1 to 16. C is the borrow.
 pub fn sub(a: &mut [u8], b: &[u8]) -> Flags
     requires same { length a.old ≡ length b.now }
     requires low { 1 ≤ length a.old }
@@ -21,7 +21,8 @@ pub fn sub(a: &mut [u8], b: &[u8]) -> Flags
     }
 }
 
-/// Subtracts 1 from a block of 1 to 16 bytes, modulo 256 to the power of its length. C is the borrow.
+/// Subtracts 1 from a block of 1 to 16 bytes, modulo 256 to the power of its length, and returns the flags. C
+/// is the borrow.
 pub fn dec(a: &mut [u8]) -> Flags
     requires low { 1 ≤ length a.old }
     requires high { length a.old ≤ 16 }
@@ -34,7 +35,8 @@ pub fn dec(a: &mut [u8]) -> Flags
     }
 }
 
-/// The flags of the difference of two blocks of the same length, from 1 to 255: C says that the first is less, Z that they are equal.
+/// Returns the flags of the difference of two blocks of the same length, from 1 to 255: C is set if the first
+/// is less, Z if they are equal.
 pub fn compare(a: &[u8], b: &[u8]) -> Flags
     requires same { length a.now ≡ length b.now }
     requires low { 1 ≤ length a.now }
@@ -53,7 +55,7 @@ pub fn compare(a: &[u8], b: &[u8]) -> Flags
     Flags { c: false, z: true }
 }
 
-// The difference of two blocks of one length in the first; whether a borrow is left.
+// Subtracts the second block from the first, of the same length, and returns the borrow.
 fn ripple_difference(a: &mut [u8], b: &[u8]) -> bool
     requires { length a.old ≡ length b.now }
     ensures { num a.new + num b.now ≡ num a.old + carry_of result * 256 ^ length a.old }
@@ -67,7 +69,7 @@ fn ripple_difference(a: &mut [u8], b: &[u8]) -> bool
     borrow == 1
 }
 
-// One less in the block; whether a borrow is left.
+// Subtracts 1 from the block, and returns the borrow.
 fn ripple_one_less(a: &mut [u8]) -> bool
     ensures { num a.new + 1 ≡ num a.old + carry_of result * 256 ^ length a.old }
 {

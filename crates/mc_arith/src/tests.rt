@@ -1,7 +1,7 @@
 use crate::*;
 use std::test::Fail;
 
-// Each call once. The results were computed with whole numbers elsewhere.
+// Each call once. The expected results were computed independently, on whole numbers.
 #[test]
 fn blocks_at_the_borders(rt: HostRuntime) -> Result<(), Fail> {
     let mut a = [0xFF, 0xFF];

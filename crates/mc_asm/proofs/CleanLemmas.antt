@@ -1,4 +1,4 @@
--- Texts of characters that nothing cuts, and lines that are put together of them.
+-- Texts without separators, and lines that are composed of them.
 use Rattle.std.proofs.Common.{◌≡◌, ℕ, Bool, true, false, List, [], ◌∷◌, ◌++◌, append-nil, map, Option, Some, None, Ok, arith, refl, ap, ◌∙◌}
 use Rattle.std.specs.Prelude.{◌==◌, ◌&&◌, not, nat_lt, nat_le}
 use Rattle.mc_model_device.specs.Bytes.{lookup}
@@ -8,11 +8,11 @@ use Rattle.std.proofs.lemmas.Bool.{and_from as and_both, not-true}
 use Rattle.mc_model_device.proofs.BoolLemmas.{and_first, and_second}
 use Rattle.mc_model_machine.proofs.TextLemmas.{every_append}
 
--- a character of an operand: no blank or less, no comma, no colon, no semicolon
+-- a character of an operand: above the blank, and no comma, colon or semicolon
 abbrev pub solid : ℕ → Bool
 solid c = nat_lt 32 c && (not (c == 44) && (not (c == 58) && not (c == 59)))
 
--- a character of a line that is listed
+-- a character of a listing's line: a blank or above, and no colon or semicolon
 abbrev pub written : ℕ → Bool
 written c = nat_le 32 c && (not (c == 58) && not (c == 59))
 
@@ -44,7 +44,7 @@ pieces_there f (d ∷ s) c t e h =
     let n : f d ≡ false = not-true (f d) (and_first (not (f d)) (every (λ c. not (f c)) s) e) in
     rw (n, pieces_there f s c t (and_second (not (f d)) (every (λ c. not (f c)) s) e) h) refl
 
--- ---- what solid characters are not
+-- ---- solid characters are no separators
 
 no_blank : (c : ℕ) → solid c ≡ true → not (is_blank c) ≡ true
 no_blank c h = grind (arith, h)
@@ -70,7 +70,7 @@ end_one : (c : ℕ) (t : List ℕ) → not (is_blank c) ≡ true → before_trim
 end_one c [] h = rw (not-true (is_blank c) h) refl
 end_one c (d ∷ t) h = refl
 
--- the last character is solid
+-- a text of solid characters is not trimmed at its end
 pub end_solid : (t : List ℕ) → every solid t ≡ true → trim_end t ≡ t
 end_solid [] e = refl
 end_solid (c ∷ t) e =
@@ -131,7 +131,7 @@ joined_pieces a (b ∷ ts) s =
 
 -- ---- a line of a word and its operands
 
--- what stands behind the word
+-- the text after the word of a line with these operands
 unfoldable pub behind_word : List (List ℕ) → List ℕ
 behind_word [] = []
 behind_word (a ∷ ts) = 32 ∷ joined (a ∷ ts)
@@ -156,7 +156,7 @@ word_front (c ∷ name) t n = trim_solid c (name ++ t) (no_blank c (and_first (s
 word_trimmed : (name : List ℕ) (ts : List (List ℕ)) → Solid name → AllSolid ts → trim (name ++ behind_word ts) ≡ name ++ behind_word ts
 word_trimmed name ts n s = ap trim_end (word_front name (behind_word ts) n) ∙ word_end name ts n s
 
--- the operands behind the word, as the first cut gives them
+-- the text of the operands after the word, which the first cut of the line yields
 unfoldable pub operand_text : List (List ℕ) → Option (List ℕ)
 operand_text [] = None
 operand_text (a ∷ ts) = Some (joined (a ∷ ts))
@@ -174,7 +174,7 @@ operands_of (a ∷ ts) s = joined_pieces a ts s
 found_word : (name : List ℕ) (ts : List (List ℕ)) (f : WordForm) → Solid name → AllSolid ts → lookup words name ≡ Some f → word_and_operands (name, operand_text ts) ≡ worded f ts
 found_word name ts f n s e = rw (n.some, e, operands_of ts s) refl
 
--- a line of a word and its operands is read as they are
+-- a line of a word and its operands is read as the item of that word and these operands
 pub line_is_read : (name : List ℕ) (ts : List (List ℕ)) (f : WordForm) (i : CodeItem) → Solid name → AllSolid ts → lookup words name ≡ Some f → worded f ts ≡ Ok i
     → line_read (name ++ behind_word ts) ≡ Ok (record { label = None; item = i })
 unfolding line_read

@@ -14,7 +14,7 @@ use Rattle.mc_model_machine.specs.Assembly.{WordForm, Bare, OfByte, OfBytes, OfW
 use Rattle.mc_asm.proofs.CleanLemmas.{Solid, AllSolid, written, joined, behind_word, line_is_read, word_written}
 use Rattle.mc_asm.proofs.NumeralLemmas.{byte_read, byte_solid, word_read, word_solid, signed_read, signed_solid, signed_no_label, half_8, condition_read, condition_solid, address_read, address_solid}
 
--- a line is read as an instruction, and has no character that ends a line or a part of one
+-- a line is read as an instruction, and has no character that ends a line, a label or the part before a comment
 pub record ReadsAs (t : List ℕ) (i : Ins) : Type 0 where
   pub read : line_read t ≡ Ok (record { label = None; item = Plain i })
   pub all : every written t ≡ true

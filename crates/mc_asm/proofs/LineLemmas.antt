@@ -9,7 +9,7 @@ use Rattle.mc_asm.specs.Items.{texts}
 use Rattle.mc_text.proofs.ReadingLemmas.{pieces_at, pieces_cut}
 use Rattle.std.proofs.lemmas.List.{take_all}
 
--- a bound on the turns that are left
+-- a bound on the iterations that are left
 abbrev pub left_of : Option (List ℕ) → ℕ
 left_of None = 0
 left_of (Some t) = suc (length t)
@@ -18,11 +18,11 @@ operands_cut : (p : List ℕ × Option (List ℕ)) → map trim (pieces_cut (λ 
 operands_cut (a, None) = refl
 operands_cut (a, Some rest) = refl
 
--- the first operand, and those behind the comma
+-- the operands of a text are the first and those after its first comma
 pub operands_at : (t : List ℕ) → operands (Some t) ≡ trim (first_cut (λ c. c == 44) t).0 ∷ operands (first_cut (λ c. c == 44) t).1
 operands_at t = ap (map trim) (pieces_at (λ c. c == 44) t) ∙ operands_cut (first_cut (λ c. c == 44) t)
 
--- a word with five operands or more has too many, and the first five tell it
+-- a word with five operands or more is refused as it is with the first five
 first_five_long : (f : WordForm) (a b c d e : List ℕ) (ts : List (List ℕ)) → worded f (a ∷ b ∷ c ∷ d ∷ e ∷ ts) ≡ worded f (a ∷ b ∷ c ∷ d ∷ e ∷ [])
 first_five_long (Bare i) a b c d e ts = refl
 first_five_long (OfByte f) a b c d e ts = refl
@@ -66,13 +66,13 @@ operand_more ps p t f b w e g h i =
     let j : p.now ∷ operands b ≡ operands (Some t) = rw (e, g, h) (sym (operands_at t)) in
     texts_one ps p (operands b) ∙ ap (λ l. texts ps ++ l) j ∙ i
 
--- five operands are enough
+-- five operands that were read are the first five
 pub operands_full : (ps : List (Bor (List ℕ))) (qs w : List (List ℕ)) → length ps ≡ 5 → texts ps ++ qs ≡ w → texts ps ≡ take 5 w
 operands_full ps qs w l h =
     let k : length (texts ps) ≡ 5 = length_texts ps ∙ l in
     sym (front_of (texts ps) qs) ∙ ap (λ n. take n (texts ps ++ qs)) k ∙ ap (take 5) h
 
--- all operands
+-- operands that were all read are the first five
 pub operands_all : (ps : List (Bor (List ℕ))) (w : List (List ℕ)) → length ps ≤ 5 → texts ps ++ [] ≡ w → texts ps ≡ take 5 w
 operands_all ps w l h =
     let k : length (texts ps) ≤ 5 = rw (length_texts ps) l in

@@ -8,7 +8,7 @@ use Rattle.mc_model_machine.specs.declared.instruction.DecodeFault.{DecodeFault}
 use Rattle.mc_model_machine.specs.declared.instruction.Ins.{Ins}
 use Rattle.std.proofs.lemmas.List.{drop-drop}
 
--- an instruction has a byte at least
+-- an instruction has at least one byte
 made_some : (o : Option Form) (bs : List ℕ) (p : Ins × ℕ) → made_of o bs ≡ Ok p → 1 ≤ p.1
 made_some None bs p h = absurd (cc h)
 made_some (Some f) bs p h = grind (arith, h)
@@ -32,7 +32,7 @@ unfolding listed_from
 no_bytes zero at = refl
 no_bytes (suc f) at = refl
 
--- fuel for each byte that is left is enough
+-- fuel of at least the number of bytes that are left is enough
 enough : (f g : ℕ) (l : List ℕ) (at : ℕ) → length l ≤ f → length l ≤ g → listed_from f l at ≡ listed_from g l at
 enough f g [] at h k = no_bytes f at ∙ sym (no_bytes g at)
 enough zero g (b ∷ bs) at h k = absurd (omega (arith, h))
@@ -58,7 +58,7 @@ drop_all (b ∷ l) (suc n) h = drop_all l n (omega (arith, h))
 pub listed_end : (code : List ℕ) (at : ℕ) → length code ≤ at → left_listed code at ≡ Ok []
 listed_end code at h = ap (λ l. listed_from (length code) l at) (drop_all code at h) ∙ no_bytes (length code) at
 
--- what decoding at a place says of the bytes there
+-- a decoding result is an instruction, and `next` is the place after it
 record InstructionFound (at : ℕ) (r : Result (Ins × ℕ) DecodeFault) (i : Ins) (next : ℕ) : Type 0 where
   size : ℕ
   is : r ≡ Ok (i, size)
@@ -89,7 +89,7 @@ fault_at fuel at [] e q p h = absurd (omega (arith, p))
 fault_at zero at (b ∷ bs) e q p h = absurd (omega (arith, h))
 fault_at (suc fuel) at (b ∷ bs) e q p h = rw q refl
 
--- an instruction, and what is listed behind it
+-- the lines from an instruction on are its line and those after it
 pub listed_more : (code : List ℕ) (at next : ℕ) (i : Ins) → decoded code at ≡ Ok (i, next) → left_listed code at ≡ line_before (text_of i) (left_listed code next)
 listed_more code at next i e =
     let f = decoded_in at (front (drop at code)) i next e in
@@ -98,13 +98,13 @@ listed_more code at next i e =
     ∙ ap (λ l. line_before (text_of i) (listed_from (length code) l (at + f.size))) (drop-drop f.size at code)
     ∙ ap (λ n. line_before (text_of i) (left_listed code n)) (sym f.place)
 
--- no instruction
+-- the lines from a place on where no instruction is decoded are the fault of that place
 pub listed_fault : (code : List ℕ) (at : ℕ) (e : DecodeFault) → at < length code → decoded code at ≡ Err e → left_listed code at ≡ Err (at, e)
 listed_fault code at e h q =
     let d = length-drop at code in
     fault_at (length code) at (drop at code) e (fault_in at (front (drop at code)) e q) (omega (arith, d, h)) (omega (arith, d))
 
--- a text, and a line and more behind it
+-- a text followed by a line and the lines after it
 pub line_behind : (text line : List ℕ) (r : Result (List ℕ) (ℕ × DecodeFault)) → ok_as (λ rest. (text ++ line ++ codes "\n") ++ rest) r ≡ ok_as (λ rest. text ++ rest) (line_before line r)
 line_behind text line (Ok rest) = ap Ok (append_assoc (text ++ line) (codes "\n") rest ∙ append_assoc text line (codes "\n" ++ rest) ∙ ap (λ l. text ++ l) (sym (append_assoc line (codes "\n") rest)))
 line_behind text line (Err e) = refl

@@ -1,10 +1,10 @@
--- Hexadecimal numbers that are read digit by digit.
+-- Reading hexadecimal numbers digit by digit.
 use Rattle.std.proofs.Common.{◌≡◌, ℕ, zero, suc, ◌+◌, ◌*◌, ◌<◌, ◌≤◌, ◌^◌, List, ◌∷◌, Option, Some, None, arith, refl}
 use Rattle.std.specs.Prelude.{option_map}
 use Rattle.mc_model_machine.specs.Text.{digits_onto, hex_value, hex_values, before_values}
 use Rattle.mc_asm.specs.Numbers.{hex_behind}
 
--- one more hexadecimal digit, and no digit
+-- one more character, a hexadecimal digit or not
 hex_step_in : (o : Option (List ℕ)) (n v : ℕ) → option_map (digits_onto 16 (n * 16 + v)) o ≡ option_map (digits_onto 16 n) (before_values (Some v) o)
 hex_step_in None n v = refl
 hex_step_in (Some vs) n v = refl

@@ -1,4 +1,4 @@
--- Operands as a listing writes them, read back.
+-- Reading back operands as a listing writes them.
 use Rattle.std.proofs.Common.{◌≡◌, ℕ, zero, suc, ◌+◌, ◌*◌, ◌-◌, ◌/◌, ◌%◌, ◌^◌, ◌<◌, ◌≤◌, Bool, true, false, List, [], ◌∷◌, ◌++◌, length, map, Some, Ok, arith, refl, ap, append_assoc, ◌∙◌}
 use Rattle.std.specs.Prelude.{ℤ, pos, negsuc, FitsSigned, ◌==◌, not, nat_le, nat_lt, bytes_eq, codes, decimal, take}
 use Rattle.std.specs.Int.{w8, w16}
@@ -14,7 +14,7 @@ use Rattle.mc_model_machine.proofs.TextLemmas.{every_append}
 
 -- ---- decimal digits
 
--- digits, at least one, that spell the number
+-- at least one digit, which together spell the number n
 pub record Numeral (n : ℕ) (ds : List ℕ) : Type 0 where
   pub some : is_empty ds ≡ false
   pub digits : every is_digit ds ≡ true
@@ -78,7 +78,7 @@ wide n m h k = omega (arith, h, k)
 low : (n m : ℕ) → n ≤ m → nat_le n m ≡ true
 low n m h = grind (arith, h)
 
--- a byte in decimal
+-- a byte in decimal is read back
 pub byte_read : (n : ℕ) → n < 256 → byte (decimal n) ≡ Ok n
 byte_read n h =
     rw (natural_of n (decimal n) (decimal_is n (wide n 256 h (omega arith))), low n 255 (omega (arith, h))) refl
@@ -120,7 +120,7 @@ hex_natural : (w : ℕ) → w < 65536 → natural (hex_word w) ≡ Some w
 hex_natural w h =
     rw (digit_read (w / 4096 % 16) (below_16 (w / 4096)), digit_read (w / 256 % 16) (below_16 (w / 256)), digit_read (w / 16 % 16) (below_16 (w / 16)), digit_read (w % 16) (below_16 w)) (ap Some (hex_four w h))
 
--- a word in hexadecimal
+-- a word in hexadecimal is read back
 pub word_read : (w : ℕ) → w < 65536 → word (hex_word w) ≡ Ok w
 word_read w h = rw (hex_natural w h, low w 65535 (omega (arith, h))) refl
 
@@ -135,7 +135,7 @@ word_no_label w = refl
 
 -- ---- signed numbers
 
--- a signed number in so many bits
+-- a signed number z from -half to half - 1, and its text
 pub record Half (half : ℕ) (z : ℤ) : Type 0 where
   pub bound : half ≤ 32768
   pub fits : fits_signed half z ≡ true
@@ -202,7 +202,7 @@ no_open c h = grind (arith, h)
 no_close : (c : ℕ) → is_digit c ≡ true → not (c == 93) ≡ true
 no_close c h = grind (arith, h)
 
--- a condition by its name
+-- a condition is read back from its name
 pub condition_read : (c : ℕ) → 0 < c → c < 8 → condition (condition_name c) ≡ Ok c
 condition_read zero l h = absurd (omega (arith, l))
 condition_read (suc zero) l h = refl
@@ -214,7 +214,7 @@ condition_read (suc (suc (suc (suc (suc (suc zero)))))) l h = refl
 condition_read (suc (suc (suc (suc (suc (suc (suc zero))))))) l h = refl
 condition_read (suc (suc (suc (suc (suc (suc (suc (suc c)))))))) l h = absurd (omega (arith, h))
 
--- what is known of a register's name
+-- the facts of a register's name
 record Register (tag : ℕ) (name : List ℕ) : Type 0 where
   some : is_empty name ≡ false
   all : every solid name ≡ true
@@ -251,7 +251,7 @@ address_is : (tag : ℕ) (off : ℤ) → address_text tag off ≡ register_name 
 address_is tag off =
     append_assoc (register_name tag ++ codes "[") (signed_decimal off) (codes "]") ∙ append_assoc (register_name tag) (codes "[") (signed_decimal off ++ codes "]")
 
--- an address with its register and its offset
+-- an address with its register and its offset is read back
 pub address_read : (tag : ℕ) (off : ℤ) → 0 < tag → tag < 8 → FitsSigned w16 off → address (address_text tag off) ≡ Ok (tag, off)
 address_read tag off l h f =
     let r = register_is tag l h in

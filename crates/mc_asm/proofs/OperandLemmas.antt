@@ -10,7 +10,7 @@ use Rattle.mc_model_machine.specs.Listing.{register_names}
 use Rattle.mc_model_machine.specs.Assembly.{address, place_among, offset_and_end, register_and_rest}
 use Rattle.mc_asm.specs.Parts.{pair_of, two_parts, offset_in}
 
--- what stands behind the register, by its two parts
+-- the tag and the offset after the register's name, from the two parts of that text
 abbrev pub offset_after : Option ℕ → List ℕ → Result (ℕ × ℤ) AsmCause
 offset_after None rest = Err BadOperands
 offset_after (Some tag) rest = offset_in tag (two_parts 93 rest)
@@ -37,6 +37,6 @@ register_pieces (a ∷ b ∷ c ∷ ps) = refl
 pub address_parts : (t : List ℕ) → address t ≡ address_after (two_parts 91 t)
 address_parts t = register_pieces (pieces (λ c. c == 91) t)
 
--- an offset that is kept in two bytes
+-- an offset in its range is unchanged by two bytes
 pub offset_kept : (z : ℤ) → FitsSigned w16 z → cast_signed w16 (cast_unsigned w16 z) ≡ z
 offset_kept z h = to_z-of_z w16 z h

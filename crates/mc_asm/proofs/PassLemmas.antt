@@ -18,11 +18,11 @@ use Rattle.mc_asm.specs.Passes.{label_and_end, places, code_and_end, coded, numb
 use Rattle.mc_text.proofs.ReadingLemmas.{lines_at, lines_from}
 use Rattle.std.proofs.lemmas.List.{drop_more}
 
--- a label that was put, and the others
+-- the lookup of a label after another was put
 pub label_found : (k q : List ℕ) (p : ℕ) (o : Option ℕ) (l : List (List ℕ × ℕ)) → o ≡ lookup l q → cond (is_eq (slice_cmp nat_cmp k q)) (Some p) o ≡ cond (bytes_eq k q) (Some p) (lookup l q)
 label_found k q p o l e = rw (is_eq-slice_cmp k q, e) refl
 
--- ---- a line, and the lines behind it
+-- ---- a line, and the lines after it
 
 pub places_more : (labels : List (List ℕ × ℕ)) (place n end : ℕ) (l : List ℕ) (ts : List (ℕ × List ℕ)) (label : Option (List ℕ)) → Ok (label, end) ≡ label_and_end labels place l
     → places labels place ((n, l) ∷ ts) ≡ places (with_label labels label place) end ts
@@ -70,7 +70,7 @@ nothing_laid : (labels : List (List ℕ × ℕ)) (place : ℕ) → places labels
 unfolding places laid_lines
 nothing_laid labels place = refl
 
--- the first pass has the labels of the lines that are laid
+-- the first pass yields the labels of the lines that are laid
 places_laid : (ts : List (ℕ × List ℕ)) (labels : List (List ℕ × ℕ)) (place : ℕ) → places labels place ts ≡ ok_as (λ laid. laid.labels) (laid_lines labels place ts)
 places_laid [] labels place = nothing_laid labels place
 places_laid (t ∷ ts) labels place = places_laid_by labels place t ts (line_laid labels place t.1) refl (places_laid ts)
@@ -99,15 +99,15 @@ laid_line : (labels : List (List ℕ × ℕ)) (place : ℕ) (text : List ℕ) (k
 unfolding line_laid
 laid_line labels place text k e = laid_read labels place text k (line_read text) refl e
 
--- a cause at a line
+-- a cause with the number of its line
 abbrev at_line : ℕ → AsmCause → ℕ × AsmCause
 at_line n c = (n, c)
 
--- the code of a line, and that of the lines behind it
+-- the code of a line, followed by that of the lines after it
 abbrev then_coded : List (List ℕ × ℕ) → List (ℕ × List ℕ) → List ℕ × ℕ → Result (List ℕ) (ℕ × AsmCause)
 then_coded L ts p = ok_as (λ rest. p.0 ++ rest) (coded L p.1 ts)
 
--- the lines behind one that is laid
+-- the lines after one that is laid
 abbrev then_laid : List (List ℕ × ℕ) → ℕ → ℕ × List ℕ → List (ℕ × List ℕ) → Line → Result Laid (ℕ × AsmCause)
 then_laid labels place t ts l = laid_lines (with_label labels l.label place) (place + size l.item) ts >>= λ rest. Ok (record rest { placed = record { number = t.0; place = place; item = l.item } ∷ rest.placed })
 
@@ -164,7 +164,7 @@ pub refuses_first : (ts : List (ℕ × List ℕ)) (e : AsmRefusal) → AssemblyR
 refuses_first ts (At n c) h = two_passes ts ∙ ap (λ r. r >>= λ L. coded L 0 ts) h
 refuses_first ts NoMemory h = tt
 
--- what the second pass has under the labels of the first is that of the text
+-- the result of the second pass, with the labels of the first, is that of the text
 coded_is : (ts : List (ℕ × List ℕ)) (L : List (List ℕ × ℕ)) → places [] 0 ts ≡ Ok L → assembled_lines ts ≡ coded L 0 ts
 coded_is ts L h = two_passes ts ∙ ap (λ r. r >>= λ L. coded L 0 ts) h
 
@@ -172,7 +172,7 @@ refuses_second : (ts : List (ℕ × List ℕ)) (L : List (List ℕ × ℕ)) (e :
 refuses_second ts L (At n c) h k = coded_is ts L h ∙ k
 refuses_second ts L NoMemory h k = tt
 
--- code, and more of it
+-- code followed by more code
 pub coded_behind : (code more : List ℕ) (r : Result (List ℕ) (ℕ × AsmCause)) → ok_as (λ rest. (code ++ more) ++ rest) r ≡ ok_as (λ rest. code ++ rest) (ok_as (λ rest. more ++ rest) r)
 coded_behind code more (Ok rest) = ap Ok (append_assoc code more rest)
 coded_behind code more (Err e) = refl
@@ -189,14 +189,14 @@ code_refused items ts L (Err e) h m = refuses_second ts L e h m
 
 -- ---- the lines of a text
 
--- the first line of a text with its number, and those behind it
+-- the numbered lines of a text are the first with its number and those after it
 pub numbered_some : (n : ℕ) (t l b : List ℕ) → Some (l, b) ≡ next_line t → numbered n (lines t) ≡ (n, l) ∷ numbered (n + 1) (lines b)
 numbered_some n t l b e = ap (numbered n) (lines_at t ∙ ap lines_from (sym e)) ∙ ap (λ k. (n, l) ∷ numbered k (lines b)) (sym (add-one n))
 
 pub numbered_none : (n : ℕ) (t : List ℕ) → None ≡ next_line t → numbered n (lines t) ≡ []
 numbered_none n t e = ap (numbered n) (lines_at t ∙ ap lines_from (sym e))
 
--- one more line
+-- the numbered lines after one more line
 pub line_more : (ls : List NumberedLine) (l : NumberedLine) → numbered_lines (ls ++ l ∷ []) ≡ numbered_lines ls ++ (l.number, l.text.now) ∷ []
 line_more [] l = refl
 line_more (k ∷ ls) l = ap (λ x. (k.number, k.text.now) ∷ x) (line_more ls l)
@@ -204,11 +204,11 @@ line_more (k ∷ ls) l = ap (λ x. (k.number, k.text.now) ∷ x) (line_more ls l
 pub lines_more : (ls ks : List (ℕ × List ℕ)) (n m : ℕ) (t l b : List ℕ) → Some (l, b) ≡ next_line t → ks ≡ ls ++ (n, l) ∷ [] → m ≡ n → ks ++ numbered (m + 1) (lines b) ≡ ls ++ numbered n (lines t)
 lines_more ls ks n m t l b e h k = rw (h, k) (append_assoc ls ((n, l) ∷ []) (numbered (n + 1) (lines b)) ∙ ap (λ ts. ls ++ ts) (sym (numbered_some n t l b e)))
 
--- what a place beyond the lines is read as
+-- the default line, for an index past the end
 abbrev pub no_line : NumberedLine
 no_line = record { number = 0; text = record { ref_ptr = (0, 0); now = [] } }
 
--- a line, and those behind it
+-- the numbered lines from an index on are the line there and those after it
 pub line_at : (ls : List NumberedLine) (i : ℕ) → i < length ls → numbered_lines (drop i ls) ≡ ((get_or ls i no_line).number, (get_or ls i no_line).text.now) ∷ numbered_lines (drop (i + 1) ls)
 line_at ls i h = ap numbered_lines (drop_more ls i no_line h)
 

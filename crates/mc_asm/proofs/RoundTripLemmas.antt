@@ -1,4 +1,4 @@
--- Listings are assembled.
+-- Listings assemble to the listed code.
 use Rattle.std.proofs.Common.{◌≡◌, ℕ, zero, suc, ◌+◌, ◌-◌, ◌<◌, ◌≤◌, true, false, List, [], ◌∷◌, ◌++◌, length, drop, Some, None, Result, Ok, Err, arith, refl, sym, ap, subst, length-drop, append_assoc, ◌∙◌}
 use Rattle.std.specs.Prelude.{◌==◌, not, nat_le, codes, slice_index, IfOk}
 use Rattle.std.specs.List.{AllByRecursion}
@@ -48,7 +48,7 @@ first_line l rest e =
 
 -- ---- a line of a listing, assembled
 
--- what a line adds to the code
+-- the line t adds the bytes of the instruction i to the code
 record AddsCode (place : ℕ) (t : List ℕ) (i : Ins) : Type 0 where
   label : label_and_end [] place t ≡ Ok (None, place + length (spell i))
   code : code_and_end [] place t ≡ Ok (spell i, place + length (spell i))
@@ -62,7 +62,7 @@ adds place t i r h =
     let short : nat_le (place + length (spell i)) 8192 ≡ true = within_limit (place + length (spell i)) h in
     record { label = rw (r.read, short) refl; code = rw (r.read, short) refl }
 
--- what a text from a place on assembles to
+-- the text t from a place on assembles to these bytes, without labels
 record Assembles (place n : ℕ) (t bytes : List ℕ) : Type 0 where
   labels : places [] place (numbered n (lines t)) ≡ Ok []
   code : coded [] place (numbered n (lines t)) ≡ Ok bytes
@@ -87,7 +87,7 @@ bytes_behind zero l all = all
 bytes_behind (suc n) [] all = tt
 bytes_behind (suc n) (b ∷ l) all = bytes_behind n l all.1
 
--- an instruction at the front of bytes
+-- the first n bytes are the spelling of an instruction
 record Front (l : List ℕ) (i : Ins) (n : ℕ) : Type 0 where
   shaped : Shaped i
   size : n ≡ length (spell i)

@@ -26,6 +26,6 @@ pair_first : (f : ℕ → Bool) (p : List ℕ × Option (List ℕ)) → pair_of 
 pair_first f (a, None) = refl
 pair_first f (a, Some rest) = rw (pieces_at f rest) (pair_second f a (first_cut f rest))
 
--- two parts by the first cut, and the first cut behind it
+-- the two parts of a text, from its first cut and the first cut of the rest
 pub two_parts_cut : (c : ℕ) (t : List ℕ) → two_parts c t ≡ parts_after (λ d. d == c) (first_cut (λ d. d == c) t)
 two_parts_cut c t = rw (pieces_at (λ d. d == c) t) (pair_first (λ d. d == c) (first_cut (λ d. d == c) t))

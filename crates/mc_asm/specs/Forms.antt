@@ -1,4 +1,4 @@
--- The forms of operands as the code has them, and what they stand for.
+-- The forms of operands of the code, as values of the definition.
 use Rattle.std.specs.Prelude.{ℕ, ℤ, List, take, drop}
 use Rattle.mc_model_machine.specs.Code.{Shaped}
 use Rattle.mc_model_machine.specs.declared.instruction.Ins.{Ins}
@@ -13,7 +13,7 @@ use Rattle.mc_asm.specs.declared.words.AddressedByteWord.{AddressedByteWord}
 use Rattle.mc_asm.specs.declared.words.AddressedWordWord.{AddressedWordWord}
 use Rattle.mc_asm.specs.declared.words.Form.{Form}
 
--- a word with a byte
+-- the instruction of a word with a byte
 abbrev pub of_byte : ByteWord → ℕ → Ins
 of_byte ByteWord.Pushz = Pushz
 of_byte ByteWord.Pushb = Pushb
@@ -21,7 +21,7 @@ of_byte ByteWord.Popn = Popn
 of_byte ByteWord.Reti = Reti
 of_byte ByteWord.Reto = Reto
 
--- a word with a word
+-- the instruction of a word with a two-byte number
 abbrev pub of_word : WordWord → ℕ → Ins
 of_word WordWord.Setsw = Setsw
 of_word WordWord.Setla = Setla
@@ -29,17 +29,17 @@ of_word WordWord.Exitsw = Exitsw
 of_word WordWord.Exitla = Exitla
 of_word WordWord.Pushw = Pushw
 
--- a word with two words
+-- the instruction of a word with two two-byte numbers
 abbrev pub of_words : WordsWord → ℕ → ℕ → Ins
 of_words WordsWord.Setswla = Setswla
 of_words WordsWord.Exitswla = Exitswla
 
--- a word with a condition and an address of code
+-- the instruction of a word with a condition and an address of code
 abbrev pub by_place : PlaceWord → ℕ → ℕ → Ins
 by_place PlaceWord.Jump = Jump
 by_place PlaceWord.Call = Call
 
--- a word with an address and a byte
+-- the instruction of a word with an address and a byte
 abbrev pub addressed_byte : AddressedByteWord → ℕ → ℤ → ℕ → Ins
 addressed_byte AddressedByteWord.Load = Load
 addressed_byte AddressedByteWord.Store = Store
@@ -62,14 +62,14 @@ addressed_byte AddressedByteWord.Andn = Andn
 addressed_byte AddressedByteWord.Orn = Orn
 addressed_byte AddressedByteWord.Xorn = Xorn
 
--- a word with an address and a word
+-- the instruction of a word with an address and a two-byte number
 abbrev pub addressed_word : AddressedWordWord → ℕ → ℤ → ℕ → Ins
 addressed_word AddressedWordWord.Setw = Setw
 addressed_word AddressedWordWord.Cmpw = Cmpw
 addressed_word AddressedWordWord.Addw = Addw
 addressed_word AddressedWordWord.Subw = Subw
 
--- the operands of a word as the definition of assembly has them
+-- the form of a word's operands, as the definition's value
 abbrev pub form_of : Form → Assembly.WordForm
 form_of (Form.Bare i) = Assembly.Bare i
 form_of (Form.OfByte w) = Assembly.OfByte (of_byte w)
@@ -84,7 +84,7 @@ form_of Form.Addressed = Assembly.Addressed Loada
 form_of (Form.AddressedByte w) = Assembly.AddressedByte (addressed_byte w)
 form_of (Form.AddressedWord w) = Assembly.AddressedWord (addressed_word w)
 
--- a bare instruction is one whose fields are in their ranges
+-- the fields of an instruction without operands are in their ranges
 abbrev pub BareShaped : Form → Type 0
 BareShaped (Form.Bare i) = Shaped i
 BareShaped form = Unit {0}

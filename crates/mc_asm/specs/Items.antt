@@ -1,4 +1,4 @@
--- What the code has of a line, and what it stands for.
+-- Lines and items of the code, as values of the definition.
 use Rattle.std.specs.Prelude.{ℕ, ◌<◌, List, map, option_map}
 use denote.Ref.{Bor}
 use Rattle.mc_model_machine.specs.Code.{Shaped}
@@ -8,11 +8,11 @@ use Rattle.mc_asm.specs.declared.item.Item.{Item}
 use Rattle.mc_asm.specs.declared.line.Line.{Line}
 use Rattle.mc_asm.specs.Forms.{by_place}
 
--- texts, without where their bytes lie
+-- texts, whatever place their bytes are borrowed from
 abbrev pub texts : List (Bor (List ℕ)) → List (List ℕ)
 texts ts = map (λ t. t.now) ts
 
--- an item as the definition of assembly has it
+-- an item, as the definition's value
 abbrev pub item_of : Item → Assembly.CodeItem
 item_of Item.Nothing = Assembly.Nothing
 item_of (Item.Raw b) = Assembly.Raw b
@@ -28,6 +28,6 @@ Ready (Item.Plain i) = Shaped i
 Ready (Item.ToPlace w c l) = (0 < c) × (c < 8)
 Ready (Item.ToDistance c l) = (0 < c) × (c < 8)
 
--- a line as the definition of assembly has it
+-- a line, as the definition's value
 abbrev pub line_of : Line → Assembly.Line
 line_of l = record { label = option_map (λ t. t.now) l.label; item = item_of l.item }

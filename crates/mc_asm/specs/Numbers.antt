@@ -2,7 +2,7 @@
 use Rattle.std.specs.Prelude.{ℕ, ℤ, pos, negsuc, ◌<◌, List, Option, option_map}
 use Rattle.mc_model_machine.specs.Text.{digits_onto, hex_values}
 
--- the number that hexadecimal digits spell behind those that spell n
+-- the number of hexadecimal digits that are appended to those of n, if all are digits
 abbrev pub hex_behind : ℕ → List ℕ → Option ℕ
 hex_behind n t = option_map (digits_onto 16 n) (hex_values t)
 

@@ -5,16 +5,16 @@ use Rattle.mc_model_machine.specs.declared.assembler.AsmCause.TheVariants.{BadOp
 use Rattle.mc_model_machine.specs.Text.{ok_as, pieces}
 use Rattle.mc_model_machine.specs.Assembly.{signed_operand}
 
--- the two elements of a list that has two
+-- the two elements of a list, if it has two
 abbrev pub pair_of : {A : Type 0} → List A → Option (A × A)
 pair_of (a ∷ b ∷ []) = Some (a, b)
 pair_of l = None
 
--- the two parts of a text that a character separates once
+-- the two parts of a text, if the character c separates it exactly once
 abbrev pub two_parts : ℕ → List ℕ → Option (List ℕ × List ℕ)
 two_parts c t = pair_of (pieces (λ d. d == c) t)
 
--- the offset that stands before a bracket which ends the text
+-- the tag and the offset, which is the text before a bracket that ends the text
 abbrev pub offset_in : ℕ → Option (List ℕ × List ℕ) → Result (ℕ × ℤ) AsmCause
 offset_in tag None = Err BadOperands
 offset_in tag (Some (off, [])) = ok_as (λ z. (tag, z)) (signed_operand 32768 off)

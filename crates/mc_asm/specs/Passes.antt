@@ -14,43 +14,43 @@ use Rattle.mc_model_machine.specs.Assembly.{CodeItem, with_label, line_read, lin
 use Rattle.mc_asm.specs.declared.line.NumberedLine.{NumberedLine}
 pub use Rattle.mc_asm.specs.Refusals.{AssemblyRefuses}
 
--- the map has each label's place
+-- the map m has the place of each label
 abbrev pub AreLabels : BTreeMap (Bor (List ℕ)) ℕ → List (List ℕ × ℕ) → Type 0
 AreLabels m l = (q : Bor (List ℕ)) → BTreeMap.get (λ x y. slice_cmp nat_cmp x.now y.now) m q ≡ lookup l q.now
 
--- the place behind an item
+-- the place after an item, `TooLong` if it is past the limit of code
 abbrev pub end_of : CodeItem → ℕ → Result ℕ AsmCause
 end_of i place = only_if (nat_le (place + size i) most_code) TooLong (place + size i)
 
--- a line's label, and the place behind the line
+-- a line's label, and the place after the line
 abbrev pub label_and_end : List (List ℕ × ℕ) → ℕ → List ℕ → Result (Option (List ℕ) × ℕ) AsmCause
 label_and_end labels place text = ok_as (λ l. (l.label, place + size l.item)) (line_laid labels place text)
 
--- the labels of lines, behind those that were given before
+-- the labels with those of lines added, from a place on
 unfoldable pub places : List (List ℕ × ℕ) → ℕ → List (ℕ × List ℕ) → Result (List (List ℕ × ℕ)) (ℕ × AsmCause)
 places labels place [] = Ok labels
 places labels place (t ∷ ts) = do
   p ← err_as (λ c. (t.0, c)) (label_and_end labels place t.1)
   places (with_label labels p.0 place) p.1 ts
 
--- the code of a line under labels, and the place behind the line
+-- the code of a line with these labels, and the place after the line
 abbrev pub code_and_end : List (List ℕ × ℕ) → ℕ → List ℕ → Result (List ℕ × ℕ) AsmCause
 code_and_end labels place text = do
   l ← line_read text
   end ← end_of l.item place
   ok_as (λ bytes. (bytes, end)) (emitted labels place l.item)
 
--- the code of lines under labels
+-- the code of lines with these labels, from a place on
 unfoldable pub coded : List (List ℕ × ℕ) → ℕ → List (ℕ × List ℕ) → Result (List ℕ) (ℕ × AsmCause)
 coded labels place [] = Ok []
 coded labels place (t ∷ ts) = do
   p ← err_as (λ c. (t.0, c)) (code_and_end labels place t.1)
   ok_as (λ rest. p.0 ++ rest) (coded labels p.1 ts)
 
--- a distance that fits in a branch
+-- a distance, if it is in the range of a branch
 abbrev pub near : ℤ → Option ℤ
 near d = cond (fits_signed 128 d) (Some d) None
 
--- lines with their numbers, without where their bytes lie
+-- lines with their numbers, whatever place their bytes are borrowed from
 abbrev pub numbered_lines : List NumberedLine → List (ℕ × List ℕ)
 numbered_lines ls = map (λ l. (l.number, l.text.now)) ls

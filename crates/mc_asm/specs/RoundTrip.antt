@@ -5,6 +5,6 @@ use Rattle.mc_model_device.specs.Limits.{most_code}
 use Rattle.mc_model_machine.specs.Assembly.{assembled}
 use Rattle.mc_model_machine.specs.Listing.{listed}
 
--- whatever code has a listing, the listing assembles to it
+-- for each code that has a listing, the listing assembles to it
 abbrev pub ListedIsAssembled : Type 0
 ListedIsAssembled = (code text : List ℕ) → AllByRecursion (λ b. b < 256) code → length code ≤ most_code → listed code ≡ Ok text → assembled text ≡ Ok code

@@ -1,4 +1,4 @@
-// The code of a text.
+// The second pass, which makes the code, and the whole assembler.
 ghost use Rattle.std.specs.Prelude.{◌≡◌, ◌+◌, ◌≤◌, ℕ, pos, ◌-ℤ◌, List, [], ◌∷◌, ◌++◌, length, Some, None, Ok, Err, IfOk, IfErr, MatchResult, OnOk, vec_len};
 ghost use Rattle.mc_model_device.specs.Limits.{most_code};
 ghost use Rattle.mc_model_machine.specs.Text.{lines, numbered};
@@ -18,7 +18,7 @@ use mc_model_machine::{AsmCause, Ins};
 use mc_text::next_line;
 use std::alloc::Global;
 
-// The displacement of a branch at a place: the distance from the place behind the branch.
+// The displacement of a branch at a place: the distance from the place after the branch.
 fn distance(to: u16, place: u16) -> Option<i8>
     requires { place ≤ most_code }
     ensures { result ≡ near (pos to -ℤ pos (place + 2)) }
@@ -30,7 +30,7 @@ fn distance(to: u16, place: u16) -> Option<i8>
     Some(d as i8)
 }
 
-// What an item at a place puts into the code.
+// The bytes of an item at a place.
 fn emitted<'a>(
     item: &Item<'a>,
     place: u16,
@@ -69,7 +69,7 @@ fn emitted<'a>(
     }
 }
 
-// The code of a line at a place, and the place behind the line.
+// The code of a line at a place, and the place after the line.
 fn code_and_end<'a>(
     line: &'a [u8],
     place: u16,
@@ -112,7 +112,11 @@ fn code_of<'a>(
     Ok(code)
 }
 
-/// The code of lines, which keep their numbers: as `assemble` has it of the lines of a text.
+/// Returns the code of lines with given numbers.
+///
+/// # Errors
+///
+/// Returns the refusals of [`assemble`], with these numbers.
 #[tactic(auto, using(crate::proofs::PassLemmas::refuses_first))]
 pub fn assemble_lines(alloc: Global, lines: &[NumberedLine<'_>]) -> Result<Vec<u8>, AsmRefusal>
     ensures code { IfOk result (λ v. assembled_lines (numbered_lines lines.now) ≡ Ok v.items) }
@@ -123,8 +127,8 @@ pub fn assemble_lines(alloc: Global, lines: &[NumberedLine<'_>]) -> Result<Vec<u
     code_of(alloc, lines, &labels)
 }
 
-// A line behind others, with its number. A number that does not fit in four bytes, which takes a text of more than four
-// thousand million bytes, is answered as want of memory.
+// Appends a line with its number. A number that does not fit in four bytes, for which a text has to be over
+// four thousand million bytes long, counts as out of memory.
 #[tactic(auto, using(crate::proofs::PassLemmas::line_more))]
 fn push_line<'a>(lines: &mut Vec<NumberedLine<'a>>, text: &'a [u8]) -> Result<(), AsmRefusal>
     ensures pushed { OnOk result (numbered_lines lines.new.items
@@ -156,11 +160,15 @@ fn lines_of(alloc: Global, text: &[u8]) -> Result<Vec<NumberedLine<'_>>, AsmRefu
     Ok(lines)
 }
 
-/// The code of an assembly text. A line is `[LABEL:] [WORD [OPERANDS]] [; comment]`, and ends with a line feed, which the
-/// last line may lack; the code has at most 8,192 bytes. The words and the forms of their operands are this project's own.
+/// Returns the code of an assembly text. A line is `[LABEL:] [WORD [OPERANDS]] [; comment]`, and ends with a
+/// line feed, which the last line may lack; the code has at most 8,192 bytes. The words and the forms of
+/// their operands are this project's own.
 ///
-/// `At` names the first refused line, counted from 1, and its cause: the first line that is refused by itself, and where
-/// there is none, the first whose label is unknown or too far for a branch.
+/// # Errors
+///
+/// Returns `At` with the first refused line, counted from 1, and its cause: the first line with a cause of
+/// its own, and if there is none, the first whose label is unknown or too far for a branch. Returns
+/// `NoMemory` if out of memory.
 #[tactic(auto, unfolding(mc_model_machine::specs::Assembly::assembled))]
 pub fn assemble(alloc: Global, text: &[u8]) -> Result<Vec<u8>, AsmRefusal>
     ensures code { IfOk result (λ v. assembled text.now ≡ Ok v.items) }

@@ -1,4 +1,4 @@
-// What a word with its operands puts into the code.
+// The item of a word with its operands.
 ghost use Rattle.std.specs.Prelude.{◌≡◌, ◌+◌, ◌<◌, ◌≤◌, ℕ, [], ◌∷◌, length, map, option_map, take, Some, None, Ok, Err, IfOk, Result};
 ghost use Rattle.std.specs.List.{AllByRecursion};
 ghost use Rattle.mc_model_machine.specs.Code.{Shaped};
@@ -16,7 +16,7 @@ use crate::words::{
 };
 use mc_model_machine::{AsmCause, Ins};
 
-/// What a line puts into the code.
+/// The item of a line, from which its code is made.
 #[derive(Clone, Copy)]
 pub enum Item<'a> {
     /// A line without a word.
@@ -114,7 +114,7 @@ fn branch_to<'a>(cond: &[u8], target: &'a [u8]) -> Result<Item<'a>, AsmCause>
     Ok(Item::Plain(Ins::Branch { cond, d }))
 }
 
-// The two operands of a word that has two.
+// The two operands of a word, if it has two.
 fn two<'a>(operands: &[&'a [u8]]) -> Option<(&'a [u8], &'a [u8])>
     ensures { option_map (λ p. (p.0.now, p.1.now)) result ≡ pair_of (texts operands.now) }
 {
@@ -148,7 +148,7 @@ fn transfer_to<'a>(name: PlaceWord, cond: &[u8], target: &'a [u8]) -> Result<Ite
     Ok(Item::Plain(name.with(cond, to)))
 }
 
-// A jump or call, to the address on the stack where it has no operand.
+// A jump or call, to the address on the stack if it has no operand.
 #[tactic(auto, using(crate::proofs::ItemLemmas::place_of_pair))]
 fn transfer<'a>(name: PlaceWord, operands: &[&'a [u8]]) -> Result<Item<'a>, AsmCause>
     ensures value { ok_as item_of result ≡ worded (ByPlace (by_place name)) (texts operands.now) }
@@ -276,7 +276,11 @@ fn addressed_word(name: AddressedWordWord, operands: &[&[u8]]) -> Result<Ins, As
     }
 }
 
-/// A word with its operands.
+/// Returns the item of a word with its operands.
+///
+/// # Errors
+///
+/// Returns the cause for which the operands are refused; of several, the first in the table of causes.
 pub fn worded<'a>(form: Form, operands: &[&'a [u8]]) -> Result<Item<'a>, AsmCause>
     requires { BareShaped form }
     ensures value { ok_as item_of result ≡ worded (form_of form) (texts operands.now) }

@@ -1,4 +1,4 @@
-// Labels and their places.
+// Labels and their places: the first pass.
 ghost use Rattle.std.specs.Prelude.{◌≡◌, ◌+◌, ◌≤◌, ℕ, List, [], length, option_map, Some, None, Ok, Err, IfOk, IfErr, OnOk, MatchResult};
 ghost use Rattle.mc_model_device.specs.Limits.{most_code};
 ghost use Rattle.mc_model_device.specs.Bytes.{lookup};
@@ -20,14 +20,14 @@ use std::collections::BTreeMap;
 /// The labels of a text with their places.
 pub type Labels<'a> = BTreeMap<&'a [u8], u16>;
 
-/// The place of a label, `None` where no line has it.
+/// Returns the place of a label, or `None` if no line has it.
 pub fn place_of<'a>(labels: &Labels<'a>, label: &'a [u8]) -> Option<u16>
     ensures { (l : List (List ℕ × ℕ)) → AreLabels labels.now l → result ≡ lookup l label.now }
 {
     labels.get(&label).copied()
 }
 
-// Whether a label was not given before.
+// Whether no line before has the label.
 fn is_new<'a>(labels: &Labels<'a>, label: Option<&'a [u8]>) -> bool
     ensures { (l : List (List ℕ × ℕ)) → AreLabels labels.now l
         → result ≡ is_new l (option_map (λ t. t.now) label.entry) }
@@ -38,7 +38,7 @@ fn is_new<'a>(labels: &Labels<'a>, label: Option<&'a [u8]>) -> bool
     }
 }
 
-// The labels with the one of a line, where it has one.
+// Adds the label of a line, if it has one.
 fn put_label<'a>(
     labels: &mut Labels<'a>,
     label: Option<&'a [u8]>,
@@ -57,7 +57,7 @@ fn put_label<'a>(
     }
 }
 
-// How many bytes an item takes.
+// The number of bytes of an item.
 fn size(item: &Item<'_>) -> u16
     requires { Ready item.now }
     ensures value { result ≡ size (item_of item.now) }
@@ -72,7 +72,11 @@ fn size(item: &Item<'_>) -> u16
     }
 }
 
-/// The place behind an item at a place; the code has at most 8,192 bytes.
+/// Returns the place after an item at a place.
+///
+/// # Errors
+///
+/// Returns `TooLong` if it is above 8,192.
 pub fn end_of(item: &Item<'_>, place: u16) -> Result<u16, AsmCause>
     requires ready { Ready item.now }
     requires place { place ≤ most_code }
@@ -86,7 +90,7 @@ pub fn end_of(item: &Item<'_>, place: u16) -> Result<u16, AsmCause>
     Ok(end)
 }
 
-// A line's label, and the place behind the line.
+// A line's label, and the place after the line.
 #[tactic(auto, unfolding(mc_model_machine::specs::Assembly::line_laid))]
 fn label_and_end<'a>(
     line: &'a [u8],
@@ -105,8 +109,12 @@ fn label_and_end<'a>(
     Ok((line.label, end_of(&line.item, place)?))
 }
 
-/// The labels of lines. The refusal is that of the first line that has a cause of its own: every cause but an unknown
-/// label and a far branch.
+/// Returns the labels of lines.
+///
+/// # Errors
+///
+/// Returns the first line with a cause of its own, which is each cause but an unknown label and a far branch,
+/// or `NoMemory` if out of memory.
 pub fn labels_of<'a>(alloc: Global, lines: &[NumberedLine<'a>]) -> Result<Labels<'a>, AsmRefusal>
     ensures found { IfOk result (λ m. (l : List (List ℕ × ℕ)) × (places [] 0 (numbered_lines lines.now) ≡ Ok l)
         × AreLabels m l) }

@@ -1,4 +1,4 @@
-// What the listing and the assembler have to do with each other.
+// The round trip from code to its listing and back.
 ghost use Rattle.mc_asm.specs.RoundTrip.{ListedIsAssembled};
 
 /// The listing of code assembles to that code.

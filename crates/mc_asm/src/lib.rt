@@ -1,6 +1,6 @@
 #![tactic(auto)]
 
-//! The assembler and the listing.
+//! The assembler of the byte code, and its inverse, the listing.
 
 mod coding;
 mod item;

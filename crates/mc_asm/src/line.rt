@@ -19,14 +19,14 @@ pub struct NumberedLine<'a> {
     pub text: &'a [u8],
 }
 
-/// A line's label, and what it puts into the code.
+/// A line's label and its item.
 #[derive(Clone, Copy)]
 pub struct Line<'a> {
     pub label: Option<&'a [u8]>,
     pub item: Item<'a>,
 }
 
-// The operands behind a word: the first five, since no word has more than four.
+// The operands after a word: the first five, since no word has more than four.
 fn operands<'a>(text: Option<&'a [u8]>) -> ArrayVec<&'a [u8], 5>
     ensures { texts result.items ≡ take 5 (operands (option_map (λ t. t.now) text.entry)) }
 {
@@ -43,7 +43,7 @@ fn operands<'a>(text: Option<&'a [u8]>) -> ArrayVec<&'a [u8], 5>
     parts
 }
 
-// A word and its operands, nothing where there is no word.
+// The item of a word and its operands, `Nothing` if there is no word.
 #[tactic(auto, using(crate::proofs::LineLemmas::first_five))]
 fn word_and_operands(text: &[u8]) -> Result<Item<'_>, AsmCause>
     ensures value { ok_as item_of result ≡ word_and_operands (first_cut is_blank text.now) }
@@ -79,7 +79,11 @@ fn labelled<'a>(front: &'a [u8], behind: Option<&'a [u8]>) -> Result<Line<'a>, A
     })
 }
 
-/// A line: `[LABEL:] [WORD [OPERANDS]] [; comment]`.
+/// Reads a line `[LABEL:] [WORD [OPERANDS]] [; comment]`.
+///
+/// # Errors
+///
+/// Returns the cause why the line is refused.
 #[tactic(auto, unfolding(mc_model_machine::specs::Assembly::line_read))]
 pub fn read_line(line: &[u8]) -> Result<Line<'_>, AsmCause>
     ensures value { ok_as line_of result ≡ line_read line.now }

@@ -11,7 +11,7 @@ use mc_isa::{decode, text_of};
 use mc_model_machine::Ins;
 use std::alloc::{AllocError, Global};
 
-// The line of an instruction behind a text.
+// Appends the line of an instruction to a text.
 fn put_line(text: &mut Vec<u8>, ins: &Ins) -> Result<(), AllocError>
     requires { Shaped ins.now }
     ensures { OnOk result (text.new.items ≡ text.old.items ++ text_of ins.now ++ codes "\n") }
@@ -40,16 +40,20 @@ fn listing_of(alloc: Global, code: &[u8]) -> Result<Vec<u8>, ListRefusal>
     Ok(text)
 }
 
-/// The listing of code of at most 8,192 bytes: a line for each instruction, from place 0 on, with a line feed behind it.
-/// The line is the word, and behind a blank its operands with commas between them: bytes, lengths, offsets and
-/// displacements in decimal, words and addresses of code as `0x` and four hexadecimal digits.
+/// Returns the listing of code of at most 8,192 bytes: a line for each instruction, from place 0 on, with a
+/// line feed after it. The line is the word, and after a blank its operands with commas between them: bytes,
+/// lengths, offsets and displacements in decimal, words and addresses of code as `0x` and four hexadecimal
+/// digits.
 ///
-/// `At` names the first place where no instruction stands, and why.
+/// # Errors
+///
+/// Returns `At` with the first place at which no instruction is decoded, and why. Returns `NoMemory` if out
+/// of memory.
 pub fn list(alloc: Global, code: &[u8]) -> Result<Vec<u8>, ListRefusal>
     requires { length code.now ≤ most_code }
     ensures text { IfOk result (λ v. listed code.now ≡ Ok v.items) }
     ensures refused { IfErr result (λ e. RefusesListing (listed code.now) e) }
-    // Assembled, the listing is the code again.
+    // The listing assembles to the code.
     ensures again { IfOk result (λ v. assembled v.items ≡ Ok code.now) }
 {
     listing_of(alloc, code)

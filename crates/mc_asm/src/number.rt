@@ -7,7 +7,7 @@ ghost use Rattle.mc_text.specs.Reading.{capped};
 use mc_model_machine::AsmCause;
 use mc_text::{decimal_number, hex_value};
 
-// The number that 1 to 4 hexadecimal digits spell.
+// The number of 1 to 4 hexadecimal digits.
 fn hex_number(digits: &[u8]) -> Option<u32>
     ensures value { result ≡ hex_number digits.now }
     ensures bound { IfSome result (λ n. n < 65536) }
@@ -47,21 +47,21 @@ fn number_operand(text: &[u8], high: u32) -> Result<u32, AsmCause>
     Ok(number as u32)
 }
 
-/// An operand of one byte.
+/// Reads an operand of one byte.
 pub fn byte(text: &[u8]) -> Result<u8, AsmCause>
     ensures { result ≡ byte text.now }
 {
     Ok(number_operand(text, 0xFF)? as u8)
 }
 
-/// An operand of two bytes.
+/// Reads an operand of two bytes.
 pub fn word(text: &[u8]) -> Result<u16, AsmCause>
     ensures { result ≡ word text.now }
 {
     Ok(number_operand(text, 0xFFFF)? as u16)
 }
 
-// A signed number of which `half` is one more than the greatest.
+// A signed number from `-half` to `half - 1`.
 fn signed_operand(text: &[u8], half: u32) -> Result<i32, AsmCause>
     requires low { 0 < half }
     requires high { half ≤ 32768 }
@@ -86,14 +86,14 @@ fn signed_operand(text: &[u8], half: u32) -> Result<i32, AsmCause>
     Ok(number as i32)
 }
 
-/// An offset: a signed number of two bytes.
+/// Reads an offset, a signed number of two bytes.
 pub fn offset(text: &[u8]) -> Result<i16, AsmCause>
     ensures { result ≡ signed_operand 32768 text.now }
 {
     Ok(signed_operand(text, 0x8000)? as i16)
 }
 
-/// A displacement: a signed number of one byte.
+/// Reads a displacement, a signed number of one byte.
 pub fn displacement(text: &[u8]) -> Result<i8, AsmCause>
     ensures { result ≡ signed_operand 128 text.now }
 {

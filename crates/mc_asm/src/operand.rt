@@ -9,7 +9,8 @@ use crate::number::offset;
 use mc_model_machine::AsmCause;
 use mc_text::{cut, has_name_characters, is_digit};
 
-/// Whether a text has the form of a label: 1 to 32 letters, digits and underscores, of which the first is no digit.
+/// Returns whether a text has the form of a label: 1 to 32 letters, digits and underscores, of which the
+/// first is no digit.
 pub fn is_label(text: &[u8]) -> bool
     ensures { result ≡ is_label text.now }
 {
@@ -19,7 +20,7 @@ pub fn is_label(text: &[u8]) -> bool
     }
 }
 
-/// The number of a condition, from 1 for EQ to 7 for ALL.
+/// Returns the number of a condition, from 1 for EQ to 7 for ALL.
 pub fn condition(text: &[u8]) -> Result<u8, AsmCause>
     ensures value { result ≡ condition text.now }
     ensures range { IfOk result (λ c. (0 < c) × (c < 8)) }
@@ -53,7 +54,7 @@ fn register(text: &[u8]) -> Option<u8>
     }
 }
 
-// The two parts of a text that a character separates once.
+// The two parts of a text, if a character separates it exactly once.
 #[tactic(auto, using(crate::proofs::TextLemmas::two_parts_cut))]
 fn two_parts(text: &[u8], character: u8) -> Option<(&[u8], &[u8])>
     ensures { option_map (λ p. (p.0.now, p.1.now)) result ≡ two_parts character text.now }
@@ -66,7 +67,7 @@ fn two_parts(text: &[u8], character: u8) -> Option<(&[u8], &[u8])>
     }
 }
 
-/// An address `REG[off]`: the register's tag and the offset.
+/// Reads an address `REG[off]`, and returns the register's tag and the offset.
 #[tactic(auto, using(crate::proofs::OperandLemmas::address_parts, crate::proofs::OperandLemmas::offset_kept))]
 pub fn address(text: &[u8]) -> Result<(u8, i16), AsmCause>
     ensures value { result ≡ address text.now }
@@ -84,7 +85,11 @@ pub fn address(text: &[u8]) -> Result<(u8, i16), AsmCause>
     }
 }
 
-/// Two operands, or of the causes of both the one that comes first in a line.
+/// Returns two operands.
+///
+/// # Errors
+///
+/// Returns the cause for which one of them is refused; of two, the first in the table of causes.
 pub fn both<A: Copy, B: Copy>(
     first: Result<A, AsmCause>,
     second: Result<B, AsmCause>,
@@ -99,7 +104,7 @@ pub fn both<A: Copy, B: Copy>(
     }
 }
 
-// The one of two causes that comes first in a line.
+// The one of two causes in a line that is first in the table of causes.
 fn first_cause(cause: AsmCause, other: AsmCause) -> AsmCause
     ensures { result ≡ first_cause cause other }
 {

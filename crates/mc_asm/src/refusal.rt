@@ -8,7 +8,7 @@ pub enum AsmRefusal {
     /// The first refused line, counted from 1, and its cause.
     #[error("line {0}: refused")]
     At(u32, AsmCause),
-    /// Memory that was asked for was not there.
+    /// Out of memory.
     #[error("out of memory")]
     NoMemory,
 }
@@ -16,10 +16,10 @@ pub enum AsmRefusal {
 /// Why code has no listing.
 #[derive(Clone, Copy, Debug, PartialEq, Eq, Error)]
 pub enum ListRefusal {
-    /// The first place, from 0 on, where no instruction stands, and why.
+    /// The first place, from 0 on, at which no instruction is decoded, and why.
     #[error("place {0}: refused")]
     At(u16, DecodeFault),
-    /// Memory that was asked for was not there.
+    /// Out of memory.
     #[error("out of memory")]
     NoMemory,
 }

@@ -1,4 +1,4 @@
-// The table of words: which operands stand behind each, and the instruction that they make.
+// The table of words: the form of the operands of each, and the instruction that they make.
 ghost use Rattle.std.specs.Prelude.{◌≡◌, ◌<◌, ◌≤◌, ℕ, List, take, drop, option_map, IfSome, Some, None};
 ghost use Rattle.mc_model_device.specs.Bytes.{lookup};
 ghost use Rattle.mc_model_machine.specs.Code.{Shaped};
@@ -18,7 +18,7 @@ pub enum ByteWord {
     Reto,
 }
 
-/// The words with one word.
+/// The words with one two-byte number.
 #[derive(Clone, Copy)]
 pub enum WordWord {
     Setsw,
@@ -28,7 +28,7 @@ pub enum WordWord {
     Pushw,
 }
 
-/// The words with two words.
+/// The words with two two-byte numbers.
 #[derive(Clone, Copy)]
 pub enum WordsWord {
     Setswla,
@@ -67,7 +67,7 @@ pub enum AddressedByteWord {
     Xorn,
 }
 
-/// The words with an address and a word.
+/// The words with an address and a two-byte number.
 #[derive(Clone, Copy)]
 pub enum AddressedWordWord {
     Setw,
@@ -76,7 +76,7 @@ pub enum AddressedWordWord {
     Subw,
 }
 
-/// The operands of a word.
+/// The form of the operands of a word.
 #[derive(Clone, Copy)]
 pub enum Form {
     Bare(Ins),
@@ -94,7 +94,7 @@ pub enum Form {
 }
 
 impl ByteWord {
-    /// The instruction with this byte.
+    /// Returns the instruction with this byte.
     pub fn with(self, n: u8) -> Ins
         ensures value { result ≡ of_byte self n }
         ensures shaped { Shaped result }
@@ -110,7 +110,7 @@ impl ByteWord {
 }
 
 impl WordWord {
-    /// The instruction with this word.
+    /// Returns the instruction with this two-byte number.
     pub fn with(self, word: u16) -> Ins
         ensures value { result ≡ of_word self word }
         ensures shaped { Shaped result }
@@ -126,7 +126,7 @@ impl WordWord {
 }
 
 impl WordsWord {
-    /// The instruction with these words.
+    /// Returns the instruction with these two-byte numbers.
     pub fn with(self, sw: u16, la: u16) -> Ins
         ensures value { result ≡ of_words self sw la }
         ensures shaped { Shaped result }
@@ -139,7 +139,7 @@ impl WordsWord {
 }
 
 impl PlaceWord {
-    /// The instruction with this condition, 0 for an address from the stack, and this address.
+    /// Returns the instruction with this condition, 0 for an address from the stack, and this address.
     pub fn with(self, cond: u8, to: u16) -> Ins
         requires condition { cond < 8 }
         requires stack { cond ≡ 0 → to ≡ 0 }
@@ -154,7 +154,7 @@ impl PlaceWord {
 }
 
 impl AddressedByteWord {
-    /// The instruction with this tag, 0 for the top of the stack, this offset and this byte.
+    /// Returns the instruction with this tag, 0 for the top of the stack, this offset and this byte.
     pub fn with(self, tag: u8, off: i16, n: u8) -> Ins
         requires { Shaped (Loada tag off) }
         ensures value { result ≡ addressed_byte self tag off n }
@@ -186,7 +186,8 @@ impl AddressedByteWord {
 }
 
 impl AddressedWordWord {
-    /// The instruction with this tag, 0 for the top of the stack, this offset and this word.
+    /// Returns the instruction with this tag, 0 for the top of the stack, this offset and this two-byte
+    /// number.
     pub fn with(self, tag: u8, off: i16, w: u16) -> Ins
         requires { Shaped (Loada tag off) }
         ensures value { result ≡ addressed_word self tag off w }
@@ -270,7 +271,7 @@ fn memory_form(word: &[u8]) -> Option<Form>
     }
 }
 
-// The words of bytes and words.
+// The words on bytes and two-byte numbers.
 fn number_form(word: &[u8]) -> Option<Form>
     ensures value { option_map form_of result ≡ lookup number_words word.now }
     ensures shaped { IfSome result BareShaped }
@@ -288,7 +289,7 @@ fn number_form(word: &[u8]) -> Option<Form>
     }
 }
 
-// The words of blocks.
+// The words on blocks.
 fn block_form(word: &[u8]) -> Option<Form>
     ensures value { option_map form_of result ≡ lookup block_words word.now }
     ensures shaped { IfSome result BareShaped }
@@ -309,7 +310,7 @@ fn block_form(word: &[u8]) -> Option<Form>
     }
 }
 
-/// The operands of a word, `None` for what is no word.
+/// Returns the form of the operands of a word, or `None` if the text is no word.
 #[tactic(auto, using(crate::proofs::FormLemmas::by_families))]
 pub fn form_named(word: &[u8]) -> Option<Form>
     ensures value { option_map form_of result ≡ lookup words word.now }

@@ -1,4 +1,4 @@
--- What a list of commits leaves of any bank, by the laws of one.
+-- What a list of commits leaves of any bank, by the laws of one commit.
 use Rattle.std.proofs.Common.{◌≡◌, ℕ, false, List, [], ◌∷◌, Option, Some, Ok, Err, refl, sym, subst, ◌∙◌, inl, inr}
 use Rattle.mc_model_card.specs.declared.card.Part.{Part}
 use Rattle.mc_model_card.specs.declared.card.Sizes.{Sizes}
@@ -53,7 +53,7 @@ module _ {B : Type 0} (did : B → BankItem → Answer → B → Type 0) where
       (two.0, λ p. two.1 p ∙ one.1 p))
       (λ b n ws a e d s good. (spares b n ws a e d s good, leaves b n ws a e d s good))
 
-  -- the bank goes on where none of them stopped
+  -- the bank goes on if none of them stopped
   pub going-in_order : (state : B → BankState) (standing : B → Site → Part → List ℕ)
       → ((b : B) (i : BankItem) (a : Answer) (e : B) → did b i a e → Changes (state b) (item_done (standing b) i (state b).apps) a (state e))
       → (cs : List Words) (b e : B) → InOrder did b (commits cs) (Ok tt) e → (state b).stopped ≡ false → (state e).stopped ≡ false
@@ -64,7 +64,7 @@ module _ {B : Type 0} (did : B → BankItem → Answer → B → Type 0) where
         | inr stop ↦ absurd (cc stop.2)
       ]
 
-  -- and its applications are those after one commit after another
+  -- the applications are those after one commit after another
   pub apps-in_order : (state : B → BankState) (standing : B → Site → Part → List ℕ)
       → ((b : B) (i : BankItem) (a : Answer) (e : B) → did b i a e → Changes (state b) (item_done (standing b) i (state b).apps) a (state e))
       → (c : Words) (cs : List Words) (b e : B) → InOrder did b (commits (c ∷ cs)) (Ok tt) e

@@ -72,7 +72,7 @@ piece_joined Data at b c x le = ap (λ (l : List ℕ). record x { fixed = l }) (
 piece_joined Dir at b c x le = ap (λ (l : List ℕ). record x { dir = l }) (splice-splice x.dir at b c le)
 piece_joined Fci at b c x le = ap (λ (l : List ℕ). record x { fci = l }) (splice-splice x.fci at b c le)
 
--- a piece in two parts, of which the first has k bytes where there are so many
+-- a piece in two parts, of which the first has k bytes if there are as many
 piece_parts : (p : Part) (at k : ℕ) (b : List ℕ) (x : Entry) → at ≤ length (part_of p x) → with_piece p (at + k) (drop k b) (with_piece p at (take k b) x) ≡ with_piece p at b x
 piece_parts p at k b x le =
     elim (cases_lt (length b) k) [

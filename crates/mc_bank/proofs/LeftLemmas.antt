@@ -1,4 +1,4 @@
--- What each call leaves of the entries of a bank in memory.
+-- The entries of a bank in memory after each call.
 use Rattle.std.proofs.Common.{◌≡◌, ℕ, ◌+◌, ◌-◌, ◌*◌, ◌≤◌, ◌<◌, false, List, [], ◌∷◌, ◌++◌, length, take, drop, slice_set, Option, Some, None, Ok, refl, sym, ap, subst, ◌∙◌, inl, arith}
 use Rattle.std.specs.Prelude.{map, is_some, IsSome}
 use Rattle.std.specs.List.{AllByRecursion}
@@ -68,7 +68,7 @@ pub some_name : (o : Option (List ℕ)) → IsSome o → o ≡ Some (name_or o)
 some_name None h = absurd (cc h)
 some_name (Some n) h = refl
 
--- the name of a slot stands at its place
+-- the name of a slot is at its place
 place_name : (m : List Entry) (j : ℕ) → IsSome (memory_named m j) → named_at (facts_in m) (slot_place j) ≡ Some (name_or (memory_named m j))
 place_name m j there = sym (slot_at m j there) ∙ some_name (memory_named m j) there
 

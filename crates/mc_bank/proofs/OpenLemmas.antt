@@ -1,4 +1,4 @@
--- How a search for room is answered.
+-- The result of a search for room.
 use Rattle.std.proofs.Common.{◌≡◌, ℕ, ◌≤◌, ◌<◌, false, Bool, List, length, Some, sym, ap, ◌∙◌, arith, Ok, Err}
 use Rattle.std.specs.Prelude.{nat_le}
 use Rattle.std.proofs.lemmas.Bool.{le-leb, lt-leb}

@@ -15,7 +15,7 @@ use Rattle.mc_bank.specs.Shown.{app_at, IsFront, AreFactsOf, EntryShows}
 use Rattle.mc_model_device.proofs.MapLemmas.{same_name}
 use Rattle.mc_model_device.proofs.BoolLemmas.{some-is}
 
--- an element is what a list has at its place, whatever stands in for a missing one
+-- an element is what a list has at its place, whatever replaces a missing one
 pub entry_is : (m : List Entry) (k : ℕ) (e : Entry) → k < length m → e ≡ slice_index_or m k e → e ≡ entry_at m k
 entry_is [] k e lt h = absurd (omega arith)
 entry_is (x ∷ m) zero e lt h = h

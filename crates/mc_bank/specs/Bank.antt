@@ -1,4 +1,4 @@
--- What a bank of applications means, and what its calls and its items do to it.
+-- The state of a bank of applications, and what its calls and its items do to it.
 use Rattle.std.specs.Prelude.{◌≡◌, ◌≢◌, ◌⊎◌, ℕ, ◌-◌, ◌*◌, ◌<◌, ◌≤◌, Bool, true, false, List, [], ◌++◌, length, unwrap_or, option_and_then, Option, Some, None, Result, Ok, Err}
 use Rattle.std.specs.List.{AllByRecursion}
 use Rattle.mc_model_card.specs.declared.card.Part.{Part}
@@ -17,7 +17,8 @@ use Rattle.mc_model_device.specs.Card.{App}
 use Rattle.mc_model_card.specs.Items.{Site, BankItem, Piece, Blank, Note, Commit, Enter, Remove}
 use Rattle.mc_base.specs.Name.{IsName}
 
--- the applications by their names, the counts of cuts and faults below the bank, whether it is stopped, and the most ticks of `open`
+-- the state of a bank: the applications by their names, the counts of cuts and failed writes below it, whether it is stopped,
+-- and the greatest number of ticks of `open`
 pub record BankState : Type 0 where
   pub apps : List (List ℕ × App)
   pub cuts : ℕ
@@ -27,7 +28,7 @@ pub record BankState : Type 0 where
 
 -- ---- applications
 
--- no application
+-- an application without bytes, for a name that is missing
 abbrev pub no_app : App
 no_app = record { code = []; fixed = []; session = 0; deny = 0; dir = []; fci = []; place = 0 }
 
@@ -35,7 +36,7 @@ no_app = record { code = []; fixed = []; session = 0; deny = 0; dir = []; fci = 
 abbrev pub app_of : List (List ℕ × App) → Option (List ℕ) → App
 app_of apps name = unwrap_or (option_and_then (lookup apps) name) no_app
 
--- a name, and no bytes where it is missing
+-- a name, and no bytes if it is missing
 abbrev pub name_or : Option (List ℕ) → List ℕ
 name_or name = unwrap_or name []
 
@@ -83,13 +84,13 @@ part_len Data s = s.init
 part_len Dir s = s.dir
 part_len Fci s = s.fci
 
--- how a search for room is answered, where 32 applications are there or not, and where there is room at some place or none
+-- the result of a search for room, by whether 32 applications are there, and by the place at which there is room
 abbrev pub opened : Sizes → Bool → Option ℕ → Result Site OpenRefusal
 opened s true room = Err Apps
 opened s false None = Err NoRoom
 opened s false (Some p) = Ok (record { sizes = s; place = p })
 
--- a search for room could answer this site
+-- a search for room could return this site
 pub record IsGoodSite (apps : List (List ℕ × App)) (room : Sizes → Option ℕ) (s : Site) : Type 0 where
   pub limits : FitsLimits s.sizes
   pub few : length apps < 32
@@ -126,7 +127,7 @@ committed apps n ws = insert apps n (with_words ws (app_of apps (Some n)))
 
 -- ---- items
 
--- the application that is created of what stands at a site: its static bytes are the data, and zeros behind them
+-- the application that is created of the bytes at a site: its static bytes are the data, followed by zeros
 abbrev pub entered : Site → (Part → List ℕ) → App
 entered s standing =
     record {
@@ -139,7 +140,7 @@ entered s standing =
       place = s.place;
     }
 
--- the applications after an item that was done; `standing` is what stood at the sites before it
+-- the applications after an item that was done; `standing` has the bytes at the sites before it
 abbrev pub item_done : (Site → Part → List ℕ) → BankItem → List (List ℕ × App) → List (List ℕ × App)
 item_done standing (Piece s p at b) apps = apps
 item_done standing (Blank s at n) apps = apps
@@ -148,7 +149,7 @@ item_done standing (Commit n ws) apps = committed apps n ws
 item_done standing (Enter s n) apps = insert apps n (entered s (standing s))
 item_done standing (Remove n) apps = remove apps n
 
--- an item lets an application be
+-- an item leaves the application of a name on the card
 abbrev pub Spares : List ℕ → BankItem → Type 0
 Spares n (Remove m) = n ≢ m
 Spares n (Piece s p at b) = Unit {0}
@@ -176,7 +177,7 @@ pub record IsStopped (b : BankState) (after : List (List ℕ × App)) (s : Stop)
   pub apps : (e.apps ≡ b.apps) ⊎ (e.apps ≡ after)
   pub rose : StopRose s b e
 
--- a change to these applications, by its answer
+-- a change to these applications, by how it ended
 abbrev pub Changes : BankState → List (List ℕ × App) → Answer → BankState → Type 0
 Changes b after (Ok u) e = IsChanged b after e
 Changes b after (Err s) e = IsStopped b after s e

@@ -49,7 +49,7 @@ named_here [] k n h = absurd (cc h)
 named_here (x ∷ m) zero n h = here_is x m n x.facts refl h
 named_here (x ∷ m) (suc k) n h = let r = named_here m k n h in let w = r.within in record { facts = r.facts; stands = r.stands; name = r.name; within = omega arith }
 
--- a name stays where another entry changes
+-- a name stays when another entry changes
 pub named_other : (fs : List (Option Facts)) (k : ℕ) (f : Option Facts) (j : ℕ) (n : List ℕ) → named_at fs j ≡ Some n → named_at fs k ≢ Some n → named_at (slice_set fs k f) j ≡ Some n
 named_other [] k f j n h p = h
 named_other (g ∷ fs) zero f zero n h p = absurd (p h)
@@ -155,7 +155,7 @@ lookup_one j x (Some f) apps n = by_test (bytes_eq f.aid n) refl
     by_test false e = ap is_some (lookup-beside apps f.aid (app_in j x f.sizes) n e)
     by_test true e = ap is_some (subst (λ (k : List ℕ). lookup (insert apps f.aid (app_in j x f.sizes)) k ≡ Some (app_in j x f.sizes)) (same_name f.aid n e) (lookup-inserted apps f.aid (app_in j x f.sizes)))
 
--- a name is in the map exactly where an entry has it
+-- a name is in the map if and only if an entry has it
 pub lookup_is : (j : ℕ) (m : List Entry) (n : List ℕ) → is_some (lookup (apps_from j m) n) ≡ is_named (facts_in m) n
 lookup_is j [] n = refl
 lookup_is j (x ∷ m) n = lookup_one j x x.facts (apps_from (suc j) m) n ∙ ap (λ b. has x.facts n || b) (lookup_is (suc j) m n)

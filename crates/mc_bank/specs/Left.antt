@@ -1,4 +1,4 @@
--- What each call leaves of the entries of a bank in memory.
+-- The entries of a bank in memory after each call.
 use Rattle.std.specs.Prelude.{◌≡◌, ◌≢◌, ℕ, List, [], ◌∷◌, map, IsSome, Some, Ok}
 use Rattle.mc_model_card.specs.declared.card.Part.{Part}
 use Rattle.mc_model_device.specs.Orders.{InOrder}
@@ -9,7 +9,7 @@ use Rattle.mc_bank.specs.declared.entries.Entry.{Entry}
 use Rattle.mc_bank.specs.Bank.{name_or, committed, entered, StayGood, BytesStay, IsChanged}
 use Rattle.mc_bank.specs.Memory.{memory_named, apps_from, memory_state, memory_room, memory_standing, IsMemory, MemoryDid}
 
--- a commit
+-- the entries after a commit
 pub record CommitLeft (m : List Entry) (k : ℕ) (ws : List (ℕ × List ℕ)) (e : List Entry) : Type 0 where
   pub memory : IsMemory e
   pub items : InOrder MemoryDid m (Commit (name_or (memory_named m k)) ws ∷ []) (Ok tt) e
@@ -18,7 +18,7 @@ pub record CommitLeft (m : List Entry) (k : ℕ) (ws : List (ℕ × List ℕ)) (
   pub good : StayGood (apps_from 0 m) (memory_room m) (apps_from 0 e) (memory_room e)
   pub bytes : BytesStay (apps_from 0 m) (memory_room m) (memory_standing m) (memory_standing e)
 
--- a piece of a section
+-- the entries after a piece of a section was set
 pub record FillLeft (m : List Entry) (s : Site) (p : Part) (at : ℕ) (b : List ℕ) (e : List Entry) : Type 0 where
   pub memory : IsMemory e
   pub items : InOrder MemoryDid m (map (λ c. Piece s p c.0 c.1) (word_parts at b)) (Ok tt) e
@@ -28,14 +28,14 @@ pub record FillLeft (m : List Entry) (s : Site) (p : Part) (at : ℕ) (b : List 
   pub slots : (j : ℕ) → memory_named e j ≡ memory_named m j
   pub good : StayGood (apps_from 0 m) (memory_room m) (apps_from 0 e) (memory_room e)
 
--- a creation
+-- the entries after a creation
 pub record CreateLeft (m : List Entry) (s : Site) (n : List ℕ) (e : List Entry) : Type 0 where
   pub memory : IsMemory e
   pub items : InOrder MemoryDid m (create_items s n) (Ok tt) e
   pub apps : IsChanged (memory_state m) (insert (apps_from 0 m) n (entered s (memory_standing m s))) (memory_state e)
   pub slots : (j : ℕ) → IsSome (memory_named m j) → memory_named e j ≡ memory_named m j
 
--- a deletion
+-- the entries after a deletion
 pub record DeleteLeft (m : List Entry) (k : ℕ) (e : List Entry) : Type 0 where
   pub memory : IsMemory e
   pub items : InOrder MemoryDid m (Remove (name_or (memory_named m k)) ∷ []) (Ok tt) e

@@ -33,7 +33,7 @@ named_at [] k = None
 named_at (f ∷ fs) zero = name_in f
 named_at (f ∷ fs) (suc k) = named_at fs k
 
--- the number of the first free entry, and how many there are where none is free
+-- the number of the first free entry; if none is free, the number of entries
 abbrev pub first_free : List (Option Facts) → ℕ
 first_free [] = 0
 first_free (None ∷ fs) = 0
@@ -45,22 +45,22 @@ used [] = 0
 used (None ∷ fs) = used fs
 used (Some f ∷ fs) = suc (used fs)
 
--- an entry has this name
+-- whether an entry is used and has this name
 abbrev pub has : Option Facts → List ℕ → Bool
 has None n = false
 has (Some f) n = bytes_eq f.aid n
 
--- one of the entries has this name
+-- whether one of the entries has this name
 abbrev pub is_named : List (Option Facts) → List ℕ → Bool
 is_named [] n = false
 is_named (f ∷ fs) n = has f n || is_named fs n
 
--- an entry has another name than those behind it
+-- an entry has another name than those after it
 abbrev pub IsApart : Option Facts → List (Option Facts) → Type 0
 IsApart None fs = Unit {0}
 IsApart (Some f) fs = is_named fs f.aid ≡ false
 
--- no two entries have the same name
+-- no two entries have one name
 abbrev pub AreApart : List (Option Facts) → Type 0
 AreApart [] = Unit {0}
 AreApart (f ∷ fs) = IsApart f fs × AreApart fs
@@ -80,7 +80,7 @@ app_in k e s =
       place = k;
     }
 
--- the applications with that of an entry, where it is used
+-- the applications with that of an entry, if it is used
 abbrev pub with_entry : ℕ → Entry → Option Facts → List (List ℕ × App) → List (List ℕ × App)
 with_entry k e None apps = apps
 with_entry k e (Some f) apps = insert apps f.aid (app_in k e f.sizes)
@@ -94,11 +94,11 @@ apps_from k (e ∷ es) = with_entry k e e.facts (apps_from (suc k) es)
 abbrev pub memory_named : List Entry → ℕ → Option (List ℕ)
 memory_named m k = name_of_slot (apps_from 0 m) k (named_at (facts_in m) (slot_place k))
 
--- what a bank in memory means: it never stops
+-- the state of a bank in memory, which never stops
 abbrev pub memory_state : List Entry → BankState
 memory_state m = record { apps = apps_from 0 m; cuts = 0; faults = 0; stopped = false; ticks = 0 }
 
--- there is always room
+-- the room of a bank in memory: there always is some
 abbrev pub memory_room : List Entry → Sizes → Option ℕ
 memory_room m s = Some (first_free (facts_in m))
 
@@ -126,7 +126,7 @@ with_piece Data at b e = record e { fixed = splice e.fixed at b }
 with_piece Dir at b e = record e { dir = splice e.dir at b }
 with_piece Fci at b e = record e { fci = splice e.fci at b }
 
--- what stands in a section of a site
+-- the bytes in a section of a site
 abbrev pub memory_standing : List Entry → Site → Part → List ℕ
 memory_standing m s p = take (part_len p s.sizes) (part_of p (entry_at m s.place))
 
@@ -134,7 +134,7 @@ memory_standing m s p = take (part_len p s.sizes) (part_of p (entry_at m s.place
 abbrev pub new_facts : Sizes → List ℕ → Facts
 new_facts s n = record { aid = n; sizes = record s { init = s.fixed } }
 
--- the entry with a new application: zeros stand behind its data
+-- the entry with a new application: zeros follow its data
 abbrev pub with_app : Sizes → List ℕ → Entry → Entry
 with_app s n e = record e { facts = Some (new_facts s n); fixed = splice e.fixed s.init (zeros (s.fixed - s.init)) }
 
@@ -142,7 +142,7 @@ with_app s n e = record e { facts = Some (new_facts s n); fixed = splice e.fixed
 abbrev pub with_list : List (ℕ × List ℕ) → Entry → Entry
 with_list ws e = record e { fixed = laid_pieces e.fixed (word_pieces ws) }
 
--- the entry is free
+-- the entry made free
 abbrev pub freed : Entry → Entry
 freed e = record e { facts = None }
 
@@ -197,14 +197,14 @@ pub record EnterDone (m : List Entry) (s : Site) (n : List ℕ) (e : List Entry)
   pub whole : s.sizes.fixed ≤ length (entry_at m s.place).fixed
   pub after : e ≡ slice_set m s.place (with_app s.sizes n (entry_at m s.place))
 
--- a name goes
+-- a name is removed
 pub record RemoveDone (m : List Entry) (n : List ℕ) (e : List Entry) : Type 0 where
   pub slot : ℕ
   pub named : named_at (facts_in m) slot ≡ Some n
   pub apart : AreApart (facts_in m)
   pub after : e ≡ slice_set m slot (freed (entry_at m slot))
 
--- An item is done at once. It is the creation that sets zeros behind the data; the plain writes before it leave nothing.
+-- an item that is done at once: the creation sets the zeros after the data, and the plain writes before it change nothing
 abbrev pub ItemDone : List Entry → BankItem → List Entry → Type 0
 ItemDone m (Piece s p at b) e = PieceDone m s p at b e
 ItemDone m (Blank s at n) e = e ≡ m

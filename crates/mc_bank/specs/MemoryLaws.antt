@@ -24,7 +24,7 @@ use Rattle.mc_model_device.proofs.ListLemmas.{splice-longer}
 
 -- ---- lists of bytes
 
--- what stands behind the first n elements changes none of them
+-- what follows the first n elements changes none of them
 front_alone : (q x : List ℕ) (n : ℕ) → take n (q ++ drop (length q) x) ≡ take n (q ++ drop (length q) (take n x))
 front_alone [] x n = sym (take-take n n x (omega arith))
 front_alone (y ∷ q) x zero = refl
@@ -208,7 +208,7 @@ sizes_done m i e d k n h q =
     ap (λ (es : List (List ℕ × App)). sizes_of (app_of es (Some n))) (apps_done m i e d)
     ∙ item_sized (memory_standing m) i (apps_from 0 m) n q (enters_other m i e d k n h)
 
--- and keeps the slots of all but the one that it deletes
+-- an item keeps the slots of all applications but the one that it deletes
 pub memory_keeps : (m : List Entry) (i : BankItem) (a : Answer) (e : List Entry) → MemoryDid m i a e → (k : ℕ) (n : List ℕ) → memory_named m k ≡ Some n → Spares n i → memory_named e k ≡ Some n
 memory_keeps m i a e d k n h q =
     let s : HasSizes (apps_from 0 m) k (named_at (facts_in m) (slot_place k)) n = has_sizes (apps_from 0 m) k (named_at (facts_in m) (slot_place k)) n h in
@@ -236,7 +236,7 @@ memory_spares m n ws a e d s good =
       place = ap (λ (fs : List (Option Facts)). Some (first_free fs)) (commit_facts m n ws e d.done) ∙ good.place;
     }
 
--- and the bytes of good sites
+-- a commit keeps the bytes of good sites
 pub memory_leaves : (m : List Entry) (n : List ℕ) (ws : List (ℕ × List ℕ)) (a : Answer) (e : List Entry) → MemoryDid m (Commit n ws) a e → BytesStay (apps_from 0 m) (memory_room m) (memory_standing m) (memory_standing e)
 memory_leaves m n ws a e d s good p =
     let done = d.done in

@@ -1,4 +1,4 @@
--- What the entry of a slot shows of its application.
+-- The application of a slot, as its entry has it.
 use Rattle.std.specs.Prelude.{◌≡◌, ℕ, ◌+◌, ◌≤◌, List, length, take, drop, IsSome, Some}
 use Rattle.mc_model_device.specs.Bytes.{lookup}
 use Rattle.mc_model_device.specs.Card.{App}
@@ -11,7 +11,7 @@ use Rattle.mc_bank.specs.Memory.{memory_named, apps_from}
 abbrev pub app_at : List Entry → ℕ → App
 app_at m k = app_of (apps_from 0 m) (memory_named m k)
 
--- a section is the front of its memory
+-- a section is the front of the memory of an entry
 abbrev pub IsFront : List ℕ → List ℕ → Type 0
 IsFront xs ys = (at n : ℕ) → at + n ≤ length xs → (at + n ≤ length ys) × (take n (drop at ys) ≡ take n (drop at xs))
 
@@ -22,7 +22,7 @@ pub record AreFactsOf (m : List Entry) (k : ℕ) (f : Facts) : Type 0 where
   pub sizes : f.sizes ≡ sizes_of (app_at m k)
   pub limits : FitsLimits f.sizes
 
--- an entry shows an application
+-- an entry has the application of a slot
 pub record EntryShows (m : List Entry) (k : ℕ) (e : Entry) : Type 0 where
   pub some : IsSome e.facts
   pub facts : (f : Facts) → e.facts ≡ Some f → AreFactsOf m k f

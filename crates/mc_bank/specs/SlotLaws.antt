@@ -1,4 +1,4 @@
--- A number gives back the place and the sizes of its slot, and a slot keeps its name while its application keeps its sizes.
+-- The place and the sizes of a slot from its number; a slot keeps its name while its application keeps its sizes.
 use Rattle.std.specs.Prelude.{◌≡◌, ◌≢◌, ℕ, suc, ◌+◌, ◌*◌, ◌/◌, ◌%◌, ◌<◌, ◌≤◌, Bool, true, false, cond, List, [], ◌∷◌, length, bytes_eq, unwrap_or, IsSome, Option, Some, None}
 use Rattle.std.proofs.Common.{refl, ap, sym, subst, ◌∙◌, arith}
 use Rattle.std.proofs.lemmas.List.{length-take-le}
@@ -52,7 +52,7 @@ pub slot_back : (p : ℕ) (s : Sizes) → AreDigits p s → ◌≡◌ {A = ℕ �
 slot_back p s d =
     ap (λ (i : ℕ). (i, slot_sizes (slot_number p s))) (place_back p s d) ∙ ap (λ (z : Sizes). (p, z)) (sizes_back p s d)
 
--- ---- the same sizes
+-- ---- equal sizes
 
 -- the sizes in a list of seven
 abbrev sizes_in : List ℕ → Sizes
@@ -67,7 +67,7 @@ same_self a b h = ap (λ (s : Sizes). same_sizes a s) (sym h) ∙ name_is_itself
 
 -- ---- the name of a slot
 
--- a name stands at the place of a slot, and its application has the slot's sizes
+-- a name is at the place of a slot, and its application has the slot's sizes
 pub record HasSizes (apps : List (List ℕ × App)) (k : ℕ) (o : Option (List ℕ)) (n : List ℕ) : Type 0 where
   pub name : o ≡ Some n
   pub sizes : slot_sizes k ≡ sizes_of (app_of apps (Some n))
@@ -88,14 +88,14 @@ pub slot_named : (apps : List (List ℕ × App)) (k : ℕ) (o : Option (List ℕ
 slot_named apps k o n name sizes =
     ap (λ (x : Option (List ℕ)). name_of_slot apps k x) name ∙ ap (λ (t : Bool). cond t (Some n) None) (same_self (slot_sizes k) (sizes_of (app_of apps (Some n))) sizes)
 
--- a slot that has a name has the one that stands at its place
+-- a slot that has a name has the one at its place
 pub name_there : (apps : List (List ℕ × App)) (k : ℕ) (o : Option (List ℕ)) → IsSome (name_of_slot apps k o) → name_of_slot apps k o ≡ o
 name_there apps k o h = let n = some-is (name_of_slot apps k o) h in n.1 ∙ sym (has_sizes apps k o n.0 n.1).name
 
 pub some_there : (apps : List (List ℕ × App)) (k : ℕ) (o : Option (List ℕ)) → IsSome (name_of_slot apps k o) → IsSome o
 some_there apps k o h = subst (λ (x : Option (List ℕ)). IsSome x) (name_there apps k o h) h
 
--- and the sizes of its application
+-- a slot that has a name has the sizes of its application
 pub slot_sized : (apps : List (List ℕ × App)) (k : ℕ) (o : Option (List ℕ)) → IsSome (name_of_slot apps k o) → slot_sizes k ≡ sizes_of (app_of apps (name_of_slot apps k o))
 slot_sized apps k o h =
     let n = some-is (name_of_slot apps k o) h in

@@ -46,11 +46,11 @@ pub record AreDigits (index : ℕ) (s : Sizes) : Type 0 where
 abbrev pub listed : Sizes → List ℕ
 listed s = s.code ∷ s.fixed ∷ s.init ∷ s.session ∷ s.dir ∷ s.fci ∷ s.deny ∷ []
 
--- two sizes are the same
+-- whether two sizes are equal
 abbrev pub same_sizes : Sizes → Sizes → Bool
 same_sizes a b = bytes_eq (listed a) (listed b)
 
--- the name that stands at the place of a slot, where the application of that name has the slot's sizes
+-- the name at the place of a slot, if the application of that name has the slot's sizes
 abbrev pub name_of_slot : List (List ℕ × App) → ℕ → Option (List ℕ) → Option (List ℕ)
 name_of_slot apps k None = None
 name_of_slot apps k (Some n) = cond (same_sizes (slot_sizes k) (sizes_of (app_of apps (Some n)))) (Some n) None

@@ -41,7 +41,7 @@ impl Model for Slot {
 }
 
 impl Slot {
-    /// The slot with this number, of an application of these sizes, as a bank gives it out.
+    /// Creates the slot with this number, of an application of these sizes, as a bank returns it.
     pub fn new(index: u16, sizes: Sizes) -> Slot
         ensures number { result ≡ slot_number index sizes }
         ensures place { slot_place result ≡ index }
@@ -50,14 +50,14 @@ impl Slot {
         Slot { index, sizes }
     }
 
-    /// The number by which a bank knows the slot.
+    /// Returns the number by which a bank knows the slot.
     pub fn index(&self) -> u16
         ensures { result ≡ slot_place self.now }
     {
         self.index
     }
 
-    /// The sizes of the slot's application.
+    /// Returns the sizes of the slot's application.
     pub fn sizes(&self) -> Sizes
         ensures { result ≡ slot_sizes self.now }
     {
@@ -81,21 +81,21 @@ impl Model for Site {
 }
 
 impl Site {
-    /// The site of these sizes at a place, as a bank gives it out.
+    /// Creates the site of these sizes at a place, as a bank returns it.
     pub fn new(sizes: Sizes, place: u16) -> Site
         ensures { result ≡ record { sizes = sizes; place = place } }
     {
         Site { sizes, place }
     }
 
-    /// The sizes of the load.
+    /// Returns the sizes of the load.
     pub fn sizes(&self) -> Sizes
         ensures { result ≡ self.now.sizes }
     {
         self.sizes
     }
 
-    /// The number by which a bank knows the place.
+    /// Returns the number by which a bank knows the place.
     pub fn place(&self) -> u16
         ensures { result ≡ self.now.place }
     {
@@ -113,38 +113,39 @@ pub struct Facts {
 /// The applications of a card by their names: at most 32, each within the limits of its sizes. A change may stop, and
 /// then the applications are the old or the new ones.
 pub trait Bank {
-    /// The applications, the counts of stops below the bank, whether it is stopped, and the most ticks of `open`.
+    /// The applications, the counts of stops below the bank, whether it is stopped, and the greatest number of ticks
+    /// of `open`.
     ghost state: { Self → BankState };
 
-    /// The name of the application of a slot, where it has one.
+    /// The name of the application of a slot, if it has one.
     ghost named: { Self → ℕ → Option (List ℕ) };
 
-    /// Where a load of some sizes has room, if it has.
+    /// The place at which a load of some sizes has room, if there is one.
     ghost room: { Self → Sizes → Option ℕ };
 
-    /// The bytes that stand in a section of a site.
+    /// The bytes in a section of a site.
     ghost standing: { Self → SiteValue → Part → List ℕ };
 
-    /// One item: the bank before, the item, the answer, the bank after.
+    /// One item: the bank before, the item, how it ended, the bank after.
     ghost did: { Self → BankItem → Answer → Self → Type 0 };
 
     /// A slot has the sizes of its application.
     ghost sized: { (b : Self) (k : ℕ) → IsSome (named b k)
         → slot_sizes k ≡ sizes_of (app_of (state b).apps (named b k)) };
 
-    /// The slot of a name, or `None` exactly where the name is not there.
+    /// Returns the slot of a name, or `None` if the name is not there.
     fn find(&self, aid: &Aid) -> Option<Slot>
         requires going { (state self.now).stopped ≡ false }
         ensures there { is_some result ≡ is_some (lookup (state self.now).apps aid.now) }
         ensures slot { IfSome result (λ slot. named self.now slot ≡ Some aid.now) };
 
-    /// The number of applications, at most 32.
+    /// Returns the number of applications, at most 32.
     fn count(&self) -> u16
         requires going { (state self.now).stopped ≡ false }
         ensures count { result ≡ length (state self.now).apps }
         ensures apps { AreApps (state self.now).apps };
 
-    /// The name of an application and its sizes.
+    /// Returns the name of an application and its sizes.
     fn facts(&self, slot: Slot) -> Facts
         requires going { (state self.now).stopped ≡ false }
         requires there { IsSome (named self.now slot) }
@@ -153,7 +154,7 @@ pub trait Bank {
         ensures sizes { result.sizes ≡ sizes_of (app_of (state self.now).apps (named self.now slot)) }
         ensures limits { FitsLimits result.sizes };
 
-    /// Copies bytes of the code from a place on; they lie in the code.
+    /// Copies bytes of the code from a place on into the whole of `into`; they lie in the code.
     fn code(&self, slot: Slot, at: u16, into: &mut [u8])
         requires going { (state self.now).stopped ≡ false }
         requires there { IsSome (named self.now slot) }
@@ -161,7 +162,7 @@ pub trait Bank {
         ensures { into.new ≡ take (length into.old)
             (drop at (app_of (state self.now).apps (named self.now slot)).code) };
 
-    /// Copies bytes of the static segment from a place on; they lie in the segment.
+    /// Copies bytes of the static segment from a place on into the whole of `into`; they lie in the segment.
     fn fixed(&self, slot: Slot, at: u16, into: &mut [u8])
         requires going { (state self.now).stopped ≡ false }
         requires there { IsSome (named self.now slot) }
@@ -169,7 +170,7 @@ pub trait Bank {
         ensures { into.new ≡ take (length into.old)
             (drop at (app_of (state self.now).apps (named self.now slot)).fixed) };
 
-    /// Copies bytes of the FCI record from a place on; they lie in the record.
+    /// Copies bytes of the FCI record from a place on into the whole of `into`; they lie in the record.
     fn fci(&self, slot: Slot, at: u16, into: &mut [u8])
         requires going { (state self.now).stopped ≡ false }
         requires there { IsSome (named self.now slot) }
@@ -177,8 +178,12 @@ pub trait Bank {
         ensures { into.new ≡ take (length into.old)
             (drop at (app_of (state self.now).apps (named self.now slot)).fci) };
 
-    /// Sets 1 to 64 whole words of the static segment at once, with their numbers ascending. What stands behind the
-    /// segment's end in its last word is no part of it.
+    /// Sets 1 to 64 whole words of eight bytes of the static segment at once, with their numbers ascending. Bytes past
+    /// the segment's end in its last word are no part of it.
+    ///
+    /// # Errors
+    ///
+    /// Returns the stop of a write; the segment is the old or the new one then.
     fn commit(&mut self, slot: Slot, list: &[(u16, Word)]) -> Result<(), Stop>
         requires going { (state self.old).stopped ≡ false }
         requires there { IsSome (named self.old slot) }
@@ -190,8 +195,11 @@ pub trait Bank {
         ensures good { StayGood (state self.old).apps (room self.old) (state self.new).apps (room self.new) }
         ensures bytes { BytesStay (state self.old).apps (room self.old) (standing self.old) (standing self.new) };
 
-    /// Looks for room for a load of these sizes, which are within the limits. It answers `Apps` exactly where 32
-    /// applications are there, else `NoRoom` exactly where there is no room.
+    /// Looks for room for a load of these sizes, which are within the limits, and returns its site.
+    ///
+    /// # Errors
+    ///
+    /// Returns `Apps` if 32 applications are there, else `NoRoom` if there is no room.
     fn open<L: Ledger>(&self, sizes: &Sizes, steps: &mut Steps<L>) -> Result<Site, OpenRefusal>
         requires going { (state self.now).stopped ≡ false }
         requires limits { FitsLimits sizes.now }
@@ -204,6 +212,10 @@ pub trait Bank {
         ensures full { 32 ≤ length (state self.now).apps → steps.new ≡ steps.old };
 
     /// Sets bytes of a section of a good site, and no other bytes of it. The bytes of other sites may change.
+    ///
+    /// # Errors
+    ///
+    /// Returns the stop of a write; the applications are as before then.
     fn fill(&mut self, site: &Site, part: Part, at: u16, piece: &[u8]) -> Result<(), Stop>
         requires going { (state self.old).stopped ≡ false }
         requires good { IsGoodSite (state self.old).apps (room self.old) site.now }
@@ -218,8 +230,12 @@ pub trait Bank {
         ensures slots { (k : ℕ) → named self.new k ≡ named self.old k }
         ensures good { StayGood (state self.old).apps (room self.old) (state self.new).apps (room self.new) };
 
-    /// Makes an application of what stands at a good site, under a name that is not there. Its static bytes are the
+    /// Makes an application of the bytes at a good site, under a name that is not there. Its static bytes are the
     /// data, followed by zeros.
+    ///
+    /// # Errors
+    ///
+    /// Returns the stop of a write; the application is there or not then.
     fn create(&mut self, site: &Site, aid: &Aid) -> Result<(), Stop>
         requires going { (state self.old).stopped ≡ false }
         requires good { IsGoodSite (state self.old).apps (room self.old) site.now }
@@ -230,7 +246,11 @@ pub trait Bank {
             (state self.new) }
         ensures slots { (k : ℕ) → IsSome (named self.old k) → named self.new k ≡ named self.old k };
 
-    /// Takes an application out of the card.
+    /// Removes an application from the card.
+    ///
+    /// # Errors
+    ///
+    /// Returns the stop of a write; the application is there or not then.
     fn delete(&mut self, slot: Slot) -> Result<(), Stop>
         requires going { (state self.old).stopped ≡ false }
         requires there { IsSome (named self.old slot) }
@@ -244,7 +264,7 @@ pub trait Bank {
     ghost obeys: { (b : Self) (i : BankItem) (a : Answer) (e : Self) → did b i a e
         → Changes (state b) (item_done (standing b) i (state b).apps) a (state e) };
 
-    /// It keeps the slots of all applications but the one that it deletes.
+    /// An item keeps the slots of all applications but the one that it deletes.
     ghost keeps: { (b : Self) (i : BankItem) (a : Answer) (e : Self) → did b i a e → (k : ℕ) (n : List ℕ)
         → named b k ≡ Some n → Spares n i → named e k ≡ Some n };
 
@@ -252,7 +272,7 @@ pub trait Bank {
     ghost spares: { (b : Self) (n : List ℕ) (ws : List (ℕ × List ℕ)) (a : Answer) (e : Self) → did b (Commit n ws) a e
         → StayGood (state b).apps (room b) (state e).apps (room e) };
 
-    /// And it keeps their bytes.
+    /// A commit keeps the bytes of good sites.
     ghost leaves: { (b : Self) (n : List ℕ) (ws : List (ℕ × List ℕ)) (a : Answer) (e : Self) → did b (Commit n ws) a e
         → BytesStay (state b).apps (room b) (standing b) (standing e) };
 }

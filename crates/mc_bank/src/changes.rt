@@ -33,7 +33,7 @@ pub fn fill(entries: &mut Vec<Entry>, site: &Site, part: Part, at: u16, piece: &
     put_piece(&mut entries[site.place as usize], part, at as usize, piece);
 }
 
-/// Makes an application of what stands at a good site.
+/// Makes an application of the bytes at a good site.
 pub fn create(entries: &mut Vec<Entry>, site: &Site, aid: &Aid)
     requires memory { IsMemory entries.old.items }
     requires good { IsGoodSite (apps_from 0 entries.old.items) (memory_room entries.old.items) site.now }

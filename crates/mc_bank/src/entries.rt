@@ -19,7 +19,7 @@ pub struct Entry {
     pub fci: [u8; 128],
 }
 
-// Whether an entry is used under this name.
+// Returns whether an entry is used under this name.
 fn is_of(entry: &Entry, aid: &Aid) -> bool
     ensures { result ≡ has entry.now.facts aid.now }
 {
@@ -29,7 +29,7 @@ fn is_of(entry: &Entry, aid: &Aid) -> bool
     }
 }
 
-/// The number of the entry of a name.
+/// Returns the number of the entry of a name, or `None` if no entry has it.
 pub fn entry_of(entries: &[Entry], aid: &Aid) -> Option<u16>
     requires few { length entries.now ≤ 32 }
     ensures there { is_some result ≡ is_named (facts_in entries.now) aid.now }
@@ -43,7 +43,7 @@ pub fn entry_of(entries: &[Entry], aid: &Aid) -> Option<u16>
     None
 }
 
-/// The number of the first free entry.
+/// Returns the number of the first free entry, or the number of entries if none is free.
 pub fn free_entry(entries: &[Entry]) -> u16
     requires few { length entries.now ≤ 32 }
     ensures { result ≡ first_free (facts_in entries.now) }
@@ -56,7 +56,7 @@ pub fn free_entry(entries: &[Entry]) -> u16
     entries.len() as u16
 }
 
-/// How many entries are used.
+/// Returns the number of used entries.
 pub fn count_used(entries: &[Entry]) -> u16
     requires few { length entries.now ≤ 32 }
     ensures { result ≡ used (facts_in entries.now) }
@@ -126,7 +126,7 @@ pub fn put_words(entry: &mut Entry, list: &[(u16, Word)])
     write_words(&mut entry.fixed, list);
 }
 
-/// Makes an application of what stands in an entry: no byte behind its data stays as it was.
+/// Makes an application of the bytes in an entry: the static bytes after its data become zeros.
 pub fn put_app(entry: &mut Entry, sizes: &Sizes, aid: &Aid)
     requires data { sizes.now.init ≤ sizes.now.fixed }
     requires room { sizes.now.fixed ≤ length entry.old.fixed }
@@ -142,7 +142,7 @@ pub fn put_app(entry: &mut Entry, sizes: &Sizes, aid: &Aid)
     });
 }
 
-/// The slot of the application in an entry that is used.
+/// Returns the slot of the application in an entry that is used.
 pub fn slot_of(entries: &[Entry], index: u16) -> Slot
     requires memory { IsMemory entries.now }
     requires there { IsSome (named_at (facts_in entries.now) index) }
@@ -152,7 +152,7 @@ pub fn slot_of(entries: &[Entry], index: u16) -> Slot
     Slot::new(index, entry.facts.unwrap().sizes)
 }
 
-/// The entry of an application.
+/// Returns the entry of an application.
 pub fn used_entry(entries: &[Entry], slot: Slot) -> &Entry
     requires memory { IsMemory entries.now }
     requires there { IsSome (memory_named entries.now slot) }

@@ -10,7 +10,7 @@ use std::alloc::Global;
 use std::marker::Model;
 use std::sync::ledger::Ledger;
 
-/// How many applications a card may have.
+/// The greatest number of applications of a card.
 const APPS: usize = 32;
 
 /// A bank in memory, which has room for 32 largest applications and never stops.
@@ -32,7 +32,11 @@ impl Model for MemBank {
 }
 
 impl MemBank {
-    /// A bank without applications. All memory that it ever needs is taken here.
+    /// Creates a bank without applications. All memory that it ever needs is allocated here.
+    ///
+    /// # Errors
+    ///
+    /// Returns `NoMemory` if the system is out of memory.
     pub fn new(alloc: Global) -> Result<MemBank, NoMemory>
         ensures { IfOk result (λ bank. apps_from 0 bank ≡ []) }
     {

@@ -68,7 +68,7 @@ pub took-within : (a b c : Option (List ℕ)) (xs chunk : List ℕ) (n limit : �
 took-within a b c xs chunk n limit fit most h k =
     record { front = xs ++ take n chunk; took = Took-append a b c xs (take n chunk) h k; bound = simp (length-append, length-take) (omega arith) }
 
--- the next n of the items, copied to the front of a slice, and the items behind them
+-- the next n of the items, copied to the front of a slice, and the items after them
 pub took-copied : (items into copied : List ℕ) (at n : ℕ) → copied ≡ take n (drop at items) → length copied ≡ n → drop at items ≡ take n (copied ++ drop n into) ++ drop (at + n) items
 took-copied items into copied at n is size =
     let front : take n (copied ++ drop n into) ≡ take n (drop at items) = take_at copied (drop n into) n size ∙ is in

@@ -1,17 +1,17 @@
--- What the calls of a source and a sink over memory do, exactly.
+-- The calls of a source and a sink over memory, exactly.
 use Rattle.std.specs.Prelude.{ℕ, ◌+◌, ◌-◌, ◌==◌, min, Bool, true, false, ◌||◌, ◌&&◌, not, cond, List, [], ◌∷◌, ◌++◌, length, take, drop, Result, Ok, Err}
 use Rattle.std.specs.List.{list_any}
 use Rattle.mc_model_device.specs.Counts.{last_count}
 use Rattle.mc_base.specs.declared.refusals.Failed.{Failed}
 
--- a source over bytes: what is left, the numbers of the calls that fail, and how many calls and faults there were
+-- the state of a source over bytes: what is left, the numbers of the calls that fail, and the counts of calls and of failed ones
 pub record SourceLeft : Type 0 where
   pub bytes : List ℕ
   pub fail_at : List ℕ
   pub calls : ℕ
   pub faults : ℕ
 
--- a sink into memory: what it took, the bytes that still fit, and the same numbers
+-- the state of a sink into memory: what it took, the number of bytes that still fit, the numbers of the calls that fail, and the counts
 pub record SinkTaken : Type 0 where
   pub bytes : List ℕ
   pub room : ℕ
@@ -19,7 +19,7 @@ pub record SinkTaken : Type 0 where
   pub calls : ℕ
   pub faults : ℕ
 
--- one more, up to the last value of a count
+-- a count plus one, up to the last value of a count
 abbrev pub one_more : ℕ → ℕ
 one_more n = min (n + 1) last_count
 
@@ -27,7 +27,7 @@ one_more n = min (n + 1) last_count
 abbrev pub take_fails : SourceLeft → Bool
 take_fails s = list_any (λ number. number == one_more s.calls) s.fail_at
 
--- the source after a call that failed, or gave so many bytes
+-- the source after a call that failed, or that took n bytes
 abbrev pub left_after : SourceLeft → Bool → ℕ → SourceLeft
 left_after s true n = record s { calls = one_more s.calls; faults = one_more s.faults }
 left_after s false n = record s { bytes = drop n s.bytes; calls = one_more s.calls }
@@ -36,7 +36,7 @@ left_after s false n = record s { bytes = drop n s.bytes; calls = one_more s.cal
 abbrev pub put_fails : SinkTaken → List ℕ → Bool
 put_fails t piece = list_any (λ number. number == one_more t.calls) t.fail_at || ((t.room == 0) && not (length piece == 0))
 
--- the sink after a put that failed, or took as much of the piece as fits
+-- the sink after a put that failed, or that took as much of the piece as fits
 abbrev pub taken_after : SinkTaken → Bool → List ℕ → SinkTaken
 taken_after t true piece = record t { calls = one_more t.calls; faults = one_more t.faults }
 taken_after t false piece =

@@ -1,5 +1,5 @@
--- What calls do to the bytes that a source tells it has left and a sink tells it has taken. A stream that tells
--- nothing is held to nothing here, and one that tells goes on telling.
+-- What calls do to the bytes that a source has left and a sink has taken, if it states them: `Some` of the bytes. For a stream
+-- that does not, `None`, nothing is claimed here, and one that does goes on stating them.
 use Rattle.std.specs.Prelude.{◌≡◌, ℕ, ◌<◌, ◌≤◌, List, [], ◌++◌, length, Option, Some, None, ⊤}
 
 -- these bytes came from the front of what was left
@@ -13,25 +13,25 @@ abbrev pub AtEnd : Option (List ℕ) → Type 0
 AtEnd None = ⊤
 AtEnd (Some xs) = xs ≡ []
 
--- these bytes were added behind what was taken
+-- these bytes were added after what was taken before
 abbrev pub Grew : Option (List ℕ) → Option (List ℕ) → List ℕ → Type 0
 Grew None new bs = ⊤
 Grew (Some xs) None bs = ⊥
 Grew (Some xs) (Some ys) bs = ys ≡ xs ++ bs
 
--- what is told stays as it was
+-- the stated bytes stay as they were
 abbrev pub Stays : Option (List ℕ) → Option (List ℕ) → Type 0
 Stays None new = ⊤
 Stays (Some xs) None = ⊥
 Stays (Some xs) (Some ys) = ys ≡ xs
 
--- some front of what was left was taken, of at most so many bytes
+-- some front of what was left was taken, of at most `most` bytes
 pub record TookAtMost (old new : Option (List ℕ)) (most : ℕ) : Type 0 where
   pub front : List ℕ
   pub took : Took old new front
   pub bound : length front ≤ most
 
--- some front of what was left was taken, of more bytes than so many
+-- some front of what was left was taken, of more than `limit` bytes
 pub record TookMore (old new : Option (List ℕ)) (limit : ℕ) : Type 0 where
   pub front : List ℕ
   pub took : Took old new front

@@ -24,7 +24,7 @@ impl Model for Aid {
 }
 
 impl Aid {
-    /// The name of these bytes, or `None` where there are fewer than 5 or more than 16.
+    /// Returns the name with these bytes, or `None` if there are fewer than 5 or more than 16.
     pub fn new(bytes: &[u8]) -> Option<Self>
         ensures length { IsSome result ↔ ((5 ≤ length bytes.now) × (length bytes.now ≤ 16)) }
         ensures value { IfSome result (λ name. name ≡ bytes.now) }
@@ -40,7 +40,7 @@ impl Aid {
         })
     }
 
-    /// The bytes of the name.
+    /// Returns the bytes of the name, 5 to 16 of them.
     pub fn bytes(&self) -> &[u8]
         ensures value { result.now ≡ self.now }
         ensures low { 5 ≤ length result.now }

@@ -1,6 +1,6 @@
 #![tactic(auto)]
 
-//! Bytes in and out, numbers in two bytes, and the names and counts that every other crate speaks of.
+//! Bytes in and out, numbers in two bytes, and the names and counts that every other crate uses.
 
 mod aid;
 mod ledger;
@@ -23,5 +23,5 @@ pub use refusals::{Failed, NoMemory, ReadAll, WriteFault};
 pub use sink::{Sink, put_all};
 pub use source::{Source, read_all};
 
-/// What one place of a device holds: eight bytes, all numbers big endian.
+/// A word of a device: eight bytes, all numbers big endian.
 pub type Word = [u8; 8];

@@ -7,7 +7,7 @@ use crate::source::Source;
 use std::alloc::Global;
 use std::marker::Model;
 
-/// A source over bytes in memory, for tests. It tells them.
+/// A source over bytes in memory, for tests. Contracts see the bytes that are left.
 #[derive(Drop)]
 pub struct MemSource {
     bytes: Vec<u8>,
@@ -36,7 +36,12 @@ impl Model for MemSource {
 impl MemSource {
     ghost use Rattle.std.specs.Prelude.{◌≡◌, IfOk};
 
-    /// A source over these bytes. Its calls are numbered from 1, and those whose numbers are in `fail_at` fail.
+    /// Creates a source over a copy of `bytes`. Its calls are numbered from 1, and those whose numbers are in
+    /// `fail_at` fail.
+    ///
+    /// # Errors
+    ///
+    /// Returns `NoMemory` if the system is out of memory.
     pub fn new(alloc: Global, bytes: &[u8], fail_at: &[u32]) -> Result<Self, NoMemory>
         ensures { IfOk result (λ s. s ≡ record { bytes = bytes.now; fail_at = fail_at.now; calls = 0; faults = 0 }) }
     {
@@ -83,14 +88,14 @@ impl Source for MemSource {
     }
 }
 
-// Whether a call's number is among these.
+// Returns whether a call's number is among these.
 fn has_call(numbers: &[u32], call: u64) -> bool
     ensures { result ≡ list_any (λ number. number == call) numbers.now }
 {
     numbers.iter().any(|number| u64::from(*number) == call)
 }
 
-// Whether a sink fails at this call: by its number, or because nothing fits.
+// Returns whether a sink fails at this call: by its number, or because nothing fits.
 fn is_refused(numbers: &[u32], call: u64, room: usize, piece: &[u8]) -> bool
     ensures { result ≡ (list_any (λ number. number == call) numbers.now
         || ((room == 0) && not (length piece.now == 0))) }
@@ -101,7 +106,7 @@ fn is_refused(numbers: &[u32], call: u64, room: usize, piece: &[u8]) -> bool
     room == 0 && !piece.is_empty()
 }
 
-/// A sink into memory, for tests. It tells what it took.
+/// A sink into memory, for tests. Contracts see the bytes that it took.
 #[derive(Drop)]
 pub struct MemSink {
     bytes: Vec<u8>,
@@ -131,8 +136,12 @@ impl Model for MemSink {
 impl MemSink {
     ghost use Rattle.std.specs.Prelude.{◌≡◌, [], IfOk};
 
-    /// A sink with room for so many bytes, which is taken at once. Its calls are numbered from 1. A call fails where its
-    /// number is in `fail_at`, and where its piece is not empty and no room is left.
+    /// Creates a sink with room for `room` bytes, which is allocated at once. Its calls are numbered from 1. A call
+    /// fails if its number is in `fail_at`, and if its piece is not empty and no room is left.
+    ///
+    /// # Errors
+    ///
+    /// Returns `NoMemory` if the system is out of memory.
     pub fn new(alloc: Global, room: usize, fail_at: &[u32]) -> Result<Self, NoMemory>
         ensures { IfOk result (λ t. t ≡ record {
           bytes = [];
@@ -151,7 +160,7 @@ impl MemSink {
         })
     }
 
-    /// What was taken so far.
+    /// Returns the bytes that were taken so far.
     pub fn bytes(&self) -> &[u8]
         ensures { result.now ≡ self.now.bytes }
     {

@@ -5,8 +5,9 @@ use crate::sink::Sink;
 use crate::source::Source;
 use std::io::{Read, Write};
 
-/// A source over a reader of the standard library. It tells the bytes that the reader has left where the reader tells
-/// them, as one over memory does; the standard input does not. A read that fails is a fault, and not the end of input.
+/// A source over a reader of the standard library. Contracts see the bytes that the reader has left if the reader
+/// states them, as one over memory does; the standard input does not. A read that fails is an error, and not the end
+/// of input.
 #[derive(Drop)]
 pub struct StdSource<R> {
     reader: R,
@@ -14,7 +15,7 @@ pub struct StdSource<R> {
 }
 
 impl<R: Read> StdSource<R> {
-    /// Reads from this reader, and has seen no fault.
+    /// Creates a source over this reader, which has seen no failed call.
     pub fn new(reader: R) -> Self
         ensures faults { ⟦<StdSource<R> as Source>⟧.faults result ≡ 0 }
         ensures left { ⟦<StdSource<R> as Source>⟧.left result ≡ R.remaining reader }
@@ -39,8 +40,8 @@ impl<R: Read> Source for StdSource<R> {
     }
 }
 
-/// A sink over a writer of the standard library. It tells the bytes that the writer holds where the writer tells them,
-/// as one into memory does; the standard output does not. A short write takes what was written, and no more.
+/// A sink over a writer of the standard library. Contracts see the bytes that the writer holds if the writer states
+/// them, as one into memory does; the standard output does not. A short write takes what was written, and no more.
 #[derive(Drop)]
 pub struct StdSink<W> {
     writer: W,
@@ -48,7 +49,7 @@ pub struct StdSink<W> {
 }
 
 impl<W: Write> StdSink<W> {
-    /// Writes into this writer, and has seen no fault.
+    /// Creates a sink over this writer, which has seen no failed call.
     pub fn new(writer: W) -> Self
         ensures faults { ⟦<StdSink<W> as Sink>⟧.faults result ≡ 0 }
         ensures taken { ⟦<StdSink<W> as Sink>⟧.taken result ≡ W.contents writer }

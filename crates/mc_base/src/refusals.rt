@@ -4,11 +4,11 @@ use std::alloc::AllocError;
 #[derive(Clone, Copy, Debug, PartialEq, Eq)]
 pub struct Failed;
 
-/// Memory that was asked for was not there.
+/// Out of memory.
 #[derive(Clone, Copy, Debug, PartialEq, Eq)]
 pub struct NoMemory;
 
-/// A sink refused a part of a piece.
+/// A sink failed before it had taken the whole piece.
 #[derive(Clone, Copy, Debug, PartialEq, Eq)]
 pub struct WriteFault;
 
@@ -19,7 +19,7 @@ pub enum ReadAll {
     ReadFault,
     /// More bytes came than the limit allows.
     TooLong,
-    /// Memory that was asked for was not there.
+    /// Out of memory.
     NoMemory,
 }
 

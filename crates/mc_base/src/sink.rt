@@ -4,16 +4,19 @@ ghost use Rattle.mc_base.specs.Streams.{Grew, GrewByPart, Stays};
 
 use crate::refusals::{Failed, WriteFault};
 
-/// Where bytes go. A sink may tell the bytes that it has taken; its count of faults never falls.
+/// Where bytes go. A sink may state the bytes that it has taken; its count of failed calls never falls.
 pub trait Sink {
-    /// The bytes that were taken, where the sink tells them.
+    /// The bytes that were taken, if the sink states them.
     ghost taken: { Self → Option (List ℕ) };
 
-    /// How many calls failed.
+    /// The number of calls that failed.
     ghost faults: { Self → ℕ };
 
-    /// Takes a front of `piece` and says how many bytes it is, at least one where the piece has one. A call that fails
-    /// takes nothing.
+    /// Takes a front of `piece` and returns its number of bytes, at least one if the piece is not empty.
+    ///
+    /// # Errors
+    ///
+    /// Returns `Failed` if the call fails; it has taken nothing then.
     fn put(&mut self, piece: &[u8]) -> Result<usize, Failed>
         ensures bound { IfOk result (λ n. n ≤ length piece.now) }
         ensures some { IfOk result (λ n. 0 < length piece.now → 0 < n) }
@@ -23,7 +26,11 @@ pub trait Sink {
         ensures counted { faults self.old ≤ faults self.new };
 }
 
-/// Writes the whole piece, or a front of it where the sink fails.
+/// Writes the whole piece.
+///
+/// # Errors
+///
+/// Returns `WriteFault` if the sink fails; a front of the piece, not all of it, was written then.
 pub fn put_all<T: Sink>(sink: &mut T, piece: &[u8]) -> Result<(), WriteFault>
     ensures bytes { OnOk result (Grew (T.taken sink.old) (T.taken sink.new) piece.now) }
     ensures fault { OnErr result (Rose (T.faults sink.old) (T.faults sink.new)) }

@@ -5,16 +5,20 @@ ghost use Rattle.mc_base.specs.Streams.{Took, AtEnd, Stays, TookAtMost, TookMore
 use crate::refusals::{Failed, ReadAll};
 use std::alloc::Global;
 
-/// Where bytes come from. A source may tell the bytes that it has left; its count of faults never falls.
+/// Where bytes come from. A source may state the bytes that it has left; its count of failed calls never falls.
 pub trait Source {
-    /// The bytes that are left, where the source tells them.
+    /// The bytes that are left, if the source states them.
     ghost left: { Self → Option (List ℕ) };
 
-    /// How many calls failed.
+    /// The number of calls that failed.
     ghost faults: { Self → ℕ };
 
-    /// Takes the next bytes into a front of `into` and says how many they are. Into a slice that is not empty, 0 bytes
-    /// are the end of the input. A call that fails takes nothing.
+    /// Takes the next bytes into a front of `into` and returns their number. If `into` is not empty, 0 is the end of
+    /// the input.
+    ///
+    /// # Errors
+    ///
+    /// Returns `Failed` if the call fails; it has taken nothing then.
     fn take(&mut self, into: &mut [u8]) -> Result<usize, Failed>
         ensures bound { IfOk result (λ n. n ≤ length into.new) }
         ensures bytes { IfOk result (λ n. Took (left self.old) (left self.new) (take n into.new)) }
@@ -24,10 +28,15 @@ pub trait Source {
         ensures counted { faults self.old ≤ faults self.new };
 }
 
-// How many bytes are asked for at once.
+// The greatest number of bytes of one call.
 const CHUNK: usize = 4096;
 
-/// Reads a source to its end. More than `limit` bytes are refused, as soon as one byte more has come.
+/// Reads a source to its end and returns its bytes, at most `limit` of them.
+///
+/// # Errors
+///
+/// Returns `TooLong` as soon as more than `limit` bytes have come, `ReadFault` if the source fails, and `NoMemory` if
+/// the system is out of memory.
 pub fn read_all<S: Source>(alloc: Global, source: &mut S, limit: usize) -> Result<Vec<u8>, ReadAll>
     ensures bytes { IfOk result (λ v. Took (S.left source.old) (S.left source.new) v.items) }
     ensures end { OnOk result (AtEnd (S.left source.new)) }
@@ -39,7 +48,7 @@ pub fn read_all<S: Source>(alloc: Global, source: &mut S, limit: usize) -> Resul
 {
     let mut bytes = Vec::new(alloc);
     let mut chunk = [0; CHUNK];
-    // Each turn but the last takes a byte at least, and no `Vec` holds as many bytes as there are turns.
+    // Each turn but the last takes at least one byte, and no `Vec` holds as many bytes as there are turns.
     for _turn in 0..usize::MAX {
         let wanted = (limit - bytes.len()).min(CHUNK - 1) + 1;
         let count = source.take(&mut chunk[..wanted])?;

@@ -54,7 +54,7 @@ needed-is m p words image good h =
 
 -- ---- the records of a walk
 
--- each record is good, and its name is none of these and none before
+-- each record is good, and its name is none of these and none of a record before it
 abbrev pub AreNamed : List (List ℕ) → List (List ℕ) → List Block → Type 0
 AreNamed m names [] = Unit {0}
 AreNamed m names (b ∷ bs) = MatchBool b.used
@@ -91,7 +91,7 @@ pub no-apps : (m : List (List ℕ)) → apps_of m [] ≡ []
 unfolding apps_of
 no-apps m = refl
 
--- a name of the list is free in the map, and so is a place below
+-- a name of the list has no entry in the map, and no entry lies at a place below
 free-step : (m : List (List ℕ)) (names : List (List ℕ)) (k : List ℕ) (q : ℕ) (b : Block) (bs : List Block) (t : Bool) → has_name k names ≡ true → q < b.place
     → MatchBool t ((is_record (record_at m b.place) b.words ≡ true) × (has_name (name_at m b.place) names ≡ false) × AreNamed m (name_at m b.place ∷ names) bs) (AreNamed m names bs)
     → ((ns : List (List ℕ)) → has_name k ns ≡ true → AreNamed m ns bs → Free k q (apps_of m bs)) → Free k q (cond t (with-block m b bs) (apps_of m bs))
@@ -140,7 +140,7 @@ spans-all m (b ∷ bs) p a names image t r n =
 
 -- ---- the bridge
 
--- what well laid words hold
+-- the facts of well laid words
 pub record WellLaid (m : List (List ℕ)) : Type 0 where
   pub root : no_root m ≡ None
   pub tiled : Tiled 131 false (blocks m) (length m)
@@ -167,6 +167,6 @@ laid m image h =
       apps = sym (length-spans (apps_of m bs)) ∙ ap (λ (l : List (ℕ × ℕ)). length l) same;
     }
 
--- the same of an image with a closed journal
+-- a well laid image with a closed journal has well laid words
 pub well-laid : (m : List (List ℕ)) → IsSized m → look m ≡ Closed → IsWellLaid m → WellLaid m
 well-laid m image closed h = laid m image (sym (closed_fault m closed) ∙ h)

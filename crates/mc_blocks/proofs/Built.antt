@@ -1,4 +1,4 @@
--- Words that hold the headers and records of blocks side by side are well laid, and words that agree in what is read mean the same card.
+-- Words that hold the headers and records of adjacent blocks are well laid, and words that agree in all that is read hold the same card.
 use Rattle.std.proofs.Common.{◌≡◌, ℕ, ◌+◌, ◌<◌, ◌≤◌, Bool, true, false, ◌&&◌, ◌||◌, List, [], ◌∷◌, length, take, Option, Some, None, refl, sym, ◌∙◌, ap, subst, arith, cond, not}
 use Rattle.std.specs.Prelude.{nat_lt, ◌==◌, slice_index, MatchBool}
 use Rattle.std.proofs.lemmas.Bool.{le-ltb, lt-ltb, le-leb, eq-eqb, and_from, and_parts, eqb-true}
@@ -20,7 +20,7 @@ use Rattle.mc_blocks.proofs.Search.{chain-parts}
 
 -- ---- the walk finds the blocks
 
--- what a walk over blocks side by side finds
+-- the walk from p on finds these adjacent blocks, and no bad header
 record Walks (m : List (List ℕ)) (p : ℕ) (a : Bool) (bs : List Block) : Type 0 where
   good : bad_from m p a ≡ None
   blocks : blocks_at m p ≡ bs
@@ -67,9 +67,9 @@ records-good m (b ∷ bs) names used n few =
     record-kind m b names used (used_spans bs) _ _ (bad_record m bs (name_in (record_at m b.place) ∷ names) (used + 1)) (bad_record m bs names used) b.used n few
     (λ ok less. records-good m bs (name_in (record_at m b.place) ∷ names) (used + 1) ok less) (λ ok less. records-good m bs names used ok less)
 
--- ---- words that are built
+-- ---- words that hold given blocks
 
--- the root, the headers, the records and the links of blocks side by side
+-- words hold the root, the headers, the records and the links of these adjacent blocks
 pub record Built (m : List (List ℕ)) (bs : List Block) : Type 0 where
   pub root : is_root_word (word m 0) (length m) ≡ true
   pub first : be2 (word m 0) 6 ≡ first_hole bs
@@ -79,7 +79,7 @@ pub record Built (m : List (List ℕ)) (bs : List Block) : Type 0 where
   pub named : AreNamed m [] bs
   pub few : length (used_spans bs) ≤ 32
 
--- they are well laid, and the walk finds the blocks
+-- such words are well laid, and the walk finds the blocks
 pub record HoldsBlocks (m : List (List ℕ)) (bs : List Block) : Type 0 where
   pub good : words_fault m ≡ None
   pub blocks : blocks m ≡ bs
@@ -105,7 +105,7 @@ built m bs b =
       blocks = found;
     }
 
--- ---- words that agree in what is read
+-- ---- words that agree in all that is read
 
 same-section : (m n : List (List ℕ)) (p words q x : ℕ) → length n ≡ length m → p + words ≤ length m → ((i : ℕ) → p ≤ i → i < p + words → word n i ≡ word m i) → p ≤ q → q + up x 8 ≤ p + words → section n q x ≡ section m q x
 same-section m n p words q x size h same low high =
@@ -115,7 +115,7 @@ same-section m n p words q x size h same low high =
 abbrev app_by_sections : ℕ → List ℕ → List ℕ → List ℕ → List ℕ → List ℕ → App
 app_by_sections p r code fixed dir fci = record { code = code; fixed = fixed; session = be2 r 24; deny = be2 r 26; dir = dir; fci = fci; place = p }
 
--- what a used block holds
+-- the block at p has the same record and the same application in both words
 pub record SameBlock (m n : List (List ℕ)) (p : ℕ) : Type 0 where
   pub entry : record_at n p ≡ record_at m p
   pub app : app_at n p ≡ app_at m p
@@ -142,7 +142,7 @@ same-block m n p words size h good same =
           ∙ ap (λ (w : List ℕ). app_by_sections p r (section m (p + 5) code) (section m (p + 5 + up code 8) fixed) (section m (p + 5 + up code 8 + up fixed 8) dir) w) d;
     }
 
--- all that is read of the blocks
+-- both words agree in all that is read of the blocks
 record SameAll (m n : List (List ℕ)) (names : List (List ℕ)) (bs : List Block) : Type 0 where
   read : HeadersRead n bs
   named : AreNamed n names bs
@@ -185,7 +185,7 @@ card-parts n m size version apps =
     ∙ ap (λ (v : ℕ). record { size = length m; layout = v; apps = apps_of n (blocks n) }) version
     ∙ ap (λ (a : List (List ℕ × App)). record { size = length m; layout = slice_index (word m 0) 3; apps = a }) apps
 
--- words that agree with a card in what is read are that card
+-- words n are well laid and have the blocks and the card of m
 pub record SameCard (m n : List (List ℕ)) : Type 0 where
   pub good : words_fault n ≡ None
   pub blocks : blocks n ≡ blocks m
@@ -195,7 +195,7 @@ pub root-good : (m : List (List ℕ)) (t : Bool) → cond {A = Option ℕ} t Non
 root-good m true h = refl
 root-good m false h = absurd (cc h)
 
--- words that agree in what is read of the blocks, with a root that names the same hole: the same applications
+-- words n are well laid and hold the applications of m, if both agree in all that is read of the blocks and the roots name the same hole
 pub record SameBlocks (m n : List (List ℕ)) : Type 0 where
   pub good : words_fault n ≡ None
   pub apps : apps_of n (blocks n) ≡ apps_of m (blocks m)
@@ -220,14 +220,14 @@ same-blocks m n image h size root first agree =
     }) in
     record { good = stands.good; blocks = stands.blocks; apps = ap (λ (l : List Block). apps_of n l) stands.blocks ∙ s.apps }
 
--- the same words 0: the same card
+-- words that agree in word 0 and in the blocks hold the same card
 pub same-card : (m n : List (List ℕ)) → IsSized m → words_fault m ≡ None → length n ≡ length m → word n 0 ≡ word m 0 → WordsAgree m n (blocks m) → SameCard m n
 same-card m n image h size same agree =
     let root : is_root_word (word m 0) (length m) ≡ true = root-good m (is_root_word (word m 0) (length m)) (faultless m h).root in
     let b : SameBlocks m n = same-blocks m n image h size (ap (λ (x : List ℕ). is_root_word x (length n)) same ∙ ap (λ (x : ℕ). is_root_word (word m 0) x) size ∙ root) (ap (λ (x : List ℕ). be2 x 6) same) agree in
     record { good = b.good; blocks = b.blocks; card = card-parts n m size (ap (λ (x : List ℕ). slice_index x 3) same) b.apps }
 
--- another version in the root: the same card in that layout
+-- words with another version in the root hold the same card in that layout
 pub other-layout : (m n : List (List ℕ)) → IsSized m → words_fault m ≡ None → length n ≡ length m → is_root_word (word n 0) (length n) ≡ true → be2 (word n 0) 6 ≡ be2 (word m 0) 6 → WordsAgree m n (blocks m)
     → (words_fault n ≡ None) × (card_of n ≡ record (card_of m) { layout = slice_index (word n 0) 3 })
 other-layout m n image h size root first agree =

@@ -1,4 +1,4 @@
--- Which words a plan leaves, and the applications of the blocks afterwards.
+-- The words that a plan does not change, and the applications of the blocks after it.
 use Rattle.std.proofs.Common.{◌≡◌, ◌≢◌, ◌⊎◌, ℕ, ◌+◌, ◌-◌, ◌<◌, ◌≤◌, Bool, true, false, ◌||◌, List, [], ◌∷◌, Option, Some, None, refl, sym, ◌∙◌, ap, subst, inl, inr, arith, cond, not}
 use Rattle.std.specs.Prelude.{nat_lt, ◌==◌, bytes_eq, MatchBool}
 use Rattle.std.specs.List.{AllByRecursion, list_any}
@@ -22,9 +22,9 @@ use Rattle.mc_blocks.proofs.Built.{SameBlock}
 use Rattle.mc_model_device.proofs.MapLemmas.{other_way as turned, insert-swap}
 use Rattle.mc_model_device.proofs.BoolLemmas.{or-swap}
 
--- ---- the words that a plan leaves
+-- ---- the words that a plan does not change
 
--- a span among spans
+-- a span is one of these spans
 abbrev pub In : ℕ × ℕ → List (ℕ × ℕ) → Type 0
 In s [] = ⊥
 In s (t ∷ ts) = (t ≡ s) ⊎ In s ts
@@ -70,14 +70,14 @@ apart-kind s i p old c cs end true place long t is low high there rest =
           keep-kind i (c.place, used_header c.words) (changes old (heads cs)) (not (list_any (same_pair (c.place, used_header c.words)) old)) (λ e. absurd (omega (arith, e, place))) (rest later)
     ]
 
--- a word of a used block that stays is not among the changes
+-- no word of a used block that is kept is among the changes
 pub changes-apart : (s : ℕ × ℕ) (i p : ℕ) (a : Bool) (old : List (ℕ × List ℕ)) (new : List Block) (end : ℕ) → Tiled p a new end → In s (used_spans new) → s.0 ≤ i → i < s.0 + s.1 → list_any (same_pair (s.0, used_header s.1)) old ≡ true
     → AllByRecursion (λ (x : ℕ × List ℕ). x.0 ≢ i) (changes old (heads new))
 changes-apart s i p a old [] end t is low high there = absurd is
 changes-apart s i p a old (c ∷ cs) end t is low high there =
     apart-kind s i p old c cs end c.used t.0 t.1 t.3 is low high there (λ later. changes-apart s i (p + c.words) (not c.used) old cs end t.3 later low high there)
 
--- used blocks, but for the one at p, have the same words
+-- used blocks, except the one at p, have the same words
 abbrev pub SameUsed : List (List ℕ) → List (List ℕ) → ℕ → List Block → Type 0
 SameUsed m n p [] = Unit {0}
 SameUsed m n p (b ∷ bs) = (b.used ≡ true → b.place ≢ p → SameBlock m n b.place) × SameUsed m n p bs
@@ -99,7 +99,7 @@ relink-apps n (b ∷ bs) =
     ∙ ap (λ (es : List (List ℕ × App)). cond b.used (insert es (name_at n b.place) (app_at n b.place)) es) (relink-apps n bs)
     ∙ sym (some-apps n b bs)
 
--- names that are the same ones and one more
+-- the list `more` has the names of `names` and the name k
 OneMore : List ℕ → List (List ℕ) → List (List ℕ) → Type 0
 OneMore k names more = (x : List ℕ) → has_name x more ≡ (bytes_eq k x || has_name x names)
 
@@ -154,7 +154,7 @@ named-less : (m : List (List ℕ)) (k : List ℕ) (names more : List (List ℕ))
 named-less m k names more [] one nm = tt
 named-less m k names more (b ∷ bs) one nm = less-kind m k names more b bs b.used one nm (λ xs ys h ok. named-less m k xs ys bs h ok)
 
--- the blocks behind p, in both words
+-- the blocks after p hold the same applications in both words
 pub record SameApplications (m n : List (List ℕ)) (names : List (List ℕ)) (bs : List Block) : Type 0 where
   pub named : AreNamed n names bs
   pub apps : apps_of n bs ≡ apps_of m bs
@@ -247,7 +247,7 @@ pub record Deleted (m n : List (List ℕ)) (names : List (List ℕ)) (k : List �
   pub apps : apps_of m bs ≡ insert (apps_of n new) k a
   pub gone : lookup (apps_of n new) k ≡ None
 
--- a name before is not found behind
+-- a name of a block before is not found among the blocks after it
 gone-kind : (m : List (List ℕ)) (k : List ℕ) (ns : List (List ℕ)) (b : Block) (bs : List Block) (u : Bool) → has_name k ns ≡ true
     → MatchBool u ((is_record (record_at m b.place) b.words ≡ true) × (has_name (name_at m b.place) ns ≡ false) × AreNamed m (name_at m b.place ∷ ns) bs) (AreNamed m ns bs)
     → ((xs : List (List ℕ)) → has_name k xs ≡ true → AreNamed m xs bs → lookup (apps_of m bs) k ≡ None) → lookup (cond u (with-block m b bs) (apps_of m bs)) k ≡ None
@@ -262,7 +262,7 @@ absent : (m : List (List ℕ)) (k : List ℕ) (ns : List (List ℕ)) (bs : List 
 absent m k ns [] there nm = ap (λ (es : List (List ℕ × App)). lookup es k) (no-apps m)
 absent m k ns (b ∷ bs) there nm = ap (λ (es : List (List ℕ × App)). lookup es k) (some-apps m b bs) ∙ gone-kind m k ns b bs b.used there nm (λ xs is ok. absent m k xs bs is ok)
 
--- the name of a block behind is none of those before
+-- the name of a block is none of those of the blocks before it
 behind-kind : (m : List (List ℕ)) (p : ℕ) (x : List ℕ) (ns : List (List ℕ)) (b : Block) (bs : List Block) (u : Bool) → has_name x ns ≡ true
     → MatchBool u ((is_record (record_at m b.place) b.words ≡ true) × (has_name (name_at m b.place) ns ≡ false) × AreNamed m (name_at m b.place ∷ ns) bs) (AreNamed m ns bs)
     → has_span p (cond u ((b.place, b.words) ∷ used_spans bs) (used_spans bs)) ≡ true
@@ -294,7 +294,7 @@ with-apps : (n : List (List ℕ)) (q k : ℕ) (bs : List Block) → apps_of n (w
 with-apps n q k [] = some-apps n (free_block q k) []
 with-apps n q k (c ∷ cs) = with-apps-kind n q k c cs c.used refl
 
--- the used block itself, with a hole in its place
+-- the deleted block itself, with a hole in its place
 deleted-here : (m n : List (List ℕ)) (p q h w : ℕ) (a : Bool) (names : List (List ℕ)) (b : Block) (bs : List Block) (end : ℕ) → b.used ≡ true → b.place ≡ p → p < q → Tiled q a bs end → SameUsed m n p bs
     → AreNamed m names (b ∷ bs) → Deleted m n names (name_at m p) (app_at m p) (b ∷ bs) (with_hole h w bs)
 unfolding OneMore

@@ -8,14 +8,14 @@ use Rattle.mc_model_device.specs.Layout.{first_hole, bad_link, bad_chain}
 use Rattle.mc_blocks.specs.Blocks.{fitting, blocks_at, used_spans, hole_spans}
 use Rattle.mc_blocks.proofs.Steps.{blocks_step, blocks_all}
 
--- a hole is the first, a used block is none
+-- the first hole from a place on is the block there if that is a hole, and else the first after it
 pub hole_here : (m : List (List ℕ)) (p : ℕ) (b : Block) → Some b ≡ fitting (length m) (header p (word m p)) → b.used ≡ false → first_hole (blocks_at m p) ≡ b.place
 hole_here m p b h e = ap first_hole (blocks_step m p b h) ∙ ap (λ (t : Bool). cond t (first_hole (blocks_at m (b.place + b.words))) b.place) e
 
 pub hole_behind : (m : List (List ℕ)) (p : ℕ) (b : Block) → Some b ≡ fitting (length m) (header p (word m p)) → b.used ≡ true → first_hole (blocks_at m p) ≡ first_hole (blocks_at m (b.place + b.words))
 hole_behind m p b h e = ap first_hole (blocks_step m p b h) ∙ ap (λ (t : Bool). cond t (first_hole (blocks_at m (b.place + b.words))) b.place) e
 
--- a link is wrong, or those behind it decide
+-- the first wrong link from a place on is that of the block there if it is wrong, and else the first after it
 pub link_wrong : (m : List (List ℕ)) (p due : ℕ) (b : Block) → Some b ≡ fitting (length m) (header p (word m p)) → due ≡ cond b.used 0 (first_hole (blocks_at m (b.place + b.words)))
     → b.link ≢ due → bad_link (blocks_at m p) ≡ Some b.place
 link_wrong m p due b h e ne =
@@ -30,7 +30,7 @@ link_right m p due b h e is =
     ∙ ap (λ (d : ℕ). cond (b.link == d) (bad_link (blocks_at m (b.place + b.words))) (Some b.place)) (sym e)
     ∙ ap (λ (t : Bool). cond t (bad_link (blocks_at m (b.place + b.words))) (Some b.place)) (eq-eqb b.link due is)
 
--- the root's link is wrong, or the blocks decide
+-- the first wrong link is that of the root if it is wrong, and else the first of the blocks
 root_read : (m : List (List ℕ)) (link first : ℕ) → link ≡ be2 (word m 0) 6 → first ≡ first_hole (blocks_at m 131)
     → bad_chain m (blocks m) ≡ or_else (cond (link == first) None (Some 0)) (bad_link (blocks m))
 root_read m link first e f =
@@ -45,7 +45,7 @@ pub root_right : (m : List (List ℕ)) (link first : ℕ) → link ≡ be2 (word
 root_right m link first e f is =
     root_read m link first e f ∙ ap (λ (t : Bool). or_else (cond t None (Some 0)) (bad_link (blocks m))) (eq-eqb link first is)
 
--- a block is counted by its kind
+-- a block counts as used or as a hole
 pub used_more : (m : List (List ℕ)) (p : ℕ) (b : Block) → Some b ≡ fitting (length m) (header p (word m p)) → b.used ≡ true
     → (length (used_spans (blocks_at m p)) ≡ length (used_spans (blocks_at m (b.place + b.words))) + 1) × (length (hole_spans (blocks_at m p)) ≡ length (hole_spans (blocks_at m (b.place + b.words))))
 used_more m p b h e =

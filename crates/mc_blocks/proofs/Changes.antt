@@ -1,4 +1,4 @@
--- What one list of pairs has that another has not, where the places of both ascend.
+-- The pairs of one list that are not in another, if the places of both ascend.
 use Rattle.std.proofs.Common.{◌≡◌, ◌≢◌, ℕ, ◌+◌, ◌/◌, ◌%◌, ◌<◌, ◌≤◌, Bool, true, false, ◌&&◌, ◌||◌, List, [], ◌∷◌, ◌++◌, refl, sym, ◌∙◌, ap, arith, cond, not}
 use Rattle.std.specs.Prelude.{◌==◌, bytes_eq}
 use Rattle.std.specs.List.{list_any}
@@ -76,20 +76,20 @@ one-same e = ap (λ (t : Bool). cond (not (t || false)) (e ∷ []) []) (self-pai
 pub one-other : (e f : ℕ × List ℕ) → bytes_eq f.1 e.1 ≡ false → changes (e ∷ []) (f ∷ []) ≡ f ∷ []
 one-other e f h = ap (λ (t : Bool). cond (not (t || false)) (f ∷ []) []) (and_right (f.0 == e.0) (bytes_eq f.1 e.1) h)
 
--- the same pair before both changes nothing
+-- an equal pair in front of both lists adds no change
 pub under-same : (e : ℕ × List ℕ) (old new : List (ℕ × List ℕ)) → From (e.0 + 1) old → From (e.0 + 1) new → changes (e ∷ old) (e ∷ new) ≡ changes old new
 under-same e old new fo fn =
     let lt : e.0 < e.0 + 1 = omega arith in
     split (e.0 + 1) (e ∷ []) old (e ∷ []) new (lt, tt) fo (lt, tt) fn ∙ ap (λ (l : List (ℕ × List ℕ)). l ++ changes old new) (one-same e)
 
--- a word that differs before both
+-- a pair whose word differs in front of both lists adds itself
 pub under-other : (e f : ℕ × List ℕ) (old new : List (ℕ × List ℕ)) → e.0 ≡ f.0 → bytes_eq f.1 e.1 ≡ false → From (e.0 + 1) old → From (e.0 + 1) new → changes (e ∷ old) (f ∷ new) ≡ f ∷ changes old new
 under-other e f old new same h fo fn =
     let lt : e.0 < e.0 + 1 = omega arith in
     let also : f.0 < e.0 + 1 = omega (arith, same) in
     split (e.0 + 1) (e ∷ []) old (f ∷ []) new (lt, tt) fo (also, tt) fn ∙ ap (λ (l : List (ℕ × List ℕ)). l ++ changes old new) (one-other e f h)
 
--- a second pair that both have changes nothing
+-- an equal second pair in both lists adds no change
 pub second-same : (e f u : ℕ × List ℕ) (old new : List (ℕ × List ℕ)) → e.0 ≡ f.0 → e.0 < u.0 → From (u.0 + 1) old → From (u.0 + 1) new
     → changes (e ∷ u ∷ old) (f ∷ u ∷ new) ≡ changes (e ∷ old) (f ∷ new)
 second-same e f u old new same lt fo fn =

@@ -1,4 +1,4 @@
--- What changes behind a link of the chain, where the change lies behind further blocks.
+-- The changes from a link of the chain on, if they lie after further blocks.
 use Rattle.std.proofs.Common.{◌≡◌, ◌≢◌, ℕ, ◌+◌, ◌<◌, ◌≤◌, Bool, true, false, List, ◌∷◌, refl, sym, ◌∙◌, ap, arith, cond}
 use Rattle.std.specs.Prelude.{nat_lt}
 use Rattle.std.proofs.lemmas.Bool.{lt-ltb, le-ltb, ne_eqb}
@@ -10,7 +10,7 @@ use Rattle.mc_blocks.proofs.Tiles.{Tiled}
 use Rattle.mc_blocks.proofs.Changes.{from-weaker, under-same, second-same}
 use Rattle.mc_blocks.proofs.Heads.{heads, heads-behind}
 
--- the changes behind a link g are what `due` makes of the gap before p and the gaps from p on
+-- the changes from a link g on are `due` of the gap before p and the gaps from p on
 unfoldable pub Claim : ℕ → ℕ → ℕ → (ℕ × ℕ → List (ℕ × ℕ) → List (ℕ × List ℕ)) → ℕ × ℕ → List Block → List Block → Type 0
 Claim v s p due g bs new =
     changes (link_word v s g (first_hole bs) ∷ heads bs) (link_word v s g (first_hole new) ∷ heads new) ≡ due (gap_before p g (hole_spans bs)) (gaps_behind p (hole_spans bs))
@@ -39,7 +39,7 @@ later-free v s p end due g b a bs new gap before long t u rest =
     ∙ rest
     ∙ sym (ap (λ (x : Bool). due (cond x (gap_before p (b.place, b.words) (hole_spans bs)) g) (cond x (gaps_behind p (hole_spans bs)) ((b.place, b.words) ∷ hole_spans bs))) (lt-ltb b.place p before))
 
--- a block before the change stays
+-- a block before the changes is kept
 pub later-either : (v s p end : ℕ) (due : ℕ × ℕ → List (ℕ × ℕ) → List (ℕ × List ℕ)) (g : ℕ × ℕ) (b : Block) (a : Bool) (bs new : List Block) (u : Bool) → g.0 < b.place → b.place < p → 1 ≤ b.words → Tiled (b.place + b.words) a bs end → Tiled (b.place + b.words) a new end
     → (u ≡ true → Claim v s p due g bs new) → (u ≡ false → Claim v s p due (b.place, b.words) bs new) → Claim v s p due g (record b { used = u } ∷ bs) (record b { used = u } ∷ new)
 later-either v s p end due g b a bs new true gap before long t n behind-used behind-hole = later-used v s p end due g b a bs new gap long t n (behind-used refl)

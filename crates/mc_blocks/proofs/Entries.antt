@@ -29,12 +29,12 @@ long_enough r w h =
 pub short_is_none : (r : List ℕ) (w : ℕ) → w < 6 → is_record r w ≡ false
 short_is_none r w h = false_from_ne_true (is_record r w) (λ e. absurd (omega (arith, long_enough r w e)))
 
--- a name among others
+-- a name in a list with one more name at the end
 pub name-append : (k x : List ℕ) (ns : List (List ℕ)) → has_name k (ns ++ x ∷ []) ≡ (bytes_eq x k || has_name k ns)
 name-append k x [] = refl
 name-append k x (n ∷ ns) = ap (λ (t : Bool). bytes_eq n k || t) (name-append k x ns) ∙ swapped (bytes_eq n k) (bytes_eq x k) (has_name k ns)
 
--- the records so far have these names, and the blocks that are left decide
+-- the records so far have these names, and the first bad record of the whole is that of the blocks that are left
 pub record RecordsEntered (m : List (List ℕ)) (whole : Option ℕ) (p : ℕ) (seen : List (List ℕ)) : Type 0 where
   pub names : List (List ℕ)
   pub same : (k : List ℕ) → has_name k names ≡ has_name k (map name_in seen)
@@ -55,7 +55,7 @@ some-bad m b bs names used = refl
 pub ended : (m : List (List ℕ)) (whole : Option ℕ) (p : ℕ) (seen : List (List ℕ)) → RecordsEntered m whole p seen → None ≡ fitting (length m) (header p (word m p)) → whole ≡ None
 ended m whole p seen e h = e.left ∙ ap (λ (bs : List Block). bad_record m bs e.names (length seen)) (blocks_stop m p h) ∙ none-bad m e.names (length seen)
 
--- one block more
+-- the state of the search after one more block
 step : (m : List (List ℕ)) (whole : Option ℕ) (p : ℕ) (seen : List (List ℕ)) (b : Block) (e : RecordsEntered m whole p seen) → Some b ≡ fitting (length m) (header p (word m p))
     → whole ≡ cond b.used (cond (admitted m b (map name_in seen) (length seen)) (bad_record m (blocks_at m (b.place + b.words)) (name_in (record_at m b.place) ∷ e.names) (length seen + 1)) (Some b.place)) (bad_record m (blocks_at m (b.place + b.words)) e.names (length seen))
 step m whole p seen b e h =

@@ -1,4 +1,4 @@
--- A used block freed: the blocks afterwards, and the headers that change.
+-- Freeing a used block: the blocks after it, and the headers that change.
 use Rattle.std.proofs.Common.{◌≡◌, ◌≢◌, ◌⊎◌, ℕ, ◌+◌, ◌<◌, ◌≤◌, Bool, true, false, ◌&&◌, ◌||◌, List, [], ◌∷◌, refl, sym, ◌∙◌, ap, subst, inl, inr, arith, cond, not}
 use Rattle.std.specs.Prelude.{◌==◌}
 use Rattle.std.proofs.lemmas.Bool.{lt-ltb, le-ltb, eq-eqb, ne_eqb, eqb-true, eqb-false, or_cases, and_from, and_right, not-false, not-true, cases_eq, false_from_ne_true}
@@ -17,17 +17,17 @@ use Rattle.mc_blocks.proofs.Claims.{Claim, later-either}
 use Rattle.mc_blocks.proofs.Taking.{free_block, tiled-end, first-range}
 use Rattle.mc_model_device.proofs.BoolLemmas.{and_false}
 
--- a hole of k words at q and the blocks behind it, of which the first joins it where it is a hole
+-- a hole of k words at q and the blocks after it, of which the first joins it if it is a hole
 abbrev pub with_hole : ℕ → ℕ → List Block → List Block
 with_hole q k [] = free_block q k ∷ []
 with_hole q k (c ∷ cs) = cond c.used (free_block q k ∷ c ∷ cs) (free_block q (k + c.words) ∷ cs)
 
--- the blocks behind such a hole
+-- the blocks after such a hole
 abbrev rest_after : List Block → List Block
 rest_after [] = []
 rest_after (c ∷ cs) = cond c.used (c ∷ cs) cs
 
--- whether b is a hole and the next block stands at p
+-- whether b is a hole and the next block is at p
 abbrev touched : ℕ → Block → List Block → Bool
 touched p b [] = false
 touched p b (c ∷ cs) = not b.used && c.place == p
@@ -40,7 +40,7 @@ abbrev tail_blocks : List Block → List Block
 tail_blocks [] = []
 tail_blocks (c ∷ cs) = cs
 
--- the blocks with the one at p freed
+-- the blocks after the one at p is freed
 abbrev pub free_in : ℕ → List Block → List Block
 free_in p [] = []
 free_in p (b ∷ bs) =
@@ -48,7 +48,7 @@ free_in p (b ∷ bs) =
     cond (touched p b bs) (with_hole b.place (b.words + head_words bs) (tail_blocks bs)) (b ∷ free_in p bs)
     )
 
--- the words of the span at p
+-- the number of words of the span at p
 abbrev pub words_at : ℕ → List (ℕ × ℕ) → ℕ
 words_at p [] = 0
 words_at p (s ∷ ss) = cond (s.0 == p) s.1 (words_at p ss)
@@ -77,7 +77,7 @@ with-kind q k c cs false used place above =
     ap (λ (f : ℕ). (q, hole_header (k + c.words) f) ∷ heads cs) (first-is cs)
     ∙ sym (ap (λ (t : Bool). (q, hole_header (cond t (k + c.words) k) (cond t (first_place (hole_spans cs)) c.place)) ∷ heads cs) (eq-eqb c.place (q + k) place))
 
--- its headers
+-- the headers of a hole and the blocks after it
 with-heads : (q k : ℕ) (a : Bool) (bs : List Block) (end : ℕ) → Tiled (q + k) a bs end
     → heads (with_hole q k bs) ≡ (q, hole_header (joined_words q k (hole_spans bs)) (joined_next q k (hole_spans bs))) ∷ heads (rest_after bs)
 with-heads q k a [] end t = refl
@@ -85,7 +85,7 @@ with-heads q k a (c ∷ cs) end t =
     let low : 1 ≤ c.words = t.1 in
     with-kind q k c cs c.used refl t.0 (above-weaker (q + k + c.words) (q + k + 1) (hole_spans cs) (omega arith) (holes-above (q + k + c.words) (not c.used) cs end t.3))
 
--- a header in front that the new ones lack
+-- a header in front that the new list lacks adds no change
 dropped : (e : ℕ × List ℕ) (old new : List (ℕ × List ℕ)) → From (e.0 + 1) new → changes (e ∷ old) new ≡ changes old new
 dropped e old new f = let lt : e.0 < e.0 + 1 = omega arith in back (e.0 + 1) (e ∷ []) old new (lt, tt) f
 
@@ -155,7 +155,7 @@ span-from q p (s ∷ ss) a h =
       | inr later ↦ span-from q p ss a.1 later
     ]
 
--- a hole that ends at p, where the next block stands, which is used
+-- b is a hole that ends at p, and the next block, at p, is used
 pub record Touches (p : ℕ) (b : Block) (bs : List Block) : Type 0 where
   pub hole : b.used ≡ false
   pub other : (b.place == p) ≡ false
@@ -222,7 +222,7 @@ freed-later p b bs other apart =
     ap (λ (t : Bool). cond t (with_hole p b.words bs) (cond (touched p b bs) (with_hole b.place (b.words + head_words bs) (tail_blocks bs)) (b ∷ free_in p bs))) other
     ∙ ap (λ (t : Bool). cond t (with_hole b.place (b.words + head_words bs) (tail_blocks bs)) (b ∷ free_in p bs)) apart
 
--- ---- the blocks afterwards
+-- ---- the blocks after the change
 
 free-touching-tiled : (p q : ℕ) (a : Bool) (b c : Block) (cs bs : List Block) (end : ℕ) → bs ≡ c ∷ cs → Tiled q a (b ∷ bs) end → b.used ≡ false → (b.place == p) ≡ false → c.place ≡ p → Tiled q a (free_in p (b ∷ bs)) end
 free-touching-tiled p q a b c cs bs end is t free other here =
@@ -237,7 +237,7 @@ free-touching-tiled p q a b c cs bs end is t free other here =
     (subst (λ (x : Bool). Tiled q x (with_hole q (b.words + c.words) cs) end) (sym none)
     (with-tiled q (b.words + c.words) (not c.used) cs end (omega arith) (subst (λ (r : ℕ). Tiled r (not c.used) cs end) same tail.3)))))
 
--- where a hole is before, the block at p does not stand first
+-- if a hole precedes the blocks from q on, the first of them is not at p
 abbrev HoleApart : Bool → ℕ → ℕ → Type 0
 HoleApart a q p = a ≡ true → q ≢ p
 
@@ -280,7 +280,7 @@ later-without : (p : ℕ) (b : Block) (us vs : List (ℕ × ℕ)) (u : Bool) →
 later-without p b us vs true other e = ap (λ (l : List (ℕ × ℕ)). (b.place, b.words) ∷ l) e ∙ sym (ap (λ (t : Bool). cond t (without p us) ((b.place, b.words) ∷ without p us)) other)
 later-without p b us vs false other e = e
 
--- the spans of a used block and of a hole before others
+-- the spans of a used block in front of others
 pub used-first : (b : Block) (us : List (ℕ × ℕ)) → b.used ≡ true → cond b.used ((b.place, b.words) ∷ us) us ≡ (b.place, b.words) ∷ us
 used-first b us e = ap (λ (u : Bool). cond u ((b.place, b.words) ∷ us) us) e
 
@@ -323,7 +323,7 @@ free-spans p q a (b ∷ bs) end t span =
 abbrev freed_at : ℕ → ℕ → ℕ → ℕ → ℕ × ℕ → List (ℕ × ℕ) → List (ℕ × List ℕ)
 freed_at v s p n g gs = free_list v s g gs p n
 
--- the gaps behind p are not before it
+-- gaps that all begin at p or after it have none before p
 gap-none : (p : ℕ) (g : ℕ × ℕ) (gs : List (ℕ × ℕ)) → SpansAbove p gs → gap_before p g gs ≡ g
 gap-none p g [] a = refl
 gap-none p g (h ∷ hs) a = let low : p ≤ h.0 = a.0 in ap (λ (t : Bool). cond t (gap_before p h hs) g) (le-ltb h.0 p low)
@@ -332,7 +332,7 @@ behind-all : (p : ℕ) (gs : List (ℕ × ℕ)) → SpansAbove p gs → gaps_beh
 behind-all p [] a = refl
 behind-all p (h ∷ hs) a = let low : p ≤ h.0 = a.0 in ap (λ (t : Bool). cond t (gaps_behind p hs) (h ∷ hs)) (le-ltb h.0 p low)
 
--- a block freed behind a link that does not touch it
+-- the changes of freeing a block after a link that does not touch it
 free-here : (v s n p end : ℕ) (g : ℕ × ℕ) (a : Bool) (bs : List Block) → 1 ≤ p → 1 ≤ n → end < 65536 → g.0 < p → touches g p ≡ false → Tiled (p + n) a bs end
     → changes (link_word v s g (first_hole bs) ∷ (p, used_header n) ∷ heads bs) (link_word v s g (first_hole (with_hole p n bs)) ∷ heads (with_hole p n bs)) ≡ free_list v s g (hole_spans bs) p n
 free-here v s n p end g a bs low some few gap apart t =
@@ -359,7 +359,7 @@ claim-here v s end g a b bs low some few gap apart t =
     free-here v s b.words b.place end g a bs low some few gap apart t
     ∙ sym (ap (λ (h : ℕ × ℕ). free_list v s h (gaps_behind b.place (hole_spans bs)) b.place b.words) (gap-none b.place g (hole_spans bs) above) ∙ ap (λ (l : List (ℕ × ℕ)). free_list v s g l b.place b.words) (behind-all b.place (hole_spans bs) above))
 
--- a hole that the next joins is no shorter, and ends in time
+-- a hole that is joined with the next is no shorter, and ends within the device
 joined-kind : (q k : ℕ) (c : Block) (cs : List Block) (end : ℕ) (u : Bool) → c.place ≡ q + k → SpansAbove (q + k + 1) (hole_spans cs) → q + k + c.words ≤ end
     → (k ≤ joined_words q k (cond u (hole_spans cs) ((c.place, c.words) ∷ hole_spans cs))) × (q + joined_words q k (cond u (hole_spans cs) ((c.place, c.words) ∷ hole_spans cs)) ≤ end)
 joined-kind q k c cs end true place above ends =
@@ -375,7 +375,7 @@ joined-range q k a (c ∷ cs) end t =
     let low : 1 ≤ c.words = t.1 in
     joined-kind q k c cs end c.used t.0 (above-weaker (q + k + c.words) (q + k + 1) (hole_spans cs) (omega arith) (holes-above (q + k + c.words) (not c.used) cs end t.3)) (tiled-end (q + k + c.words) (not c.used) cs end t.3)
 
--- a block freed behind a hole that ends at it
+-- the changes of freeing a block after a hole that ends at it
 touch-list : (v s h k n end : ℕ) (g : ℕ × ℕ) (a : Bool) (cs : List Block) → g.0 < h → 1 ≤ k → 1 ≤ n → end < 65536 → Tiled (h + k + n) a cs end
     → changes (link_word v s g h ∷ (h, hole_header k (first_hole cs)) ∷ (h + k, used_header n) ∷ heads cs) (link_word v s g (first_hole (with_hole h (k + n) cs)) ∷ heads (with_hole h (k + n) cs))
     ≡ (h, hole_header (k + joined_words (h + k) n (hole_spans cs)) (joined_next (h + k) n (hole_spans cs))) ∷ []
@@ -456,7 +456,7 @@ whole-touch v s p q n g a b c cs bs end is low few gap t free other used here wo
     (subst (λ (m : ℕ). Claim v s p (freed_at v s p m) g (b ∷ c ∷ cs) (free_in p (b ∷ c ∷ cs))) count
     (subst (λ (l : List Block). Claim v s p (freed_at v s p c.words) g (b ∷ c ∷ cs) l) (sym (freed-touching p b c cs free other here)) fifth))
 
--- the link of a hole that does not end at p
+-- a hole that does not end at p does not touch p
 no-touch : (p : ℕ) (b : Block) → b.place + b.words ≢ p → touches (b.place, b.words) p ≡ false
 no-touch p b ne = and_right (not (b.place == 0)) (b.place + b.words == p) (ne_eqb (b.place + b.words) p ne)
 
@@ -486,7 +486,7 @@ free-all v s p n q g a (b ∷ bs) end low few gap apart t span words =
           (λ free. free-all v s p n (q + b.words) (b.place, b.words) (not b.used) bs end (omega arith) few (omega arith) (no-touch p b (later.ends free)) t.3 later.span still))
     ]
 
--- freeing a block changes these headers
+-- the changes of freeing a block are those of `free_list`
 pub free_plan : (v size p : ℕ) (bs : List Block) → size < 65536 → Tiled heap_start false bs size → has_span p (used_spans bs) ≡ true
     → changes (layout_of v size (used_spans bs)) (layout_of v size (without p (used_spans bs))) ≡ free_list v size (gap_before p (0, 0) (hole_spans bs)) (gaps_behind p (hole_spans bs)) p (words_at p (used_spans bs))
 unfolding Claim

@@ -13,18 +13,18 @@ unfit-some : (size : ℕ) (after_hole : Bool) (b : Block) (t : Bool) → nat_le 
 unfit-some size after_hole b true h e = absurd (cc e)
 unfit-some size after_hole b false h e = ap (λ (t : Bool). t || (after_hole && not b.used)) (lt-ltb size (b.place + b.words) (leb-false (b.place + b.words) size h))
 
--- what ends in no time is bad
+-- a header whose block does not end within the device is bad
 pub unfit_is_bad : (size : ℕ) (after_hole : Bool) (o : Option Block) → None ≡ fitting size o → bad_header size after_hole o ≡ true
 unfit_is_bad size after_hole None h = refl
 unfit_is_bad size after_hole (Some b) h = unfit-some size after_hole b (nat_le (b.place + b.words) size) refl h
 
--- a hole behind a hole is bad
+-- a hole after a hole is bad
 pub second_is_bad : (size p : ℕ) (x : List ℕ) (b : Block) → Some b ≡ fitting size (header p x) → b.used ≡ false → bad_header size true (header p x) ≡ true
 second_is_bad size p x b h hole =
     ap (λ (o : Option Block). bad_header size true o) (fits size p x b (sym h)).read
     ∙ or_right (nat_lt size (b.place + b.words)) (not b.used) (ap not hole)
 
--- else it is good
+-- a header whose block ends within the device, and that is no hole after a hole, is good
 pub next_is_good : (size p : ℕ) (x : List ℕ) (after_hole : Bool) (b : Block) → Some b ≡ fitting size (header p x) → (after_hole && not b.used) ≡ false → FollowsBlock size after_hole (header p x) b
 next_is_good size p x after_hole b h other =
     let f : BlockFits size p x b = fits size p x b (sym h) in
@@ -35,7 +35,7 @@ next_is_good size p x after_hole b h other =
 
 -- ---- a walk
 
--- where a good block ends
+-- a good block ends within the device
 good-ends : (size : ℕ) (after_hole : Bool) (b : Block) → bad_header size after_hole (Some b) ≡ false → b.place + b.words ≤ size
 good-ends size after_hole b h = ltb-false size (b.place + b.words) (or_parts (nat_lt size (b.place + b.words)) (after_hole && not b.used) h).0
 
@@ -77,14 +77,14 @@ bad-suc n m p after_hole rest h =
 bad-fuel : (n k : ℕ) (m : List (List ℕ)) (p : ℕ) (after_hole : Bool) → n ≡ suc k → bad_block n m p after_hole ≡ bad_block (suc k) m p after_hole
 bad-fuel n k m p after_hole e = ap (λ (t : ℕ). bad_block t m p after_hole) e
 
--- a header that is bad
+-- the first bad header from a place on is the one there if that is bad
 pub bad_here : (m : List (List ℕ)) (p : ℕ) (after_hole : Bool) → p < length m → bad_header (length m) after_hole (header p (word m p)) ≡ true → bad_from m p after_hole ≡ Some p
 bad_here m p after_hole lt h =
     bad-fuel (length m - p) (length m - p - 1) m p after_hole (omega arith)
     ∙ bad-suc (length m - p - 1) m p after_hole None lt
     ∙ ap (λ (t : Bool). cond t (Some p) (bad_block (length m - p - 1) m (next_block (length m) (header p (word m p))) (is_hole (header p (word m p))))) h
 
--- one that is good, and those behind it
+-- the first bad header from a good one on is the first after it
 pub bad_behind : (m : List (List ℕ)) (p : ℕ) (after_hole : Bool) (b : Block) → p < length m → FollowsBlock (length m) after_hole (header p (word m p)) b
     → bad_from m p after_hole ≡ bad_from m (b.place + b.words) (not b.used)
 bad_behind m p after_hole b lt h =
@@ -111,6 +111,6 @@ bad-zero : (m : List (List ℕ)) (p : ℕ) (after_hole : Bool) → bad_block zer
 unfolding bad_block
 bad-zero m p after_hole = refl
 
--- at the end none is bad
+-- from the end on no header is bad
 pub bad_end : (m : List (List ℕ)) (p : ℕ) (after_hole : Bool) → length m ≤ p → bad_from m p after_hole ≡ None
 bad_end m p after_hole h = ap (λ (t : ℕ). bad_block t m p after_hole) (let z : length m - p ≡ 0 = omega arith in z) ∙ bad-zero m p after_hole

@@ -1,4 +1,4 @@
--- The headers of blocks side by side are the layout of their spans.
+-- The headers of adjacent blocks are the layout of their spans.
 use Rattle.std.proofs.Common.{◌≡◌, ℕ, ◌+◌, ◌≤◌, Bool, true, false, List, [], ◌∷◌, refl, sym, ◌∙◌, ap, arith, cond, not}
 use Rattle.std.proofs.lemmas.Bool.{lt-ltb, le-ltb}
 use Rattle.mc_model_device.specs.Card.{Card, Block, heap_start}
@@ -22,11 +22,11 @@ heads-from p a (b ∷ bs) end t =
     let place : b.place ≡ p = t.0 in
     (omega arith, from-weaker (p + b.words) p (heads bs) (omega arith) (heads-from (p + b.words) (not b.used) bs end t.3))
 
--- headers behind a block
+-- the headers after a block are at places after its own
 pub heads-behind : (p : ℕ) (b : Block) (a : Bool) (bs : List Block) (end : ℕ) → b.place ≡ p → 1 ≤ b.words → Tiled (p + b.words) a bs end → From (b.place + 1) (heads bs)
 heads-behind p b a bs end place low t = from-weaker (p + b.words) (b.place + 1) (heads bs) (omega arith) (heads-from (p + b.words) a bs end t)
 
--- the same headers change nothing
+-- equal headers have no changes
 pub heads-same : (p : ℕ) (a : Bool) (bs : List Block) (end : ℕ) → Tiled p a bs end → changes (heads bs) (heads bs) ≡ []
 heads-same p a [] end t = refl
 heads-same p a (b ∷ bs) end t =
@@ -40,7 +40,7 @@ put-first : (p : ℕ) (x : List ℕ) (l : List (ℕ × List ℕ)) → From (p + 
 put-first p x [] f = refl
 put-first p x (e ∷ es) f = let low : p + 1 ≤ e.0 = f.0 in ap (λ (t : Bool). cond t ((p, x) ∷ e ∷ es) (e ∷ put_at p x es)) (lt-ltb p e.0 (omega arith))
 
--- spans behind a header leave it in front
+-- adding spans after a header leaves it in front
 used-behind : (e : ℕ × List ℕ) (us : List (ℕ × ℕ)) (l : List (ℕ × List ℕ)) → SpansAbove (e.0 + 1) us → with_used us (e ∷ l) ≡ e ∷ with_used us l
 used-behind e [] l a = refl
 used-behind e (s ∷ ss) l a =
@@ -68,7 +68,7 @@ layout-heads p a (b ∷ bs) end t =
     (heads-behind p b (not b.used) bs end t.0 t.1 t.3)
     (layout-heads (p + b.words) (not b.used) bs end t.3)
 
--- the layout whose spans are those of blocks side by side
+-- the layout of the spans of adjacent blocks is the root and their headers
 pub layout-is : (v size : ℕ) (bs : List Block) (ss : List (ℕ × ℕ)) → Tiled heap_start false bs size → ss ≡ used_spans bs → layout_of v size ss ≡ link_word v size (0, 0) (first_hole bs) ∷ heads bs
 unfolding layout_of
 layout-is v size bs ss t e =

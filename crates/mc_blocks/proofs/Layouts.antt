@@ -1,4 +1,4 @@
--- Words without a fault hold the layout of the card that they mean: the root, and the header of each block and each gap.
+-- Words without a fault hold the layout of their card: the root, and the header of each block and each gap.
 use Rattle.std.proofs.Common.{◌≡◌, ℕ, zero, suc, ◌+◌, ◌*◌, ◌/◌, ◌%◌, ◌<◌, ◌≤◌, Bool, true, false, cond, ◌&&◌, ◌||◌, List, [], ◌∷◌, ◌++◌, length, take, Option, Some, None, refl, sym, ◌∙◌, ap, subst, arith}
 use Rattle.std.specs.Prelude.{nat_le, nat_lt, ◌==◌, slice_index, bytes_eq}
 use Rattle.std.specs.List.{AllByRecursion}
@@ -38,7 +38,7 @@ byte-at [] i h = omega arith
 byte-at (b ∷ x) zero h = h.0
 byte-at (b ∷ x) (suc i) h = byte-at x i h.1
 
--- two bytes are those of their number
+-- two bytes are the big-endian bytes of their number
 two : (x : List ℕ) (i n : ℕ) → AreBytes x → be2 x i ≡ n → bytes2 n ≡ slice_index x i ∷ slice_index x (i + 1) ∷ []
 two x i n h e =
     let a : ℕ = slice_index x i in
@@ -94,7 +94,7 @@ header-by p x b true full h e =
 header-form : (p : ℕ) (x : List ℕ) (b : Block) → IsFull x → header p x ≡ Some b → x ≡ tag_of b.used ∷ 0 ∷ (bytes2 b.words ++ bytes2 b.link ++ 0 ∷ 0 ∷ [])
 header-form p x b full h = header-by p x b (is_header x) full refl h
 
--- ---- pairs in their places
+-- ---- pairs at their places
 
 abbrev pub Stand : List (List ℕ) → List (ℕ × List ℕ) → Type 0
 Stand m ps = AllByRecursion (λ p. word m p.0 ≡ p.1) ps

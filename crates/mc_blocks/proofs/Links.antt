@@ -1,4 +1,4 @@
--- Links of the chain before and behind a place.
+-- Links of the chain before and after a place.
 use Rattle.std.proofs.Common.{◌≡◌, ◌≢◌, ◌⊎◌, ℕ, ◌+◌, ◌<◌, ◌≤◌, Bool, true, false, ◌&&◌, List, [], ◌∷◌, length, refl, sym, ◌∙◌, ap, subst, inl, inr, arith, cond, not}
 use Rattle.std.specs.Prelude.{nat_lt, nat_le, ◌==◌}
 use Rattle.std.proofs.lemmas.Bool.{lt-ltb, le-ltb, ltb-true, eq-eqb, ne_eqb, eqb-true, and_parts, leb-true, or_cases, not-true, eqb-false}
@@ -27,7 +27,7 @@ gaps-chain m image closed h = let c : GapChain m = chain-of m image closed h in 
 
 -- ---- towards a place
 
--- the links that are left before p, from the link of a gap on
+-- the state of the walk towards p: a link, and the gaps that are left after it
 pub record Trail (m : List (List ℕ)) (p : ℕ) (whole : List (ℕ × ℕ)) (place words next : ℕ) : Type 0 where
   pub rest : List (ℕ × ℕ)
   pub chain : IsChain m rest
@@ -46,7 +46,7 @@ trail-begins m p next x image closed h is here =
       behind = ap (λ (l : List (ℕ × ℕ)). gaps_behind p l) c.gaps;
     }
 
--- a hole before p on the way
+-- the facts of the next hole if it is before p
 pub record Ahead (m : List (List ℕ)) (p : ℕ) (whole : List (ℕ × ℕ)) (next : ℕ) : Type 0 where
   pub within : next < length m
   pub on : Trail m p whole next (be2 (word m next) 2) (be2 (word m next) 4)
@@ -87,7 +87,7 @@ trail-on m p whole place words next place' words' next' t h a b c =
     (subst (λ (x : ℕ). Trail m p whole next x next') (sym b)
     (subst (λ (x : ℕ). Trail m p whole next (be2 (word m next) 2) x) (sym c) (ahead m p whole place words next t h).on))
 
--- the end of the way
+-- the walk ends at a link that names no hole before p
 stop : (m : List (List ℕ)) (p : ℕ) (g : ℕ × ℕ) (rest : List (ℕ × ℕ)) → IsChain m rest → names_before (first_place rest) p ≡ false → (gap_before p g rest ≡ g) × (gaps_behind p rest ≡ rest)
 stop m p g [] c h = (refl, refl)
 stop m p g (f ∷ fs) c h =
@@ -102,9 +102,9 @@ trail-ends m p whole place words next t h =
     let s = stop m p (place, words) t.rest t.chain (subst (λ (n : ℕ). names_before n p ≡ false) t.here h) in
     (sym (t.before ∙ s.0), t.here ∙ sym (ap first_place (t.behind ∙ s.1)))
 
--- ---- the gap behind
+-- ---- the gap after a hole
 
--- a hole at p that the next gap touches
+-- the facts of the next gap if a hole at p touches it
 pub record Meets (m : List (List ℕ)) (p n next : ℕ) (hs : List (ℕ × ℕ)) : Type 0 where
   pub within : next < length m
   pub ends : next + be2 (word m next) 2 ≤ length m
@@ -132,7 +132,7 @@ joined-test : (m : List (List ℕ)) (p n : ℕ) (g : ℕ × ℕ) (t : Bool) → 
 joined-test m p n g true e high h = let is : g.0 ≡ p + n = eqb-true g.0 (p + n) e in omega arith
 joined-test m p n g false e high h = h
 
--- a hole that may join the next ends in time
+-- a hole that is joined with the next if they touch ends within the device
 pub joined-within : (m : List (List ℕ)) (p n : ℕ) (hs : List (ℕ × ℕ)) → IsChain m hs → p + n ≤ length m → p + joined_words p n hs ≤ length m
 joined-within m p n [] c h = h
 joined-within m p n (g ∷ gs) c h = joined-test m p n g (g.0 == p + n) refl c.1 h
@@ -173,7 +173,7 @@ hole-at m p need (g ∷ gs) c h =
 
 -- ---- the gap before a place
 
--- it is the root's, or a hole's before the place
+-- the gap before a place is the root, or a hole that ends within the device and begins before the place
 pub BeforeAt : List (List ℕ) → ℕ → ℕ × ℕ → Type 0
 BeforeAt m p g = ((g.0 ≡ 0) × (g.1 ≡ 0)) ⊎ ((131 ≤ g.0) × (g.0 + g.1 ≤ length m) × (g.0 < p))
 

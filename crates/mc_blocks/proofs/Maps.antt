@@ -43,7 +43,7 @@ swap-one p q x y true false a b ne = refl
 swap-one p q x y false true a b ne = refl
 swap-one p q x y false false a b ne = absurd (grind (arith, nat_tests, a, b, ne))
 
--- two at different places are put in either order
+-- two spans at different places can be put in either order
 pub put-put : {A : Type 0} (p q : ℕ) (x y : A) (l : List (ℕ × A)) → p ≢ q → put_at p x (put_at q y l) ≡ put_at q y (put_at p x l)
 put-put p q x y [] ne = swap-one p q x y (nat_lt p q) (nat_lt q p) refl refl ne
 put-put p q x y (e ∷ es) ne = swap-cons p q x y e es (nat_lt p e.0) (nat_lt q e.0) refl refl ne (put-put p q x y es ne)
@@ -83,7 +83,7 @@ free-entry n k p a e es true s h ne f rest = (h, ne, f.2)
 free-entry n k p a e es false true h ne f rest = (h, ne, f)
 free-entry n k p a e es false false h ne f rest = (f.0, f.1, rest)
 
--- another name stays free
+-- another name is still free after an insertion
 pub free-insert : (es : List (List ℕ × App)) (n k : List ℕ) (p : ℕ) (a : App) → bytes_eq n k ≡ false → a.place ≢ p → Free k p es → Free k p (insert es n a)
 free-insert [] n k p a h ne f = (h, ne, tt)
 free-insert (e ∷ es) n k p a h ne f = free-entry n k p a e es (bytes_eq e.0 n) (name_before n e.0) h ne f (free-insert es n k p a h ne f.2)
@@ -115,7 +115,7 @@ has-test : (p q n : ℕ) (e : ℕ × ℕ) (es more : List (ℕ × ℕ)) (t : Boo
 has-test p q n e es more true h = refl
 has-test p q n e es more false h = ap (λ (b : Bool). e.0 == p || b) h ∙ or-swap (e.0 == p) (q == p) (has_span p es)
 
--- a span that was put is there
+-- after a put a span begins at p exactly if the put one does or one did before
 pub has-put : (p q n : ℕ) (l : List (ℕ × ℕ)) → has_span p (put_at q n l) ≡ (q == p || has_span p l)
 has-put p q n [] = refl
 has-put p q n (e ∷ es) = has-test p q n e es (put_at q n es) (nat_lt q e.0) (has-put p q n es)
@@ -127,12 +127,12 @@ free-kind n p e es false h l s rest =
     let parts = or_parts ((e.1).place == p) (has_span p (spans_of es)) (sym (has-put p (e.1).place (needed e.1) (spans_of es)) ∙ s) in
     (h, eqb-false (e.1).place p parts.0, rest l parts.1)
 
--- a name that is not there at a place where no span begins
+-- a name without an entry is free at a place where no span begins
 pub free-from : (n : List ℕ) (p : ℕ) (es : List (List ℕ × App)) → lookup es n ≡ None → has_span p (spans_of es) ≡ false → Free n p es
 free-from n p [] l s = tt
 free-from n p (e ∷ es) l s = free-kind n p e es (bytes_eq e.0 n) refl l s (free-from n p es)
 
--- spans that ascend
+-- spans ascend by their places
 abbrev pub Sorted : List (ℕ × ℕ) → Type 0
 Sorted [] = Unit {0}
 Sorted (e ∷ es) = SpansAbove e.0 es × Sorted es
@@ -179,7 +179,7 @@ without-test p q n e es true lt ne a h =
     ∙ sym (put-front q n (without p (e ∷ es)) (above-without (q + 1) p (e ∷ es) above))
 without-test p q n e es false lt ne a h = kept-test p q n e es (e.0 == p) lt h
 
--- a span at another place is put before or after
+-- removing the span at a place commutes with putting one at another place
 without-put : (p q n : ℕ) (l : List (ℕ × ℕ)) → Sorted l → (q == p) ≡ false → without p (put_at q n l) ≡ put_at q n (without p l)
 without-put p q n [] s ne = ap (λ (b : Bool). cond b [] ((q, n) ∷ [])) ne
 without-put p q n (e ∷ es) s ne = without-test p q n e es (nat_lt q e.0) refl ne s.0 (without-put p q n es s.1 ne)
@@ -192,12 +192,12 @@ gone-test : (p n : ℕ) (e : ℕ × ℕ) (es : List (ℕ × ℕ)) (t : Bool) →
 gone-test p n e es true h = ap (λ (b : Bool). cond b (without p (e ∷ es)) ((p, n) ∷ without p (e ∷ es))) (eq-eqb p p refl)
 gone-test p n e es false h = gone-kept p e es (without p (put_at p n es)) (e.0 == p) h
 
--- a span at the place is gone
+-- removing the span at a place also removes one that was put there
 without-gone : (p n : ℕ) (l : List (ℕ × ℕ)) → without p (put_at p n l) ≡ without p l
 without-gone p n [] = ap (λ (b : Bool). cond b [] ((p, n) ∷ [])) (eq-eqb p p refl)
 without-gone p n (e ∷ es) = gone-test p n e es (nat_lt p e.0) (without-gone p n es)
 
--- the entries of this name are those at this place
+-- an entry has this name exactly if its application lies at this place
 abbrev pub OneAt : List ℕ → ℕ → List (List ℕ × App) → Type 0
 OneAt n p [] = Unit {0}
 OneAt n p (e ∷ es) = (bytes_eq e.0 n ≡ ((e.1).place == p)) × OneAt n p es
@@ -210,7 +210,7 @@ remove-test n p e es true h same rest =
 remove-test n p e es false h same rest =
     ap (λ (l : List (ℕ × ℕ)). put_at (e.1).place (needed e.1) l) rest ∙ sym (without-put p (e.1).place (needed e.1) (spans_of es) (sorted-spans es) (sym same ∙ h))
 
--- an application that is removed takes its span away
+-- removing an application removes its span
 pub spans-remove : (es : List (List ℕ × App)) (n : List ℕ) (p : ℕ) → OneAt n p es → spans_of (remove es n) ≡ without p (spans_of es)
 spans-remove [] n p o = refl
 spans-remove (e ∷ es) n p o = remove-test n p e es (bytes_eq e.0 n) refl o.0 (spans-remove es n p o.1)

@@ -1,4 +1,4 @@
--- What a plan makes of a card: written to the words of a well laid image, it leaves the card with the application or without it.
+-- The card after a plan: written to the words of a well laid image, the plan leaves the card with the application or without it.
 use Rattle.std.proofs.Common.{◌≡◌, ◌≢◌, ◌⊎◌, ℕ, ◌+◌, ◌<◌, ◌≤◌, Bool, true, false, List, [], ◌∷◌, ◌++◌, length, Some, None, refl, sym, ◌∙◌, ap, subst, inl, inr, arith, cond}
 use Rattle.std.specs.Prelude.{nat_lt, ◌==◌, slice_index, MatchBool}
 use Rattle.std.specs.List.{AllByRecursion, list_any}
@@ -29,7 +29,7 @@ use Rattle.mc_model_device.proofs.LookLemmas.{outside_two}
 use Rattle.mc_model_device.proofs.LayoutLemmas.{closed_fault, closed_means, length-put}
 use Rattle.mc_blocks.proofs.Search.{chain-parts}
 
--- what stands after a plan for the spans of these blocks
+-- the words after a plan for the spans of these blocks
 record AfterPlan (m n : List (List ℕ)) (new : List Block) : Type 0 where
   relaid : Relaid m n new
   same : (s : ℕ × ℕ) → In s (used_spans (blocks m)) → In s (used_spans new) → (i : ℕ) → s.0 ≤ i → i < s.0 + s.1 → word n i ≡ word m i
@@ -129,7 +129,7 @@ leaves m n new apps closed size r nm few is =
           ∙ sym (ap (λ (k : Card). record k { apps = apps }) (closed_means m closed));
     }
 
--- words taken for an application whose record stands there
+-- words are taken for an application whose record is there: the card gains it
 pub creates : (m n : List (List ℕ)) (p need : ℕ) → IsSized m → look m ≡ Closed → IsWellLaid m → 1 ≤ need → has_room p need (gaps (means m)) ≡ true → Planned m n (put_at p need (spans (means m)))
     → is_record (record_at n p) need ≡ true → lookup (means m).apps (name_at n p) ≡ None → length (means m).apps < 32 → HoldsApplications m n (insert (means m).apps (name_at n p) (app_at n p))
 creates m n p need image closed h some room planned good fresh few =
@@ -150,7 +150,7 @@ creates m n p need image closed h some room planned good fresh few =
     let more : length (used_spans new) ≤ 32 = omega (arith, ap length same-spans, length-put p need (used_spans bs), count) in
     leaves m n new (insert (means m).apps (name_at n p) (app_at n p)) closed planned.size after.relaid c.named more (c.apps ∙ ap (λ (es : List (List ℕ × App)). insert es (name_at n p) (app_at n p)) (sym means-apps))
 
--- a block freed: the card loses its application
+-- a block is freed: the card loses its application
 pub deletes : (m n : List (List ℕ)) (k : List ℕ) (a : App) → IsSized m → look m ≡ Closed → IsWellLaid m → lookup (means m).apps k ≡ Some a → Planned m n (without a.place (spans (means m))) → HoldsApplications m n (remove (means m).apps k)
 deletes m n k a image closed h found planned =
     let l : WellLaid m = well-laid m image closed h in

@@ -1,4 +1,4 @@
--- The plans of a well laid image: what the code lists is what changes.
+-- The plans of a well laid image: the code's list is the list of changes.
 use Rattle.std.proofs.Common.{◌≡◌, ◌≢◌, ◌⊎◌, ℕ, ◌+◌, ◌-◌, ◌<◌, ◌≤◌, Bool, true, false, ◌&&◌, List, [], ◌∷◌, length, not, Some, refl, sym, ◌∙◌, ap, subst, inl, inr, arith, cond}
 use Rattle.std.specs.Prelude.{nat_lt, nat_le, ◌==◌, slice_index}
 use Rattle.std.proofs.lemmas.Bool.{lt-ltb, le-leb, ltb-true, eq-eqb, ne_eqb, eqb-true, or_cases, and_from, or_left, or_right}
@@ -21,7 +21,7 @@ use Rattle.mc_blocks.proofs.Freeing as freeing
 use Rattle.mc_blocks.proofs.Links.{chain-behind, gaps-chain, joined-within, HoleAt, hole-at, BeforeAt, before-at, before-cases}
 use Rattle.mc_model_device.proofs.LayoutLemmas.{closed_means}
 
--- a plan for spans that are made of the card's
+-- a plan for a function of the card's spans
 pub plan-is : (m : List (List ℕ)) (f : List (ℕ × ℕ) → List (ℕ × ℕ)) → IsSized m → look m ≡ Closed → IsWellLaid m
     → plan (means m) (f (spans (means m))) ≡ changes (layout_of (slice_index (word m 0) 3) (length m) (used_spans (blocks m))) (layout_of (slice_index (word m 0) 3) (length m) (f (used_spans (blocks m))))
 plan-is m f image closed h =
@@ -143,7 +143,7 @@ take-is m p need image closed h some room =
       few = take-few m v p (be2 (word m p) 2) (be2 (word m p) 4) need (gap_before p (0, 0) gs) (nat_lt need (be2 (word m p) 2)) refl low some hole.long ends (before-at m p gs (gaps-above m image closed h) (gaps-chain m image closed h));
     }
 
--- what the code lists from the links that it read
+-- the code's list, from the links that it read, is the plan
 pub take-listed : (m : List (List ℕ)) (p need : ℕ) (before : ℕ × ℕ) (at words next : ℕ) (items : List (ℕ × List ℕ)) → TakeIs m p need → before ≡ gap_before p (0, 0) (gaps (means m)) → at ≡ p → words ≡ be2 (word m p) 2 → next ≡ be2 (word m p) 4
     → items ≡ take_front (slice_index (word m 0) 3) (length m) before at words next need → (items ≡ plan (means m) (put_at p need (spans (means m)))) × FewPairs (length m) items
 take-listed m p need before at words next items t a b c d e =
@@ -159,7 +159,7 @@ take-listed m p need before at words next items t a b c d e =
 
 -- ---- freeing
 
--- the header of a used block
+-- the header and the place of a used block
 pub record BlockAt (m : List (List ℕ)) (p : ℕ) (bs : List Block) : Type 0 where
   pub low : 131 ≤ p
   pub some : 1 ≤ be2 (word m p) 2
@@ -228,13 +228,13 @@ free-is m p image closed h span =
       few = put-few m v p (joined_words p n (gaps_behind p gs)) (joined_next p n (gaps_behind p gs)) (gap_before p (0, 0) gs) (touches (gap_before p (0, 0) gs) p) low (omega arith) (before-at m p gs (gaps-above m image closed h) (gaps-chain m image closed h));
     }
 
--- the gap before a place ends in time
+-- the gap before a place ends within the device
 pub before-ends : (m : List (List ℕ)) (p : ℕ) → IsSized m → look m ≡ Closed → IsWellLaid m → (gap_before p (0, 0) (gaps (means m))).0 + (gap_before p (0, 0) (gaps (means m))).1 ≤ length m
 before-ends m p image closed h =
     let g = gap_before p (0, 0) (gaps (means m)) in
     elim (before-cases m p g (before-at m p (gaps (means m)) (gaps-above m image closed h) (gaps-chain m image closed h))) [ inl root ↦ omega (arith, root.0, root.1) | inr hole ↦ hole.1 ]
 
--- what the code lists from the links that it read
+-- the code's list, from the links that it read, is the plan
 pub free-listed : (m : List (List ℕ)) (p : ℕ) (before : ℕ × ℕ) (at words next n : ℕ) (items : List (ℕ × List ℕ)) → FreeIs m p → before ≡ gap_before p (0, 0) (gaps (means m)) → at ≡ p → n ≡ be2 (word m p) 2
     → words ≡ joined_words p n (gaps_behind p (gaps (means m))) → next ≡ joined_next p n (gaps_behind p (gaps (means m)))
     → items ≡ put_hole (slice_index (word m 0) 3) (length m) before at words next → (items ≡ plan (means m) (without p (spans (means m)))) × FewPairs (length m) items

@@ -10,7 +10,7 @@ use Rattle.std.proofs.lemmas.List.{drop_more, take_all}
 use Rattle.std.proofs.lemmas.Bool.{le-leb}
 use Rattle.std.proofs.lemmas.List.Concat.{concat_is}
 
--- the four words behind a header
+-- the four words after a header
 four : (m : List (List ℕ)) (p : ℕ) → p + 5 ≤ length m → take 4 (drop (p + 1) m) ≡ word m (p + 1) ∷ word m (p + 2) ∷ word m (p + 3) ∷ word m (p + 4) ∷ []
 four m p h =
     let first : p + 1 < length m = omega arith in
@@ -30,7 +30,7 @@ pub record_words : (m : List (List ℕ)) (p : ℕ) (ws : List (List ℕ)) (r : L
     → ws ≡ word m (p + 1) ∷ word m (p + 2) ∷ word m (p + 3) ∷ word m (p + 4) ∷ [] → r ≡ flat_map (λ x. x) ws → r ≡ record_at m p
 record_words m p ws r h e f = f ∙ ap (λ (l : List (List ℕ)). flat_map (λ x. x) l) e ∙ sym (record_is m p h)
 
--- tests grouped
+-- a conjunction, grouped
 and_three : (x a b c : Bool) → (x && (a && b && c)) ≡ (x && a && b && c)
 and_three true a b c = refl
 and_three false a b c = refl
@@ -39,7 +39,7 @@ and_six : (x a b c d e f : Bool) → (x && (a && b && c && d && e && f)) ≡ (x 
 and_six true a b c d e f = refl
 and_six false a b c d e f = refl
 
--- the tests of a record, by its three parts
+-- the test of a record is that of its three parts and of its number of words
 pub record_parts : (r : List ℕ) (w : ℕ) → (named r && sized r && allowed r && w == needed_of (be2 r 20) (be2 r 22) (slice_index r 17) (slice_index r 18)) ≡ is_record r w
 record_parts r w =
     let fits = w == needed_of (be2 r 20) (be2 r 22) (slice_index r 17) (slice_index r 18) in
@@ -53,7 +53,7 @@ record_parts r w =
 four_left : (r : List ℕ) → length r ≡ 32 → take 4 (drop 28 r) ≡ drop 28 r
 four_left r h = let few : length (drop 28 r) ≤ 4 = omega (arith, length-drop 28 r) in take_all 4 (drop 28 r) few
 
--- the last test, where the others hold
+-- the last part of the test, if the others hold
 pub allowed_end : (r : List ℕ) (s d : ℕ) (b : Bool) → length r ≡ 32 → s ≡ be2 r 24 → d ≡ be2 r 26 → (s ≤ 256) × (d ≤ 15)
     → b ≡ bytes_eq (take 4 (drop 28 r)) (zeros (length (take 4 (drop 28 r)))) → b ≡ allowed r
 allowed_end r s d b size session deny within zero =

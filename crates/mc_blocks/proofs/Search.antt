@@ -50,7 +50,7 @@ pub chain-parts : (x first : ℕ) (rest : Option ℕ) (t : Bool) → (x == first
 chain-parts x first rest true e h = (eqb-true x first e, h)
 chain-parts x first rest false e h = absurd (cc h)
 
--- the gaps of the card that an image means, as its chain
+-- the gaps of the card of an image are its holes and its chain
 pub record GapChain (m : List (List ℕ)) : Type 0 where
   pub gaps : gaps (means m) ≡ hole_spans (blocks m)
   pub chain : IsChain m (hole_spans (blocks m))
@@ -68,11 +68,11 @@ chain-of m image closed h =
 
 -- ---- a search
 
--- how far a place is from the end; place 0 is the end of a chain
+-- the number of words from a place to the end; place 0 is the end of a chain
 abbrev pub left_of : ℕ → ℕ → ℕ
 left_of size place = cond (place == 0) 0 (size - place)
 
--- what is left to search from a place on, and the steps so far
+-- the state of a search: the gaps that are left, from a place on, and the steps so far
 pub record Search (m : List (List ℕ)) (need : ℕ) (whole : List (ℕ × ℕ)) (place start steps : ℕ) : Type 0 where
   pub rest : List (ℕ × ℕ)
   pub chain : IsChain m rest
@@ -80,7 +80,7 @@ pub record Search (m : List (List ℕ)) (need : ℕ) (whole : List (ℕ × ℕ))
   pub same : first_fitting need whole ≡ first_fitting need rest
   pub ticks : steps + looked_at need rest ≡ start + (1 + looked_at need whole)
 
--- what is known of a hole on the way
+-- the facts of a hole that the search reads
 pub record OnTheWay (m : List (List ℕ)) (need : ℕ) (whole : List (ℕ × ℕ)) (place start steps : ℕ) : Type 0 where
   pub within : place < length m
   pub found : need ≤ be2 (word m place) 2 → (first_fitting need whole ≡ Some place) × (steps + 1 ≡ start + (1 + looked_at need whole))
@@ -136,7 +136,7 @@ all-looked : (m : List (List ℕ)) (need : ℕ) (rest : List (ℕ × ℕ)) → I
 all-looked m need [] chain h = refl
 all-looked m need (g ∷ gs) chain h = let low : 1 ≤ g.0 = chain.0 in absurd (omega (arith, h))
 
--- at the end of the chain no hole was long enough
+-- if the search reaches the end of the chain, no hole is long enough
 pub search-ends : (m : List (List ℕ)) (need : ℕ) (whole : List (ℕ × ℕ)) (place start steps : ℕ) → Search m need whole place start steps → place ≡ 0
     → (first_fitting need whole ≡ None) × (steps ≡ start + (1 + looked_at need whole))
 search-ends m need whole place start steps s h =
@@ -157,7 +157,7 @@ search-begins m need place start steps x image closed h is here one =
       ticks = omega (arith, count, one);
     }
 
--- a hole that is too short is passed
+-- after a hole that is too short the search goes on
 pub search-on : (m : List (List ℕ)) (need : ℕ) (whole : List (ℕ × ℕ)) (place start steps : ℕ) (x : List ℕ) (words next after : ℕ) → Search m need whole place start steps → place ≢ 0 → x ≡ word m place
     → words ≡ be2 x 2 → nat_le need words ≡ false → next ≡ be2 x 4 → after ≡ steps + 1 → Search m need whole next start after
 search-on m need whole place start steps x words next after s ne is e less f one =
@@ -168,7 +168,7 @@ search-on m need whole place start steps x words next after s ne is e less f one
     let n : Search m need whole (be2 (word m place) 4) start (steps + 1) = way.next (subst (λ (w : ℕ). w < need) long short) in
     subst (λ (p : ℕ). Search m need whole p start after) (sym link) (subst (λ (t : ℕ). Search m need whole (be2 (word m place) 4) start t) (sym one) n)
 
--- a hole that is long enough is found
+-- a hole that is long enough is the result
 pub search-found : (m : List (List ℕ)) (need : ℕ) (whole : List (ℕ × ℕ)) (place start steps : ℕ) (x : List ℕ) (words after : ℕ) → Search m need whole place start steps → place ≢ 0 → x ≡ word m place
     → words ≡ be2 x 2 → nat_le need words ≡ true → after ≡ steps + 1 → (Some place ≡ first_fitting need whole) × (after ≡ start + (1 + looked_at need whole))
 search-found m need whole place start steps x words after s ne is e enough one =

@@ -1,4 +1,4 @@
--- Words within a used block that are set, behind its record.
+-- Setting words of a used block after its record.
 use Rattle.std.proofs.Common.{◌≡◌, ◌≢◌, ℕ, ◌+◌, ◌<◌, ◌≤◌, Bool, true, false, ◌||◌, List, [], ◌∷◌, length, refl, sym, ◌∙◌, ap, subst, inl, inr, arith, cond, not}
 use Rattle.std.specs.Prelude.{◌==◌, bytes_eq, slice_index, MatchBool}
 use Rattle.std.proofs.lemmas.Bool.{cases_eq, ne_eqb}
@@ -51,7 +51,7 @@ set-kind m n names k a b bs true apart block nm rest =
           ∙ insert-swap (apps_of m bs) k a x (app_at m b.place) (turned x k (apart refl)),
     )
 
--- the block itself
+-- the block whose words are set
 set-here : (m n : List (List ℕ)) (p q : ℕ) (a : Bool) (names : List (List ℕ)) (b : Block) (bs : List Block) (end : ℕ) (u : Bool) → b.place ≡ p → p < q → Tiled q a bs end → SameUsed m n p bs → record_at n p ≡ record_at m p
     → u ≡ true → MatchBool u ((is_record (record_at m b.place) b.words ≡ true) × (has_name (name_at m b.place) names ≡ false) × AreNamed m (name_at m b.place ∷ names) bs) (AreNamed m names bs)
     → MatchBool u ((is_record (record_at n b.place) b.words ≡ true) × (has_name (name_at n b.place) names ≡ false) × AreNamed n (name_at n b.place ∷ names) bs) (AreNamed n names bs)
@@ -97,7 +97,7 @@ set-all m n p q a names (b ∷ bs) end t nm s span e =
           record { named = d.0; apps = some-apps n b bs ∙ d.1 ∙ ap (λ (es : List (List ℕ × App)). insert es (name_at m p) (app_at n p)) (sym (some-apps m b bs)) }
     ]
 
--- words of one used block set behind its record: the card has its application as it stands then
+-- after words of one used block are set after its record, the card has the application that the block then holds
 pub sets : (m n : List (List ℕ)) (p : ℕ) → IsSized m → look m ≡ Closed → IsWellLaid m → has_span p (spans (means m)) ≡ true → length n ≡ length m → word n 0 ≡ word m 0 → AgreeBut m n p (blocks m) → record_at n p ≡ record_at m p
     → HoldsApplications m n (insert (means m).apps (name_at m p) (app_at n p))
 sets m n p image closed h span size same agree entry =

@@ -1,4 +1,4 @@
--- Words set among the words of a section are pieces laid over its bytes.
+-- Setting words of a section writes pieces over its bytes.
 use Rattle.std.proofs.Common.{◌≡◌, ◌≢◌, ℕ, zero, suc, ◌+◌, ◌-◌, ◌*◌, ◌<◌, ◌≤◌, List, [], ◌∷◌, ◌++◌, length, take, drop, map, refl, sym, ◌∙◌, ap, subst, inl, inr, arith, length-append, append_assoc}
 use Rattle.std.specs.Prelude.{slice_set}
 use Rattle.std.specs.List.{AllByRecursion}
@@ -27,7 +27,7 @@ image-set m k x image lt eight =
           ];
     }
 
--- one word set among k words
+-- the bytes of k words after one of them is set
 pub cells-set : (m : List (List ℕ)) (q k r : ℕ) (x : List ℕ) → IsSized m → q + k + suc r ≤ length m → length x ≡ 8 → cells (slice_set m (q + k) x) q (k + suc r) ≡ splice (cells m q (k + suc r)) (8 * k) x
 cells-set m q k r x image h eight =
     let n = slice_set m (q + k) x in
@@ -52,7 +52,7 @@ cells-set m q k r x image h eight =
     ∙ append_assoc a x c in
     new ∙ sym (ap (λ (l : List ℕ). splice l (8 * k) x) old ∙ spliced)
 
--- ---- fronts of lists
+-- ---- prefixes of lists
 
 front-over : (n : ℕ) (k l b : List ℕ) → n ≤ length k → n ≤ length l → take n k ≡ take n l → take n (b ++ drop (length b) k) ≡ take n (b ++ drop (length b) l)
 front-over n k l [] hk hl e = e
@@ -66,7 +66,7 @@ front-over (suc n) (c ∷ k) (d ∷ l) (y ∷ ys) hk hl e =
 splice-more : (c : ℕ) (l : List ℕ) (at : ℕ) (b : List ℕ) → splice (c ∷ l) (suc at) b ≡ c ∷ splice l at b
 splice-more c l at b = ap (λ (n : ℕ). c ∷ (take at l ++ b ++ drop n (c ∷ l))) (let e : suc at + length b ≡ suc (at + length b) = omega arith in e)
 
--- lists with the same front, with the same bytes laid over it
+-- lists with an equal prefix still have it after equal bytes are written over it
 pub same-front : (n at : ℕ) (k l b : List ℕ) → at ≤ n → n ≤ length k → n ≤ length l → take n k ≡ take n l → take n (splice k at b) ≡ take n (splice l at b)
 same-front n zero k l b low hk hl e =
     ap (λ (x : ℕ). take n (b ++ drop x k)) (let z : 0 + length b ≡ length b = omega arith in z)
@@ -91,7 +91,7 @@ same-pieces n (w ∷ ws) k l hk hl a e =
     let two = splice-longer l (8 * w.0) w.1 in
     same-pieces n ws (splice k (8 * w.0) w.1) (splice l (8 * w.0) w.1) (omega (arith, one)) (omega (arith, two)) a.1 (same-front n (8 * w.0) k l w.1 (omega arith) hk hl e)
 
--- ---- words laid
+-- ---- words written
 
 -- pairs of a word's number from q on and a word
 abbrev from_place : ℕ → List (ℕ × List ℕ) → List (ℕ × List ℕ)
@@ -115,7 +115,7 @@ number-in : (n : ℕ) (ws : List (ℕ × List ℕ)) → AllByRecursion (λ w. 8 
 number-in n [] a = tt
 number-in n (w ∷ ws) a = let lt : 8 * w.0 < n = a.0 in (omega arith, number-in n ws a.1)
 
--- the bytes of a section of n bytes with words laid over it
+-- the bytes of a section of n bytes after words are written over it
 pub record SectionLaid (m : List (List ℕ)) (q n : ℕ) (ws : List (ℕ × List ℕ)) : Type 0 where
   pub image : IsSized (laid m (from_place q ws))
   pub bytes : section (laid m (from_place q ws)) q n ≡ laid_words (section m q n) ws

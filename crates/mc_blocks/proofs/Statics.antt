@@ -1,4 +1,4 @@
--- What words of a static segment make of a card: the application has them laid over its static bytes, and all else stays.
+-- The card after words of a static segment are written: the application has them over its static bytes, and all else is kept.
 use Rattle.std.proofs.Common.{◌≡◌, ◌⊎◌, ℕ, ◌+◌, ◌<◌, ◌≤◌, Bool, true, false, ◌&&◌, ◌||◌, List, [], ◌∷◌, length, Some, None, cond, not, refl, sym, ◌∙◌, ap, subst, inl, inr, arith}
 use Rattle.std.specs.Prelude.{◌==◌, nat_le, slice_index, bytes_eq, MatchBool}
 use Rattle.std.proofs.lemmas.Slice.Eq.{bytes_eq-Decides}
@@ -19,9 +19,9 @@ use Rattle.mc_blocks.proofs.Built.{HoldsBlocks, built, SameBlock, same-block, ro
 use Rattle.mc_blocks.proofs.Sections.{length-section, same-cells, same-section}
 use Rattle.mc_model_device.proofs.MapLemmas.{other_way, insert-swap, insert-twice}
 
--- ---- blocks that stay
+-- ---- blocks that are kept
 
--- what is read of the blocks is the same in both words
+-- both words agree in all that is read of the blocks
 record Stay (m n : List (List ℕ)) (names : List (List ℕ)) (bs : List Block) : Type 0 where
   read : HeadersRead n bs
   named : AreNamed n names bs
@@ -65,7 +65,7 @@ stay-all m n names q a (b ∷ bs) end size t r nm same =
 abbrev pub static_from : App → ℕ
 static_from a = a.place + 5 + up (length a.code) 8
 
--- words n are words m but for the static bytes of an application, which are these
+-- words n agree with m except in the static bytes of an application, which are `fixed`
 pub record Restated (m n : List (List ℕ)) (a : App) (fixed : List ℕ) : Type 0 where
   pub size : length n ≡ length m
   pub words : (i : ℕ) → 131 ≤ i → (i < static_from a) ⊎ (static_from a + up (length a.fixed) 8 ≤ i) → word n i ≡ word m i
@@ -79,7 +79,7 @@ record OnlyStaticChanged (m n : List (List ℕ)) (p : ℕ) (fixed : List ℕ) : 
   app : app_at n p ≡ record (app_at m p) { fixed = fixed }
   ends : static_from (app_at m p) + up (length (app_at m p).fixed) 8 ≤ p + needed_of (be2 (record_at m p) 20) (be2 (record_at m p) 22) (slice_index (record_at m p) 17) (slice_index (record_at m p) 18)
 
--- the block itself
+-- the block of the application
 here-is : (m n : List (List ℕ)) (p words : ℕ) (fixed : List ℕ) → IsSized m → 131 ≤ p → p + words ≤ length m → is_record (record_at m p) words ≡ true → Restated m n (app_at m p) fixed → OnlyStaticChanged m n p fixed
 unfolding recorded_app
 here-is m n p words fixed image low h good s =
@@ -127,7 +127,7 @@ record Again (m n : List (List ℕ)) (names : List (List ℕ)) (k : List ℕ) (a
   apps : apps_of n bs ≡ insert (apps_of m bs) k (record a { fixed = fixed })
   apart : (p need : ℕ) → has_room p need (hole_spans bs) ≡ true → (p + need ≤ a.place) ⊎ (static_from a + up (length a.fixed) 8 ≤ p)
 
--- one block of it
+-- one block of such a walk
 record BlockStep (m n : List (List ℕ)) (names : List (List ℕ)) (k : List ℕ) (a : App) (fixed : List ℕ) (b : Block) (bs : List Block) (u : Bool) : Type 0 where
   low : b.place ≤ a.place
   self : app_at m a.place ≡ a
@@ -276,7 +276,7 @@ restates m n k a fixed image h there root s =
           ∙ ap (λ (x : List (List ℕ × App)). record { size = length m; layout = slice_index (word m 0) 3; apps = x }) (ap (λ (y : List Block). apps_of n y) stands.blocks ∙ g.apps);
     }
 
--- an application is what its block says, and its static bytes lie in the heap, and in no hole
+-- an application is the one that its block holds, and its static bytes lie in the heap and in no hole
 pub record StaticIn (m : List (List ℕ)) (k : List ℕ) (a : App) : Type 0 where
   pub low : 131 ≤ a.place
   pub self : app_at m a.place ≡ a

@@ -1,4 +1,4 @@
--- One step of a walk by lengths: the block at a place, and the blocks behind it.
+-- One step of a walk by lengths: the block at a place, and the blocks after it.
 use Rattle.std.proofs.Common.{◌≡◌, ℕ, zero, suc, ◌+◌, ◌-◌, ◌<◌, ◌≤◌, Bool, true, false, ◌&&◌, ◌||◌, List, [], ◌∷◌, length, Option, Some, None, refl, sym, ◌∙◌, ap, subst, arith, cond}
 use Rattle.std.specs.Prelude.{nat_le, ◌==◌, slice_index}
 use Rattle.std.proofs.lemmas.Bool.{and_parts, leb-true}
@@ -7,7 +7,7 @@ use Rattle.mc_model_device.specs.Bytes.{be2}
 use Rattle.mc_model_device.specs.Card.{Block, used_tag, hole_tag, word, is_header, header, block_and, blocks_from}
 use Rattle.mc_blocks.specs.Blocks.{fitting, blocks_at}
 
--- what is known of a block whose header was read
+-- the facts of a block whose header was read
 pub record HeaderIs (p : ℕ) (x : List ℕ) (b : Block) : Type 0 where
   pub place : b.place ≡ p
   pub used : b.used ≡ (slice_index x 0 == used_tag)
@@ -33,7 +33,7 @@ header-read p x b true h e =
 pub header-is : (p : ℕ) (x : List ℕ) (b : Block) → header p x ≡ Some b → HeaderIs p x b
 header-is p x b h = header-read p x b (is_header x) refl h
 
--- a block that fits was read, and ends in time
+-- a block that fits was read, and ends within the device
 pub record BlockFits (size p : ℕ) (x : List ℕ) (b : Block) : Type 0 where
   pub read : header p x ≡ Some b
   pub place : b.place ≡ p
@@ -78,11 +78,11 @@ and-none : (size : ℕ) (o : Option Block) (rest : ℕ → List Block) → fitti
 and-none size None rest h = refl
 and-none size (Some c) rest h = and-past size c rest (nat_le (c.place + c.words) size) h
 
--- past the end nothing is a header
+-- past the end there is no header
 past : (m : List (List ℕ)) (p : ℕ) → length m ≤ p → header p (word m p) ≡ None
 past m p h = ap (λ (x : List ℕ). header p x) (get_or_past m p [] h)
 
--- the same blocks with any number that is enough
+-- any two bounds on the number of blocks that are large enough yield the same blocks
 and-either : (m : List (List ℕ)) (p : ℕ) (o : Option Block) (f g : ℕ → List Block) → fitting (length m) (header p (word m p)) ≡ o
     → ((b : Block) → BlockFits (length m) p (word m p) b → f (b.place + b.words) ≡ g (b.place + b.words)) → block_and (length m) (header p (word m p)) f ≡ block_and (length m) (header p (word m p)) g
 and-either m p None f g e same = and-none (length m) (header p (word m p)) f e ∙ sym (and-none (length m) (header p (word m p)) g e)
@@ -113,7 +113,7 @@ blocks-suc n m p b h = and-some (length m) (header p (word m p)) (header p (word
 blocks-fuel : (n k : ℕ) (m : List (List ℕ)) (p : ℕ) → n ≡ suc k → blocks_from n m p ≡ blocks_from (suc k) m p
 blocks-fuel n k m p e = ap (λ (t : ℕ). blocks_from t m p) e
 
--- the block at a place, and those behind it
+-- the blocks from a place on are the block there and those after it
 pub blocks_step : (m : List (List ℕ)) (p : ℕ) (b : Block) → Some b ≡ fitting (length m) (header p (word m p)) → blocks_at m p ≡ b ∷ blocks_at m (b.place + b.words)
 blocks_step m p b e =
     let h : fitting (length m) (header p (word m p)) ≡ Some b = sym e in
@@ -125,7 +125,7 @@ blocks_step m p b e =
     ∙ blocks-suc (length m - p - 1) m p b h
     ∙ ap (λ (l : List Block). b ∷ l) (same-fuel (length m - p - 1) (length m - (b.place + b.words)) m (b.place + b.words) (omega arith) (omega arith))
 
--- its end is nearer to the end of the words
+-- a block ends within the device, and its end is nearer to that of the device than its place
 pub block_ends : (size p : ℕ) (x : List ℕ) (b : Block) → Some b ≡ fitting size (header p x) → (b.place + b.words ≤ size) × (size - (b.place + b.words) < size - p) × (b.place ≡ p) × (p < b.place + b.words)
 block_ends size p x b e =
     let f : BlockFits size p x b = fits size p x b (sym e) in
@@ -139,6 +139,6 @@ unfolding blocks_from
 blocks-none zero m p h = refl
 blocks-none (suc n) m p h = and-none (length m) (header p (word m p)) (λ q. blocks_from n m q) h
 
--- no block at a place, and none behind it
+-- if there is no block at a place, there is none from it on
 pub blocks_stop : (m : List (List ℕ)) (p : ℕ) → None ≡ fitting (length m) (header p (word m p)) → blocks_at m p ≡ []
 blocks_stop m p h = blocks-none (length m - p) m p (sym h)

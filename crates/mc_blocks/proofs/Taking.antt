@@ -1,4 +1,4 @@
--- Words taken from the front of a hole: the blocks afterwards, and the headers that change.
+-- Taking words from the front of a hole: the blocks after it, and the headers that change.
 use Rattle.std.proofs.Common.{◌≡◌, ◌≢◌, ◌⊎◌, ℕ, ◌+◌, ◌-◌, ◌<◌, ◌≤◌, Bool, true, false, ◌&&◌, List, [], ◌∷◌, refl, sym, ◌∙◌, ap, subst, inl, inr, arith, cond, not}
 use Rattle.std.specs.Prelude.{nat_lt, nat_le, ◌==◌}
 use Rattle.std.proofs.lemmas.Bool.{le-ltb, ltb-true, ltb-false, eq-eqb, ne_eqb, eqb-true, and_parts, leb-true, or_cases}
@@ -16,25 +16,25 @@ use Rattle.mc_blocks.proofs.Heads.{heads, heads-from, heads-same, layout-is}
 use Rattle.mc_blocks.proofs.Claims.{Claim, not-before, later-either}
 use Rattle.mc_model_device.proofs.BoolLemmas.{and_false}
 
--- a used block and a hole, each by its place and its words
+-- the used block at p with n words
 abbrev pub used_block : ℕ → ℕ → Block
 used_block p n = record { place = p; used = true; words = n; link = 0 }
 
 abbrev pub free_block : ℕ → ℕ → Block
 free_block p n = record { place = p; used = false; words = n; link = 0 }
 
--- what is left of a hole, before the blocks behind it
+-- the rest of a hole, if there is one, and the blocks after it
 abbrev pub rest_of : ℕ → ℕ → Block → List Block → List Block
 rest_of p need b bs = cond (nat_lt need b.words) (free_block (p + need) (b.words - need) ∷ bs) bs
 
--- the blocks with the front of the hole at p taken
+-- the blocks after words are taken from the front of the hole at p
 abbrev pub take_in : ℕ → ℕ → List Block → List Block
 take_in p need [] = []
 take_in p need (b ∷ bs) = cond (b.place == p) (used_block p need ∷ rest_of p need b bs) (b ∷ take_in p need bs)
 
--- ---- where the room is
+-- ---- the place of the room
 
--- room lies where the gaps are
+-- room is at no place before the gaps
 pub room-from : (q p need : ℕ) (gs : List (ℕ × ℕ)) → SpansAbove q gs → has_room p need gs ≡ true → q ≤ p
 room-from q p need [] a h = absurd (cc h)
 room-from q p need (g ∷ gs) a h =
@@ -44,7 +44,7 @@ room-from q p need (g ∷ gs) a h =
       | inr later ↦ room-from q p need gs a.1 later
     ]
 
--- a block is the hole with the room, or the room is behind it
+-- a block is the hole with the room, or the room is after it
 unfoldable pub RoomAt : ℕ → ℕ → Block → List Block → Type 0
 RoomAt p need b bs = ((b.used ≡ false) × (b.place ≡ p) × (need ≤ b.words)) ⊎ (((b.place == p) ≡ false) × (has_room p need (hole_spans bs) ≡ true) × (b.place < p))
 
@@ -66,9 +66,9 @@ room-kind p need q b bs false used place low above room =
 pub room-at : (p need q : ℕ) (a : Bool) (b : Block) (bs : List Block) (end : ℕ) → Tiled q a (b ∷ bs) end → has_room p need (hole_spans (b ∷ bs)) ≡ true → RoomAt p need b bs
 room-at p need q a b bs end t room = room-kind p need q b bs b.used refl t.0 t.1 (holes-above (q + b.words) (not b.used) bs end t.3) room
 
--- ---- the blocks afterwards
+-- ---- the blocks after the change
 
--- no hole behind a hole: all the more where none is before
+-- blocks that may follow a hole may also follow a used block
 loosen : (p : ℕ) (bs : List Block) (end : ℕ) → Tiled p true bs end → Tiled p false bs end
 loosen p [] end t = t
 loosen p (b ∷ bs) end t = (t.0, t.1, refl, t.3)
@@ -135,7 +135,7 @@ take-spans p need q a (b ∷ bs) end t room =
 
 -- ---- the headers that change
 
--- blocks end behind their start
+-- blocks end at their start or after it
 pub tiled-end : (q : ℕ) (a : Bool) (bs : List Block) (end : ℕ) → Tiled q a bs end → q ≤ end
 tiled-end q a [] end t = omega (arith, t)
 tiled-end q a (b ∷ bs) end t = let later : q + b.words ≤ end = tiled-end (q + b.words) (not b.used) bs end t.3 in omega arith
@@ -145,7 +145,7 @@ first-kind : (q : ℕ) (b : Block) (bs : List Block) (end : ℕ) (u : Bool) → 
 first-kind q b bs end true place low ends rest = elim rest [ inl none ↦ inl none | inr some ↦ inr (omega (arith, some.0), some.1) ]
 first-kind q b bs end false place low ends rest = inr (omega arith, omega arith)
 
--- the first hole lies among the blocks, or there is none
+-- the place of the first hole is within the blocks, or 0
 pub first-range : (q : ℕ) (a : Bool) (bs : List Block) (end : ℕ) → Tiled q a bs end → (first_hole bs ≡ 0) ⊎ ((q ≤ first_hole bs) × (first_hole bs < end))
 first-range q a [] end t = inl refl
 first-range q a (b ∷ bs) end t = first-kind q b bs end b.used t.0 t.1 (tiled-end (q + b.words) (not b.used) bs end t.3) (first-range (q + b.words) (not b.used) bs end t.3)
@@ -214,7 +214,7 @@ take-all v s p need q g a (b ∷ bs) end some low few gap t room =
           (λ _. take-all v s p need (q + b.words) (b.place, b.words) (not b.used) bs end some (omega arith) few (omega arith) t.3 later.1))
     ]
 
--- taking words changes these headers
+-- the changes of taking words are those of `take_list`
 pub take_plan : (v size p need : ℕ) (bs : List Block) → 1 ≤ need → size < 65536 → Tiled heap_start false bs size → has_room p need (hole_spans bs) ≡ true
     → changes (layout_of v size (used_spans bs)) (layout_of v size (put_at p need (used_spans bs))) ≡ take_list v size (gap_before p (0, 0) (hole_spans bs)) (gaps_behind p (hole_spans bs)) p need
 unfolding Claim

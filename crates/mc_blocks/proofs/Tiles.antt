@@ -1,4 +1,4 @@
--- Blocks side by side: their gaps are their holes.
+-- Adjacent blocks: their gaps are their holes.
 use Rattle.std.proofs.Common.{◌≡◌, ℕ, zero, suc, ◌+◌, ◌-◌, ◌<◌, ◌≤◌, Bool, true, false, ◌&&◌, List, [], ◌∷◌, ◌++◌, length, Option, Some, None, refl, sym, ◌∙◌, ap, subst, inl, inr, arith, cond, not, append-nil}
 use Rattle.std.specs.Prelude.{nat_lt}
 use Rattle.std.proofs.lemmas.Bool.{lt-ltb, le-ltb, le-leb, cases_lt, or_parts}
@@ -9,12 +9,12 @@ use Rattle.mc_blocks.specs.Blocks.{fitting, blocks_at, bad_from, used_spans, hol
 use Rattle.mc_blocks.proofs.Steps.{HeaderIs, header-is, blocks_step, blocks_stop}
 use Rattle.mc_blocks.proofs.Headers.{bad_here, bad_behind, good_end}
 
--- blocks from p on up to the end, no hole behind a hole; after_hole is whether a hole ends at p
+-- adjacent blocks from p up to the end, with no hole after a hole; after_hole is whether a hole ends at p
 abbrev pub Tiled : ℕ → Bool → List Block → ℕ → Type 0
 Tiled p after_hole [] end = p ≡ end
 Tiled p after_hole (b ∷ bs) end = (b.place ≡ p) × (1 ≤ b.words) × ((after_hole && not b.used) ≡ false) × Tiled (p + b.words) (not b.used) bs end
 
--- their headers stand in their places
+-- the headers of these blocks are at their places
 abbrev pub HeadersRead : List (List ℕ) → List Block → Type 0
 HeadersRead m [] = Unit {0}
 HeadersRead m (b ∷ bs) = (header b.place (word m b.place) ≡ Some b) × (b.place + b.words ≤ length m) × HeadersRead m bs
@@ -27,7 +27,7 @@ nothing-past m p h = blocks_stop m p (sym (ap (λ (x : List ℕ). fitting (lengt
 fits-back : (size : ℕ) (b : Block) (o : Option Block) → o ≡ Some b → b.place + b.words ≤ size → Some b ≡ fitting size o
 fits-back size b o e h = sym (ap (λ (q : Option Block). fitting size q) e ∙ ap (λ (t : Bool). cond t (Some b) None) (le-leb (b.place + b.words) size h))
 
--- what a good walk gives
+-- the blocks of a walk without a bad header
 pub record BlocksWalked (m : List (List ℕ)) (p : ℕ) (after_hole : Bool) (bs : List Block) : Type 0 where
   pub tiled : Tiled p after_hole bs (length m)
   pub read : HeadersRead m bs
@@ -79,7 +79,7 @@ pub one-gap : (p n : ℕ) → 1 ≤ n → gap p (p + n) ≡ (p, n) ∷ []
 one-gap p n h =
     ap (λ (t : Bool). cond t ((p, p + n - p) ∷ []) []) (lt-ltb p (p + n) (omega arith)) ∙ ap (λ (k : ℕ). (p, k) ∷ []) (let e : p + n - p ≡ n = omega arith in e)
 
--- where the gap before p begins: at p itself, or where the hole begins that ends at p
+-- the beginning of the gap before p: p itself, or the place of the hole that ends at p
 abbrev GapBegins : Bool → ℕ → ℕ → Type 0
 GapBegins true start p = start < p
 GapBegins false start p = start ≡ p

@@ -42,7 +42,7 @@ relink-links (b ∷ bs) =
     let due : cond b.used 0 (first_hole bs) ≡ cond b.used 0 (first_hole (relink bs)) = ap (λ (f : ℕ). cond b.used 0 f) (sym (relink-first bs)) in
     ap (λ (t : Bool). cond t (bad_link (relink bs)) (Some b.place)) (eq-eqb (cond b.used 0 (first_hole bs)) (cond b.used 0 (first_hole (relink bs))) due) ∙ relink-links bs
 
--- ---- words that read as they should
+-- ---- words that read as the due ones
 
 header-used : (p n : ℕ) → 1 ≤ n → n < 65536 → header p (used_header n) ≡ Some (record { place = p; used = true; words = n; link = 0 })
 header-used p n low high =
@@ -91,7 +91,7 @@ new-read n p a (b ∷ bs) end few size t r =
     let ends : p + b.words ≤ end = tiled-end (p + b.words) (not b.used) bs end t.3 in
     (r.0 ∙ formal-kind b (first_hole bs) b.used low (omega arith) (first-small (p + b.words) (not b.used) bs end t.3 few), omega (arith, size), new-read n (p + b.words) (not b.used) bs end few size t.3 r.1)
 
--- ---- what is written, and what is kept
+-- ---- the words that are written, and those that are kept
 
 pub from-apart : (q : ℕ) (l : List (ℕ × List ℕ)) (p : ℕ) → q < p → From p l → AllByRecursion (λ e. e.0 ≢ q) l
 from-apart q [] p lt f = tt
@@ -162,9 +162,9 @@ root-is m n v s f g rest version low high good first far holds kept =
           record { root = ap (λ (w : List ℕ). is_root_word w s) all.0 ∙ root-word v s g versions; first = ap (λ (w : List ℕ). be2 w 6) all.0 ∙ two-bytes g high; version = ap (λ (w : List ℕ). slice_index w 3) all.0 ∙ version }
     ]
 
--- ---- the blocks afterwards
+-- ---- the blocks after the plan
 
--- what stands after a plan: all but the records
+-- words n hold these blocks after a plan: the root, the headers and the links, without the records
 pub record Relaid (m n : List (List ℕ)) (bs : List Block) : Type 0 where
   pub version : slice_index (word n 0) 3 ≡ slice_index (word m 0) 3
   pub root : is_root_word (word n 0) (length n) ≡ true

@@ -1,20 +1,20 @@
--- What the code reads of a block, the blocks from a place on, and the spans of used blocks and of holes.
+-- Blocks as the code reads them, the blocks from a place on, and the spans of used blocks and of holes.
 use Rattle.std.specs.Prelude.{◌≡◌, ℕ, ◌+◌, ◌-◌, ◌<◌, ◌≤◌, Bool, true, false, cond, not, ◌&&◌, ◌||◌, nat_le, nat_lt, ◌==◌, List, [], ◌∷◌, ◌++◌, length, take, map, slice_index, bytes_eq, Option, Some, None, MatchBool}
 use Rattle.mc_model_device.specs.Bytes.{has_name}
 use Rattle.mc_model_device.specs.Card.{Block, word, blocks_from, record_at, name_in}
 use Rattle.mc_model_device.specs.Layout.{is_record, root, bad_header, bad_block}
 use Rattle.mc_blocks.specs.declared.block.Block.{Block as Read}
 
--- a block that was read
+-- a block that the code read, as the definition's value
 abbrev pub block_of : Read → Block
 block_of b = record { place = b.place; used = b.used; words = b.words; link = b.link }
 
--- a block that was read, if one was
+-- a block that the code read, if it read one
 abbrev pub read_block : Option Read → Option Block
 read_block None = None
 read_block (Some b) = Some (block_of b)
 
--- a block that ends in time
+-- a block if it ends within a device of `size` words
 abbrev pub fitting : ℕ → Option Block → Option Block
 fitting size None = None
 fitting size (Some b) = cond (nat_le (b.place + b.words) size) (Some b) None
@@ -27,38 +27,38 @@ blocks_at m p = blocks_from (length m - p) m p
 abbrev pub bad_from : List (List ℕ) → ℕ → Bool → Option ℕ
 bad_from m p after_hole = bad_block (length m - p) m p after_hole
 
--- whether a used block may stand behind others with these names
+-- whether a used block is good after `used` others with these names: a good record, a new name, and fewer than 32 blocks before it
 abbrev pub admitted : List (List ℕ) → Block → List (List ℕ) → ℕ → Bool
 admitted m b names used =
     is_record (record_at m b.place) b.words && not (has_name (name_in (record_at m b.place)) names) && nat_lt used 32
 
--- what becomes of the records before a block: a used block that is good among them adds its own
+-- the records of the blocks so far, before and after one more block: a good used block adds its record, a hole adds none
 abbrev pub Admits : List (List ℕ) → Block → List (List ℕ) → Bool → List (List ℕ) → Type 0
 Admits m b old true new =
     MatchBool b.used ((admitted m b (map name_in old) (length old) ≡ true) × (new ≡ old ++ record_at m b.place ∷ [])) (new ≡ old)
 Admits m b old false new = (b.used ≡ true) × (admitted m b (map name_in old) (length old) ≡ false)
 
--- a block that was read and is good behind the one before
+-- a block that was read and is good after the one before it
 abbrev pub FollowsBlock : ℕ → Bool → Option Block → Block → Type 0
 FollowsBlock size after_hole o b = (o ≡ Some b) × (bad_header size after_hole o ≡ false)
 
--- a root of either layout on a device of so many words
+-- whether a word is a root of layout 1 or 2 on a device of `size` words, whichever hole it names
 abbrev pub is_root_word : List ℕ → ℕ → Bool
 is_root_word w size =
     let v = slice_index w 3 in
     (v == 1 || v == 2) && bytes_eq (take 6 w) (take 6 (root v size 0))
 
--- the used blocks, each by its place and its words
+-- the used blocks, each as its place and its number of words
 abbrev pub used_spans : List Block → List (ℕ × ℕ)
 used_spans [] = []
 used_spans (b ∷ bs) = cond b.used ((b.place, b.words) ∷ used_spans bs) (used_spans bs)
 
--- the holes, each by its place and its words
+-- the holes, each as its place and its number of words
 abbrev pub hole_spans : List Block → List (ℕ × ℕ)
 hole_spans [] = []
 hole_spans (b ∷ bs) = cond b.used (hole_spans bs) ((b.place, b.words) ∷ hole_spans bs)
 
--- words n with the header of each of these blocks of m, and all words of those that are used
+-- words n agree with m in the header of each of these blocks and in all words of those that are used
 abbrev pub WordsAgree : List (List ℕ) → List (List ℕ) → List Block → Type 0
 WordsAgree m n [] = Unit {0}
 WordsAgree m n (b ∷ bs) =

@@ -4,18 +4,18 @@ use Rattle.mc_model_device.specs.Bytes.{be2}
 use Rattle.mc_model_device.specs.Card.{word}
 use Rattle.mc_model_device.specs.Layout.{first_place}
 
--- spans that all begin at p or behind it
+-- spans that all begin at p or after it
 abbrev pub SpansAbove : ℕ → List (ℕ × ℕ) → Type 0
 SpansAbove p [] = Unit {0}
 SpansAbove p (e ∷ es) = (p ≤ e.0) × SpansAbove p es
 
--- gaps by place and words, ascending, each with a header in its place that has its words and names the next, or 0
+-- gaps are a chain: they ascend, and the header of each has its number of words and the place of the next gap, or 0 if there is none
 abbrev pub IsChain : List (List ℕ) → List (ℕ × ℕ) → Type 0
 IsChain m [] = Unit {0}
 IsChain m (g ∷ gs) =
     (1 ≤ g.0) × (g.0 + g.1 ≤ length m) × (1 ≤ g.1) × (be2 (word m g.0) 2 ≡ g.1) × (be2 (word m g.0) 4 ≡ first_place gs) × SpansAbove (g.0 + 1) gs × IsChain m gs
 
--- how many of these gaps a search for n words looks at: those up to the first of at least n words
+-- the number of gaps that a search for n words reads: those up to the first of at least n words
 abbrev pub looked_at : ℕ → List (ℕ × ℕ) → ℕ
 looked_at n [] = 0
 looked_at n (g ∷ gs) = suc (cond (nat_le n g.1) 0 (looked_at n gs))

@@ -1,4 +1,4 @@
--- The header words that change where words of a hole are taken, or a used block is freed.
+-- The header words that change when words of a hole are taken or a used block is freed.
 use Rattle.std.specs.Prelude.{ℕ, ◌+◌, ◌-◌, Bool, false, cond, not, ◌&&◌, ◌||◌, nat_lt, nat_le, ◌==◌, List, [], ◌∷◌, filter}
 use Rattle.std.specs.List.{list_any}
 use Rattle.mc_model_device.specs.Card.{Card, heap_start}
@@ -8,16 +8,16 @@ use Rattle.mc_model_device.specs.Layout.{gaps_from, first_place, root, hole_head
 abbrev pub changes : List (ℕ × List ℕ) → List (ℕ × List ℕ) → List (ℕ × List ℕ)
 changes old new = filter (λ e. not (list_any (same_pair e) old)) new
 
--- the layout of a card of this version and size whose applications have these places and words
+-- the layout of a card of this version and size whose applications have these spans: the root, and the headers of used blocks and gaps
 unfoldable pub layout_of : ℕ → ℕ → List (ℕ × ℕ) → List (ℕ × List ℕ)
 layout_of version size ss =
     (0, root version size (first_place (gaps_from heap_start ss size))) ∷ with_used ss (chained (gaps_from heap_start ss size))
 
--- the atomic write from a card to the card with these places and words of applications
+-- the atomic write that changes the layout of a card into that with these spans of applications
 abbrev pub plan : Card → List (ℕ × ℕ) → List (ℕ × List ℕ)
 plan card ss = changes (layout card) (layout_of card.layout card.size ss)
 
--- whether one of these gaps begins at p and has so many words
+-- whether one of these gaps begins at p and has at least `need` words
 abbrev pub has_room : ℕ → ℕ → List (ℕ × ℕ) → Bool
 has_room p need [] = false
 has_room p need (g ∷ gs) = (g.0 == p && nat_le need g.1) || has_room p need gs
@@ -46,28 +46,29 @@ gaps_behind p (h ∷ hs) = cond (nat_lt h.0 p) (gaps_behind p hs) (h ∷ hs)
 abbrev pub names_before : ℕ → ℕ → Bool
 names_before next p = not (next == 0) && nat_lt next p
 
--- a link of the chain with the word that names `next`: the root where it stands at 0, else a hole of so many words
+-- the write by which the link g of the chain names `next`: of the root if g is at 0, else of the hole at g
 abbrev pub link_word : ℕ → ℕ → ℕ × ℕ → ℕ → ℕ × List ℕ
 link_word version size g next = (g.0, cond (g.0 == 0) (root version size next) (hole_header g.1 next))
 
--- words taken from the front of a hole at p that names next: the link before it, the used header, and what is left
+-- the writes by which `need` words are taken from the front of the hole at p, which names `next`: the link before it, the used header,
+-- and the rest of the hole if there is one
 abbrev pub take_front : ℕ → ℕ → ℕ × ℕ → ℕ → ℕ → ℕ → ℕ → List (ℕ × List ℕ)
 take_front version size before p words next need =
     cond (nat_lt need words)
     (link_word version size before (p + need) ∷ (p, used_header need) ∷ (p + need, hole_header (words - need) next) ∷ [])
     (link_word version size before next ∷ (p, used_header need) ∷ [])
 
--- the same of the first of these gaps
+-- the writes by which words are taken from the front of the first of these gaps
 abbrev pub take_list : ℕ → ℕ → ℕ × ℕ → List (ℕ × ℕ) → ℕ → ℕ → List (ℕ × List ℕ)
 take_list version size before [] p need = []
 take_list version size before (g ∷ gs) p need = take_front version size before p g.1 (first_place gs) need
 
--- a hole of n words at p and the gap behind it, where they touch, as one
+-- the number of words of a hole of n words at p, joined with the first of these gaps if they touch
 abbrev pub joined_words : ℕ → ℕ → List (ℕ × ℕ) → ℕ
 joined_words p n [] = n
 joined_words p n (g ∷ gs) = cond (g.0 == p + n) (n + g.1) n
 
--- the place of the gap behind a hole of n words at p that does not touch it
+-- the place of the first of these gaps that does not touch a hole of n words at p, or 0 if there is none
 abbrev pub joined_next : ℕ → ℕ → List (ℕ × ℕ) → ℕ
 joined_next p n [] = 0
 joined_next p n (g ∷ gs) = cond (g.0 == p + n) (first_place gs) g.0
@@ -76,13 +77,14 @@ joined_next p n (g ∷ gs) = cond (g.0 == p + n) (first_place gs) g.0
 abbrev pub touches : ℕ × ℕ → ℕ → Bool
 touches g p = not (g.0 == 0) && g.0 + g.1 == p
 
--- a hole put at p that names next: one hole with the gap before it, or a hole of its own that the link before it names
+-- the writes by which a hole at p that names `next` is added: it is joined with the gap before it if they touch, else the link before it
+-- names it
 abbrev pub put_hole : ℕ → ℕ → ℕ × ℕ → ℕ → ℕ → ℕ → List (ℕ × List ℕ)
 put_hole version size before p words next =
     cond (touches before p)
     ((before.0, hole_header (before.1 + words) next) ∷ [])
     (link_word version size before p ∷ (p, hole_header words next) ∷ [])
 
--- a block of n words at p freed, before these gaps
+-- the writes by which a block of n words at p is freed, before these gaps
 abbrev pub free_list : ℕ → ℕ → ℕ × ℕ → List (ℕ × ℕ) → ℕ → ℕ → List (ℕ × List ℕ)
 free_list version size before gs p n = put_hole version size before p (joined_words p n gs) (joined_next p n gs)

@@ -7,7 +7,8 @@ use crate::header::{HOLE, USED};
 use mc_base::{Word, number_of};
 use mc_nvm::Nvm;
 
-/// A block: where its header stands, whether it is used or a hole, its words with the header, and its link.
+/// A block of the heap: the place of its header, whether it is used or a hole, its number of words with the
+/// header, and its link.
 #[derive(Clone, Copy, Debug, PartialEq, Eq)]
 pub struct Block {
     pub place: u16,
@@ -17,7 +18,7 @@ pub struct Block {
 }
 
 impl Block {
-    /// The place behind it.
+    /// Returns the place after it.
     pub fn end(&self) -> u32
         ensures { result ≡ self.now.place + self.now.words }
     {
@@ -25,7 +26,7 @@ impl Block {
     }
 }
 
-/// What a header word says, if it is one. Its link is not judged.
+/// Returns the block whose header is `word`, or `None` if that is no header. Its link is not tested.
 pub fn decode(place: u16, word: Word) -> Option<Block>
     ensures { read_block result ≡ header place word }
 {
@@ -51,7 +52,8 @@ pub fn decode(place: u16, word: Word) -> Option<Block>
     })
 }
 
-/// The block whose header stands at a place, if one does and it ends in time.
+/// Returns the block whose header is at a place, or `None` if there is no header or the block ends after the
+/// device.
 pub fn block_at<N: Nvm>(device: &N, place: u32) -> Option<Block>
     ensures { read_block result ≡ fitting (length (N.state device.now).words)
         (header place (word (N.state device.now).words place)) }

@@ -1,4 +1,5 @@
-// The links of an image, judged by the blocks: root and holes name the next hole, used headers name none.
+// The links of an image, tested by the blocks: the root and each hole name the next hole, used headers name
+// none.
 ghost use Rattle.std.specs.Prelude.{◌≡◌, ◌+◌, ◌≤◌, length, cond};
 ghost use Rattle.mc_model_device.specs.Card.{blocks};
 ghost use Rattle.mc_model_device.specs.Layout.{bad_chain, bad_link, first_hole};
@@ -9,7 +10,7 @@ use crate::header::HEAP;
 use mc_base::number_of;
 use mc_nvm::Nvm;
 
-/// The first place whose link is wrong, that of the root first.
+/// Returns the first place whose link is wrong, that of the root first, or `None`.
 pub fn first_bad_place<N: Nvm>(device: &N) -> Option<u16>
     ensures { result ≡ bad_chain (N.state device.now).words (blocks (N.state device.now).words) }
 {
@@ -63,7 +64,7 @@ fn next_hole<N: Nvm>(device: &N, from: u32) -> u16
     0
 }
 
-/// How many blocks are used, and how many are holes.
+/// Returns the number of used blocks and the number of holes.
 #[tactic(auto, using(crate::proofs::Steps::blocks_step, crate::proofs::Steps::blocks_stop, crate::proofs::Steps::block_ends, crate::proofs::Steps::blocks_all))]
 pub fn count_blocks<N: Nvm>(device: &N) -> (u16, u16)
     ensures used { result.0 ≡ length (used_spans (blocks (N.state device.now).words)) }

@@ -1,4 +1,4 @@
-// The checks of an image, each over all of it before the next: the root, the headers, the records.
+// The checks of an image, each over the whole image before the next: the root, the headers, the records.
 ghost use Rattle.std.specs.Prelude.{◌≡◌, ◌+◌, ◌≤◌, [], length, map, true, false, MatchOption};
 ghost use Rattle.mc_model_device.specs.Bytes.{has_name};
 ghost use Rattle.mc_model_device.specs.Card.{heap_start, word, header, blocks, name_in};
@@ -12,7 +12,7 @@ use arrayvec::ArrayVec;
 use mc_base::Word;
 use mc_nvm::Nvm;
 
-/// The place of the root, where word 0 is a root of neither layout with this size.
+/// Returns the place of the root if word 0 is no root of layout 1 or 2 for this size, else `None`.
 pub fn missing_root<N: Nvm>(device: &N) -> Option<u16>
     ensures { result ≡ no_root (N.state device.now).words }
 {
@@ -24,7 +24,7 @@ pub fn missing_root<N: Nvm>(device: &N) -> Option<u16>
     }
 }
 
-// Whether a word is a root of layout 1 or 2 with this size, whatever hole it names.
+// Whether a word is a root of layout 1 or 2 for this size, whichever hole it names.
 fn is_root(word: Word, size: u16) -> bool
     ensures { result ≡ is_root_word word size }
 {
@@ -32,7 +32,8 @@ fn is_root(word: Word, size: u16) -> bool
     (version == 1 || version == 2) && word[..6] == root_word(version, size, 0)[..6]
 }
 
-/// The first header that is bad, walking by lengths: it is none, its block passes the end, or a hole follows a hole.
+/// Returns the place of the first bad header of a walk by lengths: it is no header, its block passes the end,
+/// or a hole follows a hole.
 #[tactic(auto, using(crate::proofs::Headers::bad_all, crate::proofs::Headers::bad_here, crate::proofs::Headers::bad_behind, crate::proofs::Headers::bad_end, crate::proofs::Headers::good_end))]
 pub fn first_bad_header<N: Nvm>(device: &N) -> Option<u16>
     ensures { result ≡ bad_block (length (N.state device.now).words) (N.state device.now).words heap_start false }
@@ -65,8 +66,8 @@ fn good_block<N: Nvm>(device: &N, place: u32, after_hole: bool) -> Option<Block>
     Some(block)
 }
 
-/// The first used block whose record is bad: it breaks its table, it does not fill the block, its name stands before,
-/// or it is the 33rd.
+/// Returns the place of the first used block whose record is bad: its fields are out of their ranges, its
+/// sections do not fill the block, a block before it has its name, or it is the 33rd.
 #[tactic(auto, using(crate::proofs::Entries::begun, crate::proofs::Entries::ended, crate::proofs::Entries::refused, crate::proofs::Entries::admits, crate::proofs::Steps::block_ends))]
 pub fn first_bad_record<N: Nvm>(device: &N) -> Option<u16>
     ensures { result ≡ bad_record (N.state device.now).words (blocks (N.state device.now).words) [] 0 }
@@ -82,7 +83,8 @@ pub fn first_bad_record<N: Nvm>(device: &N) -> Option<u16>
     None
 }
 
-// Adds the record of a used block to those before it, where it is good among them. A hole is good.
+// Adds the record of a used block to those before it, if it is good after them, and returns whether the block
+// is good. A hole is good.
 #[tactic(auto, using(crate::proofs::Entries::short_is_none))]
 fn admit<N: Nvm>(device: &N, block: &Block, seen: &mut ArrayVec<Record, 32>) -> bool
     requires { block.now.place + block.now.words ≤ length (N.state device.now).words }

@@ -8,8 +8,8 @@ use crate::header::{HEAP, hole_word, root_word};
 use mc_base::Word;
 use mc_gate::{HEAD, Layout, SHUT};
 
-/// Words 0, 1, 2, 130 and 131 of an empty card of layout 2 on a device of so many words, 256 to 16,384: the root, the
-/// two gates, the head of the journal, and one hole over the whole heap.
+/// Returns words 0, 1, 2, 130 and 131 of an empty card of layout 2 on a device of `size` words, 256 to
+/// 16,384: the root, the two gates, the head of the journal, and one hole over the whole heap.
 pub fn format_words(size: u32) -> [(u16, Word); 5]
     requires low { 256 ≤ size }
     requires high { size ≤ 16384 }

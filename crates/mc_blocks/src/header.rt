@@ -12,7 +12,7 @@ pub const HOLE: u8 = 0x48;
 /// The first word of the heap.
 pub const HEAP: u32 = 131;
 
-/// The header of a hole of so many words, with the place of the next hole or 0.
+/// Returns the header of a hole of `words` words, with the place of the next hole or 0.
 pub fn hole_word(words: u16, link: u16) -> Word
     ensures { result ≡ hole_header words link }
 {
@@ -21,7 +21,7 @@ pub fn hole_word(words: u16, link: u16) -> Word
     [HOLE, 0, words_high, words_low, link_high, link_low, 0, 0]
 }
 
-/// The header of a used block of so many words.
+/// Returns the header of a used block of `words` words.
 pub fn used_word(words: u16) -> Word
     ensures { result ≡ used_header words }
 {
@@ -29,7 +29,8 @@ pub fn used_word(words: u16) -> Word
     [USED, 0, high, low, 0, 0, 0, 0]
 }
 
-/// The root: the version of the layout, the size of the device in words, the place of the first hole or 0.
+/// Returns the root with the version of the layout, the size of the device in words, and the place of the
+/// first hole or 0.
 pub fn root_word(version: u8, size: u16, first: u16) -> Word
     ensures { result ≡ root version size first }
 {

@@ -10,7 +10,7 @@ use crate::checks::{first_bad_header, first_bad_record, missing_root};
 use mc_model_device::Cause;
 use mc_nvm::Nvm;
 
-/// What the words of a card hold: the numbers of used blocks and of holes, and the version of the layout, 1 or 2.
+/// The numbers of used blocks and of holes of a card, and the version of its layout, 1 or 2.
 #[derive(Clone, Copy, Debug, PartialEq, Eq)]
 pub struct Shape {
     pub used: u16,
@@ -18,15 +18,20 @@ pub struct Shape {
     pub layout: u8,
 }
 
-/// Why the words of a device are no card, and the number of the word that says so.
+/// Why the words of a device are no card, and the number of the word at fault.
 #[derive(Clone, Copy, Debug, PartialEq, Eq)]
 pub struct Unusable {
     pub cause: Cause,
     pub place: u16,
 }
 
-/// Checks all words of a device with no open journal: the root, the headers, the records, the links, each over the
-/// whole image before the next. It goes by lengths, so it ends on loops of links. A root of either layout is good.
+/// Checks all words of a device with no open journal: the root, the headers, the records, the links, each
+/// over the whole image before the next. It goes by lengths, so it ends even if links form a loop. A root of
+/// either layout is good.
+///
+/// # Errors
+///
+/// Returns the first fault and its place.
 pub fn walk<N: Nvm>(device: &N) -> Result<Shape, Unusable>
     requires closed { look (N.state device.now).words ≡ Closed }
     ensures fault { fault_found result ≡ fault (N.state device.now).words }
@@ -72,7 +77,7 @@ fn first_fault<N: Nvm>(device: &N) -> Option<Unusable>
     None
 }
 
-// What the words hold, read by lengths.
+// The numbers of blocks and the layout, read by lengths.
 fn read_shape<N: Nvm>(device: &N) -> Shape
     ensures used { result.used ≡ length (used_spans (blocks (N.state device.now).words)) }
     ensures holes { result.holes ≡ length (hole_spans (blocks (N.state device.now).words)) }

@@ -11,8 +11,8 @@ ghost use Rattle.mc_blocks.specs.Chains.{IsChain};
 ghost use Rattle.mc_blocks.specs.Outcomes.{AgreeBut, Planned, HoldsApplications};
 ghost use Rattle.mc_blocks.specs.Plans.{changes, layout_of, plan, has_room, has_span, without};
 
-/// On a well laid image with no open journal the holes of the walk by lengths are the gaps of the card, and its used
-/// blocks are the spans of the card's applications.
+/// On a well laid image with no open journal the holes of the walk by lengths are the gaps of the card, and
+/// its used blocks are the spans of the card's applications.
 pub fn walks_card()
     ensures gaps { (m : List (List ℕ)) → IsSized m → look m ≡ Closed → IsWellLaid m
         → gaps (means m) ≡ hole_spans (blocks m) }
@@ -22,26 +22,27 @@ pub fn walks_card()
         → length (means m).apps ≡ length (used_spans (blocks m)) }
 {}
 
-/// Its root names the first gap, and the header of each gap the next: the chain of holes is the ascending list of gaps.
+/// The root of a well laid image names the first gap, and the header of each gap the next: the chain of holes
+/// is the ascending list of gaps.
 pub fn chains_gaps()
     ensures root { (m : List (List ℕ)) → IsSized m → look m ≡ Closed → IsWellLaid m
         → be2 (word m 0) 6 ≡ first_place (gaps (means m)) }
     ensures holes { (m : List (List ℕ)) → IsSized m → look m ≡ Closed → IsWellLaid m → IsChain m (gaps (means m)) }
 {}
 
-/// It has at most 32 applications.
+/// A well laid image has at most 32 applications.
 pub fn counts_applications()
     ensures { (m : List (List ℕ)) → IsSized m → look m ≡ Closed → IsWellLaid m → length (means m).apps ≤ 32 }
 {}
 
-/// What stands after the recovery of an image without a fault is the layout of the card that it means: its root, and the
+/// The recovery of an image without a fault leaves the layout of the card that it holds: its root, and the
 /// header of each block and each gap.
 pub fn holds_layout()
     ensures { (m : List (List ℕ)) → IsImage m → IsWellLaid m
         → AllByRecursion (λ p. word (words_after (after m) m) p.0 ≡ p.1) (layout (means m)) }
 {}
 
-/// Words with the same root, and in each block the same header and where it is used the same words, hold the same card.
+/// Words that agree in the root, the header of each block and all words of used blocks hold the same card.
 pub fn keeps_card()
     ensures laid { (m n : List (List ℕ)) → IsSized m → words_fault m ≡ None → length n ≡ length m
         → word n 0 ≡ word m 0 → WordsAgree m n (blocks m) → words_fault n ≡ None }
@@ -49,19 +50,20 @@ pub fn keeps_card()
         → word n 0 ≡ word m 0 → WordsAgree m n (blocks m) → card_of n ≡ card_of m }
 {}
 
-/// Where the first gap of so many words is, there is room for them.
+/// The first gap of at least `need` words has room for them.
 pub fn fits_room()
     ensures { (need p : ℕ) (gs : List (ℕ × ℕ)) → first_fitting need gs ≡ Some p → has_room p need gs ≡ true }
 {}
 
-/// A new application at a place where none begins adds its span.
+/// Inserting a new application at a place where none begins adds its span.
 pub fn inserts_span()
     ensures { (apps : List (List ℕ × App)) (name : List ℕ) (app : App) → lookup apps name ≡ None
         → has_span app.place (spans_of apps) ≡ false
         → spans_of (insert apps name app) ≡ put_at app.place (needed app) (spans_of apps) }
 {}
 
-/// An application of a well laid image that is found by its name has a span at its place, which goes with it.
+/// An application of a well laid image that is found by its name has a span at its place, and removing it
+/// removes this span.
 pub fn removes_span()
     ensures there { (m : List (List ℕ)) (name : List ℕ) (app : App) → IsSized m → look m ≡ Closed → IsWellLaid m
         → lookup (means m).apps name ≡ Some app → has_span app.place (spans (means m)) ≡ true }
@@ -70,8 +72,8 @@ pub fn removes_span()
         → spans_of (remove (means m).apps name) ≡ without app.place (spans (means m)) }
 {}
 
-/// After the plan for words at a place where there is room, and where a good record of so many words stands under a new
-/// name, the words hold the card with that application.
+/// After the plan for words at a place where there is room, with a good record of `need` words under a new
+/// name at this place, the words hold the card with that application.
 pub fn creates_application()
     ensures { (m n : List (List ℕ)) (p need : ℕ) → IsSized m → look m ≡ Closed → IsWellLaid m → 1 ≤ need
         → has_room p need (gaps (means m)) ≡ true → Planned m n (put_at p need (spans (means m)))
@@ -87,8 +89,8 @@ pub fn deletes_application()
         → HoldsApplications m n (remove (means m).apps name) }
 {}
 
-/// Where words of one used block were set behind its record, the words hold the card with the application that stands
-/// there then.
+/// After words of one used block are set after its record, the words hold the card with the application that
+/// this block then holds.
 pub fn sets_application()
     ensures { (m n : List (List ℕ)) (p : ℕ) → IsSized m → look m ≡ Closed → IsWellLaid m
         → has_span p (spans (means m)) ≡ true → length n ≡ length m → word n 0 ≡ word m 0 → AgreeBut m n p (blocks m)
@@ -96,7 +98,7 @@ pub fn sets_application()
         → HoldsApplications m n (insert (means m).apps (name_at m p) (app_at n p)) }
 {}
 
-/// Another version in a root that names the same hole makes the same card in that layout.
+/// Words with the other version in a root that names the same hole hold the same card in that layout.
 pub fn changes_layout()
     ensures laid { (m n : List (List ℕ)) → IsSized m → words_fault m ≡ None → length n ≡ length m
         → is_root_word (word n 0) (length n) ≡ true → be2 (word n 0) 6 ≡ be2 (word m 0) 6 → WordsAgree m n (blocks m)
@@ -118,7 +120,8 @@ pub fn format_rows()
     ensures hole { hole_header (8192 - heap_start) 0 ≡ 0x48 ∷ 0 ∷ 0x1F ∷ 0x7D ∷ 0 ∷ 0 ∷ 0 ∷ 0 ∷ [] }
 {}
 
-/// Words taken from the front of a hole and of a whole hole, a block freed between two holes, and one that touches none.
+/// Words taken from the front of a hole, a whole hole taken, a block freed between two holes, and one freed
+/// that touches none.
 #[tactic(auto, unfolding(crate::specs::Plans::layout_of))]
 pub fn plan_rows()
     ensures taken { changes (layout_of 2 8192 []) (layout_of 2 8192 ((131, 12) ∷ []))

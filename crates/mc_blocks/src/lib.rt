@@ -1,7 +1,7 @@
 #![tactic(auto)]
 
-//! The heap of a card in words: its blocks and records, the first fault of an image, room for a block, and the header
-//! words that change where a block is taken or freed.
+//! The heap of a card in words: its blocks and records, the first fault of an image, room for a block, and
+//! the header words that change when a block is taken or freed.
 
 mod block;
 mod chain;

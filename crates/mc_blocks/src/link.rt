@@ -10,8 +10,8 @@ use crate::header::{hole_word, root_word};
 use mc_base::{Word, number_of};
 use mc_nvm::Nvm;
 
-/// A link of the chain: the root, at place 0, or a hole of so many words; and the place of the hole that it names,
-/// or 0.
+/// A link of the chain: the root, at place 0, or a hole of `words` words; and the place of the hole that it
+/// names, or 0.
 #[derive(Clone, Copy, Debug, PartialEq, Eq)]
 pub struct Link {
     pub place: u16,
@@ -19,7 +19,7 @@ pub struct Link {
     pub next: u16,
 }
 
-/// The header at a place as a link.
+/// Returns the header at a place as a link.
 pub fn link_at<N: Nvm>(device: &N, place: u16) -> Link
     requires { place < length (N.state device.now).words }
     ensures place { result.place ≡ place }
@@ -29,7 +29,7 @@ pub fn link_at<N: Nvm>(device: &N, place: u16) -> Link
     link_of(place, device.read(place as u32))
 }
 
-/// A header with its place as a link.
+/// Returns a header with its place as a link.
 pub fn link_of(place: u16, header: Word) -> Link
     ensures place { result.place ≡ place }
     ensures words { result.words ≡ be2 header 2 }
@@ -42,7 +42,7 @@ pub fn link_of(place: u16, header: Word) -> Link
     }
 }
 
-/// The last link of the chain before a place.
+/// Returns the last link of the chain before a place.
 pub fn link_before<N: Nvm>(device: &N, place: u16) -> Link
     requires closed { look (N.state device.now).words ≡ Closed }
     requires laid { IsWellLaid (N.state device.now).words }
@@ -69,7 +69,7 @@ fn is_before(next: u16, place: u16) -> bool
     next != 0 && next < place
 }
 
-/// The link with the place of another hole, or 0: its place, and the word that it becomes.
+/// Returns the write by which a link names another hole, or 0: its place and its new word.
 pub fn relinked<N: Nvm>(device: &N, link: &Link, next: u16) -> (u16, Word)
     ensures { result ≡ link_word (slice_index (word (N.state device.now).words 0) 3)
         (length (N.state device.now).words) (link.now.place, link.now.words) next }
@@ -82,7 +82,7 @@ pub fn relinked<N: Nvm>(device: &N, link: &Link, next: u16) -> (u16, Word)
     (link.place, hole_word(link.words, next))
 }
 
-/// A hole that names the next gap, as one with that gap where they touch.
+/// Returns a hole that names the next gap, joined with that gap if they touch.
 pub fn joined<N: Nvm>(device: &N, hole: &Link) -> Link
     requires closed { look (N.state device.now).words ≡ Closed }
     requires laid { IsWellLaid (N.state device.now).words }

@@ -11,9 +11,9 @@ use arrayvec::ArrayVec;
 use mc_base::Word;
 use mc_nvm::Nvm;
 
-/// The header words that change where so many words, 1 or more, are taken from the front of the hole at a place that
-/// has them: the link before it, the used header, and the header of what is left. They ascend and are at most three.
-/// The image is well laid, and no journal is open.
+/// Returns the header words that change when `need` words, 1 or more, are taken from the front of the hole at
+/// a place that has them: the link before it, the used header, and the header of the rest of the hole. They
+/// ascend and are at most three. The image is well laid, and no journal is open.
 pub fn take_plan<N: Nvm>(device: &N, place: u16, need: u16) -> ArrayVec<(u16, Word), 4>
     requires closed { look (N.state device.now).words ≡ Closed }
     requires laid { IsWellLaid (N.state device.now).words }
@@ -30,9 +30,9 @@ pub fn take_plan<N: Nvm>(device: &N, place: u16, need: u16) -> ArrayVec<(u16, Wo
     take_words(device, &before, &hole, need)
 }
 
-/// The header words that change where the used block at a place is freed: a hole there that is one with the holes that
-/// it touches, and the link before it. They ascend and are at most three. The image is well laid, and no journal is
-/// open.
+/// Returns the header words that change when the used block at a place is freed: a hole there, joined with
+/// the holes that it touches, and the link before it. They ascend and are at most three. The image is well
+/// laid, and no journal is open.
 pub fn free_plan<N: Nvm>(device: &N, place: u16) -> ArrayVec<(u16, Word), 4>
     requires closed { look (N.state device.now).words ≡ Closed }
     requires laid { IsWellLaid (N.state device.now).words }
@@ -56,7 +56,7 @@ pub fn free_plan<N: Nvm>(device: &N, place: u16) -> ArrayVec<(u16, Word), 4>
     free_words(device, &before, &hole)
 }
 
-// Words from the front of a hole.
+// The writes by which words are taken from the front of a hole.
 fn take_words<N: Nvm>(device: &N, before: &Link, hole: &Link, need: u16) -> ArrayVec<(u16, Word), 4>
     requires { hole.now.place + hole.now.words ≤ 65535 }
     ensures { result.items ≡ take_front (slice_index (word (N.state device.now).words 0) 3)
@@ -76,7 +76,7 @@ fn take_words<N: Nvm>(device: &N, before: &Link, hole: &Link, need: u16) -> Arra
     list
 }
 
-// A hole where a block was.
+// The writes by which a hole takes the place of a block.
 fn free_words<N: Nvm>(device: &N, before: &Link, hole: &Link) -> ArrayVec<(u16, Word), 4>
     requires place { before.now.place + before.now.words ≤ 65535 }
     requires words { before.now.words + hole.now.words ≤ 65535 }

@@ -10,7 +10,7 @@ use mc_nvm::Nvm;
 /// The 32 bytes of a record.
 pub type Record = [u8; 32];
 
-/// The record of the block at a place: the four words behind its header.
+/// Returns the record of the block at a place: the four words after its header.
 #[tactic(auto, using(crate::proofs::Records::record_words))]
 pub fn read_record<N: Nvm>(device: &N, place: u32) -> Record
     requires { place + 5 ≤ length (N.state device.now).words }
@@ -28,7 +28,8 @@ pub fn read_record<N: Nvm>(device: &N, place: u32) -> Record
     bytes
 }
 
-/// Whether a record keeps its table and the limits, and its sections fill a block of so many words.
+/// Returns whether the fields of a record are in their ranges, and its sections fill a block of `words`
+/// words.
 #[tactic(auto, using(crate::proofs::Records::record_parts))]
 pub fn is_good(entry: &Record, words: u16) -> bool
     ensures { result ≡ is_record entry.now words }
@@ -36,7 +37,7 @@ pub fn is_good(entry: &Record, words: u16) -> bool
     is_named(entry) && has_sizes(entry) && has_rights(entry) && words as u32 == needed_words(entry)
 }
 
-// Whether the name has 5 to 16 bytes, and zeros behind it.
+// Whether the name has 5 to 16 bytes, with zeros after it.
 fn is_named(entry: &Record) -> bool
     ensures { result ≡ named entry.now }
 {
@@ -67,7 +68,7 @@ fn has_rights(entry: &Record) -> bool
     session <= 256 && deny <= 15 && are_zero(&entry[28..32])
 }
 
-// How many words a block takes whose sections have the lengths in its record.
+// The number of words of a block with sections of the lengths in its record.
 fn needed_words(entry: &Record) -> u32
     ensures { result ≡ needed_of (be2 entry.now 20) (be2 entry.now 22) (slice_index entry.now 17)
         (slice_index entry.now 18) }
@@ -77,7 +78,7 @@ fn needed_words(entry: &Record) -> u32
     5 + words_of(code) + words_of(fixed) + words_of(entry[17] as u16) + words_of(entry[18] as u16)
 }
 
-// How many words so many bytes take.
+// The number of words of `bytes` bytes.
 fn words_of(bytes: u16) -> u32
     ensures { result ≡ up bytes 8 }
 {

@@ -10,9 +10,9 @@ use mc_base::{Steps, number_of};
 use mc_nvm::{Nvm, Probe};
 use std::sync::ledger::Ledger;
 
-/// The place of the first hole of at least so many words, 1 or more, on a well laid image with no open journal; `None`
-/// where there is none. It follows the chain of holes and reads through the probe alone, one step for each read: the
-/// root, and the holes up to the one that it finds.
+/// Returns the place of the first hole of at least `need` words, 1 or more, or `None` if there is none. The
+/// image is well laid, and no journal is open. Follows the chain of holes and reads only through the probe,
+/// one step for each read: the root, and the holes up to the one that it finds.
 pub fn first_fit<N: Nvm, L: Ledger>(
     device: &Probe<'_, N, L>,
     need: u16,
@@ -24,7 +24,7 @@ pub fn first_fit<N: Nvm, L: Ledger>(
     ensures found { result ≡ first_fitting need (gaps (means (N.state (probed device.now)).words)) }
     ensures ticks { steps.new ≡ steps.old + (1 + looked_at need (gaps (means (N.state (probed device.now)).words))) }
 {
-    // The length is asked for what it says of the words.
+    // The contract of `len` states the size of the words, which the proof needs.
     let _size = device.len();
     let root = device.read(0, steps);
     let mut place = number_of(root[6], root[7]);
@@ -39,7 +39,7 @@ pub fn first_fit<N: Nvm, L: Ledger>(
     None
 }
 
-// Whether a hole has so many words.
+// Whether a hole has at least `need` words.
 fn is_long_enough(hole: &Link, need: u16) -> bool
     ensures { result ≡ nat_le need hole.now.words }
 {

@@ -1,4 +1,4 @@
--- Lists of bits: sums, parts, and what a table of fours of bits picks.
+-- Lists of bits: sums, parts, and selections that are tabulated by nibbles.
 use Rattle.std.proofs.Common.{◌≡◌, ℕ, zero, suc, ◌+◌, ◌-◌, ◌*◌, ◌/◌, ◌%◌, ◌^◌, ◌<◌, ◌≤◌, List, [], ◌∷◌, ◌++◌, length, get_or, refl, sym, ap, ◌∙◌, arith, zero-add, length-append, append_assoc}
 use Rattle.std.specs.Int.Bits.{bit_xor, xor_zero_r}
 use Rattle.std.proofs.Math.Nat.{div-div-eq-div-mul}
@@ -86,7 +86,7 @@ key_bits-xor a b =
     )
     (eights (a / 2 ^ 32) a (a / 2 ^ 56) (a / 2 ^ 24) (a / 2 ^ 48) (a / 2 ^ 16) (a / 2 ^ 40) (a / 2 ^ 8) (b / 2 ^ 32) b (b / 2 ^ 56) (b / 2 ^ 24) (b / 2 ^ 48) (b / 2 ^ 16) (b / 2 ^ 40) (b / 2 ^ 8))
 
--- ---- sums of lists and of what is picked
+-- ---- sums of lists and of selections
 
 get_or-added : (xs ys : List ℕ) (k : ℕ) → length xs ≡ length ys → get_or (added xs ys) k 0 ≡ bit_xor (get_or xs k 0) (get_or ys k 0)
 get_or-added [] [] k h = refl
@@ -111,17 +111,17 @@ zeros-added : (ys : List ℕ) → added (zeros (length ys)) ys ≡ ys
 zeros-added [] = refl
 zeros-added (y ∷ ys) = ap (λ (l : List ℕ). y ∷ l) (zeros-added ys)
 
--- two parts that lie apart
+-- the sum of two parts that do not overlap
 pub added_apart : (xs ys : List ℕ) → added (xs ++ zeros (length ys)) (zeros (length xs) ++ ys) ≡ xs ++ ys
 added_apart [] ys = zeros-added ys
 added_apart (x ∷ xs) ys =
     ap (λ (a : ℕ). a ∷ added (xs ++ zeros (length ys)) (zeros (length xs) ++ ys)) (xor_zero_r x)
     ∙ ap (λ (l : List ℕ). x ∷ l) (added_apart xs ys)
 
--- ---- a table of fours
+-- ---- a selection tabulated by nibbles
 
 module _ (form : ℕ → List ℕ) (linear : (a b : ℕ) → form (bit_xor a b) ≡ added (form a) (form b)) (ts : List ℕ) where
-  -- one more part of what is picked
+  -- one more part of a selection
   pub pick_step : (front part : List ℕ) (w v m r : ℕ) → form w ≡ pick ts (front ++ zeros m) → form v ≡ pick ts (zeros (length front) ++ (part ++ zeros r))
       → m ≡ length part + r → form (bit_xor w v) ≡ pick ts (front ++ (part ++ zeros r))
   pick_step front part w v m r ew ev em =
@@ -134,7 +134,7 @@ module _ (form : ℕ → List ℕ) (linear : (a b : ℕ) → form (bit_xor a b) 
       linear w v ∙ ap (λ (l : List ℕ). added l (form v)) first ∙ ap (added (pick ts (front ++ zeros (length tail)))) ev
       ∙ sym (pick-added ts (front ++ zeros (length tail)) (zeros (length front) ++ tail) even) ∙ ap (pick ts) (added_apart front tail)
 
-  -- one more four of a number of n fours
+  -- one more nibble of a number of n nibbles
   pub fours_step : (n i x w v q : ℕ) → i < n → form w ≡ pick ts (bits (4 * i) (x / 2 ^ (4 * (n - i))) ++ zeros (4 * (n - i)))
       → q ≡ x / 2 ^ (4 * (n - 1 - i)) % 16 → form v ≡ pick ts (alone n i q)
       → form (bit_xor w v) ≡ pick ts (bits (4 * (i + 1)) (x / 2 ^ (4 * (n - (i + 1)))) ++ zeros (4 * (n - (i + 1))))
@@ -160,12 +160,12 @@ module _ (form : ℕ → List ℕ) (linear : (a b : ℕ) → form (bit_xor a b) 
       ∙ ap (λ (k : ℕ). pick ts (bits k y ++ zeros r)) (sym more)
       ∙ ap (λ (k : ℕ). pick ts (bits (4 * (i + 1)) (x / 2 ^ k) ++ zeros k)) (sym rest)
 
-  -- before the first
+  -- before the first nibble
   pub fours_none : (n x : ℕ) (none : form 0 ≡ pick ts (zeros (4 * n))) → form 0 ≡ pick ts (bits 0 x ++ zeros (4 * n))
   unfolding bits
   fours_none n x none = none
 
-  -- after the last
+  -- after the last nibble
   pub fours_all : (n i x w : ℕ) → n ≤ i → i ≤ n → form w ≡ pick ts (bits (4 * i) (x / 2 ^ (4 * (n - i))) ++ zeros (4 * (n - i))) → form w ≡ pick ts (bits (4 * n) x)
   fours_all n i x w low high e =
       let last : i ≡ n = omega arith in

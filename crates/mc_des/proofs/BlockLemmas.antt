@@ -154,7 +154,7 @@ module _ (keys : List ℕ) where
       ∙ sym (rounds-cons (get_or ks i []) (drop (suc i) ks) (bits 32 left) (bits 32 right))
       ∙ ap (λ (l : List (List ℕ)). rounds l (bits 32 left) (bits 32 right)) (sym (drop-cons ks i [] (omega arith))) ∙ same
 
-  -- two rounds, behind which each half is in its place again
+  -- two rounds, after which each half is in its place again
   pub rounds_twice : (i left right v w : ℕ) (e : List ℕ × List ℕ) → 2 * i + 1 < length keys → rounds (drop (2 * i) (map key_bits keys)) (bits 32 left) (bits 32 right) ≡ e
       → bits 32 v ≡ f (bits 32 right) (key_bits (get_or keys (2 * i) 0))
       → bits 32 w ≡ f (bits 32 (bit_xor left v)) (key_bits (get_or keys (2 * i + 1) 0))

@@ -1,4 +1,4 @@
--- The cipher function on words.
+-- The cipher function f of DES (FIPS 46-3) on words.
 use Rattle.std.proofs.Common.{◌≡◌, ℕ, ◌+◌, ◌-◌, ◌*◌, ◌/◌, ◌%◌, ◌^◌, ◌<◌, List, [], ◌∷◌, ◌++◌, length, get_or, take, drop, refl, sym, ap, ◌∙◌, arith, zero-add, add-zero, length-append, append_assoc}
 use Rattle.std.specs.Prelude.{bit_or, bit_and}
 use Rattle.std.specs.Int.{w32, rotate_left}
@@ -14,7 +14,7 @@ use Rattle.mc_model_machine.proofs.ModesLemmas.{length-added}
 use Rattle.mc_des.specs.Words.{key_bits, box_alone}
 use Rattle.mc_des.proofs.BitsLemmas.{bits-xor, bits6-mod, pick_step}
 
--- ---- the half, turned
+-- ---- the rotated half
 
 pub or_parts : (k a b : ℕ) → b < 2 ^ k → bit_or (a * 2 ^ k) b ≡ a * 2 ^ k + b
 or_parts k a b h = simp (zero-mul, zero-add, add-zero, or_zero_r) at (or_block k a 0 0 b (pow_pos k) h)
@@ -29,7 +29,7 @@ rotated9 r h =
     let high : r * 2 ^ 9 % 2 ^ 32 ≡ (r % 2 ^ 23) * 2 ^ 9 = omega arith in
     ap (λ (x : ℕ). bit_or x (r / 2 ^ 23)) high ∙ or_parts 9 (r % 2 ^ 23) (r / 2 ^ 23) (omega arith)
 
--- ---- the groups that the half is expanded to
+-- ---- the groups of six bits of the expansion E
 
 group0 : (r : ℕ) → r < 2 ^ 32 → bits 6 (rotate_left w32 r 5 / 2 ^ 0) ≡ (r / 2 ^ 0 % 2) ∷ (r / 2 ^ 31 % 2) ∷ (r / 2 ^ 30 % 2) ∷ (r / 2 ^ 29 % 2) ∷ (r / 2 ^ 28 % 2) ∷ (r / 2 ^ 27 % 2) ∷ []
 unfolding bits
@@ -119,7 +119,7 @@ group7 r h =
     let e5 : ((r % 2 ^ 23) * 2 ^ 9 + r / 2 ^ 23) / 2 ^ 8 / 2 ^ 0 % 2 ≡ r / 2 ^ 31 % 2 = omega arith in
     ap (λ (x : ℕ). bits 6 (x / 2 ^ 8)) (rotated9 r h) ∙ rw (e0, e1, e2, e3, e4, e5) refl
 
--- ---- a group, with its part of the round key
+-- ---- a group plus its part of the round key
 
 six_bits : (x k low : ℕ) → bits 6 (bit_xor x k / 2 ^ low % 64) ≡ added (bits 6 (x / 2 ^ low)) (bits 6 (k / 2 ^ low))
 six_bits x k low = bits6-mod (bit_xor x k / 2 ^ low) ∙ ap (bits 6) (xor_shr x k low) ∙ bits-xor 6 (x / 2 ^ low) (k / 2 ^ low)
@@ -154,7 +154,7 @@ six6 r k h = six_bits (rotate_left w32 r 5) (k / 2 ^ 32) 8 ∙ ap (λ (l : List 
 six7 : (r k : ℕ) → r < 2 ^ 32 → bits 6 (bit_xor (rotate_left w32 r 9) (k % 2 ^ 32) / 2 ^ 8 % 64) ≡ added ((r / 2 ^ 4 % 2) ∷ (r / 2 ^ 3 % 2) ∷ (r / 2 ^ 2 % 2) ∷ (r / 2 ^ 1 % 2) ∷ (r / 2 ^ 0 % 2) ∷ (r / 2 ^ 31 % 2) ∷ []) (bits 6 (k / 2 ^ 8))
 six7 r k h = six_bits (rotate_left w32 r 9) (k % 2 ^ 32) 8 ∙ ap (λ (l : List ℕ). added l (bits 6 ((k % 2 ^ 32) / 2 ^ 8))) (group7 r h) ∙ ap (added ((r / 2 ^ 4 % 2) ∷ (r / 2 ^ 3 % 2) ∷ (r / 2 ^ 2 % 2) ∷ (r / 2 ^ 1 % 2) ∷ (r / 2 ^ 0 % 2) ∷ (r / 2 ^ 31 % 2) ∷ [])) (low_part (k % 2 ^ 32 / 2 ^ 8) (k / 2 ^ 8) (omega arith))
 
--- ---- the boxes
+-- ---- the S-boxes
 
 length-added6 : (r k : ℕ) (l : List ℕ) → length l ≡ 6 → length (added l (bits 6 k)) ≡ 6
 length-added6 r k l h = length-added l (bits 6 k) ∙ h
@@ -198,7 +198,7 @@ groups : (r k : ℕ) → added (pick expansion (bits 32 r)) (key_bits k) ≡ add
 unfolding bits pick expansion key_bits
 groups r k = refl
 
--- one more box
+-- one more S-box
 box_step : (front : List ℕ) (n w v x : ℕ) → n < 8 → length front ≡ 4 * n → bits 32 w ≡ pick permutation (front ++ zeros (4 * (8 - n)))
     → bits 32 v ≡ pick permutation (box_alone n x)
     → bits 32 (bit_xor w v) ≡ pick permutation ((front ++ box_at (get_or boxes n []) (bits 6 x)) ++ zeros (4 * (7 - n)))
@@ -238,7 +238,7 @@ pub f-open : (r k : List ℕ) → f r k ≡ pick permutation (through boxes (add
 unfolding f
 f-open r k = refl
 
--- the cipher function, from what each box gives
+-- the cipher function as the sum of the permuted values of the S-boxes
 pub f_is : (r k v0 v1 v2 v3 v4 v5 v6 v7 x0 x1 x2 x3 x4 x5 x6 x7 : ℕ) → r < 2 ^ 32
     → x0 ≡ bit_xor (rotate_left w32 r 5) (k / 2 ^ 32) / 2 ^ 0 % 64
     → x1 ≡ bit_xor (rotate_left w32 r 9) (k % 2 ^ 32) / 2 ^ 0 % 64
@@ -290,7 +290,7 @@ f_is r k v0 v1 v2 v3 v4 v5 v6 v7 x0 x1 x2 x3 x4 x5 x6 x7 h q0 q1 q2 q3 q4 q5 q6 
     ∙ ap (pick permutation) (regrouped (box_at (get_or boxes 0 []) y0) (box_at (get_or boxes 1 []) y1) (box_at (get_or boxes 2 []) y2) (box_at (get_or boxes 3 []) y3) (box_at (get_or boxes 4 []) y4) (box_at (get_or boxes 5 []) y5) (box_at (get_or boxes 6 []) y6) (box_at (get_or boxes 7 []) y7) ∙ sym all)
     ∙ sym (f-open (bits 32 r) (key_bits k))
 
--- what the code takes out of a turned half and a round key
+-- the six bits that the code takes out of a rotated half plus a round key
 pub six_odd : (x r r' k low : ℕ) → x ≡ bit_xor r' k / 2 ^ low % 64 → r' ≡ r → x ≡ bit_xor r k / 2 ^ low % 64
 six_odd x r r' k low e er = e ∙ ap (λ (y : ℕ). bit_xor y k / 2 ^ low % 64) er
 

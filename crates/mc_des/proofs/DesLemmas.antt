@@ -10,7 +10,7 @@ use Rattle.mc_model_machine.specs.Modes.{added, blocks_of, chained}
 use Rattle.mc_model_machine.specs.Des.{ciphered, round_keys, des_encipher, des_decipher, tdes_encipher, tdes_decipher, des_signature, tdes_signature}
 use Rattle.mc_model_device.proofs.ListLemmas.{byte_xor}
 
--- ---- the definitions, opened once
+-- ---- the definitions, unfolded once
 
 pub des_encipher-open : (key block : List ℕ) → des_encipher key block ≡ ciphered (round_keys key) block
 unfolding des_encipher
@@ -57,7 +57,7 @@ pub des_decipher_is : (key block kb bb r : List ℕ) (ks rs : List (List ℕ)) �
 des_decipher_is key block kb bb r ks rs ek eb es ers er =
     er ∙ ap (λ (x : List (List ℕ)). ciphered x bb) (ers ∙ ap reverse (es ∙ ap round_keys ek)) ∙ ap (ciphered (reverse (round_keys key))) eb ∙ sym (des_decipher-open key block)
 
--- three times, with the keys in order outside and in reverse inside
+-- three ciphers, with the round keys in order in the outer ones and in reverse in the inner one
 pub tdes_encipher_is : (key block kb jb bb r : List ℕ) (ks js is : List (List ℕ)) → kb ≡ take 8 key → jb ≡ drop 8 key → bb ≡ block → ks ≡ round_keys kb → js ≡ round_keys jb → is ≡ reverse js
     → r ≡ ciphered ks (ciphered is (ciphered ks bb)) → r ≡ tdes_encipher key block
 tdes_encipher_is key block kb jb bb r ks js is ek ej eb es et ei er =
@@ -65,7 +65,7 @@ tdes_encipher_is key block kb jb bb r ks js is ek ej eb es et ei er =
     let second : ciphered is (ciphered ks bb) ≡ des_decipher (drop 8 key) (des_encipher (take 8 key) block) = des_decipher_is (drop 8 key) _ jb _ _ js is ej first et ei refl in
     er ∙ des_encipher_is (take 8 key) _ kb _ _ ks ek second es refl ∙ sym (tdes_encipher-open key block)
 
--- three times, with the keys in reverse outside and in order inside
+-- three ciphers, with the round keys in reverse in the outer ones and in order in the inner one
 pub tdes_decipher_is : (key block kb jb bb r : List ℕ) (ks os js : List (List ℕ)) → kb ≡ take 8 key → jb ≡ drop 8 key → bb ≡ block → ks ≡ round_keys kb → os ≡ reverse ks → js ≡ round_keys jb
     → r ≡ ciphered os (ciphered js (ciphered os bb)) → r ≡ tdes_decipher key block
 tdes_decipher_is key block kb jb bb r ks os js ek ej eb es eo et er =

@@ -14,7 +14,7 @@ use Rattle.mc_model_device.proofs.ListLemmas.{bit_cases}
 
 -- ---- lists of bits
 
--- n bits
+-- a list of n bits
 record IsBits (n : ℕ) (l : List ℕ) : Type 0 where
   pub size : length l ≡ n
   pub low : AllBelow 2 l

@@ -1,5 +1,5 @@
--- A block through one cipher or several: behind the initial permutation they are passes of rounds alone, since the
--- permutations between two of them undo each other.
+-- A block through one cipher or several: after the initial permutation they are the rounds alone, since the permutations between two of
+-- them are inverse.
 use Rattle.std.proofs.Common.{◌≡◌, ℕ, List, length, refl, sym, ap, ◌∙◌}
 use Rattle.std.specs.Int.{w64, to_be_bytes}
 use Rattle.mc_model_machine.specs.Des.{bits, bytes_of, pick, initial, final, with_keys, ciphered}
@@ -19,7 +19,7 @@ entered block start e =
 left : (last result : ℕ) → bits 64 result ≡ pick final (bits 64 last) → to_be_bytes w64 result ≡ bytes_of 8 (pick final (bits 64 last))
 left last result e = sym (bytes_of-bits result) ∙ ap (bytes_of 8) e
 
--- a pass of rounds is a cipher of the bytes for which the permuted blocks stand
+-- the rounds of a permuted block are the cipher of the block's bytes
 pass : (ks : List (List ℕ)) (word next : ℕ) → bits 64 next ≡ passed ks (bits 64 word)
     → bytes_of 8 (pick final (bits 64 next)) ≡ ciphered ks (bytes_of 8 (pick final (bits 64 word)))
 pass ks word next e =

@@ -31,7 +31,7 @@ shift_size i h =
       | inr two ↦ inr (eqb-true _ _ two)
     ]
 
--- ---- a half, turned
+-- ---- a rotated half
 
 turn-open : (k : ℕ) (l : List ℕ) → turn k l ≡ drop k l ++ take k l
 unfolding turn

@@ -1,4 +1,4 @@
--- The rule of each table, from a test that is computed over the whole table.
+-- The rule of each table, from a test that is computed over all its entries.
 use Rattle.std.proofs.Common.{◌≡◌, ℕ, ◌+◌, ◌*◌, ◌<◌, true, List, get_or, refl}
 use Rattle.std.specs.Prelude.{bytes_eq}
 use Rattle.std.proofs.lemmas.Slice.Eq.{bytes_eq-Decides}
@@ -9,7 +9,7 @@ use Rattle.mc_des.specs.declared.tables.TheConstants.{INITIAL, FINAL}
 use Rattle.mc_des.specs.declared.key_tables.TheConstants.{CHOICE1, CHOICE2}
 use Rattle.mc_des.specs.declared.box_table.TheConstants.{BOXES}
 
--- a rule at each entry of a table of rows, from the test over all
+-- a rule at each entry of a table of rows, from the test over all entries
 module _ (width : ℕ) (left right : ℕ → ℕ → List ℕ) (count : ℕ)
     (test : all_below (λ i. all_below (λ v. bytes_eq (left i v) (right i v)) width) count ≡ true) where
   rule_at : (i v : ℕ) → i < count → v < width → left i v ≡ right i v

@@ -1,9 +1,9 @@
--- Known answers of public standards, as numbers of 8 bytes: a key, a block, and the block enciphered.
+-- Known answers of public standards, as numbers of 8 bytes: a key, a block, and the enciphered block.
 use Rattle.std.specs.Prelude.{ℕ, Bool, true, ◌&&◌, List, [], ◌∷◌, bytes_eq}
 use Rattle.mc_model_device.specs.Bytes.{bytes}
 use Rattle.mc_model_machine.specs.Des.{des_encipher, des_decipher}
 
--- a known answer
+-- a known answer: a key, a block and the enciphered block
 pub record KnownDesAnswer : Type 0 where
   pub key : ℕ
   pub block : ℕ
@@ -13,19 +13,19 @@ pub record KnownDesAnswer : Type 0 where
 abbrev pub row : ℕ → ℕ → ℕ → KnownDesAnswer
 row key block enciphered = record { key = key; block = block; enciphered = enciphered }
 
--- whether the definition enciphers each block of a list as the row says
+-- whether the definition enciphers the block of each row to the row's enciphered block
 unfoldable pub all_encipher : List KnownDesAnswer → Bool
 unfolding des_encipher
 all_encipher [] = true
 all_encipher (r ∷ rs) = bytes_eq (des_encipher (bytes 8 r.key) (bytes 8 r.block)) (bytes 8 r.enciphered) && all_encipher rs
 
--- and deciphers it
+-- whether the definition deciphers the enciphered block of each row to the row's block
 unfoldable pub all_decipher : List KnownDesAnswer → Bool
 unfolding des_decipher
 all_decipher [] = true
 all_decipher (r ∷ rs) = bytes_eq (des_decipher (bytes 8 r.key) (bytes 8 r.enciphered)) (bytes 8 r.block) && all_decipher rs
 
--- A worked example that is widely printed, one row of NIST SP 800-17, and zeros under zeros.
+-- A widely printed worked example, one row of NIST SP 800-17, and the block of zeros under the key of zeros.
 abbrev pub worked : List KnownDesAnswer
 worked =
     row 0x133457799BBCDFF1 0x0123456789ABCDEF 0x85E813540F0AB405 ∷

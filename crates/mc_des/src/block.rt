@@ -1,4 +1,4 @@
-// Blocks as words, and keys in reverse.
+// Blocks as words, and round keys in reverse order.
 
 ghost use Rattle.std.specs.Prelude.{◌≡◌, length, map, reverse};
 ghost use Rattle.std.specs.Int.{w64, to_be_bytes};
@@ -24,8 +24,8 @@ pub fn reversed(mut keys: [u64; 16]) -> [u64; 16]
     keys
 }
 
-// A block through three ciphers, of which the first and the third have the same keys. Between two of them the final
-// permutation of the one and the initial one of the next undo each other.
+// A block through three ciphers, of which the first and the third have the same round keys. Between two of
+// them the final permutation of the one and the initial permutation of the next cancel, so they are left out.
 pub fn thrice(outer: &[u64; 16], inner: &[u64; 16], block: u64) -> u64
     ensures { to_be_bytes w64 result ≡ ciphered (map key_bits outer.now)
         (ciphered (map key_bits inner.now) (ciphered (map key_bits outer.now) (to_be_bytes w64 block))) }

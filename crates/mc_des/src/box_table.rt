@@ -1,11 +1,12 @@
-// The table of the boxes joined with the permutation behind them. An entry stands at 64 times the number of the box plus
-// its six bits, and is read by one function, whose contract says what it is.
+// The table of the S-boxes joined with the permutation P after them (FIPS 46-3). An entry has the index 64
+// times the number of the S-box plus its six bits, and is read by one function, whose contract is its
+// meaning.
 
 ghost use Rattle.std.specs.Prelude.{◌≡◌, ◌<◌};
 ghost use Rattle.mc_model_machine.specs.Des.{bits, pick, permutation};
 ghost use Rattle.mc_des.specs.Words.{box_alone};
 
-// What each box gives, permuted.
+// The permuted values of the S-boxes.
 const BOXES: [u32; 512] = [
     0x00808200, 0x00000000, 0x00008000, 0x00808202, 0x00808002, 0x00008202, 0x00000002, 0x00008000,
     0x00000200, 0x00808200, 0x00808202, 0x00000200, 0x00800202, 0x00808002, 0x00800000, 0x00000002,

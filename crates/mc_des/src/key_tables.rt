@@ -1,11 +1,12 @@
-// The tables of the two choices of the key schedule, by fours of bits. An entry stands at 16 times the place of the four
-// bits plus their value. Each table is read by one function, whose contract says what an entry is.
+// The tables of the permuted choices PC-1 and PC-2 of the key schedule (FIPS 46-3), by nibbles. An entry has
+// the index 16 times the place of the nibble plus its value. Each table is read by one function, whose
+// contract is the meaning of an entry.
 
 ghost use Rattle.std.specs.Prelude.{◌≡◌, ◌<◌};
 ghost use Rattle.mc_model_machine.specs.Des.{bits, pick, choice1, choice2};
 ghost use Rattle.mc_des.specs.Words.{alone, key_bits};
 
-// The first choice of the key schedule.
+// Permuted choice 1.
 const CHOICE1: [u64; 256] = [
     0x0000_0000_0000_0000,
     0x0000_0000_0000_0001,
@@ -265,7 +266,7 @@ const CHOICE1: [u64; 256] = [
     0x0000_0000_0808_0800,
 ];
 
-// The second choice of the key schedule, in the form of a round key.
+// Permuted choice 2, in the form of a round key.
 const CHOICE2: [u64; 224] = [
     0x0000_0000_0000_0000,
     0x0400_0000_0000_0000,

@@ -1,4 +1,4 @@
-// The round keys.
+// The round keys of DES (FIPS 46-3).
 
 ghost use Rattle.std.specs.Prelude.{◌≡◌, ◌⊎◌, ◌^◌, ◌<◌, map, slice_index};
 ghost use Rattle.std.specs.Int.{w64, to_be_bytes};
@@ -7,7 +7,7 @@ ghost use Rattle.mc_des.specs.Words.{key_bits};
 
 use crate::permute::{halves, round_key};
 
-// How far the halves are turned before each round.
+// The number of left rotations of the halves before each round.
 const SHIFTS: [u32; 16] = [1, 1, 2, 2, 2, 2, 2, 2, 1, 2, 2, 2, 2, 2, 2, 1];
 
 #[inline]
@@ -19,7 +19,7 @@ fn shift_of(round: usize) -> u32
     SHIFTS[round]
 }
 
-// A half of 28 bits, turned left.
+// A half of 28 bits, rotated left by `by` bits.
 #[inline]
 fn turned(half: u32, by: u32) -> u32
     requires half { half < 2 ^ 28 }

@@ -1,6 +1,6 @@
 #![tactic(auto)]
 
-//! DES and two-key triple DES (FIPS 46-3), and the last block of their chains (FIPS 81, CBC).
+//! DES and two-key triple DES (FIPS 46-3), and the last block of their CBC mode (FIPS 81).
 
 ghost use Rattle.std.specs.Prelude.{◌≡◌, ◌%◌, ◌<◌, length};
 ghost use Rattle.mc_model_machine.specs.Des.{des_encipher, des_decipher, tdes_encipher, tdes_decipher, des_signature, tdes_signature};
@@ -37,8 +37,8 @@ pub fn des_decipher(key: &[u8; 8], block: &[u8; 8]) -> [u8; 8]
     with_keys(&keys, word(block)).to_be_bytes()
 }
 
-/// Enciphers one block of 8 bytes by two-key triple DES (FIPS 46-3): enciphered with the first 8 bytes of the key,
-/// deciphered with the second 8, enciphered with the first 8.
+/// Enciphers one block of 8 bytes by two-key triple DES (FIPS 46-3): enciphers it under the first 8 bytes of
+/// the key, deciphers the result under the second 8, and enciphers that under the first 8.
 pub fn tdes_encipher(key: &[u8; 16], block: &[u8; 8]) -> [u8; 8]
     ensures { result ≡ tdes_encipher key.now block.now }
 {
@@ -47,8 +47,8 @@ pub fn tdes_encipher(key: &[u8; 16], block: &[u8; 8]) -> [u8; 8]
     thrice(&outer, &inner, word(block)).to_be_bytes()
 }
 
-/// Deciphers one block of 8 bytes by two-key triple DES (FIPS 46-3): deciphered with the first 8 bytes of the key,
-/// enciphered with the second 8, deciphered with the first 8.
+/// Deciphers one block of 8 bytes by two-key triple DES (FIPS 46-3): deciphers it under the first 8 bytes of
+/// the key, enciphers the result under the second 8, and deciphers that under the first 8.
 pub fn tdes_decipher(key: &[u8; 16], block: &[u8; 8]) -> [u8; 8]
     ensures { result ≡ tdes_decipher key.now block.now }
 {
@@ -57,8 +57,9 @@ pub fn tdes_decipher(key: &[u8; 16], block: &[u8; 8]) -> [u8; 8]
     thrice(&outer, &inner, word(block)).to_be_bytes()
 }
 
-/// The last block of CBC by DES over a message, from a start block: each block of 8 bytes is added bit by bit to the
-/// block enciphered before it, the first one to `start`, and enciphered. The message is one or more whole blocks.
+/// Returns the last block of CBC mode (FIPS 81) by DES over a message of one or more whole blocks of 8 bytes,
+/// with the start block `start`: the exclusive or of each block with the enciphered block before it, the
+/// first with `start`, is enciphered.
 pub fn des_signature(key: &[u8; 8], start: &[u8; 8], message: &[u8]) -> [u8; 8]
     requires whole { length message.now % 8 ≡ 0 }
     requires some { 0 < length message.now }
@@ -73,7 +74,7 @@ pub fn des_signature(key: &[u8; 8], start: &[u8; 8], message: &[u8]) -> [u8; 8]
     last.to_be_bytes()
 }
 
-/// The last block of CBC by two-key triple DES over a message, from a start block, as [`des_signature`] does it.
+/// Returns the last block of CBC mode by two-key triple DES over a message, as [`des_signature`] does by DES.
 pub fn tdes_signature(key: &[u8; 16], start: &[u8; 8], message: &[u8]) -> [u8; 8]
     requires whole { length message.now % 8 ≡ 0 }
     requires some { 0 < length message.now }

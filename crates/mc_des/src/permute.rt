@@ -1,4 +1,4 @@
-// The permutations of whole words, four bits at a time.
+// The permutations of whole words, one nibble at a time.
 
 ghost use Rattle.std.specs.Prelude.{◌≡◌, ◌/◌, ◌%◌, ◌^◌, ◌<◌};
 ghost use Rattle.mc_model_machine.specs.Des.{bits, pick, initial, final, choice1, choice2};
@@ -7,7 +7,7 @@ ghost use Rattle.mc_des.specs.Words.{key_bits};
 use crate::key_tables::{choice1_of, choice2_of};
 use crate::tables::{final_of, initial_of};
 
-// The four bits of a word that stand above `low` others.
+// The four bits of a word above its lowest `low` bits.
 #[inline]
 fn four_above(word: u64, low: usize) -> usize
     requires { low < 64 }
@@ -16,7 +16,7 @@ fn four_above(word: u64, low: usize) -> usize
     (word >> low & 15) as usize
 }
 
-// The initial permutation of a block.
+// The initial permutation IP of a block (FIPS 46-3).
 pub fn initial(block: u64) -> u64
     ensures { bits 64 result ≡ pick initial (bits 64 block) }
 {
@@ -27,7 +27,7 @@ pub fn initial(block: u64) -> u64
     word
 }
 
-// Its inverse.
+// The inverse of the initial permutation.
 pub fn final_bits(block: u64) -> u64
     ensures { bits 64 result ≡ pick final (bits 64 block) }
 {
@@ -38,7 +38,7 @@ pub fn final_bits(block: u64) -> u64
     word
 }
 
-// The two halves of a key, of 28 bits each, behind each other.
+// The two halves C and D of a key by permuted choice 1, of 28 bits each, one after the other.
 pub fn halves(key: u64) -> u64
     ensures { bits 56 result ≡ pick choice1 (bits 64 key) }
 {
@@ -49,7 +49,7 @@ pub fn halves(key: u64) -> u64
     word
 }
 
-// The round key that two halves make.
+// The round key of two halves, by permuted choice 2.
 pub fn round_key(halves: u64) -> u64
     ensures { key_bits result ≡ pick choice2 (bits 56 halves) }
 {

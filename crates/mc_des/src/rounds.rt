@@ -1,4 +1,4 @@
-// The cipher function, and a block through the sixteen rounds.
+// The cipher function f, and the sixteen rounds of a block (FIPS 46-3).
 
 ghost use Rattle.std.specs.Prelude.{◌≡◌, ◌/◌, ◌%◌, ◌^◌, ◌<◌, map};
 ghost use Rattle.std.specs.Int.{w64, to_be_bytes};
@@ -8,7 +8,7 @@ ghost use Rattle.mc_des.specs.Words.{key_bits, passed};
 use crate::box_table::boxed;
 use crate::permute::{final_bits, initial};
 
-// The six bits of a word that stand above `low` others.
+// The six bits of a word above its lowest `low` bits.
 #[inline]
 fn six_above(word: u32, low: usize) -> usize
     requires { low < 32 }
@@ -17,8 +17,8 @@ fn six_above(word: u32, low: usize) -> usize
     (word >> low & 63) as usize
 }
 
-// The cipher function. Turned left by 5, the half has the groups of the boxes 1, 7, 5 and 3 at the low end of its bytes;
-// turned by 9, it has those of the boxes 2, 8, 6 and 4.
+// The cipher function f. Rotated left by 5, the half has the groups of the S-boxes 1, 7, 5 and 3 at the low
+// end of its bytes; rotated left by 9, those of the S-boxes 2, 8, 6 and 4.
 #[inline]
 fn f(right: u32, key: u64) -> u32
     ensures { bits 32 result ≡ f (bits 32 right) (key_bits key) }
@@ -35,8 +35,8 @@ fn f(right: u32, key: u64) -> u32
         ^ boxed(7, six_above(even, 8))
 }
 
-// The sixteen rounds of a permuted block, whose halves stand exchanged behind them. They go two at a time, so that no
-// half has to change its place.
+// The sixteen rounds of a permuted block, whose halves are exchanged after them. They go two at a time, so
+// that no half has to change its place.
 pub fn passed(keys: &[u64; 16], block: u64) -> u64
     ensures { bits 64 result ≡ passed (map key_bits keys.now) (bits 64 block) }
 {

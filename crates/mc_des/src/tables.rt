@@ -1,5 +1,6 @@
-// The tables of the initial permutation and its inverse, by fours of bits. An entry stands at 16 times the place of the
-// four bits plus their value. Each table is read by one function, whose contract says what an entry is.
+// The tables of the initial permutation and its inverse (FIPS 46-3), by nibbles. An entry has the index 16
+// times the place of the nibble plus its value. Each table is read by one function, whose contract is the
+// meaning of an entry.
 
 ghost use Rattle.std.specs.Prelude.{◌≡◌, ◌<◌};
 ghost use Rattle.mc_model_machine.specs.Des.{bits, pick, initial, final};
@@ -265,7 +266,7 @@ const INITIAL: [u64; 256] = [
     0x0000_8080_0000_8080,
 ];
 
-// Its inverse.
+// The inverse of the initial permutation.
 const FINAL: [u64; 256] = [
     0x0000_0000_0000_0000,
     0x0000_0000_4000_0000,

@@ -2,7 +2,8 @@ use crate::{
     des_decipher, des_encipher, des_signature, tdes_decipher, tdes_encipher, tdes_signature,
 };
 
-// Keys, blocks and enciphered blocks of NIST SP 800-17 (its table 4, and rows of tables 1 to 3), after two worked examples.
+// Keys, blocks and enciphered blocks of NIST SP 800-17 (its table 4, and rows of tables 1 to 3), after two
+// worked examples.
 const ROWS: [(u64, u64, u64); 41] = [
     (
         0x1334_5779_9BBC_DFF1,

@@ -1,11 +1,11 @@
-// Known answers of public standards, as theorems: the definition computes them.
+// Known answers of public standards, as theorems about the definition.
 
 ghost use Rattle.std.specs.Prelude.{◌≡◌, true, [], ◌∷◌, ◌++◌, codes};
 ghost use Rattle.mc_model_device.specs.Bytes.{bytes};
 ghost use Rattle.mc_model_machine.specs.Des.{tdes_encipher, tdes_decipher, des_signature, tdes_signature};
 ghost use Rattle.mc_des.specs.Vectors.{all_encipher, all_decipher, worked, variable_plaintext, variable_key, permutation_operation, substitution_table};
 
-/// Worked examples, both ways.
+/// Worked examples, enciphered and deciphered.
 pub fn worked_examples()
     ensures enciphered { all_encipher worked ≡ true }
     ensures deciphered { all_decipher worked ≡ true }
@@ -31,7 +31,8 @@ pub fn substitution_table()
     ensures { all_encipher substitution_table ≡ true }
 {}
 
-/// FIPS 81: the last block of the printed example of CBC. Triple DES with two equal halves gives the same.
+/// FIPS 81: the last block of the printed example of CBC. Triple DES under a key of two equal halves yields
+/// it too.
 pub fn last_block_of_cbc()
     ensures single { des_signature (bytes 8 0x0123456789ABCDEF) (bytes 8 0x1234567890ABCDEF)
         (codes "Now is the time for all ") ≡ bytes 8 0x683788499A7C05F6 }

@@ -7,17 +7,17 @@ use Rattle.mc_model_machine.specs.Chain.{with_pieces, changed_app, map_changed}
 use Rattle.mc_model_card.specs.Items.{Change, Fixed, Created, Deleted, Item, Plain, Atomic, changed, done}
 use Rattle.mc_model_device.proofs.MapLemmas.{same_name, apart, lookup-inserted, lookup-beside, lookup-removed, lookup-left}
 
--- an application wherever it lies, if there is one
+-- an application without its place, if there is one
 abbrev pub bare : Option App → Option App
 bare None = None
 bare (Some a) = Some (placed 0 a)
 
--- the maps have the same applications under all names of one side of K: those in it (true), or all others (false)
+-- the maps have equal applications under all names of one side of K: those in it (true), or all others (false)
 abbrev pub MapsAgree : List (List ℕ) → Bool → List (List ℕ × App) → List (List ℕ × App) → Type 0
 MapsAgree K x m d = (k : List ℕ) → has_name k K ≡ x → bare (lookup m k) ≡ bare (lookup d k)
 
 module _ (K : List (List ℕ)) (x : Bool) where
-  -- ---- the same change on both sides
+  -- ---- one change on both sides
 
   pub Agree-inserted : (m d : List (List ℕ × App)) (n : List ℕ) (a b : App) → placed 0 a ≡ placed 0 b → MapsAgree K x m d → MapsAgree K x (insert m n a) (insert d n b)
   Agree-inserted m d n a b e h k on = by_test (bytes_eq n k) refl
@@ -103,7 +103,7 @@ module _ (K : List (List ℕ)) (x : Bool) where
   Agree-changed (Created n a) m d h = Agree-inserted m d n a a refl h
   Agree-changed (Deleted n) m d h = Agree-removed m d n h
 
-  -- the same items done to both
+  -- items done to both
   pub Agree-done : (is : List Item) (m d : List (List ℕ × App)) → MapsAgree K x m d → MapsAgree K x (done m is) (done d is)
   Agree-done [] m d h = h
   Agree-done (Plain ∷ is) m d h = Agree-done is m d h

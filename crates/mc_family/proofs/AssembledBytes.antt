@@ -17,7 +17,7 @@ use Rattle.mc_model_device.proofs.ImageLemmas.{all-append}
 use Rattle.mc_family.proofs.CardFacts.{all-take}
 use Rattle.mc_model_device.proofs.ListLemmas.{pair-bytes}
 
--- ---- answers in turn
+-- ---- results in turn
 
 pub bind-ok : {A B E : Type 0} (r : Result A E) (f : A → Result B E) (P : A → Type 0) (Q : B → Type 0) → IfOk r P → ((a : A) → P a → IfOk (f a) Q) → IfOk (r >>= f) Q
 bind-ok (Ok a) f P Q h k = k a h
@@ -304,7 +304,7 @@ found-form (w ∷ ws) t h = by (bytes_eq w.0 t) (found-form ws t h.1)
 
 -- ---- lines
 
--- what a line puts into the code is bytes, wherever its label stands
+-- what a line puts into the code is bytes, whatever the place of its label
 abbrev ItemBytes : CodeItem → Type 0
 ItemBytes Nothing = ⊤
 ItemBytes (Raw b) = b < 256

@@ -141,7 +141,7 @@ whole-stand (Atomic w c ∷ is) m k x f =
     stands-cond m (nat_le k (cost Two w)) (in_flight w c k x) (with_item (Atomic w c) (at_stop is (k - cost Two w) x)) (stands-flight m w c (stands Two w k x) f.0)
     (f.0, whole-stand is (changed c m) (k - cost Two w) x f.1)
 
--- items one after another
+-- items in order
 pub stand-append : (is js : List Item) (m : List (List ℕ × App)) → ItemsStand m is → ItemsStand (done m is) js → ItemsStand m (is ++ js)
 stand-append [] js m f g = g
 stand-append (Plain ∷ is) js m f g = stand-append is js m f g
@@ -177,7 +177,7 @@ name-few r words h =
     let most : n ≤ 16 = leb-true n 16 (and_parts (nat_le 5 n) (nat_le n 16) to-a.0).1 in
     omega (arith, length-take n r)
 
--- the applications of blocks whose records are good, behind `used` others
+-- the applications of blocks whose records are good, after `used` others
 record RecordsRead (used : ℕ) (m : List (List ℕ × App)) : Type 0 where
   ascending : AscendByName m
   entries : AllByRecursion IsNamedCode m
@@ -211,7 +211,7 @@ read-blocks m (b ∷ bs) names used image few h =
     by true false is e next other = absurd (cc e)
     by false g is e next other = other e
 
--- an image without a fault means such applications
+-- an image without a fault holds such applications
 pub means-on-card : (m : List (List ℕ)) → IsImage m → fault m ≡ None → AreOnCard (means m).apps
 means-on-card m image h =
     let w = words_after (after m) m in

@@ -1,4 +1,4 @@
--- A creation is the last item of its line, so where it stands the map has it.
+-- A creation is the last item of its line, so if it is durable the map has it.
 use Rattle.std.specs.Prelude.{◌≡◌, ℕ, ◌-◌, Bool, true, false, cond, nat_le, ◌==◌, List, [], ◌∷◌, ◌++◌, length, map, Option, Some, None, Result, Ok, Err, ⊤}
 use Rattle.std.proofs.Common.{refl, ap, sym, subst, ◌∙◌}
 use Rattle.mc_model_card.specs.declared.card.Part.{Part}
@@ -30,7 +30,7 @@ LastCreates (Atomic w (Fixed n ps) ∷ is) = LastCreates is
 LastCreates (Atomic w (Deleted n) ∷ is) = LastCreates is
 LastCreates (Atomic w (Created n a) ∷ is) = is ≡ []
 
--- where it stands, the map has it
+-- if it is durable, the map has it
 pub created-stands : (is : List Item) (m : List (List ℕ × App)) → LastCreates is → AllAreIn (done m is) (created_in is)
 created-stands [] m h = tt
 created-stands (Plain ∷ is) m h = created-stands is m h

@@ -271,7 +271,7 @@ read-ok : (text : List ℕ) → IfOk (deck_read text) LinesBytes
 unfolding deck_read
 read-ok text = lines-ok (Between (record { units = []; powered = false })) (numbered 1 (lines text)) tt
 
--- of every deck that was read
+-- the law of every deck that was read
 pub read_lines_law : ReadLinesLaw
 read_lines_law text ls e = subst (λ (r : Result (List (ℕ × DeckLine)) (ℕ × DeckCause)). IfOk r LinesBytes) e (read-ok text)
 
@@ -283,7 +283,7 @@ played-lines zero z ls ws h = tt
 played-lines (suc n) z [] ws h = tt
 played-lines (suc n) z (l ∷ ls) ws h = (subst IsLine (sym (step_is z l (first_worn ws)).line) h.0, played-lines n (step z l (first_worn ws)).after ls (drop 1 ws) h.1)
 
--- of lines that are bytes, whether they were read or not
+-- the law of plays of lines that are bytes, whether they were read or not
 pub played_bytes : (z : State) (ls : List (ℕ × DeckLine)) (ws : List (Option WornAt)) → AllByRecursion (λ l. IsLine l.1) ls → AreLines (plays z ls ws)
 played_bytes z ls ws h = let steps = plays z ls ws in subst AreLines (take-length steps) (played-lines (length steps) z ls ws h)
 

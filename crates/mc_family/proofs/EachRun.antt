@@ -50,6 +50,6 @@ module _ (holds : ℕ → Chain → Type 0) (wherever : HoldsWherever holds) whe
   on-each [] h = tt
   on-each (t ∷ ts) h = (on-line t.before (bytes_of t.line) h.0, on-each ts h.1)
 
-  -- of every play, and so of what the checker says of the runs of accepted code
+  -- of every play, and so of the checker's verdict on the runs of accepted code
   pub each_run : (ls : List (ℕ × DeckLine)) (m : List (List ℕ)) (ws : List (Option WornAt)) → OnEachRun holds (plays (start m) ls ws)
   each_run ls m ws = on-each (plays (start m) ls ws) (begins_law ls m ws)

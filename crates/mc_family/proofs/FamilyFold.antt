@@ -17,7 +17,7 @@ use Rattle.mc_family.proofs.HotLines.{hot-kept, SameAfterPower, powered, power-k
 use Rattle.mc_model_device.proofs.MapLemmas.{same_name}
 use Rattle.mc_model_device.proofs.BoolLemmas.{and_false}
 
--- the lone card hears of these lines what the play tells of them, and the maps agree behind them
+-- the lone card hears of these lines what the play has of them, and the maps agree after them
 record HearsAlike (K : List (List ℕ)) (t : Solo) (s : State) (us : List Step) : Type 0 where
   answer : (hears_all t (events K us)).answer ≡ answers K us
   work : (hears_all t (events K us)).work ≡ work K us
@@ -28,7 +28,7 @@ module _ (K : List (List ℕ)) where
   unfolding hears_all events answers work
   none-alike t s h = record { answer = refl; work = refl; map = h }
 
-  -- a line, and those behind it
+  -- a line, and those after it
   then-alike : (t : Solo) (s : State) (u : Step) (us : List Step)
       → (hears_all t (events_of K u u.line)).answer ≡ seen_if (is_seen K u u.line) u.result → (hears_all t (events_of K u u.line)).work ≡ work_if (is_own K u) u
       → HearsAlike K (hears_all t (events_of K u u.line)).after u.after us → HearsAlike K t s (u ∷ us)
@@ -65,7 +65,7 @@ module _ (K : List (List ℕ)) where
   IsCold (Cold m b a) = ⊤
   IsCold (Hot s) = ⊥
 
-  -- a line that gives no event
+  -- a line without an event
   record GivesNoEvent (u : Step) : Type 0 where
     power : is_power u.line ≡ false
     none : events_of K u u.line ≡ []
@@ -148,7 +148,7 @@ module _ (K : List (List ℕ)) where
       ]
   cold-alike n ls ws (Hot s) c may closed = absurd c
 
-  -- family isolation, and same items same stop, for every front of a play
+  -- family isolation, with equal items and stops, for every front of a play
   pub isolated : (n : ℕ) (ls : List (ℕ × DeckLine)) (m : List (List ℕ)) (ws : List (Option WornAt)) → Possible (start m) ls ws → Closed K (take n (plays (start m) ls ws)) → IsIsolated K (start m) (take n (plays (start m) ls ws))
   isolated n ls m ws may closed =
       let us = take n (plays (start m) ls ws) in

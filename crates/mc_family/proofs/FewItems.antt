@@ -27,7 +27,7 @@ use Rattle.mc_model_card.proofs.ItemLemmas.{done-append}
 
 -- ---- the bytes of a command
 
--- the body of a command is bytes where all behind its fifth byte are
+-- the body of a command is bytes if all after its fifth byte are
 RestBytes : Option Rest → Type 0
 RestBytes None = ⊤
 RestBytes (Some r) = AreBytes r.body
@@ -79,7 +79,7 @@ headed-bytes cla ins p1 p2 None h = tt
 headed-bytes cla ins p1 p2 (Some r) h =
     route-cond (cla == 0xFF) WrongClass _ tt (route-cond (cla == 0 && ins == 0xA4 && p1 == 4) (ToSelect _) _ tt (route-cond (cla == 0xBE) (ToManager _) (ToApplication _) h tt))
 
--- all that stands behind the first five bytes of a command is bytes
+-- all that follows the first five bytes of a command is bytes
 abbrev pub IsSent : List ℕ → Type 0
 IsSent b = AreBytes (drop 5 b)
 
@@ -98,7 +98,7 @@ abbrev pub SelectedStands : Option Selected → Type 0
 SelectedStands None = ⊤
 SelectedStands (Some s) = length s.name ≤ 16
 
--- a load is open where there is room for one more application, and its code is bytes so far
+-- a load is open only if there is room for one more application, and its code is bytes so far
 abbrev pub LoadStands : List (List ℕ × App) → Option Open → Type 0
 LoadStands m None = ⊤
 LoadStands m (Some o) = (length m ≤ 31) × AreBytes o.got.code

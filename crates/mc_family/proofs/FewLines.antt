@@ -206,6 +206,6 @@ few-from (suc n) z (l ∷ ls) ws f h are =
     let k : LineStands u = step-stands z l (first_worn ws) is f h in
     (k.few, few-from n u.after ls (drop 1 ws) (step-fits z l (first_worn ws) f).next k.next are.1)
 
--- of a play from an image on, for every front of it
+-- each item of a play from an image on fits a journal, for every front of it
 pub few_words : (n : ℕ) (m : List (List ℕ)) (ls : List (ℕ × DeckLine)) (ws : List (Option WornAt)) → IsImage m → AreLines (take n (plays (start m) ls ws)) → AllFitJournal (take n (plays (start m) ls ws))
 few_words n m ls ws image are = few-from n (start m) ls ws tt image are

@@ -143,7 +143,7 @@ module _ (c : Card) (seat : Seat) (es : List (List ℕ × App)) where
       answered-fresh (first_status (delete_refusals c.apps seat a)) (delete_done seat a) None (status-refusal (delete_refusals c.apps seat a) (refl, (refl, (refl, (refl, tt)))))
       (record { made = sym none; sent = refl })
 
-  -- of a complete load: the data, and zeros behind them
+  -- of a complete load: the data, followed by zeros
   complete-app : (o : Open) → is_complete o ≡ true → placed 0 (fresh o) ≡ sent_app (record { sizes = o.site.sizes; got = o.got })
   complete-app o h =
       let e : length o.got.init ≡ o.site.sizes.init = eqb-true (length o.got.init) o.site.sizes.init (and_parts (length o.got.code == o.site.sizes.code) (length o.got.init == o.site.sizes.init)

@@ -61,7 +61,7 @@ none-taken (Running seat) (AtFault cause p) g l e = refl
 none-taken Unpowered b g l e = refl
 none-taken Muted b g l e = refl
 
--- a step that makes nothing, and behind which as much was sent
+-- a step that makes nothing, and after which as much was sent
 nothing-fresh : (s : Option Sent) (u : Step) → taken_in u.before u.line ≡ [] → u.items ≡ [] → u.whole ≡ [] → SentIn (kept_sent (is_power u.line) u.stop s) u.after → FreshStep s u
 nothing-fresh s u e items whole next =
     record {
@@ -151,6 +151,6 @@ fresh_from (suc n) s z (l ∷ ls) ws e =
     let h : FreshStep s u = step-fresh s z l w e in
     (h.keeps, fresh_from n (kept_sent (is_power u.line) u.stop (sent_after_all s (taken_in u.before u.line))) u.after ls (drop 1 ws) h.next)
 
--- of a play from an image on
+-- no application of a play from an image on has a stale byte
 pub no_stale_byte : (n : ℕ) (m : List (List ℕ)) (ls : List (ℕ × DeckLine)) (ws : List (Option WornAt)) → NoStaleByte None (take n (plays (start m) ls ws))
 no_stale_byte n m ls ws = fresh_from n None (start m) ls ws tt

@@ -1,4 +1,4 @@
--- Every line of a play past its first power line keeps the relation: a case for each kind of line.
+-- Every line of a play after its first power line keeps the relation: a case for each kind of line.
 use Rattle.std.specs.Prelude.{◌≡◌, ℕ, ◌-◌, ◌≤◌, Bool, true, false, cond, ◌&&◌, nat_le, List, [], ◌∷◌, Option, Some, None}
 use Rattle.std.proofs.Common.{refl, ap, sym, subst, ◌∙◌, arith}
 use Rattle.mc_model_device.specs.Bytes.{has_name, lookup}
@@ -51,7 +51,7 @@ no_left Muted d = refl
 
 -- ---- power lines
 
--- after a power line the applications are the same, and nothing is selected
+-- after a power line the applications are as before, and nothing is selected
 pub record SameAfterPower (K : List (List ℕ)) (s r : Warm) : Type 0 where
   pub warm : IsRunnable r.live r.base
   pub map : apps_on r.base ≡ apps_on s.base
@@ -145,7 +145,7 @@ module _ (K : List (List ℕ)) (t : Solo) (n : ℕ) (o : ℕ) (j : Journal) (g :
   unfolding moves_of step
   moves-apdu c seat x = omega arith
 
-  -- a card line where no card runs
+  -- a card line when no card runs
   no-card-kept : (l : DeckLine) (b : Base) (v : Live) → is_own_command K v (command_of l) ≡ false → is_running v ≡ false → Simulates K (Hot (hot b o j v g a)) t
       → let u = quiet n l (Hot (hot b o j v g a)) (Some (without_card v)) (Hot (hot b o j v g Unarmed)) in KeepsSimulation K t u (line_events (is_own K u) K u) (is_own K u) (is_own K u)
   no-card-kept l b v own off sim =

@@ -1,4 +1,4 @@
--- One line of a play on a running card keeps the relation, and both sides tell and work alike.
+-- One line of a play on a running card keeps the relation, and both sides have equal results and work.
 use Rattle.std.specs.Prelude.{◌≡◌, ℕ, Bool, true, false, ◌&&◌, List, [], ◌∷◌, ◌++◌, Option, Some, None}
 use Rattle.std.proofs.Common.{refl, ap, sym, subst, ◌∙◌}
 use Rattle.mc_model_device.specs.declared.device.Stop.{Stop}
@@ -85,7 +85,7 @@ module _ (K : List (List ℕ)) (c : Card) (owed : ℕ) (by : Journal) (seat : Se
       ∙ (ap (λ (h : Heard). heard_before h (hears_all h.after (left_if b))) r.heard
       ∙ ap (λ (h : Heard). heard_before (silent (record t { map = r.map })) h) (left-heard b (record t { map = r.map })))
 
-  -- where a line changes others' applications alone
+  -- a line that changes others' applications alone
   pub other-keeps : (n : ℕ) (l : DeckLine) (r : Command) (s : Option StopAt) → Simulates K (Hot (running c owed by seat budget armed)) t
       → Other K seat (is_foreign_select K (command_of l) && is_done_reply (Some (Answered r.outcome))) r
       → let u = command_step n l (running c owed by seat budget armed) c r s in KeepsSimulation K t u (told K u.whole ++ left_if (is_left K u)) false false

@@ -20,7 +20,7 @@ use Rattle.mc_family.proofs.RunLemma.{RunAlike, run-alike}
 use Rattle.mc_family.proofs.Sim.{own_of}
 use Rattle.mc_family.proofs.Stops.{IsOther, AreOthers, AreOthers-append, writes-others}
 
--- nothing where the selection was lost
+-- nothing if the selection was lost
 abbrev pub unless : Bool → Option Selected → Option Selected
 unless true o = None
 unless false o = o

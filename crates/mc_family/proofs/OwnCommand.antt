@@ -20,7 +20,7 @@ alone K r = record { items = r.items; outcome = r.outcome; selected = own_of K r
 own_of-named : (K : List (List ℕ)) (s : Selected) → has_name s.name K ≡ true → own_of K (Some s) ≡ Some s
 own_of-named K s h = ap (λ (b : Bool). cond b (Some s) None) h
 
--- the status of a SELECT, where this says whether its name is missing
+-- the status of a SELECT, by whether its name is missing
 abbrev select_status : ApduParts → Bool → Option ℕ
 select_status a missing = first_status ((0x6A86, not (a.p2 == 0 || a.p2 == 0x0C)) ∷ (0x6700, is_empty a.body) ∷ (0x6A82, missing) ∷ [])
 

@@ -63,7 +63,7 @@ pub record CommandFits (m : List (List ℕ × App)) (r : Command) : Type 0 where
   pub items : ItemsFit m r.items
   pub seat : SeatFits (done m r.items) r.seat
 
--- the selection, where the application under its name is the same
+-- the selection, if the application under its name is as before
 same-selected : (m d : List (List ℕ × App)) (s : Selected) → size_in d s.name ≡ size_in m s.name → SelectedFits m (Some s) → SelectedFits d (Some s)
 same-selected m d s e h = subst (λ (z : Option (ℕ × ℕ)). AsManySession z (length s.session)) (sym e) h
 
@@ -506,6 +506,6 @@ begin_from z (l ∷ ls) ws h =
     let k : LineFits u = step-fits z l (first_worn ws) h in
     (k.well, begin_from u.after ls (drop 1 ws) k.next)
 
--- of every play
+-- the law of every play
 pub begins_law : BeginsLaw
 begins_law ls m ws = begin_from (start m) ls ws tt

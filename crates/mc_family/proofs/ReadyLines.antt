@@ -24,14 +24,14 @@ use Rattle.mc_family.proofs.FormattedImage.{formatted_sound, formatted_size}
 use Rattle.mc_family.proofs.HotLines.{hot}
 use Rattle.mc_model_device.proofs.BoolLemmas.{cond-most}
 
--- ---- what can be owed
+-- ---- the writes that recovery may have to make
 
 owed-which : (m : List (List ℕ)) (w : Which) → debt (look_at m w) ≤ 65
 owed-which m Both = omega arith
 owed-which m (Only j) = owed-few j m (look_j j m) refl
 owed-which m Neither = omega arith
 
--- an image owes at most 65 writes
+-- recovery has to make at most 65 writes on an image
 pub owed-most : (m : List (List ℕ)) → owed m ≤ 65
 owed-most m = owed-which m (which m)
 
@@ -39,7 +39,7 @@ owed-cond : (b : Bool) (s t : Stopped) → s.owed ≤ 65 → t.owed ≤ 65 → (
 owed-cond true s t h k = h
 owed-cond false s t h k = k
 
--- a stop leaves at most 65 writes
+-- a stop leaves at most 65 writes for recovery
 at_stop-owed : (is : List Item) (k : ℕ) (x : List ℕ) → AllByRecursion FitsJournal is → (at_stop is k x).owed ≤ 65
 at_stop-owed [] k x a = omega arith
 at_stop-owed (Plain ∷ is) k x a = owed-cond (k == 1) (record { whole = []; owed = 0 }) (with_item Plain (at_stop is (k - 1) x)) (omega arith) (at_stop-owed is (k - 1) x a.1)
@@ -54,12 +54,12 @@ abbrev IsCardBase : Base → Type 0
 IsCardBase (OnCard c) = ⊤
 IsCardBase (AtFault cause p) = ⊥
 
--- where a card is sure to be there, the image has no fault
+-- if a card is sure to be there, the image has no fault
 abbrev SureImage : Bool → List (List ℕ) → Type 0
 SureImage true m = fault m ≡ None
 SureImage false m = ⊤
 
--- and the base is a card
+-- if a card is sure to be there, the base is a card
 abbrev SureBase : Bool → Base → Type 0
 SureBase true b = IsCardBase b
 SureBase false b = ⊤
@@ -160,7 +160,7 @@ module _ (sure : Bool) (n : ℕ) (l : DeckLine) (other : (o : Option StopAt) (r 
             (record { owed = at_stop-owed r.items t.at t.left fits; base = card-sure sure _ });
       }
 
-  -- a line that changes neither the base nor what is owed
+  -- a line that changes neither the base nor the writes that recovery still has to make
   quiet-sure : (s t : Warm) (r : Option LineResult) → is_found r ≡ false → t.base ≡ s.base → t.owed ≡ s.owed → SureWarm sure s → KeepsReady sure (quiet n l (Hot s) r (Hot t))
   quiet-sure s t r e b o h =
       record {
@@ -267,7 +267,7 @@ ready_from (suc n) sure z (l ∷ ls) ws h fits =
     let k : KeepsReady sure u = step-sure sure z l (first_worn ws) fits.0 h in
     (k.says, ready_from n (sure_after sure u) u.after ls (drop 1 ws) k.next fits.1)
 
--- of a play from an image on, for every front of it
+-- the law of a play from an image on, for every front of it
 pub ready_again : (n : ℕ) (m : List (List ℕ)) (ls : List (ℕ × DeckLine)) (ws : List (Option WornAt)) → IsImage m → AllFitJournal (take n (plays (start m) ls ws)) → ReadyAgain false (take n (plays (start m) ls ws))
 ready_again n m ls ws image fits = ready_from n false (start m) ls ws (record { low = image.low; high = image.high; sound = tt }) fits
 

@@ -1,4 +1,4 @@
--- The run of a chain reads and writes on one side of a closed family alone: over two maps that agree there, it is the same run.
+-- The run of a chain reads and writes on one side of a closed family alone: over two maps that agree there, the runs are equal.
 use Rattle.std.specs.Prelude.{◌≡◌, ℕ, zero, suc, Bool, true, false, cond, ◌||◌, nat_lt, nat_le, List, [], ◌∷◌, ◌++◌, unwrap_or, Option, Some, None, Result, Ok, Err, ⊤}
 use Rattle.std.proofs.Common.{refl, ap, sym, subst, ◌∙◌}
 use Rattle.mc_model_machine.specs.declared.instruction.Ins.{Ins}
@@ -35,7 +35,7 @@ abbrev pub WritesOn : List (List ℕ) → Bool → List Write → Type 0
 WritesOn K x [] = ⊤
 WritesOn K x (w ∷ ws) = (has_name w.name K ≡ x) × WritesOn K x ws
 
--- what follows is the same end, or the same chain over maps that agree
+-- what follows is one end, or one chain over maps that agree
 pub record Continue (K : List (List ℕ)) (x : Bool) (ch d : Chain) : Type 0 where
   pub map : List (List ℕ × App)
   pub same : d ≡ over ch map
@@ -188,7 +188,7 @@ module _ (K : List (List ℕ)) (x : Bool) where
   found-alike (Some a) None e = absurd (cc e)
   found-alike (Some a) (Some c) e = cc e
 
-  -- The run lemma: two maps that agree on one side of a closed family, and a first name of that side, give the same run,
+  -- The run lemma: on two maps that agree on one side of a closed family, from a first name of that side, there is one run,
   -- all of whose writes belong to that side.
   pub run-alike : (m d : List (List ℕ × App)) (first session : List ℕ) (a : ApduParts) (budget : ℕ) → ClosedPairs K (run m first session a budget).pairs → MapsAgree K x m d → has_name first K ≡ x → RunAlike K x (run m first session a budget) (run d first session a budget)
   run-alike m d first session a budget closed h is =

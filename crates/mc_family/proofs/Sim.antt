@@ -18,7 +18,7 @@ use Rattle.std.proofs.lemmas.Bool.{or_right}
 
 -- ---- the relation
 
--- the selection, where it is the family's
+-- the selection, if it is the family's
 abbrev pub own_of : List (List ℕ) → Option Selected → Option Selected
 own_of K None = None
 own_of K (Some s) = cond (has_name s.name K) (Some s) None
@@ -35,19 +35,19 @@ IsRunnable (Running seat) (AtFault cause p) = ⊥
 IsRunnable Unpowered base = ⊤
 IsRunnable Muted base = ⊤
 
--- a play past its first power line
+-- a play after its first power line
 abbrev pub IsWarm : State → Type 0
 IsWarm (Cold m b a) = ⊥
 IsWarm (Hot s) = IsRunnable s.live s.base
 
--- The card of its own has the family's applications of the play's card, and the selection where it is the family's.
+-- The card of its own has the family's applications of the play's card, and the selection if it is the family's.
 pub record Simulates (K : List (List ℕ)) (s : State) (t : Solo) : Type 0 where
   pub warm : IsWarm s
   pub map : MapsAgree K true (apps_in s) t.map
   pub selected : t.selected ≡ own_selected K (live_in s)
 
--- What a line keeps that gives these events, where its result is seen and it is the family's own as these tests say:
--- the relation, and that both sides tell and work alike.
+-- What a line with these events keeps, by the tests of whether its result is seen and whether it is the family's own:
+-- the relation, and that both sides have equal results and work.
 pub record KeepsSimulation (K : List (List ℕ)) (t : Solo) (u : Step) (es : List Event) (seen own : Bool) : Type 0 where
   pub sim : Simulates K u.after (hears_all t es).after
   pub answer : (hears_all t es).answer ≡ seen_if seen u.result
@@ -93,6 +93,6 @@ rest_from (k ∷ ks) m d h =
     let others : rest_of ks m ≡ rest_of ks d = rest_from ks m d (λ j on. h j (or_right (bytes_eq k j) (has_name j ks) on)) in
     ap (λ (z : LineResult). z ∷ rest_of ks m) first ∙ ap (λ (z : List LineResult). static_of (lookup d k) ∷ z) others
 
--- the static bytes of the family are the same where the maps agree
+-- the static bytes of the family are equal if the maps agree
 pub rest-alike : (K : List (List ℕ)) (m d : List (List ℕ × App)) → MapsAgree K true m d → rest_of K m ≡ rest_of K d
 rest-alike K m d h = rest_from K m d h

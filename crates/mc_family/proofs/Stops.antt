@@ -1,4 +1,4 @@
--- Stops and items: the stop that is given hits the lone card where it hit the play, and items of others touch no application of the family.
+-- Stops and items: the stop that is given hits the lone card as it hit the play, and items of others touch no application of the family.
 use Rattle.std.specs.Prelude.{◌≡◌, ℕ, ◌-◌, ◌≤◌, Bool, true, false, cond, nat_le, ◌==◌, List, [], ◌∷◌, ◌++◌, Option, Some, None, ⊤}
 use Rattle.std.proofs.Common.{refl, ap, ◌∙◌}
 use Rattle.std.proofs.lemmas.Bool.{le-leb}
@@ -19,7 +19,7 @@ use Rattle.mc_family.proofs.Sim.{hears_none}
 
 -- ---- the stop that is given
 
--- a worn stop falls within the writes that are made
+-- a failed write falls within the writes that are made
 abbrev pub WornWithin : ℕ → Option WornAt → Type 0
 WornWithin m None = ⊤
 WornWithin m (Some w) = w.at ≤ m
@@ -83,9 +83,9 @@ whole-others K (Atomic w c ∷ is) k x h =
     atomic-others K (nat_le k (cost Two w)) w c (in_flight w c k x) (at_stop is (k - cost Two w) x) h.0
     (in_flight-others K w c (stands Two w k x) h.0) (whole-others K is (k - cost Two w) x h.1)
 
--- ---- the lone card is told of creations and deletions
+-- ---- the lone card is given creations and deletions
 
--- after what was told the map still agrees, and nothing else has changed
+-- after what was given the map still agrees, and nothing else has changed
 pub record StillAgrees (K : List (List ℕ)) (t : Solo) (m : List (List ℕ × App)) (es : List Event) : Type 0 where
   pub map : List (List ℕ × App)
   pub heard : hears_all t es ≡ silent (record t { map = map })
@@ -103,7 +103,7 @@ hears_departure : (t : Solo) (n : List ℕ) → hears t (Departs n) ≡ silent (
 unfolding hears
 hears_departure t n = refl
 
--- one creation or deletion, of the family or not, and what is told after it
+-- one creation or deletion, of the family or not, and what is given after it
 then-told : (K : List (List ℕ)) (t : Solo) (s : Solo) (m : List (List ℕ × App)) (e : Event) (es : List Event) → hears t e ≡ silent s → s.selected ≡ t.selected → StillAgrees K s m es → StillAgrees K t m (e ∷ es)
 then-told K t s m e es f same r =
     record {

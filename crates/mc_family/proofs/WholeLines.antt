@@ -1,4 +1,4 @@
--- Every line leaves the card before it with the whole items of that line, all of them where it was not stopped.
+-- Every line leaves the card before it with the whole items of that line, all of them if it was not stopped.
 use Rattle.std.specs.Prelude.{◌≡◌, ℕ, zero, suc, List, [], ◌∷◌, take, drop, Option, Some, None}
 use Rattle.std.proofs.Common.{refl}
 use Rattle.mc_model_device.specs.Card.{Card}

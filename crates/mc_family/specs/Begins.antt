@@ -19,12 +19,12 @@ pub record BeginsWell (map : List (List ℕ × App)) (s : Selected) : Type 0 whe
   pub limited : AreLimited map
   pub session : length s.session ≡ session_in (lookup map s.name)
 
--- what is passed to a selected application
+-- a command that is passed to the selected application, if there is one, begins so
 abbrev pub PassedWell : List (List ℕ × App) → Option Selected → Type 0
 PassedWell map None = ⊤
 PassedWell map (Some s) = BeginsWell map s
 
--- a command that is passed to the selected application
+-- a command by its route begins so, if it is passed to the selected application
 abbrev pub RoutedWell : List (List ℕ × App) → Seat → Route → Type 0
 RoutedWell map seat (ToApplication a) = PassedWell map seat.selected
 RoutedWell map seat WrongLength = ⊤
@@ -32,36 +32,36 @@ RoutedWell map seat WrongClass = ⊤
 RoutedWell map seat (ToSelect a) = ⊤
 RoutedWell map seat (ToManager a) = ⊤
 
--- what holds of the commands behind one that was answered by 9000 alone
+-- what holds of the commands after one that was answered by 9000 alone
 abbrev pub BehindDone : Bool → Type 0 → Type 0
 BehindDone true later = later
 BehindDone false later = ⊤
 
--- the commands of a line in turn, up to the first that is not answered by 9000 alone
+-- each of the commands of a line in turn begins so, up to the first that is not answered by 9000 alone
 abbrev pub SentWell : Card → Seat → ℕ → List (List ℕ) → Type 0
 SentWell c seat budget [] = ⊤
 SentWell c seat budget (b ∷ bs) =
     let r = command c seat b budget in
     RoutedWell c.apps seat (route b) × BehindDone (is_done r.outcome) (SentWell (card_done c r.items) r.seat budget bs)
 
--- those that a running card takes
+-- each command that a running card takes begins so
 abbrev pub TakenWell : Live → Base → ℕ → List (List ℕ) → Type 0
 TakenWell (Running seat) (OnCard c) budget bs = SentWell c seat budget bs
 TakenWell (Running seat) (AtFault cause p) budget bs = ⊤
 TakenWell Unpowered base budget bs = ⊤
 TakenWell Muted base budget bs = ⊤
 
--- those of a line that was played
+-- each command of a line that was played begins so
 abbrev pub LineWell : State → List (List ℕ) → Type 0
 LineWell (Cold m b a) bs = ⊤
 LineWell (Hot s) bs = TakenWell s.live s.base s.budget bs
 
--- each run of a play
+-- each run of a play begins so
 abbrev pub BeginWell : List Step → Type 0
 BeginWell [] = ⊤
 BeginWell (t ∷ ts) = LineWell t.before (bytes_of t.line) × BeginWell ts
 
--- for every deck, image and list of worn stops, possible or not
+-- each run of every play begins so, for every deck, image and list of failed writes, possible or not
 abbrev pub BeginsLaw : Type 0
 BeginsLaw = (ls : List (ℕ × DeckLine)) (m : List (List ℕ)) (ws : List (Option WornAt)) → BeginWell (plays (start m) ls ws)
 
@@ -72,7 +72,7 @@ abbrev pub OnPassed : (ℕ → Chain → Type 0) → List (List ℕ × App) → 
 OnPassed holds map budget None a = ⊤
 OnPassed holds map budget (Some s) a = holds budget (begun map s.name s.session a)
 
--- of a command by its route
+-- what holds of the run of a command by its route
 abbrev pub OnRouted : (ℕ → Chain → Type 0) → List (List ℕ × App) → Seat → ℕ → Route → Type 0
 OnRouted holds map seat budget (ToApplication a) = OnPassed holds map budget seat.selected a
 OnRouted holds map seat budget WrongLength = ⊤
@@ -80,26 +80,26 @@ OnRouted holds map seat budget WrongClass = ⊤
 OnRouted holds map seat budget (ToSelect a) = ⊤
 OnRouted holds map seat budget (ToManager a) = ⊤
 
--- of the commands of a line in turn, up to the first that is not answered by 9000 alone
+-- what holds of the runs of the commands of a line in turn, up to the first that is not answered by 9000 alone
 abbrev pub OnSent : (ℕ → Chain → Type 0) → Card → Seat → ℕ → List (List ℕ) → Type 0
 OnSent holds c seat budget [] = ⊤
 OnSent holds c seat budget (b ∷ bs) =
     let r = command c seat b budget in
     OnRouted holds c.apps seat budget (route b) × BehindDone (is_done r.outcome) (OnSent holds (card_done c r.items) r.seat budget bs)
 
--- of those that a running card takes
+-- what holds of the runs of the commands that a running card takes
 abbrev pub OnTaken : (ℕ → Chain → Type 0) → Live → Base → ℕ → List (List ℕ) → Type 0
 OnTaken holds (Running seat) (OnCard c) budget bs = OnSent holds c seat budget bs
 OnTaken holds (Running seat) (AtFault cause p) budget bs = ⊤
 OnTaken holds Unpowered base budget bs = ⊤
 OnTaken holds Muted base budget bs = ⊤
 
--- of those of a line that was played
+-- what holds of the runs of a line that was played
 abbrev pub OnLine : (ℕ → Chain → Type 0) → State → List (List ℕ) → Type 0
 OnLine holds (Cold m b a) bs = ⊤
 OnLine holds (Hot s) bs = OnTaken holds s.live s.base s.budget bs
 
--- of every run of a play
+-- what holds of every run of a play
 abbrev pub OnEachRun : (ℕ → Chain → Type 0) → List Step → Type 0
 OnEachRun holds [] = ⊤
 OnEachRun holds (t ∷ ts) = OnLine holds t.before (bytes_of t.line) × OnEachRun holds ts

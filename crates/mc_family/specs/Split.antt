@@ -2,6 +2,6 @@
 use Rattle.std.specs.Prelude.{List, ◌++◌}
 use Rattle.mc_model_card.specs.Items.{Item, Stopped}
 
--- a stop behind items that are whole
+-- the result of a stop with more whole items before it
 abbrev pub with_whole : List Item → Stopped → Stopped
 with_whole is s = record s { whole = is ++ s.whole }

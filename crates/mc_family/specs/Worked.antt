@@ -44,7 +44,7 @@ counter aid =
 abbrev pub count : DeckLine
 count = line.Apdu (0x80 ∷ 1 ∷ 0 ∷ 0 ∷ 2 ∷ [])
 
--- the gate is opened by write 4 of an atomic write of one word
+-- a cut at write 4, which opens the gate of an atomic write of one word and leaves the commit record
 abbrev pub cut_there : DeckLine
 cut_there = line.Cut 4 (opening Two)
 
@@ -64,12 +64,12 @@ unfoldable pub steps : List Step
 unfolding name_of apdu_read touched targets_1 targets_2 pairs blocks_from apps_of layout step_of bad_block bad_record bytes_at written too_many later_causes prim_effect causes effect row acted ran manage command send warmed step plays moves_of steady_worn
 steps = plays (start blank) lines (steady_worn (start blank) lines)
 
--- what the family is told in the play
+-- the view of the family in the play
 unfoldable pub seen_in_play : View
 unfolding steps answers
 seen_in_play = view (first ∷ []) (start blank) steps
 
--- and what it is told alone
+-- the view of the family on a card of its own
 unfoldable pub seen_alone : View
 unfolding steps events apdu_read touched bytes_at written too_many later_causes prim_effect causes effect row acted ran solo_command hears hears_all
 seen_alone = solo_view (first ∷ []) (given (first ∷ []) steps)

@@ -1,4 +1,4 @@
-//! Laws that keep the definitions honest: what each of them has to do with itself.
+//! Laws that check the definitions against each other.
 
 ghost use Rattle.std.specs.Prelude.{◌≡◌, ◌+◌, ◌-◌, ◌<◌, ◌≤◌, ℕ, List, ◌++◌};
 ghost use Rattle.mc_model_device.specs.Image.{laid};
@@ -15,7 +15,7 @@ pub fn pairs_compose()
         → laid m (a ++ b) ≡ laid (laid m a) b }
 {}
 
-/// A stop falls in the first items where they make so many device writes, and else in those behind them.
+/// A stop at write k falls in the first items if they make k device writes, and else in those after them.
 pub fn stops_split()
     ensures within { (is : List Item) (js : List Item) (k : ℕ) (x : List ℕ) → 1 ≤ k → k ≤ moves is
         → at_stop (is ++ js) k x ≡ at_stop is k x }
@@ -33,8 +33,8 @@ pub fn traces_hold_transcripts()
     ensures { TraceLaw }
 {}
 
-/// In every play, whatever was cut or refused, each application on the card keeps to the most static bytes, and each command
-/// that is passed to the selected application is run with as many session bytes as that application has.
+/// In every play, whatever was cut or failed, each application on the card keeps to the limit of static bytes, and
+/// each command that is passed to the selected application is run with as many session bytes as that application has.
 pub fn runs_begin_well()
     ensures { BeginsLaw }
 {}

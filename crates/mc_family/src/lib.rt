@@ -15,15 +15,16 @@ pub use definitions::{
     traces_hold_transcripts,
 };
 
-/// For every deck, image, list of worn stops that is possible and front of the play: what a closed family of applications is told
-/// and holds is what it is told and holds on a card of its own, each line leaves the card with its whole items, no new
-/// application has a stale byte, and no chain of cuts makes a card unusable. The law speaks of this project's definitions; no
-/// standard has one like it.
+/// The law of isolation. For every deck, image, possible list of failed writes and front of the play: what a closed family
+/// of applications observes and holds is what it observes and holds on a card of its own, each line leaves the card with
+/// its whole items, no new application has a stale byte, and no chain of cuts makes a card unusable. The law speaks of
+/// this project's definitions; no standard has one like it.
 pub fn isolation()
     ensures { IsolationLaw }
 {}
 
-/// What one of two counters is told in a play with a cut in each of them, and what its static bytes are at the end.
+/// The view of one of two counters in a play with a cut in each of them: its results, and its static bytes at the
+/// end.
 #[tactic(auto, unfolding(crate::specs::Worked::seen_in_play))]
 pub fn worked_view()
     ensures { seen_in_play ≡ record {
@@ -33,7 +34,7 @@ pub fn worked_view()
     } }
 {}
 
-/// The same on a card of its own.
+/// The view of that counter on a card of its own.
 #[tactic(auto, unfolding(crate::specs::Worked::seen_alone))]
 pub fn worked_solo_view()
     ensures { seen_alone ≡ record {

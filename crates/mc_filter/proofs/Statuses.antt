@@ -1,4 +1,4 @@
--- What is written of a filter's job, and the number of its status.
+-- The text that a filter's job writes, and the number of its status.
 use Rattle.std.proofs.Common.{◌≡◌, ◌≤◌, ℕ, cond, nat_eq, List, Result, Ok, Err, OnErr, OnOk, refl, ap, sym, subst, ◌∙◌}
 use Rattle.mc_model_device.specs.Counts.{Rose}
 use Rattle.mc_base.specs.Streams.{Grew, GrewByPart}
@@ -8,19 +8,19 @@ use Rattle.mc_filter.specs.declared.status.Status.{Status}
 use Rattle.mc_filter.specs.declared.status.Status.TheVariants.{Done, Failed, NoForm, ReadFault, WriteFault, NoMemory}
 use Rattle.mc_filter.specs.Statuses.{ended, number_of}
 
--- a text that was put, by what the call says of its piece
+-- a text was put, from the contract of the call that wrote an equal one
 pub puts_by : (a b : Sunk) (piece text : List ℕ) (r : Result (Unit {0}) Fault) → piece ≡ text → OnOk r (Grew a.taken b.taken piece)
     → OnErr r (Rose a.faults b.faults) → OnErr r (GrewByPart a.taken b.taken piece) → a.faults ≤ b.faults → Puts a text r b
 puts_by a b piece text (Ok u) is grew rose part counted = record { whole = subst (λ (t : List ℕ). Grew a.taken b.taken t) is grew; counted = counted }
 puts_by a b piece text (Err f) is grew rose part counted = record { part = subst (λ (t : List ℕ). GrewByPart a.taken b.taken t) is part; cause = rose }
 
--- where the sink did not fail, a text was written whole
+-- if the sink did not fail, a text was written whole
 pub written_whole : (a b : Sunk) (text : List ℕ) (good s : Status) (r : Result (Unit {0}) Fault) → (Rose a.faults b.faults → ⊥)
     → s ≡ ended good r → Puts a text r b → s ≡ good
 written_whole a b text good s (Ok u) quiet e put = e
 written_whole a b text good s (Err f) quiet e put = absurd (quiet put.cause)
 
--- a number is that of one status
+-- the status with a number
 numbered : ℕ → Status
 numbered n = cond (nat_eq n 0) Done (cond (nat_eq n 1) Failed (cond (nat_eq n 2) NoForm (cond (nat_eq n 3) ReadFault (cond (nat_eq n 4) WriteFault NoMemory))))
 
@@ -33,6 +33,6 @@ numbered_is ReadFault = refl
 numbered_is WriteFault = refl
 numbered_is NoMemory = refl
 
--- two statuses with one number are the same
+-- two statuses with one number are equal
 pub same_status : (s t : Status) (n : ℕ) → n ≡ number_of s → n ≡ number_of t → s ≡ t
 same_status s t n e f = sym (numbered_is s) ∙ ap numbered (sym e ∙ f) ∙ numbered_is t

@@ -1,4 +1,4 @@
--- The statuses of a filter, and how one comes of what is written.
+-- The statuses of a filter, and the status after a text is written.
 use Rattle.std.specs.Prelude.{◌≡◌, ℕ, List, Result, Ok, Err}
 use Rattle.mc_base.specs.declared.refusals.WriteFault.{WriteFault as Fault}
 use Rattle.mc_text.specs.Texts.{Sunk, Puts}
@@ -7,7 +7,7 @@ use Rattle.mc_filter.specs.declared.rejection.Rejection.TheVariants as rejection
 use Rattle.mc_filter.specs.declared.status.Status.{Status}
 use Rattle.mc_filter.specs.declared.status.Status.TheVariants.{Done, Failed, NoForm, ReadFault, WriteFault, NoMemory}
 
--- the number of a status
+-- the exit status of a program, as a number
 abbrev pub number_of : Status → ℕ
 number_of Done = 0
 number_of Failed = 1
@@ -16,7 +16,7 @@ number_of ReadFault = 3
 number_of WriteFault = 4
 number_of NoMemory = 5
 
--- a status by how the writing ended
+-- the status after a write: the given one, or `WriteFault` if the sink failed
 abbrev pub ended : Status → Result (Unit {0}) Fault → Status
 ended good (Ok u) = good
 ended good (Err f) = WriteFault
@@ -27,7 +27,7 @@ pub record IsWritten (good : Status) (text : List ℕ) (s : Status) (before afte
   pub status : s ≡ ended good result
   pub written : Puts before text result after
 
--- how a job ends that is not done: its line was written, or nothing
+-- the end of a job that is rejected: the line of a refusal is written, and nothing at a fault of the source or out of memory
 abbrev pub RejectionEnds : Rejection → Sunk → Status → Sunk → Type 0
 RejectionEnds (rejection.Refusal line) before s after = IsWritten Failed line.items s before after
 RejectionEnds rejection.ReadFault before s after = (s ≡ ReadFault) × (after ≡ before)

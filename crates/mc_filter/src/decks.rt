@@ -1,4 +1,4 @@
-// The deck that an input spells.
+// The deck of an input.
 ghost use Rattle.std.specs.Prelude.{◌≡◌, Ok, IfErr, IfOk};
 ghost use Rattle.mc_model_play.specs.DeckGrammar.{deck_read};
 ghost use Rattle.mc_filter.specs.Inputs.{refused_deck, Rejects};
@@ -8,7 +8,11 @@ use crate::rejection::Rejection;
 use mc_deck::{Deck, DeckRefusal, read_deck};
 use std::alloc::Global;
 
-/// Reads a deck, or gives the line that refuses it.
+/// Reads a deck.
+///
+/// # Errors
+///
+/// Returns the line that refuses it, or `NoMemory` if out of memory.
 pub fn deck_of(alloc: Global, text: &[u8]) -> Result<Deck, Rejection>
     ensures deck { IfOk result (λ d. deck_read text.now ≡ Ok d) }
     ensures rejected { IfErr result (Rejects (refused_deck (deck_read text.now))) }

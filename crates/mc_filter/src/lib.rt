@@ -1,7 +1,7 @@
 #![tactic(auto)]
 
-//! What filters share, the programs that read one input whole and write one text: the command line, the device, the input, the line that
-//! refuses it, and the status.
+//! The common parts of filters, which are the programs that read one input whole and write one text: the
+//! command line, the device, the input, the line that refuses it, and the status.
 
 mod decks;
 mod device;

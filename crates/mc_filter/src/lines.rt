@@ -22,7 +22,7 @@ fn refusal_line(alloc: Global, kind: &str, number: u32, cause: &str) -> Result<V
     Ok(text)
 }
 
-/// The rejection of a line or a place of an input: its kind, as `line`, its number and the cause.
+/// Returns the rejection of a line or a place of an input: its kind, as `line`, its number and the cause.
 pub fn refused(alloc: Global, kind: &str, number: u32, cause: &str) -> Rejection
     ensures { Rejects (λ line. line ≡ refusal_line kind.now number cause.now) result }
 {
@@ -32,7 +32,7 @@ pub fn refused(alloc: Global, kind: &str, number: u32, cause: &str) -> Rejection
     }
 }
 
-/// The rejection of an input that is too long, or whose code is.
+/// Returns the rejection of an input that is too long, or whose code is.
 pub fn too_long(alloc: Global) -> Rejection
     ensures { Rejects (λ line. line ≡ too_long) result }
 {

@@ -7,11 +7,15 @@ use crate::rejection::Rejection;
 use mc_base::{ReadAll, Source, read_all};
 use std::alloc::Global;
 
-/// The most bytes of an input.
+/// The greatest number of bytes of an input.
 pub const INPUT_LIMIT: usize = 1_048_576;
 
-/// Reads an input to its end. One of more than `INPUT_LIMIT` bytes is refused by the line `line 0 TooLong`, as soon as one byte more
-/// has come.
+/// Reads an input to its end.
+///
+/// # Errors
+///
+/// Returns the line `line 0 TooLong` as soon as one byte more than `INPUT_LIMIT` was read, `ReadFault` if the
+/// source failed, and `NoMemory` if out of memory.
 pub fn read_input<S: Source>(alloc: Global, input: &mut S) -> Result<Vec<u8>, Rejection>
     ensures read { IfOk result (λ t. ReadWhole (S.left input.old) (S.left input.new) t.items) }
     ensures rejected { IfErr result

@@ -2,7 +2,7 @@
 use mc_base::NoMemory;
 use std::alloc::AllocError;
 
-/// Why a job is not done: a line that refuses its input, a fault of its source, or want of memory.
+/// Why a job is not done: a line that refuses its input, a fault of its source, or out of memory.
 #[derive(Drop)]
 pub enum Rejection {
     Refusal(Vec<u8>),

@@ -5,21 +5,21 @@ ghost use Rattle.mc_filter.specs.Statuses.{number_of};
 /// How a job ended. Its number is the status of the program.
 #[derive(Clone, Copy, Debug, PartialEq, Eq)]
 pub enum Status {
-    /// All is done, and all is well.
+    /// The job is done, and its input passes.
     Done,
-    /// The input is refused, or it says of itself what does not hold.
+    /// The input is refused, or something that it states of itself does not hold.
     Failed,
-    /// The words name no job.
+    /// The arguments select no job.
     NoForm,
     /// A fault of the source.
     ReadFault,
     /// A fault of the sink.
     WriteFault,
-    /// Want of memory.
+    /// Out of memory.
     NoMemory,
 }
 
-/// The number of a status: 0 to 5, in the order of the statuses.
+/// Returns the number of a status: 0 to 5, in the order of the statuses.
 pub fn number(status: Status) -> u8
     ensures { result ≡ number_of status }
 {

@@ -1,10 +1,14 @@
-// The words of a command line.
+// The arguments of a command line.
 use mc_base::NoMemory;
 use std::io::ErrorKind;
 use std::{env, io};
 
-/// The words of the command line without the program's name, or `None` where one of them cannot be had, as one that is not
-/// UTF-8. An error is want of memory.
+/// Returns the arguments of the command line without the program's name, or `None` if one of them cannot be
+/// read, as one that is not UTF-8.
+///
+/// # Errors
+///
+/// Returns `NoMemory` if out of memory.
 pub fn command_words(rt: &HostRuntime) -> Result<Option<Vec<String>>, NoMemory> {
     match all_words(rt) {
         Ok(words) => Ok(Some(words)),

@@ -1,4 +1,4 @@
-// What is written of a job at its end.
+// Writing at the end of a job.
 ghost use Rattle.std.specs.Prelude.{◌≡◌};
 ghost use Rattle.mc_text.specs.Texts.{sunk_in};
 ghost use Rattle.mc_filter.specs.Statuses.{ended, RejectionEnds};
@@ -7,7 +7,7 @@ use crate::rejection::Rejection;
 use crate::status::Status;
 use mc_base::{Sink, WriteFault, put_all};
 
-/// The status of a text that was to be written: a good one, or a fault of the sink.
+/// Returns the status after a text was written: `good`, or `WriteFault` if the sink failed.
 pub fn ended(good: Status, written: Result<(), WriteFault>) -> Status
     ensures { result ≡ ended good written }
 {
@@ -17,7 +17,8 @@ pub fn ended(good: Status, written: Result<(), WriteFault>) -> Status
     }
 }
 
-/// Ends a job that is not done: writes the line that refuses its input, and nothing for another cause.
+/// Ends a job that is not done, and returns its status: writes the line that refuses its input, and nothing
+/// for another cause.
 pub fn reject<T: Sink>(out: &mut T, rejection: &Rejection) -> Status
     ensures { RejectionEnds rejection.now (sunk_in T.taken T.faults out.old) result (sunk_in T.taken T.faults out.new) }
 {

@@ -1,4 +1,4 @@
--- At each place of code exactly one answer holds, the computed one.
+-- At each place of code exactly one decoding result holds, the computed one.
 use Rattle.std.proofs.Common.{◌≡◌, ℕ, zero, suc, ◌+◌, ◌<◌, ◌≤◌, Bool, true, false, cond, List, [], ◌∷◌, ◌++◌, length, take, drop, Option, Some, None, Result, Ok, Err, arith, refl, sym, ap, subst, inl, inr, ◌∙◌, length-drop, length-take}
 use Rattle.std.specs.Prelude.{nat_le, option_map, slice_index}
 use Rattle.std.proofs.lemmas.List.{take-append-drop}
@@ -12,7 +12,7 @@ use Rattle.mc_isa.proofs.SpellingLemmas.{front_spell}
 use Rattle.mc_model_device.proofs.ListLemmas.{bytes_from}
 use Rattle.std.proofs.lemmas.Bool.{leb-false, leb-true}
 
--- ---- what stands at a place
+-- ---- the byte at a place
 
 -- the first byte from a place on is the byte at the place
 byte_at : (code : List ℕ) (at b : ℕ) (bs : List ℕ) → drop at code ≡ b ∷ bs → slice_index code at ≡ b
@@ -88,7 +88,7 @@ past_only code at (b ∷ bs) e (inr p) =
     let long : length bs < total p.0 = omega (arith, p.2) in
     ap (from_place at) (past_row at bs (form b) p.0 k long)
 
--- an answer that holds is the computed one
+-- a decoding result that holds is the computed one
 pub decoded_only : (code : List ℕ) (at : ℕ) (r : Result (Ins × ℕ) DecodeFault) → DecodesTo code at r → decoded code at ≡ r
 decoded_only code at (Ok p) d =
     let e : spell p.0 ++ drop (length (spell p.0)) (drop at code) ≡ drop at code = ap (λ l. l ++ drop (length (spell p.0)) (drop at code)) (sym d.bytes) ∙ take-append-drop (length (spell p.0)) (drop at code) in

@@ -1,4 +1,4 @@
--- Operands that are spelled and read back, form by form.
+-- Reading back spelled operands, form by form.
 use Rattle.std.proofs.Common.{◌≡◌, ℕ, ◌+◌, ◌*◌, ◌/◌, ◌%◌, ◌<◌, ◌≤◌, Bool, true, false, List, [], ◌∷◌, ◌++◌, length, Option, Some, None, Ok, arith, rules, ap, ◌∙◌}
 use Rattle.std.specs.Prelude.{nat_eq, ℤ, FitsSigned}
 use Rattle.std.specs.Int.{w8, w16, cast_signed, cast_unsigned}
@@ -8,12 +8,12 @@ use Rattle.mc_model_machine.specs.Code.{Form, Plain, OneByte, TwoBytes, Word, Tw
 use Rattle.mc_model_machine.specs.declared.instruction.Ins.{Ins}
 use Rattle.mc_model_device.proofs.ListLemmas.{two-bytes as word_of}
 
--- an instruction lies inside the bytes that it is made of
+-- an instruction is no longer than its opcode byte and the operand bytes that it is made of
 pub made_of_inside : (o : Option Form) (bs : List ℕ) (i : Ins) (n : ℕ) → made_of o bs ≡ Ok (i, n) → n ≤ length bs + 1
 made_of_inside None bs i n h = absurd (cc h)
 made_of_inside (Some f) bs i n h = grind (arith, h)
 
--- a word and its two bytes
+-- the two big-endian bytes of a word
 pub bytes2_of : (x y : ℕ) → x < 256 → y < 256 → bytes2 (256 * x + y) ≡ x ∷ y ∷ []
 bytes2_of x y h k = grind arith
 

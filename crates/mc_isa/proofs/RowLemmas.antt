@@ -11,7 +11,7 @@ use Rattle.mc_isa.proofs.ReadingLemmas.{bytes2_of, unsigned8, unsigned16, fits8,
 
 -- ---- each row spells what it makes
 
--- whatever operands in their ranges, the row's instruction is shaped and is spelled as its byte and these operands
+-- for all operands in their ranges, the row's instruction is shaped and is spelled as its byte and these operands
 abbrev pub Good : ℕ → Form → Type 0
 Good b (Plain i) = Shaped i × (spell i ≡ b ∷ [])
 Good b (OneByte f) = (v : ℕ) → v < 256 → Shaped (f v) × (spell (f v) ≡ b ∷ v ∷ [])
@@ -51,7 +51,7 @@ good_near : (c : ℕ) → c < 8 → (b : Bool) → nat_eq c 0 ≡ b → GoodRow 
 good_near c h true e = tt
 good_near c h false e = λ d f. ((grind (arith, e), h, f), refl)
 
--- a row of an op: whatever the tag
+-- a row of an op is good for each tag
 abbrev pub GoodOp : ℕ × (ℕ → Option Form) → Type 0
 GoodOp r = (tag : ℕ) → tag < 8 → GoodRow (r.0 * 8 + tag) (r.1 tag)
 

@@ -1,4 +1,4 @@
--- What is spelled at the front of bytes is decoded there, so no spelling is the front of another.
+-- A spelling at the front of bytes is decoded there, so no spelling is a proper prefix of another.
 use Rattle.std.proofs.Common.{◌≡◌, ℕ, zero, suc, ◌+◌, ◌*◌, ◌<◌, false, List, [], ◌∷◌, ◌++◌, length, take, Some, Result, Ok, Err, arith, refl, sym, ap, ◌∙◌, length-append, append-nil, zero-add}
 use Rattle.std.specs.Prelude.{nat_eq, ℤ, FitsSigned}
 use Rattle.std.specs.Int.{w8, cast_unsigned}
@@ -52,7 +52,7 @@ prim_back (suc (suc zero)) number (x ∷ y ∷ z ∷ []) rest a = grind (arith, 
 prim_back (suc (suc (suc zero))) number (x ∷ y ∷ z ∷ []) rest a = grind (arith, a.rest)
 prim_back (suc (suc (suc (suc n)))) number (x ∷ y ∷ z ∷ []) rest a = absurd (grind (arith, a.sets))
 
--- what is spelled at the front of bytes is decoded there
+-- a spelling at the front of bytes is decoded there, with its length
 pub front_spell : (i : Ins) (rest : List ℕ) → Shaped i → front (spell i ++ rest) ≡ Ok (i, length (spell i))
 front_spell Nop rest s = back_plain Nop rest
 front_spell (Setsw sw) rest s = back_word (λ w. Setsw w) sw rest s
@@ -106,7 +106,7 @@ ins_of : Result (Ins × ℕ) DecodeFault → Ins
 ins_of (Ok p) = p.0
 ins_of (Err e) = Nop
 
--- a spelling is the front of no other
+-- a spelling is a prefix of no other spelling
 pub spell_front : (i j : Ins) (r q : List ℕ) → Shaped i → Shaped j → spell i ++ r ≡ spell j ++ q → i ≡ j
 unfolding ins_of
 spell_front i j r q s t e = ap ins_of (sym (front_spell i r s) ∙ ap front e ∙ front_spell j q t)

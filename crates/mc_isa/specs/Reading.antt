@@ -1,9 +1,9 @@
--- Operands that are read from the bytes behind an instruction byte.
+-- Operands that are read from the bytes after an instruction byte.
 use Rattle.std.specs.Prelude.{◌≡◌, ℕ, true, false, nat_le, List, length, Result, Ok, Err}
 use Rattle.mc_model_machine.specs.declared.instruction.DecodeFault.{DecodeFault}
 use Rattle.mc_model_machine.specs.declared.instruction.DecodeFault.TheVariants.{Past}
 
--- the value is read where the n bytes that it takes are there
+-- reading an operand of n bytes: its value if n bytes are there, else the fault `Past`
 abbrev pub ReadsOperand : {V : Type 0} → Result V DecodeFault → ℕ → List ℕ → V → Type 0
 ReadsOperand (Ok v) n bs w = (nat_le n (length bs) ≡ true) × (v ≡ w)
 ReadsOperand (Err e) n bs w = (nat_le n (length bs) ≡ false) × (e ≡ Past)

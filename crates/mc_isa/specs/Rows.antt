@@ -8,7 +8,7 @@ use Rattle.mc_model_machine.specs.Listing.{byte_line, word_line, words_line, tar
 use Rattle.mc_isa.specs.declared.rows.Operands.{Operands}
 use Rattle.mc_isa.specs.declared.rows.Operands.TheVariants.{Plain, Byte, Bytes, Word, Words, Near, Target, Primitive, Address, WithByte, WithWord}
 
--- the bytes behind the instruction byte
+-- the operand bytes after the instruction byte, words in big endian
 abbrev pub operand_bytes : Operands → List ℕ
 operand_bytes Plain = []
 operand_bytes (Byte n) = n ∷ []
@@ -22,7 +22,7 @@ operand_bytes (Address tag off) = offset tag off
 operand_bytes (WithByte tag off n) = n ∷ offset tag off
 operand_bytes (WithWord tag off w) = bytes2 w ++ offset tag off
 
--- the line of a name with operands
+-- the line of a listing: the name and the operands
 abbrev pub line_of : List ℕ → Operands → List ℕ
 line_of name Plain = name
 line_of name (Byte n) = byte_line name n
@@ -36,7 +36,7 @@ line_of name (Address tag off) = address_line name tag off
 line_of name (WithByte tag off n) = operand_line name tag off (decimal n)
 line_of name (WithWord tag off w) = operand_line name tag off (hex_word w)
 
--- conditions, tags and sets are in their ranges
+-- whether conditions, tags and sets of arguments are in their ranges
 abbrev pub OperandsInRange : Operands → Type 0
 OperandsInRange Plain = Unit {0}
 OperandsInRange (Byte n) = Unit {0}

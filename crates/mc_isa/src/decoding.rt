@@ -1,4 +1,5 @@
-// From bytes to instructions: the table of machine rows, by op and tag. A row answers the instruction and its length.
+// From bytes to instructions: the table of machine rows, by op and tag. A row returns the instruction and its
+// length.
 ghost use Rattle.std.specs.Prelude.{◌≡◌, ℕ, ◌+◌, ◌*◌, ◌/◌, ◌%◌, ◌<◌, ◌≤◌, length, take, drop, ◌++◌};
 ghost use Rattle.mc_model_machine.specs.declared.instruction.Ins.TheVariants.{Branch, Jump, Call};
 ghost use Rattle.mc_model_device.specs.Limits.{most_code};
@@ -174,7 +175,7 @@ fn addressed_row(op: u8, tag: u8, rest: &[u8]) -> Result<(Ins, u16), DecodeFault
     }
 }
 
-// The row of an instruction byte, with the bytes behind it.
+// The instruction of an opcode byte and the bytes after it, with its length.
 #[inline(always)]
 fn instruction(byte: u8, rest: &[u8]) -> Result<(Ins, u16), DecodeFault>
     ensures { result ≡ made_of (form byte) rest.now }
@@ -191,9 +192,13 @@ fn instruction(byte: u8, rest: &[u8]) -> Result<(Ins, u16), DecodeFault>
     }
 }
 
-/// The instruction at a place of code, and the place behind it. The code has at most 8,192 bytes; the place may lie anywhere.
-/// The answer is `Undefined` where the byte there begins no instruction, and else `Past` where the place is not in the code
-/// or the instruction ends behind the code's end.
+/// Returns the instruction at `at` in `code`, and the place after it. The code has at most 8,192 bytes; the
+/// place may be any.
+///
+/// # Errors
+///
+/// Returns `Undefined` if the byte at the place begins no instruction, and `Past` if the place is not in the
+/// code or the instruction ends after the code's end.
 #[inline(always)]
 pub fn decode(code: &[u8], at: u16) -> Result<(Ins, u16), DecodeFault>
     requires { length code.now ≤ most_code }

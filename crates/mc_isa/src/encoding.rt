@@ -9,7 +9,7 @@ use crate::rows::{Operands, row_of};
 use arrayvec::ArrayVec;
 use mc_model_machine::Ins;
 
-// A word, high byte first.
+// Appends a word, high byte first.
 fn put_word(bytes: &mut ArrayVec<u8, 6>, word: u16)
     requires { array_vec_len bytes.old + 2 ≤ 6 }
     ensures { bytes.new.items ≡ bytes.old.items ++ bytes2 word }
@@ -18,7 +18,7 @@ fn put_word(bytes: &mut ArrayVec<u8, 6>, word: u16)
     bytes.push((word % 256) as u8);
 }
 
-// The address of a jump or call.
+// Appends the address of a jump or call.
 fn put_target(bytes: &mut ArrayVec<u8, 6>, cond: u8, to: u16)
     requires { array_vec_len bytes.old + 2 ≤ 6 }
     ensures { bytes.new.items ≡ bytes.old.items ++ target cond to }
@@ -28,7 +28,7 @@ fn put_target(bytes: &mut ArrayVec<u8, 6>, cond: u8, to: u16)
     }
 }
 
-// The offset of an address.
+// Appends the offset of an address.
 fn put_offset(bytes: &mut ArrayVec<u8, 6>, tag: u8, off: i16)
     requires { array_vec_len bytes.old + 2 ≤ 6 }
     ensures { bytes.new.items ≡ bytes.old.items ++ offset tag off }
@@ -38,7 +38,7 @@ fn put_offset(bytes: &mut ArrayVec<u8, 6>, tag: u8, off: i16)
     }
 }
 
-// The arguments of a primitive.
+// Appends the arguments of a primitive.
 fn put_arguments(bytes: &mut ArrayVec<u8, 6>, set: u8, args: [u8; 3])
     requires room { array_vec_len bytes.old + 3 ≤ 6 }
     requires set { set < 4 }
@@ -47,7 +47,7 @@ fn put_arguments(bytes: &mut ArrayVec<u8, 6>, set: u8, args: [u8; 3])
     bytes.try_extend_from_slice(&args[..set as usize]).unwrap()
 }
 
-// The operands, in their order.
+// Appends the operands, in their order.
 fn put_operands(bytes: &mut ArrayVec<u8, 6>, operands: Operands)
     requires room { array_vec_len bytes.old ≤ 1 }
     requires range { OperandsInRange operands }
@@ -83,7 +83,8 @@ fn put_operands(bytes: &mut ArrayVec<u8, 6>, operands: Operands)
     }
 }
 
-/// The one spelling of an instruction whose fields are in their ranges: its byte, then its operands, words high byte first.
+/// Returns the only spelling of an instruction whose fields are in their ranges: its byte, then its operands,
+/// words high byte first.
 pub fn encode(ins: &Ins) -> ArrayVec<u8, 6>
     requires { Shaped ins.now }
     ensures { result.items ≡ spell ins.now }

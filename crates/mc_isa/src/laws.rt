@@ -1,11 +1,12 @@
-// What the table, the spelling and the decoder have to do with each other.
+// Laws of the table, the spelling and the decoder.
 ghost use Rattle.std.specs.Prelude.{◌≡◌, ◌+◌, ◌<◌, ℕ, List, [], ◌++◌, length, Result};
 ghost use Rattle.std.specs.List.{AllByRecursion};
 ghost use Rattle.mc_model_machine.specs.Code.{Shaped, spell, decoded, DecodesTo};
 ghost use Rattle.mc_model_machine.specs.declared.instruction.DecodeFault.{DecodeFault};
 ghost use Rattle.mc_model_machine.specs.declared.instruction.Ins.{Ins};
 
-/// At each place of code exactly one answer holds: one instruction with one next place, `Undefined`, or `Past`.
+/// At each place of code exactly one result holds: one instruction with one next place, `Undefined`, or
+/// `Past`.
 pub fn one_answer_at_each_place()
     ensures holds { (code : List ℕ) (at : ℕ) → AllByRecursion (λ b. b < 256) code → DecodesTo code at
         (decoded code at) }
@@ -18,7 +19,7 @@ pub fn a_spelling_is_decoded()
     ensures { (i : Ins) (rest : List ℕ) → Shaped i → decoded (spell i ++ rest) 0 ≡ Ok (i, length (spell i)) }
 {}
 
-/// A spelling is the front of no other spelling, and no two instructions have the same one.
+/// The spellings are a prefix code: none is a prefix of another, and no two instructions have the same one.
 pub fn spellings_are_prefix_free()
     ensures { (i j : Ins) (rest : List ℕ) → Shaped i → Shaped j → spell i ++ rest ≡ spell j → (i ≡ j) × (rest ≡ []) }
 {}

@@ -13,7 +13,7 @@ use mc_model_machine::Ins;
 
 type Line = ArrayVec<u8, 40>;
 
-// Text behind what the line has.
+// Appends text to the line.
 fn put(line: &mut Line, text: &[u8])
     requires { array_vec_len line.old + length text.now ≤ 40 }
     ensures { line.new.items ≡ line.old.items ++ text.now }
@@ -21,7 +21,7 @@ fn put(line: &mut Line, text: &[u8])
     line.try_extend_from_slice(text).unwrap()
 }
 
-// A byte in decimal.
+// Appends a byte in decimal.
 fn put_byte(line: &mut Line, n: u8)
     requires { array_vec_len line.old + 3 ≤ 40 }
     ensures text { line.new.items ≡ line.old.items ++ decimal n }
@@ -31,7 +31,7 @@ fn put_byte(line: &mut Line, n: u8)
     put(line, buffer.format(n).as_bytes());
 }
 
-// A signed number in decimal.
+// Appends a signed number in decimal.
 fn put_signed(line: &mut Line, n: i16)
     requires { array_vec_len line.old + 6 ≤ 40 }
     ensures text { line.new.items ≡ line.old.items ++ signed_decimal n }
@@ -49,7 +49,7 @@ fn digit(d: u16) -> u8
     if d < 10 { 48 + d as u8 } else { 55 + d as u8 }
 }
 
-// A word as 0x and four digits.
+// Appends a word as 0x and four hexadecimal digits.
 fn put_word(line: &mut Line, word: u16)
     requires { array_vec_len line.old + 6 ≤ 40 }
     ensures { line.new.items ≡ line.old.items ++ hex_word word }
@@ -103,7 +103,7 @@ fn register(tag: u8) -> &'static [u8]
     }
 }
 
-// A register with its offset.
+// Appends a register with its offset.
 fn put_address(line: &mut Line, tag: u8, off: i16)
     requires room { array_vec_len line.old + 10 ≤ 40 }
     requires low { 0 < tag }
@@ -117,7 +117,7 @@ fn put_address(line: &mut Line, tag: u8, off: i16)
     put(line, b"]");
 }
 
-// An address and the comma before what follows it, nothing with tag 0.
+// Appends an address and a comma, nothing if the tag is 0.
 fn put_address_before(line: &mut Line, tag: u8, off: i16)
     requires room { array_vec_len line.old + 11 ≤ 40 }
     requires high { tag < 8 }
@@ -131,7 +131,7 @@ fn put_address_before(line: &mut Line, tag: u8, off: i16)
     put(line, b",");
 }
 
-// The arguments of a primitive, each behind a comma.
+// Appends the arguments of a primitive, each after a comma.
 fn put_arguments(line: &mut Line, args: &[u8])
     requires { array_vec_len line.old + 4 * length args.now ≤ 40 }
     ensures { line.new.items ≡ line.old.items ++ arguments_text args.now }
@@ -142,7 +142,7 @@ fn put_arguments(line: &mut Line, args: &[u8])
     }
 }
 
-// The operands behind the name that the line has.
+// Appends the operands to the name in the line.
 fn put_operands(line: &mut Line, operands: Operands)
     requires room { array_vec_len line.old ≤ 8 }
     requires range { OperandsInRange operands }
@@ -186,7 +186,7 @@ fn put_operands(line: &mut Line, operands: Operands)
     }
 }
 
-// Two bytes.
+// Appends two bytes.
 fn put_bytes(line: &mut Line, a: u8, b: u8)
     requires { array_vec_len line.old ≤ 8 }
     ensures { line.new.items ≡ byte_line line.old.items a ++ codes "," ++ decimal b }
@@ -197,7 +197,7 @@ fn put_bytes(line: &mut Line, a: u8, b: u8)
     put_byte(line, b);
 }
 
-// Two words.
+// Appends two words.
 fn put_words(line: &mut Line, v: u16, w: u16)
     requires { array_vec_len line.old ≤ 8 }
     ensures { line.new.items ≡ words_line line.old.items v w }
@@ -208,7 +208,7 @@ fn put_words(line: &mut Line, v: u16, w: u16)
     put_word(line, w);
 }
 
-// A condition and an address of code, nothing with condition 0.
+// Appends a condition and an address of code, nothing if the condition is 0.
 fn put_target(line: &mut Line, cond: u8, to: u16)
     requires room { array_vec_len line.old ≤ 8 }
     requires high { cond < 8 }
@@ -223,7 +223,7 @@ fn put_target(line: &mut Line, cond: u8, to: u16)
     put_word(line, to);
 }
 
-// An address alone, nothing with tag 0.
+// Appends an address alone, nothing if the tag is 0.
 fn put_address_alone(line: &mut Line, tag: u8, off: i16)
     requires room { array_vec_len line.old ≤ 8 }
     requires high { tag < 8 }
@@ -236,8 +236,10 @@ fn put_address_alone(line: &mut Line, tag: u8, off: i16)
     put_address(line, tag, off);
 }
 
-/// The line that a listing has for an instruction whose fields are in their ranges, without its line feed.
-/// Bytes, lengths, offsets and displacements are decimal; words and addresses of code are `0x` and four hexadecimal digits.
+/// Returns the line of a listing for an instruction whose fields are in their ranges, without its line feed.
+///
+/// Bytes, lengths, offsets and displacements are decimal; words and addresses of code are `0x` and four
+/// hexadecimal digits.
 pub fn text_of(ins: &Ins) -> ArrayVec<u8, 40>
     requires { Shaped ins.now }
     ensures { result.items ≡ text_of ins.now }

@@ -1,4 +1,4 @@
-// The operands in the bytes behind an instruction byte.
+// The operands in the bytes after an instruction byte. Each call fails with `Past` if the bytes are too few.
 ghost use Rattle.std.specs.Prelude.{◌≡◌, ◌+◌, ◌<◌, ◌≤◌, length, slice_index, replicate, ◌∷◌, ◌++◌, take, drop, ◌-◌};
 ghost use Rattle.std.specs.Int.{w8, cast_signed};
 ghost use Rattle.mc_model_device.specs.Bytes.{be2, zeros};
@@ -62,7 +62,7 @@ pub fn displacement(rest: &[u8]) -> Result<i8, DecodeFault>
     }
 }
 
-// The address of a jump or call: none with condition 0.
+// The address of a jump or call: 0 and no bytes if the condition is 0.
 #[inline(always)]
 pub fn target(condition: u8, rest: &[u8]) -> Result<u16, DecodeFault>
     ensures { ReadsOperand result (total (behind condition U16)) rest.now (target_in condition rest.now) }
@@ -73,7 +73,7 @@ pub fn target(condition: u8, rest: &[u8]) -> Result<u16, DecodeFault>
     word(rest)
 }
 
-// How many bytes the address behind a condition takes.
+// The number of bytes of the address after a condition.
 #[inline(always)]
 pub fn target_size(condition: u8) -> u16
     ensures { result ≡ total (behind condition U16) }
@@ -81,7 +81,7 @@ pub fn target_size(condition: u8) -> u16
     if condition == 0 { 0 } else { 2 }
 }
 
-// The offset of an address: none with tag 0.
+// The offset of an address: 0 and no bytes if the tag is 0.
 #[inline(always)]
 pub fn offset(tag: u8, rest: &[u8]) -> Result<i16, DecodeFault>
     ensures { ReadsOperand result (total (behind tag I16)) rest.now (offset_in tag rest.now 0) }
@@ -95,7 +95,8 @@ pub fn offset(tag: u8, rest: &[u8]) -> Result<i16, DecodeFault>
     }
 }
 
-// The number of a primitive and its arguments, of which those past the set's number are 0.
+// The number of a primitive and its arguments; a set has as many arguments as its number, and the others are
+// 0.
 pub fn arguments(set: u8, rest: &[u8]) -> Result<(u8, [u8; 3]), DecodeFault>
     requires { set < 4 }
     ensures { ReadsOperand result (total (U8 ∷ replicate set U8)) rest.now
@@ -110,7 +111,7 @@ pub fn arguments(set: u8, rest: &[u8]) -> Result<(u8, [u8; 3]), DecodeFault>
     }
 }
 
-// How many bytes the offset behind a tag takes.
+// The number of bytes of the offset after a tag.
 #[inline(always)]
 pub fn offset_size(tag: u8) -> u16
     ensures { result ≡ total (behind tag I16) }
@@ -118,7 +119,7 @@ pub fn offset_size(tag: u8) -> u16
     if tag == 0 { 0 } else { 2 }
 }
 
-// A byte, and the offset behind it.
+// A byte, and the offset after it.
 #[inline(always)]
 pub fn byte_and_offset(tag: u8, rest: &[u8]) -> Result<(u8, i16), DecodeFault>
     ensures { ReadsOperand result (total (U8 ∷ behind tag I16)) rest.now
@@ -131,7 +132,7 @@ pub fn byte_and_offset(tag: u8, rest: &[u8]) -> Result<(u8, i16), DecodeFault>
     }
 }
 
-// A word, and the offset behind it.
+// A word, and the offset after it.
 #[inline(always)]
 pub fn word_and_offset(tag: u8, rest: &[u8]) -> Result<(u16, i16), DecodeFault>
     ensures { ReadsOperand result (total (U16 ∷ behind tag I16)) rest.now (be2 rest.now 0, offset_in tag rest.now 2) }

@@ -27,7 +27,7 @@ pub enum Operands {
     WithWord(u8, i16, u16),
 }
 
-/// What the table has of an instruction: its name, its byte, and its operands in their order.
+/// An instruction's row of the table: its name, its byte, and its operands in their order.
 #[derive(Clone, Copy)]
 pub struct Row {
     pub name: &'static str,
@@ -46,7 +46,7 @@ macro_rules! row {
     };
 }
 
-/// The row of an instruction whose fields are in their ranges.
+/// Returns the row of an instruction whose fields are in their ranges.
 pub fn row_of(ins: &Ins) -> Row
     requires { Shaped ins.now }
     ensures spelling { result.byte ∷ operand_bytes result.operands ≡ spell ins.now }

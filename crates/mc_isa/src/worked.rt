@@ -142,7 +142,7 @@ pub fn blocks_rows_as_text()
     ensures row_11 { text_of (Xorn 7 (negsuc 16) 17) ≡ codes "XORN PT[-17],17" }
 {}
 
-/// The bytes that begin no instruction, also as the last byte of the code.
+/// Bytes that begin no instruction, also as the last byte of the code.
 pub fn undefined_bytes()
     ensures byte_08 { decoded (0x08 ∷ []) 0 ≡ Err Undefined }
     ensures byte_23 { decoded (0x23 ∷ []) 0 ≡ Err Undefined }
@@ -157,7 +157,8 @@ pub fn undefined_bytes()
     ensures byte_37 { decoded (0x37 ∷ []) 0 ≡ Err Undefined }
 {}
 
-/// An instruction cut short at each length, a place behind the code, and code in which the second instruction is cut.
+/// An instruction cut short at each length, a place after the code, and code in which the second instruction
+/// is cut.
 pub fn code_that_ends_too_early()
     ensures cut_1 { decoded (0x89 ∷ []) 0 ≡ Err Past }
     ensures cut_2 { decoded (0x89 ∷ 0x01 ∷ []) 0 ≡ Err Past }
@@ -179,7 +180,7 @@ pub fn code_that_ends_too_early()
     ensures last { decoded (0x22 ∷ 0x01 ∷ 0x04 ∷ []) 2 ≡ Ok (Exit, 3) }
 {}
 
-/// The listing of a counter's code, and the first place where nothing stands.
+/// The listing of a counter's code, and the first place that begins no instruction.
 pub fn listings()
     ensures counter { listed (0xB9 ∷ 0x02 ∷ 0x00 ∷ 0x00 ∷ 0x39 ∷ 0x02 ∷ 0x00 ∷ 0x00 ∷ 0x46 ∷ 0x02 ∷ 0x00 ∷ 0x00 ∷ 0x06
         ∷ 0x00 ∷ 0x02 ∷ []) ≡ Ok (codes "INCN SB[0],2\nLOAD SB[0],2\nSTORE PB[0],2\nEXITLA 0x0002\n") }
@@ -188,7 +189,8 @@ pub fn listings()
     ensures past { listed (0x04 ∷ 0x22 ∷ 0x00 ∷ []) ≡ Err (1, Past) }
 {}
 
-/// How long the instruction of each of the 256 instruction bytes is, by op and tag; 0 where the byte begins none.
+/// The length of the instruction of each of the 256 instruction bytes, by op and tag; 0 if the byte begins
+/// none.
 pub fn lengths_of_all_instruction_bytes()
     ensures op_00 { lengths 0x00 ≡ 1 ∷ 3 ∷ 3 ∷ 5 ∷ 1 ∷ 3 ∷ 3 ∷ 5 ∷ [] }
     ensures op_01 { lengths 0x01 ≡ 0 ∷ 2 ∷ 2 ∷ 2 ∷ 2 ∷ 2 ∷ 2 ∷ 2 ∷ [] }

@@ -136,7 +136,7 @@ fit-whole (Plain ∷ is) m k x f = fit-cond m (k == 1) (record { whole = []; owe
 fit-whole (Atomic w c ∷ is) m k x f =
     fit-cond m (nat_le k (cost Two w)) (in_flight w c k x) (with_item (Atomic w c) (at_stop is (k - cost Two w) x)) (fit-flight m w c (stands Two w k x) f.0) (f.0, fit-whole is (changed c m) (k - cost Two w) x f.1)
 
--- items one after another
+-- items in order
 pub fit-append : (is js : List Item) (m : List (List ℕ × App)) → ItemsFit m is → ItemsFit (done m is) js → ItemsFit m (is ++ js)
 fit-append [] js m f g = g
 fit-append (Plain ∷ is) js m f g = fit-append is js m f g

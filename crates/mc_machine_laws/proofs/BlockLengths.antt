@@ -122,7 +122,7 @@ unfolding aes.deciphered
 aes-back-16 [] s h = h
 aes-back-16 (k ∷ ks) s h = rounds-back-16 ks (last_round_back k s) (omega (arith, last-back-16 k s))
 
--- a cipher whose blocks are no longer than so many bytes
+-- a cipher whose blocks have at most n bytes
 abbrev Short : ℕ → (List ℕ → List ℕ) → Type 0
 Short n cipher = (b : List ℕ) → length b ≤ n → length (cipher b) ≤ n
 

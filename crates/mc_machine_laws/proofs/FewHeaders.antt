@@ -15,7 +15,7 @@ use Rattle.mc_model_device.proofs.LayoutLemmas.{length-spans}
 abbrev Pair : Type 0
 Pair = ℕ × List ℕ
 
--- 1 where a test passes
+-- 1 if a test passes, else 0
 abbrev one_if : Bool → ℕ
 one_if true = 1
 one_if false = 0

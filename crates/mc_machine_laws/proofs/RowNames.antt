@@ -134,7 +134,7 @@ effect-name (ins.Andn tag off n) f public x = written-name f public _ _
 effect-name (ins.Orn tag off n) f public x = written-name f public _ _
 effect-name (ins.Xorn tag off n) f public x = written-name f public _ _
 
--- where a row is done, its frame has this name
+-- if a row is done, its frame has this name
 abbrev pub RowKeepsName : List ℕ → RowEnd → Type 0
 RowKeepsName n (Abends c) = ⊤
 RowKeepsName n (Does d) = d.effect.frame.name ≡ n

@@ -1,4 +1,4 @@
--- What a row leaves of its frame: the sizes, the pending pieces, and how many words its change touches.
+-- What a row leaves of its frame: the sizes, the pending pieces, and the number of words that its change touches.
 use Rattle.std.proofs.Common.{◌≡◌, ℕ, ◌+◌, ◌-◌, ◌≤◌, Bool, true, false, cond, not, List, [], ◌∷◌, ◌++◌, length, Option, Some, None, refl, sym, ap, subst, ◌∙◌, arith}
 use Rattle.std.specs.Prelude.{◌==◌, ◌&&◌, ◌||◌, ⊤, nat_le, is_none, IfSome}
 use Rattle.std.proofs.lemmas.Bool.{and_parts, leb-true, ltb-false, eqb-true}
@@ -26,8 +26,8 @@ length-laid (p ∷ ps) l a =
     let same : length (splice l p.0 p.1) ≡ length l = length-splice l p.0 p.1 a.0 in
     length-laid ps (splice l p.0 p.1) (subst (λ (n : ℕ). PiecesWithin n ps) (sym same) a.1) ∙ same
 
--- What an effect leaves of a frame with these parts: the sizes, where its pieces lie inside, how many words it touches, where P is known
--- and a change of 64 words finds no more pending, and how many stay pending.
+-- What an effect leaves of a frame with these parts: the sizes; pieces that lie inside, if those before did; and if P is known, the
+-- number of words that it touches, for 64 only if no more were pending, and the number of words that stay pending.
 pub record KeptSizes (known : List ℕ) (bytes size room : ℕ) (pieces : List (ℕ × List ℕ)) (P : Type 0) (most : ℕ) (e : Effect) : Type 0 where
   pub name : e.frame.name ≡ known
   pub session : e.frame.session ≡ bytes
@@ -41,7 +41,7 @@ pub record KeptSizes (known : List ℕ) (bytes size room : ℕ) (pieces : List (
 abbrev pub KeepsSizes : Frame → Type 0 → ℕ → Effect → Type 0
 KeepsSizes f P most e = KeptSizes f.name f.session (length f.fixed) (length f.dyn) f.pieces P most e
 
--- what is known of a write of some bytes, where an access of n bytes was tested
+-- what is known of a write of some bytes, if an access of n bytes was tested
 pub record WriteFacts (f : Frame) (a n : ℕ) (b : List ℕ) : Type 0 where
   pub short : length b ≤ n
   pub small : n ≤ 256
@@ -139,7 +139,7 @@ module _ (f : Frame) (P : Type 0) where
         few = λ p small few. subst (λ (ps : List (ℕ × List ℕ)). length (touched ps) ≤ 64) (sym pieces) few;
       }
 
-  -- bytes pushed, where DT is anywhere, and the top bytes replaced
+  -- bytes pushed, with DT anywhere, and the top bytes replaced
   pub pushes-few : (most dt : ℕ) (b public : List ℕ) → KeepsSizes f P most (framed (pushed (record f { dt = dt }) b) public)
   pushes-few most dt b public = still (pushed (record f { dt = dt }) b) public most refl refl refl refl (splice-longer f.dyn (dt - dynamic_base) b)
 

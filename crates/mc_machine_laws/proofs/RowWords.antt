@@ -357,7 +357,7 @@ held-after i f public x p held =
       few = k.few p held.fixed held.few;
     }
 
--- a name that every row may tell
+-- a name that every row may write
 pub told-any : (i : Ins) (o : Option (List ℕ)) → IfSome o (λ n. length n ≤ 16) → IsToldName i o
 told-any (ins.Prim set number args) o h = h
 told-any i o h = tt
@@ -409,7 +409,7 @@ pub most-64 : (i : Ins) → most_words i ≤ 64
 most-64 (ins.Prim set number args) = most-of-64 (primitive set number)
 most-64 i = omega arith
 
--- a row changes 64 words at the most, or 33
+-- a row changes at most 64 words, or at most 33
 most-of-is : (o : Option Primitive) → (most_of o ≡ 64) ⊎ (most_of o ≡ 33)
 most-of-is (Some SetProtection) = inl refl
 most-of-is o = inr refl

@@ -1,4 +1,4 @@
--- A run keeps the sizes of all applications, writes inside them, and gives back as many session bytes as it began with.
+-- A run keeps the sizes of all applications, writes inside them, and ends with as many session bytes as it began with.
 use Rattle.std.proofs.Common.{◌≡◌, ℕ, zero, suc, ◌-◌, ◌≤◌, Bool, true, false, cond, List, [], ◌∷◌, length, Option, Some, None, Result, Ok, Err, refl, sym, ap, subst, ◌∙◌, arith}
 use Rattle.std.specs.Prelude.{⊤, ◌||◌, nat_lt, nat_le, unwrap_or}
 use Rattle.std.specs.List.{AllByRecursion}

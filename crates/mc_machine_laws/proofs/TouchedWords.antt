@@ -1,4 +1,4 @@
--- How many words pieces touch.
+-- The number of words that pieces touch.
 use Rattle.std.proofs.Common.{◌≡◌, ℕ, zero, suc, ◌+◌, ◌*◌, ◌/◌, ◌≤◌, Bool, true, false, cond, List, [], ◌∷◌, ◌++◌, length, refl, sym, ◌∙◌, ap, subst, arith}
 use Rattle.std.specs.Prelude.{◌==◌, nat_lt}
 use Rattle.std.proofs.lemmas.Bool.{eqb-true, eqb-false, eq-eqb}
@@ -65,7 +65,7 @@ fewer-zeros zero n at ns h = kept-words at (zeros n) ns
 fewer-zeros (suc m) zero at ns h = absurd (omega (arith, h))
 fewer-zeros (suc m) (suc n) at ns h = fewer-zeros m n (at + 1) (with_number (down at 8) ns) (omega arith)
 
--- the words of so many bytes behind some, of which the last holds the byte before `at`
+-- the words of n bytes after some, of which the last holds the byte before `at`
 abbrev FewTouched : ℕ → ℕ → List ℕ → List ℕ → Type 0
 FewTouched q at b ns = HasNumber q ns → 8 * q + 1 ≤ at → at ≤ 8 * q + 8 → length (with_words at b ns) + q + 1 ≤ length ns + (at + length b + 7) / 8
 

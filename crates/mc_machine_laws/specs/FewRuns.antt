@@ -1,4 +1,4 @@
--- How many words each atomic write of a command to an application touches.
+-- The number of words that each atomic write of a command to an application touches.
 use Rattle.std.specs.Prelude.{◌≡◌, ℕ, ◌≤◌, List, length, Ok}
 use Rattle.std.specs.List.{AllByRecursion}
 use Rattle.mc_model_machine.specs.declared.instruction.Ins.{Ins}

@@ -1,4 +1,4 @@
--- How many words of static bytes one instruction changes, and how many device writes that makes.
+-- The number of words of static bytes that one instruction changes, and the number of device writes that this takes.
 use Rattle.std.specs.Prelude.{◌≡◌, ℕ, ◌+◌, ◌≤◌, List, length, IfSome, Option, Some, None, ⊤}
 use Rattle.std.specs.List.{AllByRecursion}
 use Rattle.mc_model_machine.specs.declared.instruction.Ins.{Ins}
@@ -22,49 +22,50 @@ pub record HoldsFew (f : Frame) : Type 0 where
   pub inside : PiecesWithin (length f.fixed) f.pieces
   pub few : length (touched f.pieces) ≤ 64
 
--- the words that a change touches
+-- the number of words that a change touches
 abbrev pub words_in : Option (List (ℕ × List ℕ)) → ℕ
 words_in None = 0
 words_in (Some ps) = length (touched ps)
 
--- the most words that a primitive changes: the commit of what is pending 64, any other 33
+-- the greatest number of words that a primitive changes: a commit of the pending pieces 64, any other 33
 abbrev pub most_of : Option Primitive → ℕ
 most_of (Some SetProtection) = 64
 most_of _ = 33
 
--- the most words that an instruction changes
+-- the greatest number of words that an instruction changes
 abbrev pub most_words : Ins → ℕ
 most_words (ins.Prim set number args) = most_of (primitive set number)
 most_words _ = 33
 
--- what is done changes no more words, leaves a frame within the limits, and changes none where the frame exits
+-- an instruction that is done changes at most `most` words, leaves a frame within the limits, and changes none if the frame exits
 pub record DoesFew (most : ℕ) (d : Done) : Type 0 where
   pub words : words_in d.effect.changes ≤ most
   pub frame : HoldsFew d.effect.frame
   pub exit : d.next ≡ Exits → d.effect.changes ≡ None
 
--- a row that is done changes no more words
+-- a row that is done changes at most `most` words
 abbrev pub EndsWithin : ℕ → RowEnd → Type 0
 EndsWithin most (Abends a) = ⊤
 EndsWithin most (Does d) = words_in d.effect.changes ≤ most
 
--- the name that an instruction may tell: a primitive tells that of the delegator, and it has at most 16 bytes
+-- the name that an instruction may write has at most 16 bytes: a primitive may write that of the delegator
 abbrev pub IsToldName : Ins → Option (List ℕ) → Type 0
 IsToldName (ins.Prim set number args) delegator = IfSome delegator (λ n. length n ≤ 16)
 IsToldName _ delegator = ⊤
 
--- a row that is done does
+-- a row that is done changes few words and leaves a frame within the limits
 abbrev pub EndsFew : ℕ → RowEnd → Type 0
 EndsFew most (Abends a) = ⊤
 EndsFew most (Does d) = DoesFew most d
 
--- of each instruction that bytes spell, in a frame within the limits whose delegator has a name of at most 16 bytes
+-- the row of each instruction that bytes spell changes few words, in a frame within the limits whose delegator has a name of at most 16
+-- bytes
 abbrev pub FewWordsLaw : Type 0
 FewWordsLaw =
     (i : Ins) (f : Frame) (public : List ℕ) (x : Around)
     → Shaped i → IfSome x.delegator (λ n. length n ≤ 16) → HoldsFew f → EndsFew (most_words i) (row i f public x)
 
--- the device writes of an item of so many words, in the journal in force and in journal 1
+-- an atomic write of w words makes at most `now` device writes in journal 2, and at most `before` in journal 1
 pub record CostsAtMost (w now before : ℕ) : Type 0 where
   pub two : cost Two w ≤ now
   pub one : cost One w ≤ before

@@ -4,7 +4,7 @@ use Rattle.mc_model_device.specs.Bytes.{lookup}
 use Rattle.mc_model_device.specs.Card.{App}
 use Rattle.mc_model_device.specs.Limits.{most_static}
 
--- the session bytes of an application, none where it is not there
+-- the number of session bytes of an application, 0 if it is not there
 abbrev pub session_in : Option App → ℕ
 session_in None = 0
 session_in (Some a) = a.session

@@ -1,4 +1,4 @@
-// How much an instruction, a run, a creation and a deletion write at the most.
+// The greatest number of words that an instruction, a run, a creation and a deletion write.
 ghost use Rattle.mc_machine_laws.specs.FewHeaders.{FewHeadersLaw};
 ghost use Rattle.mc_machine_laws.specs.FewRuns.{FewRunsLaw};
 ghost use Rattle.mc_machine_laws.specs.FewWords.{FewWordsLaw, FewWritesLaw};

@@ -7,7 +7,8 @@ use Rattle.mc_model_machine.specs.Chain.{Outcome, Reply, Turn, Ran, run}
 use Rattle.mc_model_card.specs.Items.{Change, Item, Plain, Atomic, changed, BankItem, Piece, Blank, Note, Commit, Enter, Remove, write_items}
 use Rattle.mc_model_card.specs.Manager.{Selected, Seat, Route, WrongLength, WrongClass, ToSelect, ToManager, ToApplication, route, Managed, Declines, Accepts, select, manage, room_on}
 
--- what a command does where nothing stops it; `done` has it, where it is answered by 9000 alone
+-- what a command does if nothing stops it: its items, its outcome, the session state after it, the pairs of its delegations, and its
+-- turns
 pub record Command : Type 0 where
   pub items : List Item
   pub outcome : Outcome
@@ -19,7 +20,7 @@ pub record Command : Type 0 where
 abbrev pub status : ℕ → Outcome
 status sw = Reply [] sw
 
--- a command that changes nothing
+-- a command that is refused with a status, and changes nothing
 abbrev pub refused : Seat → ℕ → Command
 refused seat sw = record { items = []; outcome = status sw; seat = seat; pairs = []; turns = [] }
 
@@ -43,7 +44,7 @@ managed c seat (Declines sw) = refused seat sw
 managed c seat (Accepts a) =
     record { items = map (item_of (atomic_of c a.change)) a.items; outcome = Reply a.body 0x9000; seat = a.seat; pairs = []; turns = [] }
 
--- a run as a command: the session bytes stay with the selection
+-- a run as a command: its session bytes stay with the selection
 abbrev pub ran_command : Seat → List ℕ → Ran → Command
 ran_command seat n r =
     record {
@@ -54,7 +55,7 @@ ran_command seat n r =
       turns = r.turns;
     }
 
--- a command for the selected application
+-- a command for the selected application: 6985 if none is selected
 abbrev pub passed : Card → Seat → Option Selected → ApduParts → ℕ → Command
 passed c seat None a budget = refused seat 0x6985
 passed c seat (Some s) a budget = ran_command seat s.name (run c.apps s.name s.session a budget)

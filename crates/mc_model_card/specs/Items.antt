@@ -15,17 +15,17 @@ pub data Change : Type 0 where
   Created : (name : List ℕ) (app : App) → Change
   Deleted : (name : List ℕ) → Change
 
--- one write into a hole, or an atomic write of some words
+-- an item: one write into a hole, or an atomic write of some words
 pub data Item : Type 0 where
   Plain : Item
   Atomic : (words : ℕ) (change : Change) → Item
 
--- how many device writes an item makes on a running card
+-- the number of device writes of an item on a running card
 abbrev pub weight : Item → ℕ
 weight Plain = 1
 weight (Atomic w c) = cost Two w
 
--- how many device writes items make
+-- the number of device writes of items
 abbrev pub moves : List Item → ℕ
 moves [] = 0
 moves (i ∷ is) = weight i + moves is
@@ -60,7 +60,7 @@ pub record StopAt : Type 0 where
   pub at : ℕ
   pub left : List ℕ
 
--- the items that are whole after a stop, and how many writes are owed
+-- the items that are whole after a stop, and the number of writes that recovery still has to make
 pub record Stopped : Type 0 where
   pub whole : List Item
   pub owed : ℕ
@@ -69,11 +69,11 @@ pub record Stopped : Type 0 where
 abbrev pub with_item : Item → Stopped → Stopped
 with_item i s = record s { whole = i ∷ s.whole }
 
--- the atomic write in flight is whole where it stands
+-- what a stop at write k, which leaves x, makes of the atomic write in flight: it is whole if it is durable
 abbrev pub in_flight : ℕ → Change → ℕ → List ℕ → Stopped
 in_flight w c k x = record { whole = cond (stands Two w k x) (Atomic w c ∷ []) []; owed = owes Two w k x }
 
--- where a stop at write k that leaves x falls, for k from 1 to all writes of the items
+-- what a stop at write k that leaves x makes of items, for k from 1 to the number of their device writes
 abbrev pub at_stop : List Item → ℕ → List ℕ → Stopped
 at_stop [] k x = record { whole = []; owed = 0 }
 at_stop (Plain ∷ is) k x = cond (k == 1) (record { whole = []; owed = 0 }) (with_item Plain (at_stop is (k - 1) x))
@@ -81,12 +81,12 @@ at_stop (Atomic w c ∷ is) k x = cond (nat_le k (cost Two w)) (in_flight w c k 
 
 -- ---- a bank
 
--- where an open load fills its sections: its sizes, and its place on a bank that has places
+-- the site of an open load, where its sections are filled: its sizes, and its place on a bank that has places
 pub record Site : Type 0 where
   pub sizes : Sizes
   pub place : ℕ
 
--- an item of a bank carries its contents: bytes of one word of a section, zeros behind the data in one word, a record word (0 to 3),
+-- an item of a bank with its contents: bytes of one word of a section, zeros after the data in one word, a record word (0 to 3),
 -- the words of a commit, a creation, a deletion
 pub data BankItem : Type 0 where
   Piece : (site : Site) (part : Part) (at : ℕ) (bytes : List ℕ) → BankItem

@@ -20,30 +20,30 @@ pub record Selected : Type 0 where
   pub name : List ℕ
   pub session : List ℕ
 
--- what each section of an open load has got
+-- the bytes that each section of an open load has received
 pub record Got : Type 0 where
   pub code : List ℕ
   pub init : List ℕ
   pub dir : List ℕ
   pub fci : List ℕ
 
--- an open load: its site, and what its sections have got
+-- an open load: its site, and the bytes that its sections have received
 pub record Open : Type 0 where
   pub site : Site
   pub got : Got
 
--- the selection and the open load
+-- the session state: the selection and the open load
 pub record Seat : Type 0 where
   pub selected : Option Selected
   pub load : Option Open
 
--- nothing selected, and no load open
+-- the session state after a power-up: nothing selected, and no load open
 abbrev pub empty_seat : Seat
 empty_seat = record { selected = None; load = None }
 
 -- ---- routing
 
--- where a command goes
+-- the route of a command: a refusal, SELECT, the manager, or the selected application
 pub data Route : Type 0 where
   WrongLength : Route
   WrongClass : Route
@@ -51,7 +51,7 @@ pub data Route : Type 0 where
   ToManager : (apdu : ApduParts) → Route
   ToApplication : (apdu : ApduParts) → Route
 
--- the route of a command that was taken apart
+-- the route of a command APDU, or of bytes that are none
 abbrev pub routed : Option ApduParts → Route
 routed None = WrongLength
 routed (Some a) =
@@ -72,7 +72,7 @@ pub record Accepted : Type 0 where
   pub items : List BankItem
   pub change : Option Change
 
--- how the manager answers
+-- the answer of the manager
 pub data Managed : Type 0 where
   Declines : (sw : ℕ) → Managed
   Accepts : (done : Accepted) → Managed
@@ -82,7 +82,7 @@ abbrev pub first_status : List (ℕ × Bool) → Option ℕ
 first_status [] = None
 first_status (c ∷ cs) = cond c.1 (Some c.0) (first_status cs)
 
--- a command by its first refusal
+-- the answer to a command, by its first refusal
 abbrev pub answered : Option ℕ → Accepted → Managed
 answered (Some sw) a = Declines sw
 answered None a = Accepts a
@@ -91,7 +91,7 @@ answered None a = Accepts a
 abbrev pub p1p2 : ApduParts → ℕ
 p1p2 a = 256 * a.p1 + a.p2
 
--- no bytes
+-- whether there are no bytes
 abbrev pub is_empty : List ℕ → Bool
 is_empty [] = true
 is_empty (b ∷ bs) = false
@@ -102,12 +102,12 @@ changes_nothing body seat = record { body = body; seat = seat; items = []; chang
 
 -- ---- SELECT (00 A4 04): 6A86, 6700, 6A82
 
--- why a SELECT is refused, in order
+-- the refusals of a SELECT, in order
 abbrev pub select_refusals : List (List ℕ × App) → ApduParts → List (ℕ × Bool)
 select_refusals map a =
     (0x6A86, not (a.p2 == 0 || a.p2 == 0x0C)) ∷ (0x6700, is_empty a.body) ∷ (0x6A82, is_none (lookup map a.body)) ∷ []
 
--- with P2 00 the first bytes of the FCI, at most Le; with P2 0C none
+-- the data of the answer to a SELECT: with P2 00 the first bytes of the FCI, at most Le; with P2 0C none
 abbrev pub select_body : ApduParts → App → List ℕ
 select_body a app = cond (a.p2 == 0) (take (unwrap_or a.le 0) app.fci) []
 
@@ -136,7 +136,7 @@ sizes_in a =
       deny = p1p2 a;
     }
 
--- sizes within the limits of an application
+-- whether sizes are within the limits of an application
 abbrev pub fits_limits : Sizes → Bool
 fits_limits s =
     nat_le 1 s.code
@@ -147,13 +147,13 @@ fits_limits s =
     && nat_le s.dir most_record
     && nat_le s.fci most_record
 
--- `room` says where a load of some sizes finds room, if it does
+-- the refusals of an OPEN, in order; `room` returns the place at which a load of some sizes has room, if there is one
 abbrev pub open_refusals : (Sizes → Option ℕ) → List (List ℕ × App) → ApduParts → List (ℕ × Bool)
 open_refusals room map a =
     (0x6A86, nat_lt 15 (p1p2 a)) ∷ (0x6700, not (length a.body == 12)) ∷ (0x6A80, not (fits_limits (sizes_in a)))
     ∷ (0x6A84, nat_le 32 (length map) || is_none (room (sizes_in a))) ∷ []
 
--- a load is open at the place that has room, and replaces an earlier one
+-- what an OPEN does: a load is open at the place that has room, and replaces an earlier one
 abbrev pub open_done : (Sizes → Option ℕ) → Seat → ApduParts → Accepted
 open_done room seat a =
     changes_nothing [] (record seat {
@@ -166,7 +166,7 @@ open_load room map seat a = answered (first_status (open_refusals room map a)) (
 
 -- ---- LOAD (BE 24 code, BE 26 data, BE 20 DIR, BE 22 FCI): 6700, 6985, 6A80
 
--- what a section has got
+-- the bytes that a section has received
 abbrev pub got_of : Part → Got → List ℕ
 got_of part.Code g = g.code
 got_of part.Data g = g.init
@@ -180,14 +180,14 @@ size_of part.Data s = s.init
 size_of part.Dir s = s.dir
 size_of part.Fci s = s.fci
 
--- a section has these bytes more
+-- the bytes received, with these more in a section
 abbrev pub with_got : Part → List ℕ → Got → Got
 with_got part.Code b g = record g { code = g.code ++ b }
 with_got part.Data b g = record g { init = g.init ++ b }
 with_got part.Dir b g = record g { dir = g.dir ++ b }
 with_got part.Fci b g = record g { fci = g.fci ++ b }
 
--- the parts of some bytes at a place of a section that lie in one word each, in order
+-- the parts of bytes at a place of a section that lie in one word each, in order
 abbrev pub in_words : ℕ → ℕ → List ℕ → List (ℕ × List ℕ)
 in_words zero at b = []
 in_words (suc n) at b =
@@ -198,7 +198,7 @@ in_words (suc n) at b =
 abbrev pub word_parts : ℕ → List ℕ → List (ℕ × List ℕ)
 word_parts at b = in_words (length b) at b
 
--- why a LOAD is refused, in order
+-- the refusals of a LOAD, in order
 abbrev pub load_refusals : Option Open → Part → ApduParts → List (ℕ × Bool)
 load_refusals None p a = (0x6700, is_empty a.body) ∷ (0x6985, true) ∷ []
 load_refusals (Some o) p a =
@@ -222,13 +222,13 @@ load_part p seat a = answered (first_status (load_refusals seat.load p a)) (load
 
 -- ---- CREATE (BE 16): 6A86, 6700, 6985, 6A80, 6A89
 
--- each section has got its bytes
+-- whether each section has received all its bytes
 abbrev pub is_complete : Open → Bool
 is_complete o =
     length o.got.code == o.site.sizes.code && length o.got.init == o.site.sizes.init
     && length o.got.dir == o.site.sizes.dir && length o.got.fci == o.site.sizes.fci
 
--- a load is open and complete
+-- whether a load is open and complete
 abbrev pub can_create : Option Open → Bool
 can_create None = false
 can_create (Some o) = is_complete o
@@ -238,18 +238,18 @@ abbrev pub dir_in : Option Open → List ℕ
 dir_in None = []
 dir_in (Some o) = o.got.dir
 
--- the name is on the card
+-- whether the name is on the card
 abbrev pub is_taken : List (List ℕ × App) → Result (List ℕ) AidFault → Bool
 is_taken map (Ok n) = is_some (lookup map n)
 is_taken map (Err e) = false
 
--- why a CREATE is refused, in order
+-- the refusals of a CREATE, in order
 abbrev pub create_refusals : List (List ℕ × App) → Option Open → ApduParts → List (ℕ × Bool)
 create_refusals map load a =
     (0x6A86, not (p1p2 a == 0)) ∷ (0x6700, not (is_empty a.body)) ∷ (0x6985, not (can_create load))
     ∷ (0x6A80, not (is_ok (name_of (dir_in load)))) ∷ (0x6A89, is_taken map (name_of (dir_in load))) ∷ []
 
--- the application of a complete load: its static bytes are the data, and zeros behind them
+-- the application of a complete load: its static bytes are the data, followed by zeros
 abbrev pub fresh : Open → App
 fresh o =
     record {
@@ -262,7 +262,7 @@ fresh o =
       place = o.site.place;
     }
 
--- zeros behind the data, a word at a time; the four words of the record; the creation
+-- the items of a CREATE: zeros after the data, a word at a time; the four words of the record; the creation
 abbrev pub create_items : Site → List ℕ → List BankItem
 create_items s n =
     map (λ c. Blank s c.0 (length c.1)) (word_parts s.sizes.init (zeros (s.sizes.fixed - s.sizes.init)))
@@ -281,12 +281,12 @@ create map seat a = answered (first_status (create_refusals map seat.load a)) (c
 
 -- ---- DELETE (BE 18): 6A86, 6700, 6A82, 6985
 
--- the name is selected
+-- whether the name is selected
 abbrev pub is_selected : Option Selected → List ℕ → Bool
 is_selected None n = false
 is_selected (Some s) n = bytes_eq s.name n
 
--- why a DELETE is refused, in order
+-- the refusals of a DELETE, in order
 abbrev pub delete_refusals : List (List ℕ × App) → Seat → ApduParts → List (ℕ × Bool)
 delete_refusals map seat a =
     (0x6A86, not (p1p2 a == 0)) ∷ (0x6700, is_empty a.body) ∷ (0x6A82, is_none (lookup map a.body)) ∷ (0x6985, is_selected seat.selected a.body) ∷ []
@@ -316,6 +316,6 @@ manage room map seat a =
     )
     )
 
--- where a load finds room on a card of words: the first gap that is long enough
+-- the place at which a load has room on a card of words: the first gap that is long enough
 abbrev pub room_on : Card → Sizes → Option ℕ
 room_on card s = first_fitting (needed_of s.code s.fixed s.dir s.fci) (gaps card)

@@ -9,7 +9,7 @@ use Rattle.mc_model_card.specs.declared.unit.UnitRefusal.TheVariants as refusals
 use Rattle.mc_model_card.specs.declared.unit.AidFault.{AidFault}
 use Rattle.mc_model_card.specs.declared.unit.AidFault.TheVariants as faults
 
--- a unit: its card number, its four fields, and the name in its DIR record
+-- a load unit: its card number, its four fields, and the name in its DIR record
 pub record UnitParts : Type 0 where
   pub number : List ℕ
   pub code : List ℕ
@@ -26,7 +26,7 @@ pub record Object : Type 0 where
   pub value : List ℕ
   pub rest : List ℕ
 
--- how many bytes the tag at the front has: one, or where its low five bits are all set, all up to the first below 128 after it
+-- the number of bytes of the tag at the front: one, or if its low five bits are all set, all up to the first below 128 after it
 abbrev pub tag_len : List ℕ → Option ℕ
 tag_len [] = None
 tag_len (b ∷ bs) = cond (b % 32 == 31) (option_map (λ i. i + 2) (position (λ b. nat_lt b 128) bs)) (Some 1)
@@ -41,15 +41,15 @@ abbrev pub size_at : List ℕ → Option (ℕ × List ℕ)
 size_at [] = None
 size_at (b ∷ bs) = cond (nat_lt b 128) (Some (b, bs)) (cond (b == 129) (byte_at bs) None)
 
--- the value of so many bytes, of an object with this tag
+-- the object with this tag, by its length and the bytes after it, if its value is whole
 abbrev pub value_at : List ℕ → ℕ × List ℕ → Option Object
 value_at t s = cond (nat_lt (length s.1) s.0) None (Some (record { tag = t; value = take s.0 s.1; rest = drop s.0 s.1 }))
 
--- the object at the front, where its tag, its length and its value are whole
+-- the object at the front, if its tag, its length and its value are whole
 unfoldable pub object_at : List ℕ → Option Object
 object_at b = option_and_then (λ n. option_and_then (value_at (take n b)) (size_at (drop n b))) (tag_len b)
 
--- what the first object with the tag 4F holds, among at most so many objects
+-- the value of the first object with the tag 4F, among at most n objects
 unfoldable pub name_among : ℕ → List ℕ → Option (List ℕ)
 unfolding object_at
 name_among zero b = None
@@ -60,7 +60,7 @@ unfoldable pub template_of : List ℕ → Option (List ℕ)
 unfolding object_at
 template_of d = option_and_then (λ o. cond (bytes_eq o.tag (97 ∷ [])) (Some o.value) None) (object_at d)
 
--- a name has 5 to 16 bytes
+-- the name, if it has 5 to 16 bytes, else the fault
 abbrev pub checked_name : Option (List ℕ) → Result (List ℕ) AidFault
 checked_name None = Err faults.NoAid
 checked_name (Some v) = cond (nat_le 5 (length v) && nat_le (length v) 16) (Ok v) (Err faults.AidLength)
@@ -86,7 +86,7 @@ bytes_at n b = if nat_lt (length b) n then Err Short else Ok (take n b, drop n b
 abbrev pub length_at : List ℕ → Result (ℕ × List ℕ) UnitRefusal
 length_at b = if nat_lt (length b) 2 then Err Short else Ok (be2 b 0, drop 2 b)
 
--- a field of at most so many bytes behind its length, which is judged before the bytes
+-- a field of at most `most` bytes after its length, which is checked before the bytes
 unfoldable pub field_at : ℕ → List ℕ → Result (List ℕ × List ℕ) UnitRefusal
 field_at most b = do
   n ← length_at b
@@ -98,7 +98,7 @@ code_at b = do
   n ← length_at b
   if n.0 == 0 then Err NoCode else (if nat_lt most_code n.0 then Err TooLarge else bytes_at n.0 n.1)
 
--- the bytes after a field that has to be empty, and else this refusal
+-- the bytes after a field that has to be empty; if it is not, this refusal
 unfoldable pub empty_at : UnitRefusal → List ℕ → Result (List ℕ) UnitRefusal
 empty_at e b = do
   n ← length_at b
@@ -136,7 +136,7 @@ unit_read b = do
 
 -- ---- the grammar as a relation, and the units that are written
 
--- a field as it stands in a unit
+-- a field as it is in a unit: its length in two bytes, and its bytes
 abbrev pub field : List ℕ → List ℕ
 field x = bytes2 (length x) ++ x
 
@@ -163,14 +163,14 @@ pub record IsUnit (b : List ℕ) (u : UnitParts) : Type 0 where
 abbrev pub unit_bytes : List ℕ → List ℕ → List ℕ → List ℕ → List ℕ
 unit_bytes code init dir fci = unit_text (zeros 8) code init dir fci
 
--- an object as it stands among others: a tag of one byte, a length of one byte, and the value
+-- an object as it is among others: a tag of one byte, a length of one byte, and the value
 abbrev pub object : ℕ → List ℕ → List ℕ
 object tag value = tag ∷ length value ∷ value
 
--- the made DIR record of a name, 61 l 4F l name, and the made FCI, 6F l 84 l name
+-- the made DIR record of a name, 61 l 4F l name
 abbrev pub made_dir : List ℕ → List ℕ
 made_dir aid = object 97 (object 79 aid)
 
--- the made FCI of a name
+-- the made FCI of a name, 6F l 84 l name
 abbrev pub made_fci : List ℕ → List ℕ
 made_fci aid = object 111 (object 132 aid)

@@ -1,9 +1,9 @@
--- The words that are printed of the causes that refuse a load unit.
+-- The words that are printed for the causes that refuse a load unit.
 use Rattle.std.specs.Prelude.{ℕ, List, codes}
 use Rattle.mc_model_card.specs.declared.unit.UnitRefusal.{UnitRefusal}
 use Rattle.mc_model_card.specs.declared.unit.UnitRefusal.TheVariants as unit
 
--- why bytes are no unit
+-- the printed word of why bytes are no load unit
 abbrev pub unit_word : UnitRefusal → List ℕ
 unit_word unit.Short = codes "Short"
 unit_word unit.NoCode = codes "NoCode"

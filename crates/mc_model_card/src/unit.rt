@@ -22,7 +22,7 @@ pub enum AidFault {
 }
 
 impl UnitRefusal {
-    /// The word that a refusal prints.
+    /// Returns the word that a refusal prints.
     pub fn word(&self) -> &'static str
         ensures { result.now ≡ unit_word self.now }
     {

@@ -85,7 +85,7 @@ module _ {D : Type 0} (state : D → DeviceState) (wrote : D → ℕ → List �
       let same : e ≡ d = subst (λ (a : Answer). Makes wrote d [] a e) (ap outcome_answer is ∙ answer) made in
       (is, ap state same)
 
-  -- a recovery by what its look found
+  -- how a recovery ends, by what its look found
   pub recover-ends : (j : Journal) (l : Look) (d e : D) (o : RecoveryOutcome) → 256 ≤ length (state d).words → (state d).on ≡ true → look_j j (state d).words ≡ l
       → LookAllows l o → Makes wrote d (owed_writes l) (outcome_answer o) e → RecoverEnds j l (state d) o (state e)
   recover-ends j (Refused p) d e o low on found follows made = closed-ends j (Refused p) d e o (BadAt p) follows refl made

@@ -1,4 +1,4 @@
--- Where the words of an atomic write stand in its journal.
+-- The places of the words of an atomic write in its journal.
 use Rattle.std.proofs.Common.{◌≡◌, ◌≢◌, ℕ, zero, suc, ◌+◌, ◌*◌, ◌<◌, ◌≤◌, Bool, true, List, [], ◌∷◌, ◌++◌, length, map, Option, Result, Ok, refl, sym, ◌∙◌, ap, subst, inl, arith, length-append}
 use Rattle.std.proofs.lemmas.List.{length-map}
 use Rattle.std.specs.Prelude.{bytes_eq}
@@ -50,7 +50,7 @@ ascends-v : (i least : ℕ) (list : List (ℕ × List ℕ)) → least ≤ 19 + i
 ascends-v i least [] h = tt
 ascends-v i least (p ∷ ps) h = (h, ascends-v (i + 1) (19 + i + 1) ps (omega arith))
 
--- target words, and then what stands at 19 and above
+-- target words, and then what lies at 19 and above
 ascends-t : (i k least : ℕ) (ts : List ℕ) (rest : List (ℕ × List ℕ)) → i + k ≤ 16 → least ≤ 3 + i → ((low : ℕ) → low ≤ 19 → Ascends low rest) → Ascends least (target_words i k ts ++ rest)
 ascends-t i zero least ts rest h low r = r least (omega arith)
 ascends-t i (suc k) least ts rest h low r = (low, ascends-t (i + 1) k (3 + i + 1) _ rest (omega arith) (omega arith) r)

@@ -1,4 +1,4 @@
--- Words of eight bytes set among the words of an image, and the words that stand after the replay of its journal.
+-- Words of eight bytes set among the words of an image, and the words after the replay of its journal.
 use Rattle.std.proofs.Common.{◌≡◌, ℕ, ◌<◌, ◌≤◌, List, [], ◌∷◌, ◌++◌, length, refl, sym, ◌∙◌, ap, subst, inl, inr, arith}
 use Rattle.std.specs.Prelude.{slice_set}
 use Rattle.std.specs.List.{AllByRecursion}

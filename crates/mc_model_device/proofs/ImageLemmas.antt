@@ -37,7 +37,7 @@ abbrev pub covers : List (ℕ × List ℕ) → ℕ → Bool
 covers [] i = false
 covers (p ∷ ps) i = (p.0 == i) || covers ps i
 
--- a word that is set in two lists of one length is the same in both
+-- a word that is set in two lists of one length is equal in both
 pub set-point : (m n : List (List ℕ)) (k i : ℕ) (w : List ℕ) → length m ≡ length n → (k ≢ i → word_at m i ≡ word_at n i) → word_at (slice_set m k w) i ≡ word_at (slice_set n k w) i
 set-point m n k i w same h =
     elim (eqb_tells k i) [
@@ -93,11 +93,11 @@ pub ascends-other : (least : ℕ) (ps : List (ℕ × List ℕ)) (i : ℕ) → As
 ascends-other least [] i a lt = tt
 ascends-other least (p ∷ ps) i a lt = let low : least ≤ p.0 = a.0 in ((λ e. absurd (omega (arith, e))), ascends-other (p.0 + 1) ps i a.1 (omega arith))
 
--- the words stand in their places
+-- the words are in their places
 abbrev pub HoldsWords : List (List ℕ) → List (ℕ × List ℕ) → Type 0
 HoldsWords m ps = AllByRecursion (λ p. word_at m p.0 ≡ p.1) ps
 
--- ascending pairs that were laid stand
+-- ascending pairs that were laid are in their places
 pub laid-holds : (m : List (List ℕ)) (least : ℕ) (ps : List (ℕ × List ℕ)) → Ascends least ps → AllByRecursion (λ p. p.0 < length m) ps → HoldsWords (laid m ps) ps
 laid-holds m least [] a r = tt
 laid-holds m least (p ∷ ps) a r = (
@@ -106,7 +106,7 @@ laid-holds m least (p ∷ ps) a r = (
       (all-map (λ q. q.0 < length m) (λ q. q.0 < length (slice_set m p.0 p.1)) (λ q lt. subst (λ (t : ℕ). q.0 < t) (sym (length-set m p.0 p.1)) lt) ps r.1),
 )
 
--- and stand where other places change
+-- pairs that are in their places stay there when other places change
 pub holds-point : (m n : List (List ℕ)) (ps : List (ℕ × List ℕ)) → AllByRecursion (λ p. word_at n p.0 ≡ word_at m p.0) ps → HoldsWords m ps → HoldsWords n ps
 holds-point m n [] a h = tt
 holds-point m n (p ∷ ps) a h = (a.0 ∙ h.0, holds-point m n ps a.1 h.1)

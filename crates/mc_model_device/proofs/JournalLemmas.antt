@@ -1,4 +1,4 @@
--- What the code of a journal is proved with: targets that are read word by word, and pairs that are gone through.
+-- Lemmas for the code of a journal: targets that are read word by word, and pairs in order.
 use Rattle.std.proofs.Common.{◌≡◌, ℕ, ◌+◌, ◌<◌, List, [], ◌∷◌, ◌++◌, length, drop, get_or, Result, Ok, Err, refl, sym, ◌∙◌, ap, drop-cons, add-one, append_assoc}
 use Rattle.std.proofs.lemmas.List.{append-nil}
 use Rattle.mc_model_device.specs.Image.{before}

@@ -9,7 +9,7 @@ use Rattle.mc_model_device.specs.Image.{Journal, One, Two, opening, gate, word_a
 use Rattle.mc_model_device.specs.Stopped.{InJournal}
 use Rattle.mc_model_device.proofs.ImageLemmas.{all-append}
 
--- ---- the same words in a journal, the same look
+-- ---- equal words in a journal, equal looks
 
 -- two images of one size with the same words in journal j
 pub record SameInside (j : Journal) (m n : List (List ℕ)) : Type 0 where
@@ -199,7 +199,7 @@ pending-opened j k m ps true ho h = pending-headed j k m ps (count m) ho refl h
 pub good-pending : (j k : Journal) (m : List (List ℕ)) (ps : List (ℕ × List ℕ)) → look_j j m ≡ Pending k ps → GoodPending j k m ps
 good-pending j k m ps h = pending-opened j k m ps (is_open j m) refl h
 
--- ---- the same look
+-- ---- equal looks
 
 same-aimed : (j : Journal) (m n : List (List ℕ)) → SameInside j m n → (c : ℕ) → c ≤ 64 → (r : Result (List ℕ) ℕ) → targets j n c ≡ r → aimed j m r ≡ aimed j n r
 same-aimed j m n s c hc (Err p) h = refl
@@ -219,7 +219,7 @@ same-opened j m n s true =
 pub look-same : (j : Journal) (m n : List (List ℕ)) → SameInside j m n → look_j j m ≡ look_j j n
 look-same j m n s = ap (λ (w : List ℕ). opened j m (bytes_eq w (opening j))) (s.words (gate j) (gate-inside j)) ∙ same-opened j m n s (is_open j n)
 
--- a look owes at most 65 writes
+-- recovery still has to make at most 65 writes after a look
 pub owed-few : (j : Journal) (m : List (List ℕ)) (l : Look) → look_j j m ≡ l → debt l ≤ 65
 owed-few j m (Refused p) h = omega arith
 owed-few j m Closed h = omega arith

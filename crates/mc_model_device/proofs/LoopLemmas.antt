@@ -41,7 +41,7 @@ module _ {D : Type 0} (wrote : D → ℕ → List ℕ → Answer → D → Type 
   one d e at w (Ok tt) h = inl (e, h, refl)
   one d e at w (Err s) h = inr (s, h, refl)
 
-  -- a list of writes keeps which device is lent
+  -- a list of writes keeps which device is borrowed
   pub makes-same : (same : D → D → Type 0) → ((d : D) (at : ℕ) (w : List ℕ) (a : Answer) (e : D) → wrote d at w a e → same d e) → ((d : D) → same d d)
       → ((d e f : D) → same d e → same e f → same d f) → (l : List (ℕ × List ℕ)) (d e : D) (a : Answer) → Makes wrote d l a e → same d e
   makes-same same keeps itself onward [] d e (Ok u) made = subst (λ (x : D). same d x) (sym made) (itself d)

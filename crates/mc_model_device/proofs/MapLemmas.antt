@@ -176,7 +176,7 @@ module _ {A : Type 0} where
 
   -- ---- ascending names
 
-  -- what comes behind an entry comes behind what is before the entry
+  -- what comes after an entry comes after what is before the entry
   behind-all : (m n : List ℕ) (es : List (List ℕ × A)) → name_before m n ≡ true → AllByRecursion (λ f. name_before n f.0 ≡ true) es → AllByRecursion (λ f. name_before m f.0 ≡ true) es
   behind-all m n [] b h = tt
   behind-all m n (e ∷ es) b h = (before_both m n e.0 b h.0, behind-all m n es b h.1)

@@ -1,4 +1,6 @@
--- The recovery lemma: what a replay leaves, done or stopped at any of its writes, whatever word that left; and one journal's look as that of the whole image.
+-- The recovery lemma (idempotent recovery): what a replay leaves, done or stopped at any of its writes, whatever word that left;
+-- and one journal's look as that of the whole image.
+-- and one journal's look as that of the whole image.
 use Rattle.std.proofs.Common.{◌≡◌, ◌≢◌, ℕ, ◌+◌, ◌<◌, ◌≤◌, Bool, true, false, cond, ◌||◌, List, [], ◌∷◌, length, refl, sym, ◌∙◌, ap, subst, inl, inr, arith}
 use Rattle.std.specs.Prelude.{bytes_eq, slice_set}
 use Rattle.std.specs.List.{AllByRecursion}
@@ -11,7 +13,7 @@ use Rattle.mc_model_device.proofs.ImageLemmas.{covers, covers-append, length-lai
 use Rattle.mc_model_device.proofs.LookLemmas.{look-same, GoodPending, good-pending}
 use Rattle.mc_model_device.proofs.StoppedLemmas.{length-torn, torn-other, torn-within, torn-past, open-same, targets-outside, closed-look, gate-bound}
 
--- a pending image with the same words in the journal, and the same but for targets and gate, means the same
+-- a pending image with equal words in the journal, and equal words but for targets and gate, resumes to one image
 pending-resumes : (j : Journal) (n t : List (List ℕ)) (ps : List (ℕ × List ℕ)) → look_j j n ≡ Pending j ps → laid n (replay j ps) ≡ t → Resumes j n (length ps + 1) t
 pending-resumes j n t ps h same =
     record {
@@ -108,7 +110,7 @@ module _ (j : Journal) (m : List (List ℕ)) (list : List (ℕ × List ℕ)) (lo
     | inl late ↦ resume-last k x (bytes_eq x (opening j)) refl (omega arith)
   ]
 
-  -- and one that was not stopped leaves its gate shut
+  -- a recovery that was not stopped leaves its gate shut
   pub resumed : word_at (laid m (replay j list)) (gate j) ≡ shut
   resumed = ap (λ (n : List (List ℕ)). word_at n (gate j)) (laid-last m list (gate j, shut)) ∙ gate-at (laid m list) shut (length-laid m list)
 
@@ -122,10 +124,10 @@ one-only : (m : List (List ℕ)) (b : Bool) → is_open One m ≡ b → look_at 
 one-only m true h = refl
 one-only m false h = sym (closed-look One m h)
 
--- where journal 1 is not open, the image is as journal 2 sees it
+-- if journal 1 is not open, the image is as journal 2 sees it
 pub look-two : (m : List (List ℕ)) → is_open One m ≡ false → look m ≡ look_j Two m
 look-two m h = ap (λ (b : Bool). look_at m (which_of (is_open Two m) b)) h ∙ two-only m (is_open Two m) refl
 
--- where journal 2 is not open, the image is as journal 1 sees it
+-- if journal 2 is not open, the image is as journal 1 sees it
 pub look-one : (m : List (List ℕ)) → is_open Two m ≡ false → look m ≡ look_j One m
 look-one m h = ap (λ (b : Bool). look_at m (which_of b (is_open One m))) h ∙ one-only m (is_open One m) refl

@@ -1,4 +1,4 @@
--- The tear lemma: what an atomic write means that was stopped at any of its device writes, whatever word that left.
+-- The tear lemma: what an atomic write leaves that was stopped at any of its device writes, whatever word that left.
 use Rattle.std.proofs.Common.{◌≡◌, ◌≢◌, ◌⊎◌, ℕ, zero, suc, ◌+◌, ◌-◌, ◌<◌, ◌≤◌, Bool, true, false, cond, not, ◌&&◌, ◌||◌, ◌==◌, List, [], ◌∷◌, ◌++◌, length, map, refl, sym, ◌∙◌, ap, subst, inl, inr, arith}
 use Rattle.std.specs.Prelude.{bytes_eq, nat_le, nat_lt, slice_set}
 use Rattle.std.specs.List.{AllByRecursion}
@@ -119,7 +119,7 @@ module _ (j : Journal) (m : List (List ℕ)) (list : List (ℕ × List ℕ)) (lo
   entries-apart : (i : ℕ) → (InEntries j i → ⊥) → AllByRecursion (λ p. p.0 ≢ i) (entries j list)
   entries-apart i out = all-map (λ p. InEntries j p.0) (λ p. p.0 ≢ i) (λ p inside e. out (subst (λ (t : ℕ). InEntries j t) e inside)) (entries j list) geo.places
 
-  -- targets and values stand; the head does; the gate is open
+  -- the words with the log entries written; then with the head; then with the commit record
   abbrev at_values : List (List ℕ)
   at_values = laid m (entries j list)
 
@@ -144,7 +144,7 @@ module _ (j : Journal) (m : List (List ℕ)) (list : List (ℕ × List ℕ)) (lo
   other-head : (i : ℕ) → i ≢ 2 → word_at at_head i ≡ word_at at_values i
   other-head i apart = get_or-set_other at_values 2 i (numbered (length list)) [] apart
 
-  -- what was written is found where the gate is open
+  -- what was written is found if the gate is open
   written : look_j j (at_gate at_head (opening j)) ≡ Pending j list
   written =
       let n = at_gate at_head (opening j) in
@@ -201,7 +201,7 @@ module _ (j : Journal) (m : List (List ℕ)) (list : List (ℕ × List ℕ)) (lo
         (gate-outside (laid n list) shut i out ∙ laid-point n m list i same (h i out));
   }
 
-  -- stopped in its gate: it stands where the word that was left opens
+  -- stopped in its gate: it is durable if the word that was left is the commit record
   in-gate-open : (x : List ℕ) → x ≡ opening j → LeavesOwing j (at_gate at_head x) (length list + 1) (laid m list)
   in-gate-open x e =
       subst (λ (t : List ℕ). LeavesOwing j (at_gate at_head t) (length list + 1) (laid m list)) (sym e)

@@ -19,7 +19,7 @@ down n d = n / d
 abbrev pub zeros : ℕ → List ℕ
 zeros n = replicate n 0
 
--- the number in the two bytes at i
+-- the big-endian number in the two bytes at i
 abbrev pub be2 : List ℕ → ℕ → ℕ
 be2 b i = 256 * slice_index b i + slice_index b (i + 1)
 
@@ -27,7 +27,7 @@ be2 b i = 256 * slice_index b i + slice_index b (i + 1)
 abbrev pub bytes2 : ℕ → List ℕ
 bytes2 n = (n / 256 % 256) ∷ (n % 256) ∷ []
 
--- the number of a block of bytes
+-- the number that a block of bytes is in big endian
 abbrev pub num : List ℕ → ℕ
 num [] = 0
 num (b ∷ bs) = b * 256 ^ length bs + num bs
@@ -37,13 +37,13 @@ abbrev pub bytes : ℕ → ℕ → List ℕ
 bytes zero v = []
 bytes (suc n) v = (v / 256 ^ n % 256) ∷ bytes n v
 
--- the list with b in the place of what stood from `at` on
+-- the list with b written over it from `at` on
 abbrev pub splice : {A : Type 0} → List A → ℕ → List A → List A
 splice l at b = take at l ++ b ++ drop (at + length b) l
 
 -- ---- names and maps
 
--- the order of names in maps: the first byte that differs decides, and a front comes before the whole
+-- whether a name comes before another in a map: lexicographic by bytes, a proper prefix first
 abbrev pub name_before : List ℕ → List ℕ → Bool
 name_before [] [] = false
 name_before [] (y ∷ ys) = true
@@ -74,12 +74,12 @@ abbrev pub insert : {A : Type 0} → List (List ℕ × A) → List ℕ → A →
 insert [] n a = (n, a) ∷ []
 insert (e ∷ es) n a = cond (bytes_eq e.0 n) ((n, a) ∷ es) (cond (name_before n e.0) ((n, a) ∷ e ∷ es) (e ∷ insert es n a))
 
--- no entry of the name is left
+-- the map without the entries of a name
 abbrev pub remove : {A : Type 0} → List (List ℕ × A) → List ℕ → List (List ℕ × A)
 remove [] n = []
 remove (e ∷ es) n = cond (bytes_eq e.0 n) (remove es n) (e ∷ remove es n)
 
--- the first part of a value that may be missing, else the second
+-- the first value if there is one, else the second
 abbrev pub or_else : {A : Type 0} → Option A → Option A → Option A
 or_else (Some x) y = Some x
 or_else None y = y

@@ -1,4 +1,4 @@
--- What the words of a device mean: a map from names to applications, read from its used blocks by their lengths.
+-- The card that the words of a device hold: a map from names to applications, read from its used blocks by their lengths.
 use Rattle.std.specs.Prelude.{◌≡◌, ℕ, zero, suc, ◌+◌, ◌-◌, Bool, cond, ◌&&◌, ◌||◌, nat_le, ◌==◌, List, [], ◌∷◌, length, take, drop, slice_index, slice_index_or, Option, Some, None}
 use Rattle.std.specs.List.{concat}
 use Rattle.mc_model_device.specs.Bytes.{up, be2, insert}
@@ -20,28 +20,28 @@ pub record Card : Type 0 where
   pub layout : ℕ
   pub apps : List (List ℕ × App)
 
--- an application wherever it lies
+-- an application with its block at another place
 abbrev pub placed : ℕ → App → App
 placed p a = record a { place = p }
 
--- how many words a block takes whose sections have these lengths
+-- the number of words of a block with sections of these lengths: header, record, and each section rounded up to whole words
 abbrev pub needed_of : ℕ → ℕ → ℕ → ℕ → ℕ
 needed_of code fixed dir fci = 5 + up code 8 + up fixed 8 + up dir 8 + up fci 8
 
--- how many words an application takes
+-- the number of words of an application's block
 abbrev pub needed : App → ℕ
 needed a = needed_of (length a.code) (length a.fixed) (length a.dir) (length a.fci)
 
 -- ---- blocks
 
--- a block: where its header stands, whether it is used or a hole, its words with the header, and its link
+-- a block of the heap: the place of its header, whether it is used or a hole, its number of words with the header, and its link
 pub record Block : Type 0 where
   pub place : ℕ
   pub used : Bool
   pub words : ℕ
   pub link : ℕ
 
--- the first byte of a header
+-- the first byte of the header of a used block
 abbrev pub used_tag : ℕ
 used_tag = 0x55
 
@@ -49,27 +49,27 @@ used_tag = 0x55
 abbrev pub hole_tag : ℕ
 hole_tag = 0x48
 
--- the word with this number, and no bytes past the end
+-- the word with this number, empty past the end
 abbrev pub word : List (List ℕ) → ℕ → List ℕ
 word m p = slice_index_or m p []
 
--- what a header word says, if it is one: tag, 0, words, link, 0, 0
+-- whether a word is a header: tag, 0, its number of words (2 bytes, at least 1), link (2 bytes), 0, 0
 abbrev pub is_header : List ℕ → Bool
 is_header x =
     (slice_index x 0 == used_tag || slice_index x 0 == hole_tag) && slice_index x 1 == 0
     && nat_le 1 (be2 x 2) && slice_index x 6 == 0 && slice_index x 7 == 0
 
--- the block whose header stands at p, if one does
+-- the block whose header is the word at p, if that is a header
 abbrev pub header : ℕ → List ℕ → Option Block
 header p x =
     cond (is_header x) (Some (record { place = p; used = slice_index x 0 == used_tag; words = be2 x 2; link = be2 x 4 })) None
 
--- the block where it ends in time, and those behind it
+-- a block that ends within the device and those after it, else none
 abbrev pub block_and : ℕ → Option Block → (ℕ → List Block) → List Block
 block_and size None rest = []
 block_and size (Some b) rest = cond (nat_le (b.place + b.words) size) (b ∷ rest (b.place + b.words)) []
 
--- the blocks from word p on, one after another by their lengths, up to one that is none; there are at most n
+-- at most n blocks from word p on, each right after the one before, up to the first word that heads no block within the device
 unfoldable pub blocks_from : ℕ → List (List ℕ) → ℕ → List Block
 blocks_from zero m p = []
 blocks_from (suc n) m p = block_and (length m) (header p (word m p)) (λ q. blocks_from n m q)
@@ -126,7 +126,7 @@ app_of m p r =
 abbrev pub app_at : List (List ℕ) → ℕ → App
 app_at m p = app_of m p (record_at m p)
 
--- the applications of the used blocks
+-- the applications of the used blocks, by name
 unfoldable pub apps_of : List (List ℕ) → List Block → List (List ℕ × App)
 apps_of m [] = []
 apps_of m (b ∷ bs) = cond b.used (insert (apps_of m bs) (name_at m b.place) (app_at m b.place)) (apps_of m bs)
@@ -135,11 +135,11 @@ apps_of m (b ∷ bs) = cond b.used (insert (apps_of m bs) (name_at m b.place) (a
 abbrev pub card_of : List (List ℕ) → Card
 card_of m = record { size = length m; layout = slice_index (word m 0) 3; apps = apps_of m (blocks m) }
 
--- the words that an image has once its journal is words_after; where that is refused, its own
+-- the words after the replay of the journal; if the journal is refused, the words as they are
 abbrev pub words_after : After → List (List ℕ) → List (List ℕ)
 words_after (Words w) m = w
 words_after (NoWords p) m = m
 
--- what an image means
+-- the card that an image holds once its journal is replayed
 abbrev pub means : List (List ℕ) → Card
 means m = card_of (words_after (after m) m)

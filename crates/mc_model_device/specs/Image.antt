@@ -1,4 +1,4 @@
--- The words of a device as journals see them: which journal is open, what it holds, the image after its replay.
+-- The journals of a device as redo logs: which one is open, the writes that it holds, and the image after their replay.
 use Rattle.std.specs.Prelude.{ℕ, zero, suc, ◌+◌, ◌-◌, ◌*◌, Bool, true, false, ◌&&◌, ◌||◌, nat_lt, nat_le, ◌==◌, List, [], ◌∷◌, ◌++◌, length, take, drop, slice_index_or, slice_set, bytes_eq, codes, Option, Some, None, Result, Ok, Err}
 use Rattle.mc_model_device.specs.Bytes.{up, zeros, be2}
 
@@ -7,7 +7,7 @@ pub data Journal : Type 0 where
   One : Journal
   Two : Journal
 
--- the words of a device, and pairs of a word's number and a word
+-- the words of a device
 abbrev pub Image : Type 0
 Image = List (List ℕ)
 
@@ -21,7 +21,7 @@ word_at m i = slice_index_or m i []
 
 -- ---- which journal is open
 
--- the word that opens a journal
+-- the commit record of a journal: the word that opens its gate
 abbrev pub opening : Journal → List ℕ
 opening One = codes "OPEN-1--"
 opening Two = codes "OPEN-2--"
@@ -30,12 +30,12 @@ opening Two = codes "OPEN-2--"
 abbrev pub shut : List ℕ
 shut = codes "SHUT----"
 
--- the place of a journal's gate
+-- the place of a journal's gate, the word that holds its commit record
 abbrev pub gate : Journal → ℕ
 gate One = 1
 gate Two = 130
 
--- only the opening word opens
+-- whether a journal is open: its gate holds the commit record, and no other word opens it
 abbrev pub is_open : Journal → List (List ℕ) → Bool
 is_open j m = bytes_eq (word_at m (gate j)) (opening j)
 
@@ -45,7 +45,7 @@ pub data Which : Type 0 where
   Only : Journal → Which
   Neither : Which
 
--- from whether journal 2 is open, and whether journal 1 is
+-- which journals are open, from whether journal 2 is and whether journal 1 is
 abbrev pub which_of : Bool → Bool → Which
 which_of true true = Both
 which_of true false = Only Two
@@ -58,24 +58,24 @@ which m = which_of (is_open Two m) (is_open One m)
 
 -- ---- what an open journal holds
 
--- whether a number of pairs may stand in a head
+-- whether a number may be the count of pairs in a head: 1 to 64
 abbrev pub is_count : ℕ → Bool
 is_count c = nat_le 1 c && nat_le c 64
 
--- a number that may be a target: word 0, or a word of the heap
+-- whether a number may be a target: word 0, or a word of the heap
 abbrev pub within : ℕ → ℕ → Bool
 within size t = (t == 0) || (nat_le 131 t && nat_lt t size)
 
--- a number where it was taken
+-- a number, if the test accepted it
 abbrev pub when : Bool → ℕ → Option ℕ
 when true n = Some n
 when false n = None
 
--- the number of a word of six zero bytes and two bytes of number, where the test takes it
+-- the number in a word of six zero bytes and a number of two bytes, if the test accepts it
 abbrev pub number : (ℕ → Bool) → List ℕ → Option ℕ
 number test g = when (bytes_eq (take 6 g) (zeros 6) && test (be2 g 6)) (be2 g 6)
 
--- the head's count
+-- the count of pairs in the head, if it is valid
 abbrev pub count : List (List ℕ) → Option ℕ
 count m = number is_count (word_at m 2)
 
@@ -83,12 +83,12 @@ count m = number is_count (word_at m 2)
 abbrev pub Targets : Type 0
 Targets = Result (List ℕ) ℕ
 
--- targets, and those behind them
+-- targets, and those after them
 abbrev pub before : List ℕ → Result (List ℕ) ℕ → Result (List ℕ) ℕ
 before now (Ok ts) = Ok (now ++ ts)
 before now (Err p) = Err p
 
--- journal 1: a target and those behind it, or the place of its word where that holds none
+-- journal 1: a target and those after it, or the place of its word if that holds none
 abbrev pub one_before : Option ℕ → ℕ → Result (List ℕ) ℕ → Result (List ℕ) ℕ
 one_before (Some t) place rest = before (t ∷ []) rest
 one_before None place rest = Err place
@@ -104,22 +104,22 @@ targets_1 m i (suc n) =
 abbrev pub four : List ℕ → List ℕ
 four g = be2 g 0 ∷ be2 g 2 ∷ be2 g 4 ∷ be2 g 6 ∷ []
 
--- numbers that are all 0
+-- whether all numbers are 0
 abbrev pub all_zero : List ℕ → Bool
 all_zero [] = true
 all_zero (n ∷ ns) = (n == 0) && all_zero ns
 
--- targets from `least` on, ascending, each word 0 or in the heap; and the least that may come after them
+-- whether targets ascend from `least` on, each word 0 or in the heap
 abbrev pub ascend : ℕ → ℕ → List ℕ → Bool
 ascend size least [] = true
 ascend size least (t ∷ ts) = nat_le least t && (within size t && ascend size (t + 1) ts)
 
--- the least target that may come after some
+-- the least target that may come after these
 abbrev pub after_all : ℕ → List ℕ → ℕ
 after_all least [] = least
 after_all least (t ∷ ts) = after_all (t + 1) ts
 
--- the targets of a good word, and those behind them
+-- the targets of a valid target word and those after them, or the place of an invalid one
 abbrev pub all_before : Bool → List ℕ → ℕ → Result (List ℕ) ℕ → Result (List ℕ) ℕ
 all_before true now place rest = before now rest
 all_before false now place rest = Err place
@@ -142,67 +142,67 @@ abbrev pub value : Journal → List (List ℕ) → ℕ → List ℕ
 value One m i = word_at m (4 + 2 * i)
 value Two m i = word_at m (19 + i)
 
--- the pairs of targets from pair i on
+-- the targets with their values, from pair i on
 unfoldable pub pairs : Journal → List (List ℕ) → ℕ → List ℕ → List (ℕ × List ℕ)
 pairs j m i [] = []
 pairs j m i (t ∷ ts) = (t, value j m i) ∷ pairs j m (i + 1) ts
 
--- ---- a journal looked at
+-- ---- a look at a journal
 
--- what a journal holds: it is refused at a place, it is closed, or pairs are pending
+-- what a look at a journal finds: a bad word at a place, no committed write, or committed pairs that are pending
 pub data Look : Type 0 where
   Refused : ℕ → Look
   Closed : Look
   Pending : Journal → List (ℕ × List ℕ) → Look
 
--- a journal by its targets
+-- a look at a journal, from its targets
 abbrev pub aimed : Journal → List (List ℕ) → Result (List ℕ) ℕ → Look
 aimed j m (Ok ts) = Pending j (pairs j m 0 ts)
 aimed j m (Err p) = Refused p
 
--- a journal by its head
+-- a look at a journal, from its head
 abbrev pub headed : Journal → List (List ℕ) → Option ℕ → Look
 headed j m None = Refused 2
 headed j m (Some w) = aimed j m (targets j m w)
 
--- a journal by its gate
+-- a look at a journal, from whether its gate is open
 abbrev pub opened : Journal → List (List ℕ) → Bool → Look
 opened j m false = Closed
 opened j m true = headed j m (count m)
 
--- one journal alone
+-- a look at one journal alone
 abbrev pub look_j : Journal → List (List ℕ) → Look
 look_j j m = opened j m (is_open j m)
 
--- the journal that is open; no more than one may be
+-- a look at the journal that is open; no more than one may be
 abbrev pub look_at : List (List ℕ) → Which → Look
 look_at m Both = Refused 1
 look_at m (Only j) = look_j j m
 look_at m Neither = Closed
 
--- what the journals of an image hold
+-- a look at the journals of an image
 abbrev pub look : List (List ℕ) → Look
 look m = look_at m (which m)
 
 -- ---- after the replay
 
--- the words with those of the pairs in their places; where a place comes twice, the last counts
+-- the words with the pairs written over them in order: if a place comes twice, the last counts
 abbrev pub laid : List (List ℕ) → List (ℕ × List ℕ) → List (List ℕ)
 laid m [] = m
 laid m (p ∷ ps) = laid (slice_set m p.0 p.1) ps
 
--- an image after the replay, or the place that refuses it
+-- an image after the replay, or the place of the word by which the journal is refused
 pub data After : Type 0 where
   NoWords : ℕ → After
   Words : List (List ℕ) → After
 
--- the words after the replay of what a journal holds
+-- the words after the replay of what a look found: its pairs are written, its gate is shut
 abbrev pub replayed : List (List ℕ) → Look → After
 replayed m (Refused p) = NoWords p
 replayed m Closed = Words m
 replayed m (Pending j ps) = Words (laid m (ps ++ (gate j, shut) ∷ []))
 
--- the number of writes that a look leaves to do
+-- the number of writes that recovery still has to make after a look: its pairs, and the gate
 abbrev pub debt : Look → ℕ
 debt (Refused p) = 0
 debt Closed = 0
@@ -212,7 +212,7 @@ debt (Pending j ps) = length ps + 1
 abbrev pub after : List (List ℕ) → After
 after m = replayed m (look m)
 
--- the writes that an image owes
+-- the number of writes that recovery still has to make on an image
 abbrev pub owed : List (List ℕ) → ℕ
 owed m = debt (look m)
 
@@ -220,6 +220,6 @@ owed m = debt (look m)
 abbrev pub after_j : Journal → List (List ℕ) → After
 after_j j m = replayed m (look_j j m)
 
--- the writes that one journal alone owes
+-- the number of writes that recovery of one journal alone still has to make
 abbrev pub owed_j : Journal → List (List ℕ) → ℕ
 owed_j j m = debt (look_j j m)

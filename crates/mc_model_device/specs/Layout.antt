@@ -8,19 +8,19 @@ use Rattle.mc_model_device.specs.Bytes.{be2, bytes2, zeros, has_name, or_else}
 use Rattle.mc_model_device.specs.Image.{Look, Refused, Closed, Pending, look, after}
 use Rattle.mc_model_device.specs.Card.{App, Card, Block, needed, needed_of, used_tag, hole_tag, word, header, blocks, heap_start, record_at, name_in, words_after}
 
--- ---- what lies where
+-- ---- places
 
--- a list of places with what stands there, and one more, ascending by place
+-- an ascending list of places with what lies there, and one more
 abbrev pub put_at : {A : Type 0} → ℕ → A → List (ℕ × A) → List (ℕ × A)
 put_at p x [] = (p, x) ∷ []
 put_at p x (e ∷ es) = cond (nat_lt p e.0) ((p, x) ∷ e ∷ es) (e ∷ put_at p x es)
 
--- the places of some applications and how many words they take, ascending
+-- the place and the number of words of each application's block, ascending
 abbrev pub spans_of : List (List ℕ × App) → List (ℕ × ℕ)
 spans_of [] = []
 spans_of (e ∷ es) = put_at (e.1).place (needed e.1) (spans_of es)
 
--- the places of the applications of a card and how many words they take, ascending
+-- the place and the number of words of the block of each application of a card, ascending
 abbrev pub spans : Card → List (ℕ × ℕ)
 spans card = spans_of card.apps
 
@@ -57,7 +57,7 @@ hole_header n link = hole_tag ∷ 0 ∷ (bytes2 n ++ bytes2 link ++ 0 ∷ 0 ∷ 
 abbrev pub used_header : ℕ → List ℕ
 used_header n = used_tag ∷ 0 ∷ (bytes2 n ++ zeros 4)
 
--- `MEL`, the version, the size of the device in words, and the place of the first hole or 0
+-- the root, word 0: `MEL`, the version of the layout, the size of the device in words, and the place of the first hole or 0
 abbrev pub root : ℕ → ℕ → ℕ → List ℕ
 root version size first = 0x4D ∷ 0x45 ∷ 0x4C ∷ version ∷ (bytes2 size ++ bytes2 first)
 
@@ -76,38 +76,38 @@ unfoldable pub layout : Card → List (ℕ × List ℕ)
 layout card =
     (0, root card.layout card.size (first_place (gaps card))) ∷ with_used (spans card) (chained (gaps card))
 
--- two places with the same word
+-- whether two pairs have one place and one word
 abbrev pub same_pair : ℕ × List ℕ → ℕ × List ℕ → Bool
 same_pair a b = a.0 == b.0 && bytes_eq a.1 b.1
 
--- the atomic write that leads from card a to card b: what the layout of b has and that of a has not
+-- the header words to write from card a to card b: those of the layout of b that are not in that of a
 unfoldable pub step_of : Card → Card → List (ℕ × List ℕ)
 step_of a b = filter (λ e. not (list_any (same_pair e) (layout a))) (layout b)
 
--- ---- faults. Each gives its first place
+-- ---- faults, each with its first place
 
--- place 0, where word 0 is no root of layout 1 or 2 with this size
+-- place 0, if word 0 is no root of layout 1 or 2 with this size
 abbrev pub no_root : List (List ℕ) → Option ℕ
 no_root m =
     let v = slice_index (word m 0) 3 in
     cond ((v == 1 || v == 2) && bytes_eq (take 6 (word m 0)) (take 6 (root v (length m) 0))) None (Some 0)
 
--- a header that is none, a block that passes the end, or a hole behind a hole
+-- whether a header is bad: it is none, its block passes the end, or it is a hole right after a hole
 abbrev pub bad_header : ℕ → Bool → Option Block → Bool
 bad_header size after_hole None = true
 bad_header size after_hole (Some b) = nat_lt size (b.place + b.words) || (after_hole && not b.used)
 
--- the place behind a block
+-- the place after a block
 abbrev pub next_block : ℕ → Option Block → ℕ
 next_block size None = size
 next_block size (Some b) = b.place + b.words
 
--- a block that is a hole
+-- whether a block is a hole
 abbrev pub is_hole : Option Block → Bool
 is_hole None = false
 is_hole (Some b) = not b.used
 
--- the first header that is bad, from p on
+-- the place of the first bad header from p on
 unfoldable pub bad_block : ℕ → List (List ℕ) → ℕ → Bool → Option ℕ
 bad_block zero m p after_hole = None
 bad_block (suc n) m p after_hole =
@@ -116,7 +116,7 @@ bad_block (suc n) m p after_hole =
     cond (bad_header (length m) after_hole h) (Some p) (bad_block n m (next_block (length m) h) (is_hole h))
     )
 
--- a record's own bytes and its lengths
+-- whether a record is valid: its name, its limits and zeros, and its lengths, which make a block of this number of words
 abbrev pub is_record : List ℕ → ℕ → Bool
 is_record r words =
     let n = slice_index r 16 in
@@ -126,7 +126,7 @@ is_record r words =
     && nat_le (be2 r 26) 15 && bytes_eq (drop 28 r) (zeros 4)
     && words == needed_of (be2 r 20) (be2 r 22) (slice_index r 17) (slice_index r 18)
 
--- the first used block whose record is bad, whose name stands before, or that is the 33rd
+-- the place of the first used block whose record is bad, whose name an earlier block has, or that is the 33rd
 unfoldable pub bad_record : List (List ℕ) → List Block → List (List ℕ) → ℕ → Option ℕ
 bad_record m [] names used = None
 bad_record m (b ∷ bs) names used =
@@ -140,12 +140,12 @@ abbrev pub first_hole : List Block → ℕ
 first_hole [] = 0
 first_hole (b ∷ bs) = cond b.used (first_hole bs) b.place
 
--- the first block whose link is wrong: 0 for a used one, the next hole for a hole
+-- the place of the first block with a wrong link; right is 0 for a used block, the next hole or 0 for a hole
 abbrev pub bad_link : List Block → Option ℕ
 bad_link [] = None
 bad_link (b ∷ bs) = cond (b.link == cond b.used 0 (first_hole bs)) (bad_link bs) (Some b.place)
 
--- the first link that is wrong, that of the root first
+-- the place of the first wrong link in the list of holes, from the root's on
 abbrev pub bad_chain : List (List ℕ) → List Block → Option ℕ
 bad_chain m bs = or_else (cond (be2 (word m 0) 6 == first_hole bs) None (Some 0)) (bad_link bs)
 
@@ -163,7 +163,7 @@ words_fault m =
     )
     )
 
--- the first fault of an image whose journals were looked at
+-- the first fault of an image, from a look at its journals
 abbrev pub fault_of : Look → List (List ℕ) → Option (Cause × ℕ)
 fault_of (Refused p) m = Some (BadJournal, p)
 fault_of Closed m = words_fault m
@@ -173,6 +173,6 @@ fault_of (Pending j ps) m = words_fault (words_after (after m) m)
 abbrev pub fault : List (List ℕ) → Option (Cause × ℕ)
 fault m = fault_of (look m) m
 
--- an image that is a card
+-- an image without a fault, which holds a card
 abbrev pub IsWellLaid : List (List ℕ) → Type 0
 IsWellLaid m = fault m ≡ None

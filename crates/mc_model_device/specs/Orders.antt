@@ -6,12 +6,12 @@ use Rattle.mc_model_device.specs.declared.device.Stop.{Stop}
 abbrev pub Answer : Type 0
 Answer = Result (Unit {0}) Stop
 
--- how a call ended, whatever it gave
+-- how a call ended, without its value
 abbrev pub answer_of : {T : Type 0} → Result T Stop → Answer
 answer_of (Ok x) = Ok tt
 answer_of (Err s) = Err s
 
--- From d the steps were done in order and left e, or one of them stopped there and none after it was tried.
+-- the steps were done in order from d to e, or one of them stopped at e and none after it was tried
 abbrev pub InOrder : {D I : Type 0} → (D → I → Answer → D → Type 0) → D → List I → Answer → D → Type 0
 InOrder {D} one d [] (Ok u) e = e ≡ d
 InOrder {D} one d [] (Err s) e = ⊥

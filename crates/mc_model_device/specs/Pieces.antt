@@ -3,7 +3,7 @@ use Rattle.std.specs.Prelude.{◌≡◌, ◌<◌, ◌≤◌, ◌*◌, ◌++◌, 
 use Rattle.std.specs.List.{AllByRecursion}
 use Rattle.mc_model_device.specs.Bytes.{down, splice, or_else}
 
--- the byte of the last piece that covers a place
+-- the byte at a place of the last piece that covers it, if one does
 abbrev pub covered : List (ℕ × List ℕ) → ℕ → Option ℕ
 covered [] i = None
 covered (p ∷ ps) i = or_else (covered ps i) (cond (nat_le p.0 i) (slice_get p.1 (i - p.0)) None)
@@ -13,17 +13,17 @@ abbrev pub laid_pieces : List ℕ → List (ℕ × List ℕ) → List ℕ
 laid_pieces l [] = l
 laid_pieces l (p ∷ ps) = laid_pieces (splice l p.0 p.1) ps
 
--- a number more in an ascending list without doubles
+-- an ascending list of distinct numbers with one more
 abbrev pub with_number : ℕ → List ℕ → List ℕ
 with_number n [] = n ∷ []
 with_number n (k ∷ ks) = cond (n == k) (k ∷ ks) (cond (nat_lt n k) (n ∷ k ∷ ks) (k ∷ with_number n ks))
 
--- the numbers of the words of a piece's bytes, beside those that are there
+-- numbers of words, with those of the words in which a piece's bytes lie
 abbrev pub with_words : ℕ → List ℕ → List ℕ → List ℕ
 with_words at [] ns = ns
 with_words at (b ∷ bs) ns = with_words (at + 1) bs (with_number (down at 8) ns)
 
--- the numbers of the words of pieces, beside those that are there
+-- numbers of words, with those of the words that pieces touch
 abbrev pub with_touched : List ℕ → List (ℕ × List ℕ) → List ℕ
 with_touched ns [] = ns
 with_touched ns (p ∷ ps) = with_touched (with_words p.0 p.1 ns) ps
@@ -53,12 +53,12 @@ abbrev pub pending_at : List (ℕ × List ℕ) → ℕ → Option (List ℕ)
 pending_at [] n = None
 pending_at (w ∷ ws) n = cond (w.0 == n) (Some w.1) (pending_at ws n)
 
--- one word more, in the place of the one with its number
+-- pending words with one more, which replaces the one with its number
 abbrev pub put_word : ℕ → List ℕ → List (ℕ × List ℕ) → List (ℕ × List ℕ)
 put_word n b [] = (n, b) ∷ []
 put_word n b (w ∷ ws) = cond (w.0 == n) ((n, b) ∷ ws) (cond (nat_lt n w.0) ((n, b) ∷ w ∷ ws) (w ∷ put_word n b ws))
 
--- how many numbers, of so many from n on, have no pending word
+-- the number of words in n..n + count that are not pending
 abbrev pub not_pending : ℕ → ℕ → List (ℕ × List ℕ) → ℕ
 not_pending n zero ws = 0
 not_pending n (suc count) ws = cond (is_none (pending_at ws n)) 1 0 + not_pending (n + 1) count ws
@@ -67,7 +67,7 @@ not_pending n (suc count) ws = cond (is_none (pending_at ws n)) 1 0 + not_pendin
 abbrev pub word_pieces : List (ℕ × List ℕ) → List (ℕ × List ℕ)
 word_pieces ws = map (λ w. (8 * w.0, w.1)) ws
 
--- the list with words laid over it, and nothing behind its end
+-- the list with words laid over it, cut at its length
 abbrev pub laid_words : List ℕ → List (ℕ × List ℕ) → List ℕ
 laid_words l ws = take (length l) (laid_pieces l (word_pieces ws))
 
@@ -76,7 +76,7 @@ abbrev pub LieIn : ℕ → List (ℕ × List ℕ) → Type 0
 LieIn n ps = AllByRecursion (λ p. (0 < length p.1) × (p.0 + length p.1 ≤ n)) ps
 
 -- Pending words hold the pieces over a list: they are the words that the pieces touch, and have the bytes of the list with the pieces laid
--- over it. Behind the list's end a word may hold anything.
+-- over it. Past the list's end a word may hold anything.
 pub record HoldPieces (l : List ℕ) (ps ws : List (ℕ × List ℕ)) : Type 0 where
   pub pending : ArePending ws
   pub touched_words : numbers ws ≡ touched ps

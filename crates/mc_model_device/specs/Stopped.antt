@@ -1,4 +1,4 @@
--- An atomic write as a list of device writes, and what stands of it after a stop at any of them.
+-- An atomic write through a redo log as a list of device writes, and what is durable of it after a stop at any of them.
 use Rattle.std.specs.Prelude.{◌≡◌, ◌≢◌, ◌⊎◌, ℕ, zero, suc, ◌+◌, ◌*◌, ◌≤◌, Bool, true, false, cond, not, ◌&&◌, ◌||◌, nat_lt, nat_le, ◌==◌, List, [], ◌∷◌, ◌++◌, length, take, drop, map, slice_set, bytes_eq, Ok, Err}
 use Rattle.std.specs.List.{AllByRecursion}
 use Rattle.mc_model_device.specs.Bytes.{up, zeros, bytes2}
@@ -12,20 +12,20 @@ abbrev pub cost : Journal → ℕ → ℕ
 cost One w = 3 * w + 3
 cost Two w = up w 4 + 2 * w + 3
 
--- which device write opens the gate
+-- the number of the device write that opens the gate: the commit point
 abbrev pub opens_at : Journal → ℕ → ℕ
 opens_at One w = 2 * w + 2
 opens_at Two w = up w 4 + w + 2
 
--- whether the write stands that was stopped at its device write k, which left x
+-- whether an atomic write of w words that was stopped at its device write k, which left x, is durable: its commit record was written
 abbrev pub stands : Journal → ℕ → ℕ → List ℕ → Bool
 stands j w k x = nat_lt (opens_at j w) k || ((k == opens_at j w) && bytes_eq x (opening j))
 
--- how many writes it owes then
+-- the number of writes that recovery still has to make then
 abbrev pub owes : Journal → ℕ → ℕ → List ℕ → ℕ
 owes j w k x = cond (stands j w k x && not ((k == cost j w) && not (bytes_eq x (opening j)))) (w + 1) 0
 
--- how many a recovery of w words owes that was stopped at its write k, which left x
+-- the number of writes that recovery still has to make after a recovery of w words was stopped at its write k, which left x
 abbrev pub remains : Journal → ℕ → ℕ → List ℕ → ℕ
 remains j w k x = cond (nat_le k w || bytes_eq x (opening j)) (w + 1) 0
 
@@ -45,7 +45,7 @@ abbrev pub two_bytes_each : List ℕ → List ℕ
 two_bytes_each [] = []
 two_bytes_each (t ∷ ts) = bytes2 t ++ two_bytes_each ts
 
--- the bytes of the first four targets, zeros where there are fewer
+-- the bytes of the first four targets, filled up with zeros
 abbrev pub four_targets : List ℕ → List ℕ
 four_targets ts = take 8 (two_bytes_each ts ++ zeros 8)
 
@@ -59,20 +59,20 @@ abbrev pub values_2 : ℕ → List (ℕ × List ℕ) → List (ℕ × List ℕ)
 values_2 i [] = []
 values_2 i (p ∷ ps) = (19 + i, p.1) ∷ values_2 (i + 1) ps
 
--- targets and values
+-- the log entries of an atomic write: its targets and values
 abbrev pub entries : Journal → List (ℕ × List ℕ) → List (ℕ × List ℕ)
 entries One list = entries_1 0 list
 entries Two list = target_words 0 (up (length list) 4) (map (λ p. p.0) list) ++ values_2 0 list
 
--- a recovery: the targets, then the gate is shut
+-- the writes of a recovery: the values at their targets, then the gate is shut. They are idempotent: recovery may begin them again
 abbrev pub replay : Journal → List (ℕ × List ℕ) → List (ℕ × List ℕ)
 replay j list = list ++ (gate j, shut) ∷ []
 
--- an atomic write: targets and values, the head, the gate is opened, and then as a recovery
+-- the device writes of an atomic write: log entries, head, commit record, and then those of a recovery
 abbrev pub writes : Journal → List (ℕ × List ℕ) → List (ℕ × List ℕ)
 writes j list = entries j list ++ (2, numbered (length list)) ∷ (gate j, opening j) ∷ replay j list
 
--- a list for an atomic write on a device of so many words: 1 to 64 targets that ascend, each word 0 or in the heap
+-- a list for an atomic write on a device of `size` words: 1 to 64 targets that ascend, each word 0 or in the heap
 pub record IsAtomic (size : ℕ) (list : List (ℕ × List ℕ)) : Type 0 where
   pub low : 1 ≤ length list
   pub high : length list ≤ 64
@@ -87,34 +87,34 @@ torn m (p ∷ ps) zero x = m
 torn m (p ∷ ps) (suc zero) x = slice_set m p.0 x
 torn m (p ∷ ps) (suc (suc k)) x = torn (slice_set m p.0 p.1) ps (suc k) x
 
--- the new words where the write stands, else the old ones
+-- the new words if the write is durable, else the old ones
 abbrev pub stood : Bool → List (List ℕ) → List (ℕ × List ℕ) → List (List ℕ)
 stood true m list = laid m list
 stood false m list = m
 
--- the places of a journal
+-- a place is one of the words of a journal
 abbrev pub InJournal : Journal → ℕ → Type 0
 InJournal One i = (1 ≤ i) × (i ≤ 130)
 InJournal Two i = ((2 ≤ i) × (i ≤ 82)) ⊎ (i ≡ 130)
 
--- the same words in every place outside a journal
+-- two images with equal words in every place outside a journal
 pub record SameOutside (j : Journal) (a b : List (List ℕ)) : Type 0 where
   pub size : length a ≡ length b
   pub words : (i : ℕ) → (InJournal j i → ⊥) → word_at a i ≡ word_at b i
 
--- the same words in every place but one
+-- two images with equal words in every place but one
 pub record SameBut (k : ℕ) (a b : List (List ℕ)) : Type 0 where
   pub size : length a ≡ length b
   pub words : (i : ℕ) → i ≢ k → word_at a i ≡ word_at b i
 
--- an image that owes n writes of journal j, and means t outside it
+-- an image on which recovery still has to make n writes of journal j, after which it is t outside the journal
 pub record LeavesOwing (j : Journal) (m : List (List ℕ)) (n : ℕ) (t : List (List ℕ)) : Type 0 where
   pub owed : owed_j j m ≡ n
   pub after : List (List ℕ)
   pub is : after_j j m ≡ Words after
   pub same : SameOutside j after t
 
--- an image that owes n writes of journal j, and means t but for the gate
+-- an image on which recovery still has to make n writes of journal j, after which it is t but for the gate
 pub record Resumes (j : Journal) (m : List (List ℕ)) (n : ℕ) (t : List (List ℕ)) : Type 0 where
   pub owed : owed_j j m ≡ n
   pub after : List (List ℕ)
@@ -146,30 +146,30 @@ pub record WriteTorn (j : Journal) (d : DeviceState) (list : List (ℕ × List �
   pub ended : Ended (Err s) d e
   pub tape : GrowsBy d.tape (torn_entries (writes j list) k x s) e.tape
 
--- how a call that writes ends
+-- how an atomic write ends
 abbrev pub WriteEnds : Journal → DeviceState → List (ℕ × List ℕ) → Answer → DeviceState → Type 0
 WriteEnds j d list (Ok u) e = WriteStands j d list e
 WriteEnds j d list (Err s) e = WriteTorn j d list s e
 
--- how a recovery ended: with so many writes, by a stop, or at a bad place of the journal without a write
+-- how a recovery ended: done with n writes, by a stop, or at a bad place of the journal without a write
 pub data RecoveryOutcome : Type 0 where
   Recovered : ℕ → RecoveryOutcome
   Interrupted : Stop → RecoveryOutcome
   BadAt : ℕ → RecoveryOutcome
 
--- the answer of the device writes of a recovery
+-- how the device writes of a recovery ended
 abbrev pub outcome_answer : RecoveryOutcome → Answer
 outcome_answer (Recovered n) = Ok tt
 outcome_answer (Interrupted s) = Err s
 outcome_answer (BadAt p) = Ok tt
 
--- the writes that a look leaves to do
+-- the writes that recovery still has to make after a look
 abbrev pub owed_writes : Look → List (ℕ × List ℕ)
 owed_writes (Refused p) = []
 owed_writes Closed = []
 owed_writes (Pending j ps) = replay j ps
 
--- the outcomes that a look allows
+-- the outcomes of a recovery that a look allows
 abbrev pub LookAllows : Look → RecoveryOutcome → Type 0
 LookAllows (Refused p) o = o ≡ BadAt p
 LookAllows Closed o = o ≡ Recovered 0
@@ -184,7 +184,7 @@ pub record ReplayDone (j : Journal) (d : DeviceState) (ps : List (ℕ × List �
   pub ended : Ended (Ok tt) d e
   pub tape : GrowsBy d.tape (done_entries (replay j ps)) e.tape
 
--- a recovery that was stopped at its write k, which left x: the image means what it meant
+-- a recovery that was stopped at its write k, which left x: it can be begun again, to the image that it was to leave
 pub record ReplayTorn (j : Journal) (d : DeviceState) (ps : List (ℕ × List ℕ)) (s : Stop) (e : DeviceState) : Type 0 where
   pub k : ℕ
   pub x : List ℕ
@@ -196,7 +196,7 @@ pub record ReplayTorn (j : Journal) (d : DeviceState) (ps : List (ℕ × List �
   pub ended : Ended (Err s) d e
   pub tape : GrowsBy d.tape (torn_entries (replay j ps) k x s) e.tape
 
--- a recovery by what its look found
+-- how a recovery ends, by what its look found
 abbrev pub RecoverEnds : Journal → Look → DeviceState → RecoveryOutcome → DeviceState → Type 0
 RecoverEnds j (Refused p) d o e = (o ≡ BadAt p) × (e ≡ d)
 RecoverEnds j Closed d o e = (o ≡ Recovered 0) × (e ≡ d)

@@ -1,9 +1,9 @@
--- The word that is printed of the first fault of an image.
+-- The word that is printed for the first fault of an image.
 use Rattle.std.specs.Prelude.{ℕ, List, codes}
 use Rattle.mc_model_device.specs.declared.cause.Cause.{Cause}
 use Rattle.mc_model_device.specs.declared.cause.Cause.TheVariants.{BadJournal, NoRoot, BadBlock, BadRecord, BadChain}
 
--- a cause's word
+-- the printed word of a cause
 abbrev pub cause_text : Cause → List ℕ
 cause_text BadJournal = codes "BadJournal"
 cause_text NoRoot = codes "NoRoot"

@@ -1,7 +1,7 @@
 ghost use Rattle.std.specs.Prelude.{◌≡◌};
 ghost use Rattle.mc_model_device.specs.Words.{cause_text};
 
-/// Why the words of a device are no card.
+/// Why an image holds no card.
 #[derive(Clone, Copy, Debug, PartialEq, Eq)]
 pub enum Cause {
     BadJournal,
@@ -12,7 +12,7 @@ pub enum Cause {
 }
 
 impl Cause {
-    /// The word that a transcript prints.
+    /// Returns the word that a transcript prints.
     pub fn word(&self) -> &'static str
         ensures { result.now ≡ cause_text self.now }
     {

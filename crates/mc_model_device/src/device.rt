@@ -1,4 +1,4 @@
-/// How a write that was tried did not end: power went, or the device refused it. Its word may hold anything.
+/// Why a write stopped: power went, or the write failed. The word that it was to write may hold anything.
 #[derive(Clone, Copy, Debug, PartialEq, Eq)]
 pub enum Stop {
     Off,

@@ -1,6 +1,6 @@
 #![tactic(auto)]
 
-//! The words of a device, what a write does to them, atomic writes, and the card that an image means.
+//! The words of a device, what a write does to them, atomic writes, and the card that an image holds.
 
 mod cause;
 mod device;

@@ -1,4 +1,4 @@
--- How lists are added place by place, and how a test that is computed over a whole table tells each of its entries.
+-- Lists added place by place, and a test computed over a whole table as a test of each of its entries.
 use Rattle.std.proofs.Common.{◌≡◌, ℕ, zero, suc, ◌+◌, ◌-◌, ◌^◌, ◌<◌, ◌&&◌, Bool, true, List, [], ◌∷◌, ◌++◌, length, get_or, take, drop, ap, refl, sym, ◌∙◌, inl, inr, arith, subst}
 use Rattle.std.specs.Int.Bits.{bit_xor, xor_self, xor_zero_r, xor_assoc}
 use Rattle.std.proofs.lemmas.Nat.{xor_lt}

@@ -1,5 +1,5 @@
 -- AES with keys of 128 bits, over the field of 256 elements, on lists of bytes.
--- FIPS 197 (Advanced Encryption Standard), and NIST SP 800-38A for the chain of blocks.
+-- FIPS 197 (Advanced Encryption Standard), and NIST SP 800-38A for cipher block chaining.
 use Rattle.std.specs.Prelude.{ℕ, zero, suc, ◌+◌, ◌*◌, ◌/◌, ◌%◌, ◌^◌, List, [], ◌∷◌, ◌++◌, take, drop, map, reverse, slice_index, bit_xor}
 use Rattle.mc_model_machine.specs.Modes.{added, cbc_last}
 
@@ -41,11 +41,11 @@ abbrev pub byte_by : ℕ → (ℕ → ℕ) → ℕ
 byte_by zero value = 0
 byte_by (suc n) value = value n * 2 ^ n + byte_by n value
 
--- the affine change of a byte (FIPS 197, 5.1.1)
+-- the affine transformation of a byte (FIPS 197, 5.1.1)
 unfoldable pub affine : ℕ → ℕ
 affine b = byte_by 8 (λ i. (bit b i + bit b (i + 4) + bit b (i + 5) + bit b (i + 6) + bit b (i + 7) + bit 0x63 i) % 2)
 
--- the inverse of the affine change (FIPS 197, 5.3.2)
+-- the inverse of the affine transformation (FIPS 197, 5.3.2)
 unfoldable pub affine_back : ℕ → ℕ
 affine_back b = byte_by 8 (λ i. (bit b (i + 2) + bit b (i + 5) + bit b (i + 7) + bit 0x05 i) % 2)
 
@@ -59,7 +59,7 @@ unfoldable pub sub_back : ℕ → ℕ
 unfolding inverse affine_back
 sub_back b = inverse (affine_back b)
 
--- ---- steps on a state of 16 bytes: the byte in row r and column c stands at r + 4 c
+-- ---- steps on a state of 16 bytes: the byte in row r and column c is at r + 4 c
 
 -- the bytes at these places
 abbrev pub placed : List ℕ → List ℕ → List ℕ
@@ -109,7 +109,7 @@ unfoldable pub last_round : List ℕ → List ℕ → List ℕ
 unfolding sub
 last_round k s = added (shift_rows (map sub s)) k
 
--- the last round undone
+-- the inverse of the last round
 unfoldable pub last_round_back : List ℕ → List ℕ → List ℕ
 unfolding sub_back
 last_round_back k s = map sub_back (shift_rows_back (added s k))
@@ -121,7 +121,8 @@ round_back k s = map sub_back (shift_rows_back (mix_columns_back (added s k)))
 
 -- ---- the key
 
--- the last word of a round key, turned left by a byte and substituted, with c added to its first byte
+-- the last word of a round key rotated left by a byte and substituted, with the round constant c added to its first byte: RotWord,
+-- SubWord and Rcon (FIPS 197, 5.2)
 unfoldable pub changed : ℕ → List ℕ → List ℕ
 unfolding sub
 changed c w = added (map sub (drop 1 w ++ take 1 w)) (c ∷ [])
@@ -137,7 +138,7 @@ next_key c k =
     let w3 = added (drop 12 k) w2 in
     w0 ++ w1 ++ w2 ++ w3
 
--- a round key and the n after it, where c is the power of x for the next
+-- a round key and the n after it, with c the round constant of the next, a power of x
 unfoldable pub round_keys_from : ℕ → ℕ → List ℕ → List (List ℕ)
 unfolding next_key
 round_keys_from zero c k = k ∷ []
@@ -157,20 +158,20 @@ rounds [] s = s
 rounds (k ∷ []) s = last_round k s
 rounds (k ∷ j ∷ ks) s = rounds (j ∷ ks) (round k s)
 
--- a block with round keys: the first is added before the first round
+-- a block enciphered with a list of round keys: the first is added before the first round
 unfoldable pub enciphered : List (List ℕ) → List ℕ → List ℕ
 unfolding rounds
 enciphered [] block = block
 enciphered (k ∷ ks) block = rounds ks (added block k)
 
--- the rounds undone with a list of round keys in reverse, of which the last is only added
+-- the inverse rounds with a list of round keys in reverse order, of which the last is only added
 unfoldable pub rounds_back : List (List ℕ) → List ℕ → List ℕ
 unfolding round_back
 rounds_back [] s = s
 rounds_back (k ∷ []) s = added s k
 rounds_back (k ∷ j ∷ ks) s = rounds_back (j ∷ ks) (round_back k s)
 
--- a block with round keys in reverse
+-- a block deciphered with a list of round keys in reverse order
 unfoldable pub deciphered : List (List ℕ) → List ℕ → List ℕ
 unfolding rounds_back last_round_back
 deciphered [] block = block
@@ -181,12 +182,12 @@ unfoldable pub aes_encipher : List ℕ → List ℕ → List ℕ
 unfolding round_keys enciphered
 aes_encipher key block = enciphered (round_keys key) block
 
--- a block deciphered (FIPS 197, 5.3, inverse cipher)
+-- the inverse cipher of AES-128, with a key and a block of 16 bytes (FIPS 197, 5.3, inverse cipher)
 unfoldable pub aes_decipher : List ℕ → List ℕ → List ℕ
 unfolding round_keys deciphered
 aes_decipher key block = deciphered (reverse (round_keys key)) block
 
--- the last block of the chain over a message of whole blocks, from a start block (SP 800-38A, 6.2, CBC)
+-- the last block of CBC over a message of whole blocks, from a start block (SP 800-38A, 6.2)
 unfoldable pub aes_signature : List ℕ → List ℕ → List ℕ → List ℕ
 unfolding aes_encipher
 aes_signature key start message = cbc_last (aes_encipher key) 16 start message

@@ -3,7 +3,7 @@
 use Rattle.std.specs.Prelude.{◌≡◌, ◌≢◌, ◌⊎◌, ℕ, ◌+◌, ◌*◌, ◌≤◌, cond, ◌&&◌, nat_le, ◌==◌, List, [], ◌∷◌, length, take, drop, slice_index, Option, Some, None, option_map}
 use Rattle.mc_model_device.specs.Bytes.{be2}
 
--- a command: its header, its fifth byte in the short cases with one, its data, and how many bytes of reply it expects
+-- a command APDU: its header, its fifth byte in the short cases that have one, its data, and the number of reply bytes that it expects
 pub record ApduParts : Type 0 where
   pub cla : ℕ
   pub ins : ℕ
@@ -13,27 +13,27 @@ pub record ApduParts : Type 0 where
   pub body : List ℕ
   pub le : Option ℕ
 
--- what stands behind the header
+-- what follows the header of a command
 pub record Rest : Type 0 where
   pub p3 : ℕ
   pub body : List ℕ
   pub le : Option ℕ
 
--- Le in one byte, where 00 means 256
+-- Le in one byte: 00 means 256
 abbrev pub short_le : ℕ → ℕ
 short_le n = cond (n == 0) 256 n
 
--- Le in two bytes, where 0000 is held as 65,535
+-- Le in two bytes: 0000 is held as 65,535
 abbrev pub extended_le : ℕ → ℕ
 extended_le n = cond (n == 0) 65535 n
 
--- the short cases 3 and 4: Lc, and what stands behind it
+-- the short cases 3 and 4: Lc, and what follows it
 abbrev pub short_rest : ℕ → List ℕ → Option Rest
 short_rest lc b =
     cond (length b == lc) (Some (record { p3 = lc; body = b; le = None }))
     (cond (length b == lc + 1) (Some (record { p3 = lc; body = take lc b; le = Some (short_le (slice_index b lc)) })) None)
 
--- the extended cases 3 and 4: Lc, and what stands behind it
+-- the extended cases 3 and 4: Lc, and what follows it
 abbrev pub extended_body : ℕ → List ℕ → Option Rest
 extended_body lc b =
     cond (length b == lc) (Some (record { p3 = 0; body = b; le = None }))
@@ -45,13 +45,13 @@ extended_rest (h ∷ l ∷ []) = Some (record { p3 = 0; body = []; le = Some (ex
 extended_rest (h ∷ l ∷ x ∷ xs) = cond (nat_le 1 (256 * h + l) && nat_le (256 * h + l) 1024) (extended_body (256 * h + l) (x ∷ xs)) None
 extended_rest b = None
 
--- what stands behind the header, from nothing (case 1) and one byte (the short case 2) on
+-- what follows the header, read by its length: no byte is case 1, one byte the short case 2
 abbrev pub rest_read : List ℕ → Option Rest
 rest_read [] = Some (record { p3 = 0; body = []; le = None })
 rest_read (p3 ∷ []) = Some (record { p3 = p3; body = []; le = Some (short_le p3) })
 rest_read (p3 ∷ x ∷ xs) = cond (p3 == 0) (extended_rest (x ∷ xs)) (short_rest p3 (x ∷ xs))
 
--- the command that the bytes are, or none where their length is wrong
+-- the command APDU that the bytes are, or none if their length is wrong
 unfoldable pub apdu_read : List ℕ → Option ApduParts
 apdu_read (cla ∷ ins ∷ p1 ∷ p2 ∷ b) = option_map (λ r. record { cla = cla; ins = ins; p1 = p1; p2 = p2; p3 = r.p3; body = r.body; le = r.le }) (rest_read b)
 apdu_read b = None

@@ -10,14 +10,14 @@ use Rattle.mc_model_machine.specs.Text.{◌>>=◌, ok_as, err_as, only_if, piece
 use Rattle.mc_model_machine.specs.Code.{spell}
 use Rattle.mc_model_machine.specs.Listing.{condition_names, register_names}
 
--- a name that does not begin with a digit
+-- whether a text is a label: a name that does not begin with a digit
 abbrev pub is_label : List ℕ → Bool
 is_label [] = false
 is_label (c ∷ t) = not (is_digit c) && is_name (c ∷ t)
 
 -- ---- operands
 
--- 1 to 4 hexadecimal digits
+-- the number that 1 to 4 hexadecimal digits spell
 abbrev pub hex_number : List ℕ → Option ℕ
 hex_number t = cond (is_within 1 4 (length t)) (option_map (digits_onto 16 0) (hex_values t)) None
 
@@ -25,7 +25,7 @@ hex_number t = cond (is_within 1 4 (length t)) (option_map (digits_onto 16 0) (h
 abbrev pub natural : List ℕ → Option ℕ
 natural t = cond (bytes_eq (take 2 t) (codes "0x")) (hex_number (drop 2 t)) (decimal_number t)
 
--- a number with its sign turned
+-- a number with the sign minus
 abbrev pub minus : ℕ → ℤ
 minus zero = pos 0
 minus (suc n) = negsuc n
@@ -39,7 +39,7 @@ abbrev pub fits_signed : ℕ → ℤ → Bool
 fits_signed half (pos n) = nat_lt n half
 fits_signed half (negsuc n) = nat_lt n half
 
--- an operand that is a number up to `high`, a byte, a word, a signed number
+-- an operand that is a number up to `high`
 abbrev pub number_operand : ℕ → List ℕ → Result ℕ AsmCause
 number_operand high t = ok_or (natural t) BadNumber >>= λ n. only_if (nat_le n high) OutOfRange n
 
@@ -51,11 +51,11 @@ byte t = number_operand 255 t
 abbrev pub word : List ℕ → Result ℕ AsmCause
 word t = number_operand 65535 t
 
--- a signed operand below a half range
+-- a signed operand from -half to half - 1
 abbrev pub signed_operand : ℕ → List ℕ → Result ℤ AsmCause
 signed_operand half t = ok_or (signed t) BadNumber >>= λ z. only_if (fits_signed half z) OutOfRange z
 
--- the place of a word in a list, from n on
+-- the place of a word in a list, counted from n on
 abbrev pub place_among : ℕ → List (List ℕ) → List ℕ → Option ℕ
 place_among n [] t = None
 place_among n (w ∷ ws) t = cond (bytes_eq w t) (Some n) (place_among (suc n) ws t)
@@ -69,16 +69,16 @@ abbrev pub offset_and_end : Option ℕ → List (List ℕ) → Result (ℕ × �
 offset_and_end (Some tag) (off ∷ [] ∷ []) = ok_as (λ z. (tag, z)) (signed_operand 32768 off)
 offset_and_end register rest = Err BadOperands
 
--- a register and what stands behind its bracket
+-- an address from its register and the text after the opening bracket
 abbrev pub register_and_rest : List (List ℕ) → Result (ℕ × ℤ) AsmCause
 register_and_rest (register ∷ rest ∷ []) = offset_and_end (place_among 1 register_names register) (pieces (λ c. c == 93) rest)
 register_and_rest parts = Err BadOperands
 
--- a register with its offset
+-- an address operand: the register's tag, and the offset
 abbrev pub address : List ℕ → Result (ℕ × ℤ) AsmCause
 address t = register_and_rest (pieces (λ c. c == 91) t)
 
--- of two causes in one line the first in the order of the table
+-- of two causes in one line the one that comes first in the order of the table
 abbrev pub first_cause : AsmCause → AsmCause → AsmCause
 first_cause BadOperands f = BadOperands
 first_cause e BadOperands = BadOperands
@@ -86,7 +86,7 @@ first_cause BadNumber f = BadNumber
 first_cause e BadNumber = BadNumber
 first_cause e f = e
 
--- two operands, and a list of them
+-- two operands
 abbrev pub both : {A B : Type 0} → Result A AsmCause → Result B AsmCause → Result (A × B) AsmCause
 both (Ok a) (Ok b) = Ok (a, b)
 both (Ok a) (Err f) = Err f
@@ -108,7 +108,7 @@ pub data CodeItem : Type 0 where
   ToPlace : (ℕ → Ins) → List ℕ → CodeItem
   ToDistance : (ℤ → Ins) → List ℕ → CodeItem
 
--- the operands of a word
+-- the form of the operands of a word
 pub data WordForm : Type 0 where
   Bare : Ins → WordForm
   OfByte : (ℕ → Ins) → WordForm
@@ -123,7 +123,7 @@ pub data WordForm : Type 0 where
   AddressedByte : (ℕ → ℤ → ℕ → Ins) → WordForm
   AddressedWord : (ℕ → ℤ → ℕ → Ins) → WordForm
 
--- each word with its form
+-- the table of words: each word with its form
 abbrev pub words : List (List ℕ × WordForm)
 words =
     (codes "NOP", Bare Nop) ∷
@@ -175,12 +175,12 @@ words =
     (codes "ORN", AddressedByte Orn) ∷
     (codes "XORN", AddressedByte Xorn) ∷ []
 
--- a target: a label, or what stands for it
+-- a target: a label, or the number in its place
 pub data Target (A : Type 0) : Type 0 where
   Label : List ℕ → Target A
   Given : A → Target A
 
--- what has the form of a label is one
+-- a target by its text: a label if it has the form of one, else the number
 abbrev pub label_or_given : {A : Type 0} → Bool → List ℕ → Result A AsmCause → Result (Target A) AsmCause
 label_or_given true t given = Ok (Label t)
 label_or_given false t given = ok_as Given given
@@ -222,7 +222,7 @@ worded form operands = Err BadOperands
 
 -- ---- a line
 
--- the operands behind a word, which commas separate
+-- the operands after a word, which commas separate
 abbrev pub operands : Option (List ℕ) → List (List ℕ)
 operands None = []
 operands (Some t) = map trim (pieces (λ c. c == 44) t)
@@ -251,7 +251,7 @@ line_read l =
 
 -- ---- the places of the lines, and the code
 
--- how many bytes a line takes
+-- the number of bytes of a line's code
 abbrev pub size : CodeItem → ℕ
 size Nothing = 0
 size (Raw b) = 1
@@ -259,7 +259,7 @@ size (Plain i) = length (spell i)
 size (ToPlace f l) = length (spell (f 0))
 size (ToDistance f l) = length (spell (f (pos 0)))
 
--- a line of a text that has its place
+-- a line of a text with its place in the code
 pub record Placed : Type 0 where
   pub number : ℕ
   pub place : ℕ
@@ -270,7 +270,7 @@ pub record Laid : Type 0 where
   pub labels : List (List ℕ × ℕ)
   pub placed : List Placed
 
--- a label that was not given before
+-- whether a line's label, if it has one, was not defined before
 abbrev pub is_new : List (List ℕ × ℕ) → Option (List ℕ) → Bool
 is_new labels None = true
 is_new labels (Some l) = is_none (lookup labels l)
@@ -280,7 +280,7 @@ abbrev pub with_label : List (List ℕ × ℕ) → Option (List ℕ) → ℕ →
 with_label labels None place = labels
 with_label labels (Some l) place = (l, place) ∷ labels
 
--- a line at a place, behind these labels
+-- a line at a place, after these labels
 unfoldable pub line_laid : List (List ℕ × ℕ) → ℕ → List ℕ → Result Line AsmCause
 unfolding line_read
 line_laid labels place text = do
@@ -297,7 +297,7 @@ laid_lines labels place (t ∷ ts) = do
   rest ← laid_lines (with_label labels l.label place) (place + size l.item) ts
   Ok (record rest { placed = record { number = t.0; place = place; item = l.item } ∷ rest.placed })
 
--- what a line puts into the code, where the labels are these
+-- the bytes that a line puts into the code, with these labels
 abbrev pub emitted : List (List ℕ × ℕ) → ℕ → CodeItem → Result (List ℕ) AsmCause
 emitted labels place Nothing = Ok []
 emitted labels place (Raw b) = Ok (b ∷ [])

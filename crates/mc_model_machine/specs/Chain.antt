@@ -19,14 +19,14 @@ pub data Outcome : Type 0 where
   Reply : (body : List ℕ) (sw : ℕ) → Outcome
   Abended : (cause : Abend) → Outcome
 
--- one atomic write: the application, the pieces laid over its static bytes, and how many words they touch
+-- one atomic write: the application, the pieces laid over its static bytes, and the number of words that they touch
 pub record Write : Type 0 where
   pub name : List ℕ
   pub pieces : List (ℕ × List ℕ)
   pub words : ℕ
 
 -- One executed instruction, or a fetch that abends: the depth of its frame, the place, the instruction, DT and flags after it
--- (before it where the chain ends with an abend), the end, and the words of its atomic write.
+-- (before it if the chain ends with an abend), the end, and the number of words of its atomic write.
 pub record Turn : Type 0 where
   pub depth : ℕ
   pub at : ℕ
@@ -45,7 +45,7 @@ pub record Chain : Type 0 where
   pub public : List ℕ
   pub apdu : ApduParts
 
--- what a chain did: its turns, how many instructions it decoded, its atomic writes, the pairs of every delegation that read a
+-- what a chain did: its turns, the number of instructions that it decoded, its atomic writes, the pairs of every delegation that read a
 -- name, the session bytes of the first frame at the end, and the outcome
 pub record Ran : Type 0 where
   pub turns : List Turn
@@ -57,12 +57,12 @@ pub record Ran : Type 0 where
 
 -- ---- parts of a chain
 
--- the code of an application, nothing where it is not there
+-- the code of an application, empty if it is not there
 abbrev pub code_in : Option App → List ℕ
 code_in None = []
 code_in (Some a) = a.code
 
--- the name of the frame that delegated, and the command's case
+-- the name of the frame that delegated to the running one, if one did
 abbrev pub delegator_in : List Frame → Option (List ℕ)
 delegator_in [] = None
 delegator_in (f ∷ fs) = Some f.name
@@ -105,7 +105,7 @@ abbrev pub write_of : List ℕ → Option (List (ℕ × List ℕ)) → List Writ
 write_of n None = []
 write_of n (Some ps) = record { name = n; pieces = ps; words = length (touched ps) } ∷ []
 
--- how many words it has
+-- the number of words of that atomic write
 abbrev pub words_of_write : Option (List (ℕ × List ℕ)) → Option ℕ
 words_of_write None = None
 words_of_write (Some ps) = Some (length (touched ps))
@@ -117,22 +117,22 @@ settled ch e =
 
 -- ---- delegation and exit
 
--- a name that a frame of the chain runs
+-- whether a frame of the chain runs the application of this name
 abbrev pub is_active : List ℕ → Frame → List Frame → Bool
 is_active n f [] = bytes_eq f.name n
 is_active n f (g ∷ gs) = bytes_eq f.name n || is_active n g gs
 
--- an application runs on top, with zero session bytes
+-- the chain with a frame of an application on top, its session bytes zero
 abbrev pub entered_app : Chain → List ℕ → App → Chain
 entered_app ch n a =
     record ch { frame = new_frame n (length a.code) a.deny a.fixed (zeros a.session); below = ch.frame ∷ ch.below }
 
--- a delegation to an application that is there: 6985 where it is active or the chain has four frames
+-- a delegation to an application that is there: 6985 if it is active or the chain has four frames
 abbrev pub called_app : Bool → Chain → List ℕ → App → Chain
 called_app true ch n a = record ch { public = with_sw ch.public 0x6985 }
 called_app false ch n a = entered_app ch n a
 
--- a delegation to a name: 6A82 where it is not on the card
+-- a delegation to a name: 6A82 if it is not on the card
 abbrev pub called : Chain → List ℕ → Option App → Chain
 called ch n None = record ch { public = with_sw ch.public 0x6A82 }
 called ch n (Some a) = called_app (is_active n ch.frame ch.below || nat_le 4 (depth_of ch)) ch n a
@@ -146,7 +146,7 @@ pub data Follows : Type 0 where
   Continues : (chain : Chain) → Follows
   Ends : (outcome : Outcome) → Follows
 
--- the first frame's exit: 09 where the reply would be above 1,024 bytes
+-- the first frame's exit: abend 09 if the reply would be above 1,024 bytes
 abbrev pub last_exit : Chain → Follows
 last_exit ch = cond (nat_lt 1024 (la_of ch.public)) (Ends (Abended A09)) (Ends (reply_of ch))
 
@@ -161,7 +161,7 @@ follows ch Goes = Continues ch
 follows ch Exits = exited ch ch.below
 follows ch (Delegates n) = Continues (called ch n (lookup ch.map n))
 
--- the pair of a delegation: who named whom
+-- the pair of a delegation: the frame's name, and the name that it delegates to
 abbrev pub pair_of : List ℕ → Then → List (List ℕ × List ℕ)
 pair_of n Goes = []
 pair_of n Exits = []
@@ -169,7 +169,7 @@ pair_of n (Delegates m) = (n, m) ∷ []
 
 -- ---- turns
 
--- one turn: what it tells, whether it counts, its write and pair, and what follows
+-- one turn: its record, whether it counts, its write and pair, and what follows
 pub record Acted : Type 0 where
   pub turn : Turn
   pub count : ℕ
@@ -193,7 +193,7 @@ abends_at ch i count cause =
       follows = Ends (Abended cause);
     }
 
--- the frame whose registers a turn tells: where the chain ends with an abend, the one before
+-- the frame whose registers a turn records: if the chain ends with an abend, the one before it
 abbrev pub told_frame : Frame → Frame → Follows → Frame
 told_frame old new (Continues ch) = new
 told_frame old new (Ends (Reply b sw)) = new
@@ -216,11 +216,11 @@ abbrev pub row_turn : Chain → Ins → RowEnd → Acted
 row_turn ch i (Abends cause) = abends_at ch (Some i) 1 cause
 row_turn ch i (Does d) = done_turn ch i d.effect (follows (settled ch d.effect) d.next) (pair_of ch.frame.name d.next)
 
--- the frame, its code address already behind the instruction
+-- the frame with its code address after the instruction
 abbrev pub stepped : Frame → ℕ → Frame
 stepped f next = record f { at = next }
 
--- a fetch: 01 where no instruction begins, 02 where it is not whole in the code
+-- the turn of a fetch: abend 01 if no instruction begins there, 02 if it is not whole in the code
 abbrev pub fetched : Chain → Result (Ins × ℕ) DecodeFault → Acted
 fetched ch (Err Undefined) = abends_at ch None 0 A01
 fetched ch (Err Past) = abends_at ch None 0 A02
@@ -251,12 +251,12 @@ abbrev pub goes_on : Acted → Ran → Ran
 goes_on t r =
     record { turns = t.turn ∷ r.turns; count = t.count + r.count; writes = t.writes ++ r.writes; pairs = t.pairs ++ r.pairs; session = r.session; outcome = r.outcome }
 
--- a turn, and the rest where the chain goes on
+-- a turn, and the rest if the chain goes on
 abbrev pub ran_on : Acted → List ℕ → Follows → (Chain → Ran) → Ran
 ran_on t session (Ends o) rest = ends_with t session o
 ran_on t session (Continues ch) rest = goes_on t (rest ch)
 
--- a chain with this budget
+-- the run of a chain with this budget
 unfoldable pub ran : ℕ → Chain → Ran
 ran zero ch = ends_with (spent ch) (chain_session ch) (Abended A07)
 ran (suc n) ch = let t = acted ch in ran_on t (chain_session ch) t.follows (λ c. ran n c)

@@ -1,5 +1,5 @@
--- Instructions as bytes: the table of instruction bytes, the spelling, and what stands at a place of code.
--- An instruction byte is op * 8 + tag, its operands follow, and then two bytes of signed offset where an address has a tag other than 0.
+-- Instructions as bytes: the table of instruction bytes, the spelling, and the instruction at a place of code.
+-- An instruction byte is op * 8 + tag, its operands follow, and then two bytes of signed offset if an address has a tag other than 0.
 use Rattle.std.specs.Prelude.{◌≡◌, ℕ, ◌+◌, ◌-◌, ◌*◌, ◌/◌, ◌%◌, ◌<◌, ◌≤◌, ◌⊎◌, Bool, true, false, cond, ◌==◌, nat_le, ℤ, pos, FitsSigned, List, [], ◌∷◌, ◌++◌, length, take, drop, replicate, slice_index, Option, Some, None, option_map, option_and_then, Result, Ok, Err}
 use Rattle.std.specs.List.{AllByRecursion}
 use Rattle.std.specs.Int.{w8, w16, cast_signed, cast_unsigned}
@@ -18,20 +18,20 @@ pub data Kind : Type 0 where
   I8 : Kind
   I16 : Kind
 
--- how many bytes operands take
+-- the number of bytes of an operand
 abbrev pub size : Kind → ℕ
 size U8 = 1
 size U16 = 2
 size I8 = 1
 size I16 = 2
 
--- how many bytes a list of operands takes
+-- the number of bytes of a list of operands
 abbrev pub total : List Kind → ℕ
 total [] = 0
 total (k ∷ ks) = size k + total ks
 
--- a row: the operands behind an instruction byte, in their order, and the instruction that they make;
--- a number in front is the condition, the set or the tag, which says whether an address or an offset follows
+-- a row: the operands after an instruction byte, in their order, and the instruction that they make; a number in front is the condition,
+-- the set or the tag, by which an address or an offset follows or not
 pub data Form : Type 0 where
   Plain : Ins → Form
   OneByte : (ℕ → Ins) → Form
@@ -45,7 +45,7 @@ pub data Form : Type 0 where
   ByteOffset : ℕ → (ℤ → ℕ → Ins) → Form
   WordOffset : ℕ → (ℤ → ℕ → Ins) → Form
 
--- what a table has at a number
+-- the entry of a table at a number
 abbrev pub row_at : {A : Type 0} → ℕ → List (ℕ × A) → Option A
 row_at n [] = None
 row_at n (r ∷ rs) = cond (n == r.0) (Some r.1) (row_at n rs)
@@ -87,15 +87,15 @@ call_rows =
     ∷ (7, TwoBytes (λ i o. Retio i o))
     ∷ []
 
--- a displacement behind a condition; there is none for condition 0
+-- a displacement after a condition; there is none for condition 0
 abbrev pub near_row : (ℕ → ℤ → Ins) → ℕ → Option Form
 near_row f c = cond (c == 0) None (Some (Near (f c)))
 
--- an address of code behind a condition
+-- an address of code after a condition
 abbrev pub target_row : (ℕ → ℕ → Ins) → ℕ → Option Form
 target_row f c = Some (Target c (f c))
 
--- an address alone, with a byte, or with a word
+-- a row with an address alone
 abbrev pub address_row : (ℕ → ℤ → Ins) → ℕ → Option Form
 address_row f tag = Some (Offset tag (f tag))
 
@@ -107,7 +107,7 @@ byte_row f tag = Some (ByteOffset tag (f tag))
 abbrev pub word_row : (ℕ → ℤ → ℕ → Ins) → ℕ → Option Form
 word_row f tag = Some (WordOffset tag (f tag))
 
--- each op, by tag or condition
+-- the rows of each op, by tag or condition
 abbrev pub rows : List (ℕ × (ℕ → Option Form))
 rows =
     (0x00, λ tag. row_at tag register_rows)
@@ -143,7 +143,7 @@ rows =
     ∷ (0x1F, byte_row (λ tag off n. Xorn tag off n))
     ∷ []
 
--- the row of an op and a tag, and of an instruction byte: None where it begins no instruction
+-- the row of an op and a tag, None if they begin no instruction
 abbrev pub row_of : ℕ → ℕ → Option Form
 row_of op tag = option_and_then (λ by_tag. by_tag tag) (row_at op rows)
 
@@ -151,7 +151,7 @@ row_of op tag = option_and_then (λ by_tag. by_tag tag) (row_at op rows)
 abbrev pub form : ℕ → Option Form
 form b = row_of (b / 8) (b % 8)
 
--- the kinds behind a condition or a tag: condition 0 takes its address from the stack, and tag 0 has no offset
+-- the kinds after a condition or a tag: condition 0 takes its address from the stack, and tag 0 has no offset
 abbrev pub behind : ℕ → Kind → List Kind
 behind n k = cond (n == 0) [] (k ∷ [])
 
@@ -169,7 +169,7 @@ operands (Offset tag f) = behind tag I16
 operands (ByteOffset tag f) = U8 ∷ behind tag I16
 operands (WordOffset tag f) = U16 ∷ behind tag I16
 
--- the operands behind an instruction byte, None where it begins no instruction
+-- the operands after an instruction byte, None if it begins no instruction
 abbrev pub kinds : ℕ → Option (List Kind)
 kinds b = option_map operands (form b)
 
@@ -235,7 +235,7 @@ spell (Xorn tag off n) = (0x1F * 8 + tag) ∷ n ∷ offset tag off
 
 -- ---- ranges
 
--- one byte, and two
+-- a number of one byte
 abbrev pub IsByte : ℕ → Type 0
 IsByte n = n < 256
 
@@ -313,9 +313,9 @@ Shaped (Andn tag off n) = IsAddress tag off × IsByte n
 Shaped (Orn tag off n) = IsAddress tag off × IsByte n
 Shaped (Xorn tag off n) = IsAddress tag off × IsByte n
 
--- ---- what stands at a place
+-- ---- the instruction at a place
 
--- the instruction stands at the place, whole in the code, and `next` is the place behind it
+-- the instruction is at the place, whole in the code, and `next` is the place after it
 pub record Decodes (code : List ℕ) (at : ℕ) (ins : Ins) (next : ℕ) : Type 0 where
   pub shaped : Shaped ins
   pub place : next ≡ at + length (spell ins)
@@ -327,27 +327,27 @@ pub record IsUndefined (code : List ℕ) (at : ℕ) : Type 0 where
   pub inside : at < length code
   pub byte : kinds (slice_index code at) ≡ None
 
--- the place is not in the code, or the instruction that begins there ends behind the code's end
+-- the place is not in the code, or the instruction that begins there ends past the code's end
 abbrev pub IsPast : List ℕ → ℕ → Type 0
 IsPast code at =
     (length code ≤ at)
     ⊎ ((ks : List Kind) × (kinds (slice_index code at) ≡ Some ks) × (length code < at + 1 + total ks))
 
--- what an answer says of a place: the instruction and the place behind it, or why none stands there
+-- a result is right for a place: the instruction there and the place after it, or why there is none
 abbrev pub DecodesTo : List ℕ → ℕ → Result (Ins × ℕ) DecodeFault → Type 0
 DecodesTo code at (Ok p) = Decodes code at p.0 p.1
 DecodesTo code at (Err Undefined) = IsUndefined code at
 DecodesTo code at (Err Past) = IsPast code at
 
--- the address or the offset in the bytes from i on, 0 where there is none
+-- the address at the front of some bytes: 0 with condition 0, which has none
 abbrev pub target_in : ℕ → List ℕ → ℕ
 target_in c bs = cond (c == 0) 0 (be2 bs 0)
 
--- the offset in some bytes: none with tag 0
+-- the offset in some bytes from i on: 0 with tag 0, which has none
 abbrev pub offset_in : ℕ → List ℕ → ℕ → ℤ
 offset_in tag bs i = cond (tag == 0) (pos 0) (cast_signed w16 (be2 bs i))
 
--- the instruction that the bytes behind its own make
+-- the instruction of a row with the operand bytes that follow
 abbrev pub made : Form → List ℕ → Ins
 made (Plain i) bs = i
 made (OneByte f) bs = f (slice_index bs 0)
@@ -361,7 +361,7 @@ made (Offset tag f) bs = f (offset_in tag bs 0)
 made (ByteOffset tag f) bs = f (offset_in tag bs 1) (slice_index bs 0)
 made (WordOffset tag f) bs = f (offset_in tag bs 2) (be2 bs 0)
 
--- a row's instruction and its length, where there are bytes enough behind its own
+-- a row's instruction and its length, if there are bytes enough after its first
 abbrev pub made_of : Option Form → List ℕ → Result (Ins × ℕ) DecodeFault
 made_of None bs = Err Undefined
 made_of (Some f) bs =
@@ -373,11 +373,11 @@ abbrev pub front : List ℕ → Result (Ins × ℕ) DecodeFault
 front [] = Err Past
 front (b ∷ bs) = made_of (form b) bs
 
--- the place behind in place of the length
+-- an instruction with the place after it instead of its length
 abbrev pub from_place : ℕ → Result (Ins × ℕ) DecodeFault → Result (Ins × ℕ) DecodeFault
 from_place at (Ok p) = Ok (p.0, at + p.1)
 from_place at (Err e) = Err e
 
--- the instruction at a place, and the place behind it
+-- the instruction at a place, and the place after it
 abbrev pub decoded : List ℕ → ℕ → Result (Ins × ℕ) DecodeFault
 decoded code at = from_place at (front (drop at code))

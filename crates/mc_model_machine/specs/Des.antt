@@ -1,5 +1,5 @@
 -- DES, two-key triple DES and their signatures, over lists of bits that are numbered from 1 at the left.
--- FIPS 46-3 (Data Encryption Standard), and FIPS 81 for the chain of blocks.
+-- FIPS 46-3 (Data Encryption Standard), and FIPS 81 for cipher block chaining.
 use Rattle.std.specs.Prelude.{ℕ, zero, suc, ◌+◌, ◌-◌, ◌*◌, ◌/◌, ◌%◌, ◌^◌, List, [], ◌∷◌, ◌++◌, length, take, drop, reverse, slice_index, slice_index_or}
 use Rattle.mc_model_machine.specs.Modes.{added, cbc_last}
 
@@ -10,7 +10,7 @@ unfoldable pub bits : ℕ → ℕ → List ℕ
 bits zero v = []
 bits (suc n) v = (v / 2 ^ n % 2) ∷ bits n v
 
--- the number that a list of bits writes
+-- the number that a list of bits is in binary
 unfoldable pub number : List ℕ → ℕ
 number [] = 0
 number (b ∷ bs) = b * 2 ^ length bs + number bs
@@ -84,7 +84,7 @@ choice2 =
     41 ∷ 52 ∷ 31 ∷ 37 ∷ 47 ∷ 55 ∷ 30 ∷ 40 ∷ 51 ∷ 45 ∷ 33 ∷ 48 ∷
     44 ∷ 49 ∷ 39 ∷ 56 ∷ 34 ∷ 53 ∷ 46 ∷ 42 ∷ 50 ∷ 36 ∷ 29 ∷ 32 ∷ []
 
--- how far the halves of the key are turned before each round (FIPS 46-3, Appendix 1)
+-- the left shifts of the halves of the key before each round (FIPS 46-3, Appendix 1)
 unfoldable pub shifts : List ℕ
 shifts =
     1 ∷ 1 ∷ 2 ∷ 2 ∷ 2 ∷ 2 ∷ 2 ∷ 2 ∷ 1 ∷ 2 ∷ 2 ∷ 2 ∷ 2 ∷ 2 ∷ 2 ∷ 1 ∷ []
@@ -103,7 +103,7 @@ boxes =
 
 -- ---- the rounds
 
--- what a box gives for six bits: bits 1 and 6 name the row, bits 2 to 5 the column
+-- the output of a box for six bits: bits 1 and 6 name the row, bits 2 to 5 the column
 unfoldable pub box_at : List (List ℕ) → List ℕ → List ℕ
 unfolding bits
 box_at box g =
@@ -111,7 +111,7 @@ box_at box g =
     let column = 8 * slice_index g 1 + 4 * slice_index g 2 + 2 * slice_index g 3 + slice_index g 4 in
     bits 4 (slice_index (slice_index_or box row []) column)
 
--- the groups of six bits through the boxes, one after the other
+-- the outputs of the boxes for the groups of six bits, one after the other
 unfoldable pub through : List (List (List ℕ)) → List ℕ → List ℕ
 unfolding box_at
 through [] l = []
@@ -128,7 +128,7 @@ unfolding f
 rounds [] l r = (l, r)
 rounds (k ∷ ks) l r = rounds ks r (added l (f r k))
 
--- the round keys, from two halves and the shifts that are left
+-- the round keys, from two halves and the shifts that remain
 unfoldable pub schedule : List ℕ → List ℕ → List ℕ → List (List ℕ)
 unfolding pick turn choice2
 schedule [] c d = []
@@ -141,7 +141,7 @@ round_keys key =
     let halves = pick choice1 (bits_of key) in
     schedule shifts (take 28 halves) (drop 28 halves)
 
--- a block of 64 bits with the round keys in this order
+-- a block of 64 bits through IP, the rounds with the round keys in this order, and the inverse of IP
 unfoldable pub with_keys : List (List ℕ) → List ℕ → List ℕ
 unfolding pick rounds initial final
 with_keys ks block =
@@ -151,7 +151,7 @@ with_keys ks block =
 
 -- ---- the ciphers
 
--- a block of 8 bytes with the round keys in this order
+-- a block of 8 bytes through the rounds with the round keys in this order
 unfoldable pub ciphered : List (List ℕ) → List ℕ → List ℕ
 unfolding bits_of bytes_of with_keys
 ciphered ks block = bytes_of 8 (with_keys ks (bits_of block))
@@ -161,7 +161,7 @@ unfoldable pub des_encipher : List ℕ → List ℕ → List ℕ
 unfolding round_keys ciphered
 des_encipher key block = ciphered (round_keys key) block
 
--- the same round keys in reverse (FIPS 46-3, Deciphering)
+-- DES deciphering: the round keys in reverse order (FIPS 46-3, Deciphering)
 unfoldable pub des_decipher : List ℕ → List ℕ → List ℕ
 unfolding round_keys ciphered
 des_decipher key block = ciphered (reverse (round_keys key)) block
@@ -171,17 +171,17 @@ unfoldable pub tdes_encipher : List ℕ → List ℕ → List ℕ
 unfolding des_encipher des_decipher
 tdes_encipher key block = des_encipher (take 8 key) (des_decipher (drop 8 key) (des_encipher (take 8 key) block))
 
--- a block deciphered by triple DES
+-- two-key triple DES deciphering
 unfoldable pub tdes_decipher : List ℕ → List ℕ → List ℕ
 unfolding des_encipher des_decipher
 tdes_decipher key block = des_decipher (take 8 key) (des_encipher (drop 8 key) (des_decipher (take 8 key) block))
 
--- the last block of the chain over a message of whole blocks, from a start block
+-- the last block of CBC under DES over a message of whole blocks, from a start block (FIPS 81)
 unfoldable pub des_signature : List ℕ → List ℕ → List ℕ → List ℕ
 unfolding des_encipher
 des_signature key start message = cbc_last (des_encipher key) 8 start message
 
--- the last block of a chain under triple DES
+-- the last block of CBC under triple DES
 unfoldable pub tdes_signature : List ℕ → List ℕ → List ℕ → List ℕ
 unfolding tdes_encipher
 tdes_signature key start message = cbc_last (tdes_encipher key) 8 start message

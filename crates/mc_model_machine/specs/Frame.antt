@@ -4,7 +4,8 @@ use Rattle.mc_model_device.specs.Bytes.{be2, bytes2, num, zeros, splice}
 use Rattle.mc_model_device.specs.Pieces.{laid_pieces, touched}
 use Rattle.mc_model_machine.specs.Apdu.{ApduParts}
 
--- `fixed` is the static segment without the pending pieces, `dyn` the 512 dynamic bytes, `at` the code address
+-- the frame of a running application: `fixed` is the static segment without the pending pieces, `dyn` the 512 dynamic bytes, `at` the
+-- code address
 pub record Frame : Type 0 where
   pub name : List ℕ
   pub code_len : ℕ
@@ -26,7 +27,7 @@ pub record Frame : Type 0 where
 abbrev pub dynamic_base : ℕ
 dynamic_base = 0x8000
 
--- where the dynamic segment ends at the most
+-- the greatest address at which the dynamic segment ends
 abbrev pub dynamic_end : ℕ
 dynamic_end = 0x8200
 
@@ -38,7 +39,7 @@ public_base = 0xC000
 abbrev pub public_end : ℕ
 public_end = 0xC411
 
--- the lowest address of the stack, behind the session bytes
+-- the lowest address of the stack, after the session bytes
 abbrev pub floor : Frame → ℕ
 floor f = dynamic_base + f.session
 
@@ -48,7 +49,7 @@ pub data Place : Type 0 where
   Dynamic : (at : ℕ) → Place
   Public : (at : ℕ) → Place
 
--- where n bytes at an address lie whole, if they do (n is at least 1)
+-- the place of n bytes at an address, if they lie whole in a segment (n is at least 1)
 abbrev pub where_is : Frame → ℕ → ℕ → Option Place
 where_is f a n =
     cond (nat_le (a + n) (length f.fixed)) (Some (Static a)) (
@@ -64,11 +65,11 @@ register f tag =
     cond (tag == 4) f.lb (cond (tag == 5) f.dt (cond (tag == 6) public_base public_end))
     )))
 
--- an address has two bytes
+-- a number, if it is an address: below 65,536
 abbrev pub in_two_bytes : ℕ → Option ℕ
 in_two_bytes a = cond (nat_lt a 65536) (Some a) None
 
--- a number moved by a signed one, if that is an address
+-- a number plus a signed one, if that is an address
 abbrev pub moved : ℕ → ℤ → Option ℕ
 moved r (pos n) = in_two_bytes (r + n)
 moved r (negsuc n) = cond (nat_lt n r) (in_two_bytes (r - suc n)) None
@@ -98,40 +99,40 @@ bytes_at f public a n = cond (n == 0) [] (bytes_in f public n (where_is f a n))
 abbrev pub address_at : Frame → List ℕ → ℕ → ℕ
 address_at f public a = num (bytes_at f public a 2)
 
--- abend 03: n bytes at an address are not whole in a segment. No bytes always are
+-- whether n bytes at an address are not whole in a segment, abend 03. No bytes always are
 abbrev pub is_outside : Frame → ℕ → ℕ → Bool
 is_outside f a n = not (n == 0) && is_none (where_is f a n)
 
--- the same where the address itself may be none
+-- whether n bytes at an address, which may be none, are not whole in a segment, abend 03
 abbrev pub no_access : Frame → Option ℕ → ℕ → Bool
 no_access f None n = true
 no_access f (Some a) n = is_outside f a n
 
--- what a change of a frame gives: the frame, the public segment, and the list of static changes, if it makes one
+-- the result of a change of a frame: the frame, the public segment, and the list of static changes, if it makes one
 pub record Effect : Type 0 where
   pub frame : Frame
   pub public : List ℕ
   pub changes : Option (List (ℕ × List ℕ))
 
--- static bytes change at once, or are pending while protection is on
+-- the effect of writing static bytes: at once, or as pending pieces while protection is on
 abbrev pub static_written : Bool → Frame → List ℕ → ℕ → List ℕ → Effect
 static_written false f public i b =
     record { frame = record f { fixed = splice f.fixed i b }; public = public; changes = Some ((i, b) ∷ []) }
 static_written true f public i b =
     record { frame = record f { pieces = f.pieces ++ (i, b) ∷ [] }; public = public; changes = None }
 
--- some bytes are written at a place of a segment
+-- the effect of writing bytes at a place of a segment
 abbrev pub written_in : Frame → List ℕ → List ℕ → Option Place → Effect
 written_in f public b None = record { frame = f; public = public; changes = None }
 written_in f public b (Some (Static i)) = static_written f.protected f public i b
 written_in f public b (Some (Dynamic i)) = record { frame = record f { dyn = splice f.dyn i b }; public = public; changes = None }
 written_in f public b (Some (Public i)) = record { frame = f; public = splice public i b; changes = None }
 
--- some bytes are written at an address
+-- the effect of writing bytes at an address
 unfoldable pub written : Frame → List ℕ → ℕ → List ℕ → Effect
 written f public a b = written_in f public b (where_is f a (length b))
 
--- abend 08: with n bytes more at a place of the static segment, more than 64 distinct words would be pending
+-- whether with n bytes more at a place of the static segment more than 64 distinct words would be pending, abend 08
 abbrev pub passes_limit : Bool → Frame → Option Place → ℕ → Bool
 passes_limit true f (Some (Static i)) n = nat_lt 64 (length (touched (f.pieces ++ (i, zeros n) ∷ [])))
 passes_limit true f (Some (Dynamic i)) n = false
@@ -139,21 +140,21 @@ passes_limit true f (Some (Public i)) n = false
 passes_limit true f None n = false
 passes_limit false f place n = false
 
--- abend 08 at an address
+-- whether a write of n bytes at an address would pass that limit, abend 08
 unfoldable pub too_many : Frame → ℕ → ℕ → Bool
 too_many f a n = passes_limit f.protected f (where_is f a n) n
 
 -- ---- the stack
 
--- abend 04: fewer than n bytes are above the floor
+-- whether fewer than n bytes are above the floor, abend 04
 abbrev pub is_under : Frame → ℕ → Bool
 is_under f n = nat_lt f.dt (floor f + n)
 
--- abend 05: n bytes more would pass the end
+-- whether n bytes more would pass the end of the stack, abend 05
 abbrev pub is_over : Frame → ℕ → Bool
 is_over f n = nat_lt dynamic_end (f.dt + n)
 
--- bytes on top of the stack
+-- the frame with bytes pushed on its stack
 abbrev pub pushed : Frame → List ℕ → Frame
 pushed f b = record f { dyn = splice f.dyn (f.dt - dynamic_base) b; dt = f.dt + length b }
 
@@ -169,21 +170,21 @@ stacked f k n = take n (drop (f.dt - k - dynamic_base) f.dyn)
 abbrev pub top : Frame → ℕ → List ℕ
 top f n = stacked f n n
 
--- the top bytes are replaced
+-- the frame with the top bytes of its stack replaced
 abbrev pub topped : Frame → List ℕ → Frame
 topped f b = record f { dyn = splice f.dyn (f.dt - length b - dynamic_base) b }
 
--- the flags C and Z are set
+-- the frame with these flags C and Z
 abbrev pub flagged : Frame → Bool → Bool → Frame
 flagged f c z = record f { c = c; z = z }
 
 -- ---- calls
 
--- LB and the code address are pushed, LB is the new top, and the code goes on at the target
+-- the frame after a call: LB and the code address are pushed, LB is the new top, and the code goes on at the target
 abbrev pub entered : Frame → ℕ → Frame
 entered f to = let g = pushed f (bytes2 f.lb ++ bytes2 f.at) in record g { lb = g.dt; at = to }
 
--- abend 04: no frame of a call lies below with i bytes under it, or fewer than o bytes lie above it
+-- whether no frame of a call lies below with i bytes under it, or fewer than o bytes lie above it, abend 04
 abbrev pub no_return : Frame → ℕ → ℕ → Bool
 no_return f i o = not (nat_le (floor f + 4 + i) f.lb && nat_le (f.lb + o) f.dt)
 
@@ -191,7 +192,7 @@ no_return f i o = not (nat_le (floor f + 4 + i) f.lb && nat_le (f.lb + o) f.dt)
 abbrev pub saved : Frame → ℕ → ℕ
 saved f k = num (take 2 (drop (f.lb - k - dynamic_base) f.dyn))
 
--- the top o bytes move over the frame of the call and the i bytes below it
+-- the frame after a return: the top o bytes move over the frame of the call and the i bytes below it
 abbrev pub come_back : Frame → ℕ → ℕ → Frame
 come_back f i o =
     record f {
@@ -203,12 +204,12 @@ come_back f i o =
 
 -- ---- protection
 
--- all pending pieces at once; with none no change
+-- the static changes of a commit: all pending pieces at once; with none no change
 abbrev pub committed : Frame → List (ℕ × List ℕ) → Option (List (ℕ × List ℕ))
 committed f [] = None
 committed f (p ∷ ps) = Some (p ∷ ps)
 
--- mode 0: drop, off; 1: commit, off; 2: drop, on; 3: commit, on
+-- the effect of a change of protection: mode 0 drops the pending pieces and turns it off; 1 commits, off; 2 drops, on; 3 commits, on
 abbrev pub protect : Frame → List ℕ → ℕ → Effect
 protect f public mode =
     let on = nat_le 2 mode in

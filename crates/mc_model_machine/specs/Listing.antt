@@ -22,7 +22,7 @@ hex_text (b ∷ bs) = hex_digit (b / 16 % 16) ∷ hex_digit (b % 16) ∷ hex_tex
 abbrev pub hex_word : ℕ → List ℕ
 hex_word w = codes "0x" ++ (hex_digit (w / 4096 % 16) ∷ hex_digit (w / 256 % 16) ∷ hex_digit (w / 16 % 16) ∷ hex_digit (w % 16) ∷ [])
 
--- the name of a condition, from 1 on
+-- the names of the conditions, from 1 on
 abbrev pub condition_names : List (List ℕ)
 condition_names = codes "EQ" ∷ codes "LT" ∷ codes "LE" ∷ codes "GT" ∷ codes "GE" ∷ codes "NE" ∷ codes "ALL" ∷ []
 
@@ -30,7 +30,7 @@ condition_names = codes "EQ" ∷ codes "LT" ∷ codes "LE" ∷ codes "GT" ∷ co
 abbrev pub condition_name : ℕ → List ℕ
 condition_name c = slice_index_or condition_names (c - 1) []
 
--- the name of the register that a tag names, from 1 on
+-- the names of the registers, by tag from 1 on
 abbrev pub register_names : List (List ℕ)
 register_names = codes "SB" ∷ codes "ST" ∷ codes "DB" ∷ codes "LB" ∷ codes "DT" ∷ codes "PB" ∷ codes "PT" ∷ []
 
@@ -42,22 +42,22 @@ register_name tag = slice_index_or register_names (tag - 1) []
 abbrev pub address_text : ℕ → ℤ → List ℕ
 address_text tag off = register_name tag ++ codes "[" ++ signed_decimal off ++ codes "]"
 
--- arguments of a primitive, each behind a comma
+-- the arguments of a primitive, each after a comma
 abbrev pub arguments_text : List ℕ → List ℕ
 arguments_text [] = []
 arguments_text (b ∷ bs) = codes "," ++ decimal b ++ arguments_text bs
 
 -- ---- lines by the shape of their operands
 
--- a word with a byte behind it
+-- a line of a word and a byte
 abbrev pub byte_line : List ℕ → ℕ → List ℕ
 byte_line name n = name ++ codes " " ++ decimal n
 
--- a word with a two-byte number behind it
+-- a line of a word and a two-byte number
 abbrev pub word_line : List ℕ → ℕ → List ℕ
 word_line name w = name ++ codes " " ++ hex_word w
 
--- a word with two two-byte numbers behind it
+-- a line of a word and two two-byte numbers
 abbrev pub words_line : List ℕ → ℕ → ℕ → List ℕ
 words_line name v w = name ++ codes " " ++ hex_word v ++ codes "," ++ hex_word w
 
@@ -127,22 +127,22 @@ text_of (Xorn tag off n) = operand_line (codes "XORN") tag off (decimal n)
 
 -- ---- the listing of code
 
--- the line of what stands at a place, before the lines behind it
+-- a line before the lines after it
 abbrev pub line_before : List ℕ → Result (List ℕ) (ℕ × DecodeFault) → Result (List ℕ) (ℕ × DecodeFault)
 line_before line (Ok rest) = Ok (line ++ codes "\n" ++ rest)
 line_before line (Err e) = Err e
 
--- the line of what stands at a place, and those behind it
+-- the line of the instruction at a place, and those after it
 abbrev pub listed_one : ℕ → Result (Ins × ℕ) DecodeFault → Result (List ℕ) (ℕ × DecodeFault) → Result (List ℕ) (ℕ × DecodeFault)
 listed_one at (Ok p) rest = line_before (text_of p.0) rest
 listed_one at (Err e) rest = Err (at, e)
 
--- how many bytes an instruction takes
+-- the number of bytes of an instruction, 0 if there is none
 abbrev pub length_of : Result (Ins × ℕ) DecodeFault → ℕ
 length_of (Ok p) = p.1
 length_of (Err e) = 0
 
--- the lines of the bytes that are left from a place on; the fuel is at least their number
+-- the lines of the remaining bytes from a place on; the fuel is at least their number
 unfoldable pub listed_from : ℕ → List ℕ → ℕ → Result (List ℕ) (ℕ × DecodeFault)
 listed_from zero left at = Ok []
 listed_from (suc fuel) [] at = Ok []
@@ -151,7 +151,7 @@ listed_from (suc fuel) (b ∷ bs) at =
     let rest = listed_from fuel (drop (length_of ins) (b ∷ bs)) (at + length_of ins) in
     listed_one at ins rest
 
--- the listing of code, or the first place from 0 on where no instruction stands
+-- the listing of code, or the first place from 0 on that has no instruction
 unfoldable pub listed : List ℕ → Result (List ℕ) (ℕ × DecodeFault)
 unfolding listed_from
 listed code = listed_from (length code) code 0

@@ -2,7 +2,7 @@
 -- FIPS 81 (DES modes of operation), and NIST SP 800-38A.
 use Rattle.std.specs.Prelude.{◌≡◌, ℕ, zero, suc, ◌/◌, ◌<◌, List, [], ◌∷◌, ◌++◌, length, take, drop, bit_xor}
 
--- two lists added place by place, bit by bit
+-- two lists added place by place, bit by bit (exclusive or)
 abbrev pub added : List ℕ → List ℕ → List ℕ
 added [] ys = []
 added (x ∷ xs) [] = x ∷ xs
@@ -13,12 +13,12 @@ abbrev pub blocks_of : ℕ → ℕ → List ℕ → List (List ℕ)
 blocks_of zero size message = []
 blocks_of (suc n) size message = take size message ∷ blocks_of n size (drop size message)
 
--- each block by itself
+-- a cipher applied to each block, joined
 abbrev pub each : (List ℕ → List ℕ) → List (List ℕ) → List ℕ
 each cipher [] = []
 each cipher (b ∷ bs) = cipher b ++ each cipher bs
 
--- the last of a chain: every block is added to the one before it, and enciphered
+-- the last block of CBC: every block is added to the one before it, and enciphered
 abbrev pub chained : (List ℕ → List ℕ) → List ℕ → List (List ℕ) → List ℕ
 chained cipher last [] = last
 chained cipher last (b ∷ bs) = chained cipher (cipher (added b last)) bs
@@ -31,7 +31,7 @@ ecb cipher size message = each cipher (blocks_of (length message / size) size me
 abbrev pub cbc_last : (List ℕ → List ℕ) → ℕ → List ℕ → List ℕ → List ℕ
 cbc_last cipher size start message = chained cipher start (blocks_of (length message / size) size message)
 
--- whether each number of a list is below m
+-- each number of a list is below m
 abbrev pub AllBelow : ℕ → List ℕ → Type 0
 AllBelow m [] = Unit {0}
 AllBelow m (x ∷ xs) = (x < m) × AllBelow m xs

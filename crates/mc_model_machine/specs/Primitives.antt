@@ -67,7 +67,7 @@ pub data Primitive : Type 0 where
   ShiftRight : Primitive
   BitWord : Primitive
 
--- the place of a number in a list of numbered things
+-- the element with this number in a numbered list
 abbrev pub numbered : {A : Type 0} → ℕ → List (ℕ × A) → Option A
 numbered n [] = None
 numbered n (e ∷ es) = cond (e.0 == n) (Some e.1) (numbered n es)
@@ -100,7 +100,7 @@ key_len Des = 8
 key_len TripleDes = 16
 key_len Aes = 16
 
--- a message of whole blocks: 8 to 248 bytes by 8, or 16 to 240 by 16
+-- whether a number of bytes is a message of whole blocks: 8 to 248 bytes by 8, or 16 to 240 by 16
 abbrev pub is_message : Cipher → ℕ → Bool
 is_message c n = nat_le (block_len c) n && n % block_len c == 0
 
@@ -116,7 +116,7 @@ deciphered Des key = des_decipher key
 deciphered TripleDes key = tdes_decipher key
 deciphered Aes key = aes_decipher key
 
--- the last block of a chain from a start block
+-- the last block of CBC from a start block
 abbrev pub signature : Cipher → List ℕ → List ℕ → List ℕ → List ℕ
 signature Des = des_signature
 signature TripleDes = tdes_signature
@@ -124,11 +124,11 @@ signature Aes = aes_signature
 
 -- ---- access list
 
--- a bit of a number, given by its worth
+-- whether a number has a bit set, given by its value
 abbrev pub has_bit : ℕ → ℕ → Bool
 has_bit n bit = n / bit % 2 == 1
 
--- abend 0A: the access list denies the primitive
+-- whether the access list denies the primitive, abend 0A
 abbrev pub is_denied : ℕ → Primitive → Bool
 is_denied deny (Encipher c) = has_bit deny 1
 is_denied deny (Decipher c) = has_bit deny 1
@@ -140,7 +140,7 @@ is_denied deny _ = false
 
 -- ---- causes
 
--- a number from low to high
+-- whether a number is from low to high
 abbrev pub in_range : ℕ → ℕ → ℕ → Bool
 in_range low high n = nat_le low n && nat_le n high
 
@@ -152,7 +152,7 @@ named f k = num (stacked f k 2)
 abbrev pub count_at : Frame → List ℕ → ℕ → ℕ
 count_at f public a = num (bytes_at f public a 1)
 
--- abend 06 by the instruction's own bytes
+-- whether the instruction's own bytes are out of their range, abend 06
 abbrev pub has_bad_argument : Primitive → List ℕ → Bool
 has_bad_argument CompareFixed args = slice_index args 0 == 0
 has_bad_argument CopyFixed args = slice_index args 0 == 0
@@ -166,18 +166,18 @@ has_bad_argument ShiftRight args = not (in_range 1 16 (slice_index args 0) && in
 has_bad_argument BitWord args = nat_lt 3 (slice_index args 0)
 has_bad_argument _ args = false
 
--- only where there is a delegator its name is written
+-- the causes of writing the delegator's name, none if there is no delegator
 abbrev pub told_causes : Frame → ℕ → Option (List ℕ) → List (Abend × Bool)
 told_causes g a None = []
 told_causes g a (Some name) = (A03, is_outside g a (1 + length name)) ∷ (A08, too_many g a (1 + length name)) ∷ []
 
--- a message of n bytes, the place that it goes to, and a key
+-- the causes of a cipher: a message of n bytes, the place that it goes to, and a key
 abbrev pub cipher_causes : Cipher → ℕ → Frame → List (Abend × Bool)
 cipher_causes c n f =
     let g = popped f 6 in
     (A04, is_under f 6) ∷ (A03, is_outside g (named f 6) n || is_outside g (named f 4) n || is_outside g (named f 2) (key_len c)) ∷ (A08, too_many g (named f 4) n) ∷ []
 
--- the other causes, in their order. Where a length that was read is out of its range, no access of that length is tested
+-- the other causes, in their order. If a length that was read is out of its range, no access of that length is tested
 unfoldable pub later_causes : Primitive → List ℕ → Frame → List ℕ → Around → List (Abend × Bool)
 later_causes CheckCase args f public x = (A04, is_under f 1) ∷ (A06, not (in_range 1 4 (num (top f 1)))) ∷ []
 later_causes LoadCcr args f public x = (A05, is_over f 1) ∷ []
@@ -232,7 +232,7 @@ prim_causes (Some p) args f public x = (A06, has_bad_argument p args) ∷ (A0A, 
 
 -- ---- effects
 
--- the first place of a byte, pushed, with Z; or 00 without
+-- the effect of a search for a byte: its first place is pushed, with Z set; or 00, with Z clear
 abbrev pub looked_up : Frame → List ℕ → Option ℕ → Effect
 looked_up f public (Some i) = framed (flagged (pushed f (i ∷ [])) f.c true) public
 looked_up f public None = framed (flagged (pushed f (0 ∷ [])) f.c false) public
@@ -241,34 +241,34 @@ looked_up f public None = framed (flagged (pushed f (0 ∷ [])) f.c false) publi
 abbrev pub compared : Frame → List ℕ → Worked → Effect
 compared f public w = framed (flagged f w.c w.z) public
 
--- the delegator's name behind its length, with Z clear; nothing where there is none, with Z set
+-- the effect of writing the delegator's name after its length, with Z clear; if there is none, nothing is written and Z is set
 abbrev pub delegator_told : Frame → List ℕ → ℕ → Option (List ℕ) → Effect
 delegator_told f public a None = framed (flagged f f.c true) public
 delegator_told f public a (Some name) = effect_flagged (written f public a (length name ∷ name)) f.c false
 
--- op 0 clears the bits of the mask, 1 sets them, 2 inverts them, 3 leaves the value
+-- a value manipulated under a mask: op 0 clears the bits of the mask, 1 sets them, 2 inverts them, 3 leaves the value
 abbrev pub manipulated : ℕ → List ℕ → List ℕ → List ℕ
 manipulated op v mask =
     cond (op == 0) (and_blocks v (not_block mask)) (cond (op == 1) (or_blocks v mask) (cond (op == 2) (xor_blocks v mask) v))
 
--- Z says whether the result is zero; op 3 tests the value under the mask
+-- the effect of a bit manipulation: Z is set if the result is zero; with op 3 if the value under the mask is
 abbrev pub bits_done : Frame → List ℕ → ℕ → List ℕ → List ℕ → Effect
 bits_done f public op v mask =
     let r = manipulated op v mask in
     framed (flagged (topped f r) f.c (is_zero (cond (op == 3) (and_blocks v mask) r))) public
 
--- the top of the stack is shifted, which sets both flags
+-- the effect of a shift of the top of the stack, which sets both flags
 abbrev pub shifted : Frame → List ℕ → Worked → Effect
 shifted f public w = framed (flagged (topped f w.value) w.c w.z) public
 
--- a message is read, and its cipher text written
+-- the effect of a cipher: a message is read, and its cipher text written
 abbrev pub cipher_done : (List ℕ → List ℕ → List ℕ) → Cipher → ℕ → Frame → List ℕ → Effect
 cipher_done cipher c n f public =
     let g = popped f 6 in
     let key = bytes_at g public (named f 2) (key_len c) in
     written g public (named f 4) (ecb (cipher key) (block_len c) (bytes_at g public (named f 6) n))
 
--- the effect of each primitive where no cause holds
+-- the effect of each primitive if no cause holds
 unfoldable pub prim_effect : Primitive → List ℕ → Frame → List ℕ → Around → Done
 prim_effect CheckCase args f public x =
     let g = popped f 1 in
@@ -314,7 +314,7 @@ prim_effect ShiftLeft args f public x = going (shifted f public (shift_left_bloc
 prim_effect ShiftRight args f public x = going (shifted f public (shift_right_block (top f (slice_index args 0)) (slice_index args 1)))
 prim_effect BitWord args f public x = going (bits_done f public (slice_index args 0) (top f 2) (take 2 (drop 1 args)))
 
--- what a pair does
+-- the effect of a pair of set and number
 abbrev pub prim_done : Option Primitive → List ℕ → Frame → List ℕ → Around → Done
 prim_done None args f public x = going (framed f public)
 prim_done (Some p) args f public x = prim_effect p args f public x

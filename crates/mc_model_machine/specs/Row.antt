@@ -19,12 +19,12 @@ holds k f =
     cond (k == 5) (not f.c) (cond (k == 6) (not f.z) true)
     ))))
 
--- abend 02: a place to go to is not in the code
+-- whether the place to go to is not in the code, abend 02
 abbrev pub no_place : Frame → Option ℕ → Bool
 no_place f None = true
 no_place f (Some at) = not (nat_lt at f.code_len)
 
--- where the operand lies: with tag 0 it begins k bytes below the top of the stack
+-- the place of the operand: with tag 0 it begins k bytes below the top of the stack
 abbrev pub operand : Frame → ℕ → ℤ → ℕ → Option ℕ
 operand f tag off k = cond (tag == 0) (Some (f.dt - k)) (resolve f tag off)
 
@@ -32,15 +32,15 @@ operand f tag off k = cond (tag == 0) (Some (f.dt - k)) (resolve f tag off)
 abbrev pub known : Option ℕ → ℕ
 known a = unwrap_or a 0
 
--- with tag 0 an operand takes this many bytes of the stack, else those
+-- n with tag 0, when the operand is on the stack, else m
 abbrev pub on_stack : ℕ → ℕ → ℕ → ℕ
 on_stack tag n m = cond (tag == 0) n m
 
--- a place that is only read, and one that is written
+-- the causes of a place that is only read: abend 03
 abbrev pub reads : Frame → Option ℕ → ℕ → List (Abend × Bool)
 reads f a n = (A03, no_access f a n) ∷ []
 
--- a place that is written: abend 03, and 08
+-- the causes of a place that is written: abends 03 and 08
 abbrev pub writes : Frame → Option ℕ → ℕ → List (Abend × Bool)
 writes f a n = (A03, no_access f a n) ∷ (A08, too_many f (known a) n) ∷ []
 
@@ -48,7 +48,7 @@ writes f a n = (A03, no_access f a n) ∷ (A08, too_many f (known a) n) ∷ []
 abbrev pub becomes : Frame → List ℕ → ℕ → Worked → Done
 becomes f public a w = going (effect_flagged (written f public a w.value) w.c w.z)
 
--- the same for a result that says Z alone
+-- the value at a place becomes the result, which sets Z alone
 abbrev pub becomes_bits : Frame → List ℕ → ℕ → List ℕ → Done
 becomes_bits f public a b = going (effect_flagged (written f public a b) f.c (is_zero b))
 
@@ -60,7 +60,7 @@ flags_of f public w = going (framed (flagged f w.c w.z) public)
 abbrev pub exiting : Frame → List ℕ → Done
 exiting f public = record { effect = framed f public; next = Exits }
 
--- the code goes on at a place where the condition holds
+-- the frame, its code going on at a place if the condition holds
 abbrev pub gone : Bool → Frame → ℕ → Frame
 gone true f to = record f { at = to }
 gone false f to = f
@@ -73,12 +73,12 @@ target f k to = cond (k == 0) (num (top f 2)) to
 abbrev pub without_target : Frame → ℕ → Frame
 without_target f k = cond (k == 0) (popped f 2) f
 
--- the frame of a call where the condition holds
+-- the frame after a call if the condition holds, else the frame
 abbrev pub called : Bool → Frame → ℕ → Frame
 called true f to = entered f to
 called false f to = f
 
--- base plus index times size, the index on top of the stack; with tag 0 the base lies below it
+-- the base of an indexed address; the index is on top of the stack, and with tag 0 the base lies below it
 abbrev pub index_base : Frame → ℕ → ℤ → Option ℕ
 index_base f tag off = cond (tag == 0) (Some (num (stacked f 3 2))) (resolve f tag off)
 
@@ -168,9 +168,9 @@ causes (ins.Andn tag off n) f public x = (A06, n == 0) ∷ pair_writes f tag off
 causes (ins.Orn tag off n) f public x = (A06, n == 0) ∷ pair_writes f tag off n
 causes (ins.Xorn tag off n) f public x = (A06, n == 0) ∷ pair_writes f tag off n
 
--- ---- the effect of each row where no cause holds
+-- ---- the effect of each row if no cause holds
 
--- the operand's place, and its n bytes
+-- the operand's place
 abbrev pub place_of : Frame → ℕ → ℤ → ℕ → ℕ
 place_of f tag off k = known (operand f tag off k)
 
@@ -182,7 +182,7 @@ value_of f public tag off n = bytes_at f public (place_of f tag off n) n
 abbrev pub first_of : Frame → List ℕ → ℕ → ℤ → ℕ → List ℕ
 first_of f public tag off n = bytes_at f public (place_of f tag off (2 * n)) n
 
--- what each instruction does where no cause holds
+-- the effect of each instruction if no cause holds
 unfoldable pub effect : Ins → Frame → List ℕ → Around → Done
 effect ins.Nop f public x = going (framed f public)
 effect (ins.Setsw sw) f public x = going (framed f (with_sw public sw))

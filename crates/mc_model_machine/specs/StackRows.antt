@@ -8,12 +8,12 @@ use Rattle.mc_model_machine.specs.Row.{on_stack}
 
 -- ---- the table of instructions
 
--- an instruction that always abends with 06 by its own bytes
+-- whether a primitive always abends with 06 by its own bytes
 abbrev pub prim_abends : Option Primitive → List ℕ → Bool
 prim_abends None args = true
 prim_abends (Some p) args = has_bad_argument p args
 
--- an instruction that abends by its own bytes
+-- whether an instruction always abends by its own bytes
 abbrev pub always_abends : Ins → Bool
 always_abends (ins.Pushz n) = n == 0
 always_abends (ins.Popn n) = n == 0
@@ -67,12 +67,12 @@ prim_uses ShiftLeft args = uses (slice_index args 0) 0 0
 prim_uses ShiftRight args = uses (slice_index args 0) 0 0
 prim_uses BitWord args = uses 2 0 0
 
--- the same of a set and a number
+-- what the primitive of a set and a number needs, pops and pushes
 abbrev pub pair_uses : Option Primitive → List ℕ → Uses
 pair_uses None args = uses 0 0 0
 pair_uses (Some p) args = prim_uses p args
 
--- the same of an instruction
+-- what an instruction needs, pops and pushes
 abbrev pub row_uses : Ins → Uses
 row_uses ins.Nop = uses 0 0 0
 row_uses (ins.Setsw sw) = uses 0 0 0
@@ -122,7 +122,7 @@ row_uses (ins.Andn tag off n) = uses (on_stack tag (2 * n) n) 0 0
 row_uses (ins.Orn tag off n) = uses (on_stack tag (2 * n) n) 0 0
 row_uses (ins.Xorn tag off n) = uses (on_stack tag (2 * n) n) 0 0
 
--- the bytes that an instruction needs: none where it always abends
+-- the number of bytes that an instruction needs: 0 if it always abends
 abbrev pub need : Ins → ℕ
 need i = cond (always_abends i) 0 (row_uses i).needs
 
@@ -132,7 +132,8 @@ height_after i h = h - (row_uses i).pops + (row_uses i).pushes
 
 -- ---- where an instruction writes
 
--- no address, an address of n bytes by tag and offset, an address that comes from the stack or from memory
+-- where an instruction writes: nowhere, n bytes at an address by tag and offset, or at an address that comes from the stack or from
+-- memory
 pub data Writing : Type 0 where
   WritesNothing : Writing
   WritesAt : (tag : ℕ) (off : ℤ) (n : ℕ) → Writing
@@ -171,11 +172,12 @@ row_writing (ins.Orn tag off n) = WritesAt tag off n
 row_writing (ins.Xorn tag off n) = WritesAt tag off n
 row_writing _ = WritesNothing
 
--- where an instruction writes that may run
+-- where an instruction writes: nowhere if it always abends
 abbrev pub writing : Ins → Writing
 writing i = cond (always_abends i) WritesNothing (row_writing i)
 
--- a register plus k, for the tags 1 SB, 2 ST, 3 DB, 4 LB, 5 DT, 6 PB, 7 PT; tag 0 is the top of the stack
+-- whether n bytes written at a register plus k are plain, for the tags 1 SB, 2 ST, 3 DB, 4 LB, 5 DT, 6 PB, 7 PT; tag 0 is the top of the
+-- stack
 abbrev pub is_plain_above : ℕ → ℕ → ℕ → ℕ → ℕ → Bool
 is_plain_above session h tag k n =
     cond (tag == 2) false
@@ -183,19 +185,19 @@ is_plain_above session h tag k n =
     (cond (tag == 4) (nat_le (k + n) h)
     (cond (tag == 5) (k + n == 0) true)))
 
--- a register less k, which is not 0
+-- whether n bytes written at a register less k, which is not 0, are plain
 abbrev pub is_plain_below : ℕ → ℕ → ℕ → ℕ → Bool
 is_plain_below h tag k n =
     cond (tag == 0 || tag == 2) true
     (cond (tag == 5) (nat_le k h && nat_le n k)
     (cond (tag == 6 || tag == 7) (nat_le k 4096) false))
 
--- whether n written bytes at an address touch neither a saved word nor a byte of an open call
+-- whether n bytes written at an address are plain: they touch neither a saved word nor a byte of an open call
 abbrev pub is_plain_at : ℕ → ℕ → ℕ → ℤ → ℕ → Bool
 is_plain_at session h tag (pos k) n = is_plain_above session h tag k n
 is_plain_at session h tag (negsuc k) n = is_plain_below h tag (suc k) n
 
--- an address that touches no saved word
+-- whether a write is plain: it has no address, or a plain one
 abbrev pub is_plain : ℕ → ℕ → Writing → Bool
 is_plain session h WritesNothing = true
 is_plain session h (WritesAt tag off n) = is_plain_at session h tag off n
@@ -203,13 +205,13 @@ is_plain session h WritesAnywhere = false
 
 -- ---- where an instruction goes
 
--- a jump or call whose address is on the stack
+-- whether an instruction is a jump or call whose address is on the stack
 abbrev pub is_indirect : Ins → Bool
 is_indirect (ins.Jump k to) = k == 0
 is_indirect (ins.Call k to) = k == 0
 is_indirect _ = false
 
--- the counts of a return
+-- the counts of a return, None for any other instruction
 abbrev pub counts : Ins → Option (ℕ × ℕ)
 counts ins.Ret = Some (0, 0)
 counts (ins.Reti i) = Some (i, 0)
@@ -217,7 +219,7 @@ counts (ins.Reto o) = Some (0, o)
 counts (ins.Retio i o) = Some (i, o)
 counts _ = None
 
--- whether the next place comes after an instruction that is no CALL
+-- whether the code may go on at the next place after an instruction, for any but a CALL
 abbrev pub goes_on : Ins → Bool
 goes_on ins.Exit = false
 goes_on (ins.Exitsw sw) = false
@@ -227,7 +229,7 @@ goes_on (ins.Branch k d) = not (k == 7)
 goes_on (ins.Jump k to) = not (k == 7 || k == 0)
 goes_on i = not (always_abends i) && is_none (counts i)
 
--- the target of a BRANCH or JUMP that stands before `next`, which may be no place
+-- the target of a BRANCH or JUMP that ends right before `next`, which may be no place
 abbrev pub jump_target : Ins → ℕ → Option (Option ℕ)
 jump_target (ins.Branch k d) next = Some (moved next d)
 jump_target (ins.Jump k to) next = cond (k == 0) None (Some (Some to))
@@ -238,32 +240,32 @@ abbrev pub call_target : Ins → Option ℕ
 call_target (ins.Call k to) = cond (k == 0) None (Some to)
 call_target _ = None
 
--- a call
+-- whether an instruction is a CALL
 abbrev pub is_call : Ins → Bool
 is_call (ins.Call k to) = true
 is_call _ = false
 
--- a CALL that may go on without a call
+-- whether an instruction is a CALL that may go on without a call
 abbrev pub is_conditional : Ins → Bool
 is_conditional (ins.Call k to) = not (k == 7)
 is_conditional _ = false
 
--- whether each place that an instruction may go to is in the code; behind a CALL too, whether its routine returns or not
+-- whether a place is one in the code
 abbrev pub is_inside : ℕ → Option ℕ → Bool
 is_inside len None = false
 is_inside len (Some p) = nat_lt p len
 
--- a target in the code
+-- whether a target, if there is one, is in the code
 abbrev pub target_inside : ℕ → Option (Option ℕ) → Bool
 target_inside len None = true
 target_inside len (Some t) = is_inside len t
 
--- a call's target in the code
+-- whether a call's target, if there is one, is in the code
 abbrev pub call_inside : ℕ → Option ℕ → Bool
 call_inside len None = true
 call_inside len (Some t) = nat_lt t len
 
--- the next place and the target in the code
+-- whether each place that an instruction may go to is in the code; after a CALL too, whether its routine returns or not
 abbrev pub places_inside : ℕ → Ins → ℕ → Bool
 places_inside len i next =
     (not (goes_on i) || nat_lt next len) && target_inside len (jump_target i next) && call_inside len (call_target i)

@@ -15,7 +15,7 @@ pub data Routine : Type 0 where
   Main : Routine
   At : (place : ℕ) → Routine
 
--- in the routine the place is reached with DT that much above LB
+-- a fact: in the routine the place is reached with DT `height` above LB
 pub record Fact : Type 0 where
   pub routine : Routine
   pub place : ℕ
@@ -25,17 +25,17 @@ pub record Fact : Type 0 where
 abbrev pub fact : Routine → ℕ → ℕ → Fact
 fact r p h = record { routine = r; place = p; height = h }
 
--- the main routine
+-- whether a routine is the main code
 abbrev pub is_main : Routine → Bool
 is_main Main = true
 is_main (At p) = false
 
--- what is seen of a fact alone: the first cause that holds there, or its instruction and the place behind it
+-- what is seen of a fact alone: the first cause that holds there, or its instruction and the place after it
 pub data FactLook : Type 0 where
   Bad : (cause : CheckCause) → FactLook
   Stands : (ins : Ins) (next : ℕ) → FactLook
 
--- the first rule that is seen to be broken
+-- the first rule that is seen to be broken, else the look
 abbrev pub first_bad : List (CheckCause × Bool) → FactLook → FactLook
 first_bad [] look = look
 first_bad (c ∷ cs) look = cond c.1 (Bad c.0) (first_bad cs look)
@@ -53,11 +53,11 @@ seen len f (Ok p) =
     ∷ []
     ) (Stands p.0 p.1)
 
--- what stands at a fact
+-- what is seen of a fact of this code
 unfoldable pub look : List ℕ → Fact → FactLook
 look code f = seen (length code) f (decoded code f.place)
 
--- a fact whose instruction gives further facts
+-- a fact whose instruction leads to further facts
 pub record Gives (code : List ℕ) (f : Fact) (i : Ins) (next : ℕ) : Type 0 where
   pub stands : look code f ≡ Stands i next
   pub height : f.height ≤ 512
@@ -149,7 +149,7 @@ pub record SharesPlace (code : List ℕ) (f : Fact) : Type 0 where
   pub place : other.place ≡ f.place
   pub differ : other ≢ f
 
--- a write at an address that is not plain, where some fact is a CALL
+-- a write at an address that is not plain, if some fact is a CALL
 pub record WritesWild (code : List ℕ) (session : ℕ) (f : Fact) : Type 0 where
   pub caller : Fact
   pub reached : Reached code caller
@@ -171,7 +171,7 @@ pub record TooDeep (code : List ℕ) (session : ℕ) (f : Fact) : Type 0 where
   pub is_base : IsBase code f.routine base
   pub deep : 512 < session + base + f.height
 
--- the instruction at a fact, where something holds of it and the place behind it
+-- there is an instruction at a fact, and something holds of it and the place after it
 abbrev pub HoldsAtFact : List ℕ → Fact → (Ins → ℕ → Type 0) → Type 0
 HoldsAtFact code f holds = (i : Ins) × (next : ℕ) × (decoded code f.place ≡ Ok (i, next)) × holds i next
 
@@ -200,7 +200,7 @@ pub record Accepts (code : List ℕ) (session most : ℕ) : Type 0 where
   pub sound : (f : Fact) (cause : CheckCause) → Reached code f → Breaks code session cause f → ⊥
   pub deepest : IsDeepest code most
 
--- a fact breaks a rule; where a cause is seen from the fact alone, the first one is named
+-- a fact breaks a rule; if a cause is seen from the fact alone, the first one is named
 pub record Refuses (code : List ℕ) (session place : ℕ) (cause : CheckCause) : Type 0 where
   pub fact : Fact
   pub reached : Reached code fact

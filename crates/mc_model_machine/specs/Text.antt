@@ -2,7 +2,7 @@
 use Rattle.std.specs.Prelude.{ℕ, suc, ◌+◌, ◌-◌, ◌*◌, Bool, true, false, cond, not, ◌&&◌, ◌||◌, nat_le, ◌==◌, List, [], ◌∷◌, ◌++◌, map, length, filter, Option, Some, None, option_map, option_and_then, ok_or, Result, Ok, Err}
 use Rattle.mc_model_device.specs.Limits.{most_code}
 
--- ---- answers in turn
+-- ---- results in turn
 
 infixl 10 ◌>>=◌
 -- the next step, unless this one is refused
@@ -10,12 +10,12 @@ abbrev pub ◌>>=◌ : {A B E : Type 0} → Result A E → (A → Result B E) �
 (Ok a) >>= step = step a
 (Err e) >>= step = Err e
 
--- an answer with its value changed
+-- a result with its value changed
 abbrev pub ok_as : {A B E : Type 0} → (A → B) → Result A E → Result B E
 ok_as f (Ok a) = Ok (f a)
 ok_as f (Err e) = Err e
 
--- an answer with its refusal changed
+-- a result with its refusal changed
 abbrev pub err_as : {A E F : Type 0} → (E → F) → Result A E → Result A F
 err_as f (Ok a) = Ok a
 err_as f (Err e) = Err (f e)
@@ -38,12 +38,12 @@ abbrev pub pieces : (ℕ → Bool) → List ℕ → List (List ℕ)
 pieces cuts [] = [] ∷ []
 pieces cuts (c ∷ t) = cut_or_joined (cuts c) c (pieces cuts t)
 
--- what stands before the first cut, and what behind it, where there is one
+-- a character before a text that is cut: the text begins at a cut, or goes on
 abbrev pub cut_or_kept : Bool → ℕ → List ℕ → List ℕ × Option (List ℕ) → List ℕ × Option (List ℕ)
 cut_or_kept true c t rest = ([], Some t)
 cut_or_kept false c t rest = (c ∷ rest.0, rest.1)
 
--- what stands before the first cut, and what behind it
+-- the text before the first cut, and the text after it, if there is a cut
 abbrev pub first_cut : (ℕ → Bool) → List ℕ → List ℕ × Option (List ℕ)
 first_cut cuts [] = ([], None)
 first_cut cuts (c ∷ t) = cut_or_kept (cuts c) c t (first_cut cuts t)
@@ -53,7 +53,7 @@ abbrev pub begins : ℕ → List ℕ → Bool
 begins c [] = false
 begins c (d ∷ t) = d == c
 
--- a text without each carriage return that stands right before a line feed
+-- a text without each carriage return that is right before a line feed
 abbrev pub without_returns : List ℕ → List ℕ
 without_returns [] = []
 without_returns (c ∷ t) = cond ((c == 13) && begins 10 t) (without_returns t) (c ∷ without_returns t)
@@ -73,11 +73,11 @@ abbrev pub numbered : {A : Type 0} → ℕ → List A → List (ℕ × A)
 numbered n [] = []
 numbered n (l ∷ ls) = (n, l) ∷ numbered (suc n) ls
 
--- blanks are space and tab
+-- whether a character is a blank: space or tab
 abbrev pub is_blank : ℕ → Bool
 is_blank c = (c == 32) || (c == 9)
 
--- a text without characters
+-- whether a text has no characters
 abbrev pub is_empty : List ℕ → Bool
 is_empty [] = true
 is_empty (c ∷ t) = false
@@ -107,33 +107,33 @@ trim t = trim_end (trim_front t)
 
 -- ---- characters and numbers
 
--- a number from low to high
+-- whether a number is from low to high
 abbrev pub is_within : ℕ → ℕ → ℕ → Bool
 is_within low high n = nat_le low n && nat_le n high
 
--- a decimal digit
+-- whether a character is a decimal digit
 abbrev pub is_digit : ℕ → Bool
 is_digit c = is_within 48 57 c
 
--- letters, digits and the underscore
+-- whether a character is a letter, a digit or the underscore
 abbrev pub is_name_character : ℕ → Bool
 is_name_character c = is_within 65 90 c || is_within 97 122 c || is_digit c || (c == 95)
 
--- each character passes a test
+-- whether each character passes a test
 abbrev pub every : (ℕ → Bool) → List ℕ → Bool
 every test [] = true
 every test (c ∷ t) = test c && every test t
 
--- 1 to 32 letters, digits and underscores
+-- whether a text is a name: 1 to 32 letters, digits and underscores
 abbrev pub is_name : List ℕ → Bool
 is_name t = is_within 1 32 (length t) && every is_name_character t
 
--- the number that digits spell in a base, behind those that spell n
+-- the number that digits spell in a base, after those that spell n
 abbrev pub digits_onto : ℕ → ℕ → List ℕ → ℕ
 digits_onto base n [] = n
 digits_onto base n (d ∷ ds) = digits_onto base (n * base + d) ds
 
--- decimal digits, of any number but none
+-- the number that one or more decimal digits spell
 abbrev pub decimal_number : List ℕ → Option ℕ
 decimal_number t = cond (not (is_empty t) && every is_digit t) (Some (digits_onto 10 0 (map (λ c. c - 48) t))) None
 
@@ -152,7 +152,7 @@ abbrev pub hex_values : List ℕ → Option (List ℕ)
 hex_values [] = Some []
 hex_values (c ∷ t) = before_values (hex_value c) (hex_values t)
 
--- the bytes that two digits each spell; an odd number of digits spells none
+-- the bytes that digits spell, two each; an odd number of digits spells none
 abbrev pub paired : List ℕ → Option (List ℕ)
 paired [] = Some []
 paired (a ∷ []) = None

@@ -14,7 +14,7 @@ ins_text (Some i) = text_of i
 abbrev pub bit_text : Bool → List ℕ
 bit_text b = cond b (codes "1") (codes "0")
 
--- `> `, the depth, the place, the instruction or `?`, DT, and the flags C and Z
+-- the line of a turn: `> `, the depth, the place, the instruction or `?`, DT, and the flags C and Z
 unfoldable pub turn_line : Turn → List ℕ
 turn_line t =
     codes "> " ++ (48 + t.depth) ∷ (codes " " ++ hex_text (bytes2 t.at) ++ codes " " ++ ins_text t.ins ++ codes " " ++ hex_text (bytes2 t.dt)

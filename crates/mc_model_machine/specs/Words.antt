@@ -1,4 +1,4 @@
--- The words that are printed of the causes of the assembler, the decoder and the stack checker, and the numbers of abends.
+-- The words that are printed for the causes of the assembler, the decoder and the stack checker, and the numbers of abends.
 use Rattle.std.specs.Prelude.{ℕ, List, codes}
 use Rattle.mc_model_machine.specs.declared.assembler.AsmCause.{AsmCause}
 use Rattle.mc_model_machine.specs.declared.assembler.AsmCause.TheVariants as asm
@@ -9,12 +9,12 @@ use Rattle.mc_model_machine.specs.declared.instruction.DecodeFault.TheVariants a
 use Rattle.mc_model_machine.specs.declared.machine.Abend.{Abend}
 use Rattle.mc_model_machine.specs.declared.machine.Abend.TheVariants.{A01, A02, A03, A04, A05, A06, A07, A08, A09, A0A}
 
--- why no instruction stands at a place
+-- the printed word of why there is no instruction at a place
 abbrev pub decode_word : DecodeFault → List ℕ
 decode_word decode.Undefined = codes "Undefined"
 decode_word decode.Past = codes "Past"
 
--- why a line of an assembly text is refused
+-- the printed word of why a line of an assembly text is refused
 abbrev pub asm_word : AsmCause → List ℕ
 asm_word asm.UnknownWord = codes "UnknownWord"
 asm_word asm.BadOperands = codes "BadOperands"
@@ -25,7 +25,7 @@ asm_word asm.TooLong = codes "TooLong"
 asm_word asm.UnknownLabel = codes "UnknownLabel"
 asm_word asm.FarBranch = codes "FarBranch"
 
--- why code is refused
+-- the printed word of why the stack checker refuses code
 abbrev pub check_word : CheckCause → List ℕ
 check_word check.Undefined = codes "Undefined"
 check_word check.Past = codes "Past"

@@ -15,7 +15,7 @@ pub enum AsmCause {
 }
 
 impl AsmCause {
-    /// The word that a refusal prints.
+    /// Returns the word that a refusal prints.
     pub fn word(&self) -> &'static str
         ensures { result.now ≡ asm_word self.now }
     {

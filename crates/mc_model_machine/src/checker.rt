@@ -17,7 +17,7 @@ pub enum CheckCause {
 }
 
 impl CheckCause {
-    /// The word that a verdict prints.
+    /// Returns the word that a verdict prints.
     pub fn word(&self) -> &'static str
         ensures { result.now ≡ check_word self.now }
     {

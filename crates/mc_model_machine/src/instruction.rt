@@ -1,17 +1,17 @@
 ghost use Rattle.std.specs.Prelude.{◌≡◌};
 ghost use Rattle.mc_model_machine.specs.Words.{decode_word};
 
-/// Why no instruction stands at a place of code.
+/// Why there is no instruction at a place of code.
 #[derive(Clone, Copy, Debug, PartialEq, Eq)]
 pub enum DecodeFault {
     /// The byte there begins no instruction.
     Undefined,
-    /// The place is not in the code, or the instruction ends behind the code's end.
+    /// The place is not in the code, or the instruction ends past the code's end.
     Past,
 }
 
 /// One instruction. A tag of an address is 0 for the top of the stack, then 1 to 7 for SB, ST, DB, LB, DT, PB, PT;
-/// an offset is 0 where the tag is 0. A condition is 1 to 7 for EQ, LT, LE, GT, GE, NE, ALL, and 0 for an address
+/// an offset is 0 if the tag is 0. A condition is 1 to 7 for EQ, LT, LE, GT, GE, NE, ALL, and 0 for an address
 /// from the stack.
 #[derive(Clone, Copy, Debug, PartialEq, Eq)]
 pub enum Ins {
@@ -65,7 +65,7 @@ pub enum Ins {
 }
 
 impl DecodeFault {
-    /// The word that a refusal prints.
+    /// Returns the word that a refusal prints.
     pub fn word(&self) -> &'static str
         ensures { result.now ≡ decode_word self.now }
     {

@@ -27,7 +27,7 @@ pub enum Abend {
 }
 
 impl Abend {
-    /// The number of the abend, 1 to 10, as a transcript prints it.
+    /// Returns the number of the abend, 1 to 10, as a transcript prints it.
     pub fn code(&self) -> u8
         ensures { result ≡ abend_code self.now }
     {

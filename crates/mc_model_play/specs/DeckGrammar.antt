@@ -35,7 +35,7 @@ name_field t = only_if (is_name t) BadName t
 abbrev pub hex_field : List ℕ → Result (List ℕ) DeckCause
 hex_field t = ok_or (hex_bytes t) BadHex
 
--- a field of so many hexadecimal bytes
+-- a field of `low` to `high` hexadecimal bytes
 abbrev pub bytes_field : ℕ → ℕ → List ℕ → Result (List ℕ) DeckCause
 bytes_field low high t = hex_field t >>= λ b. only_if (is_within low high (length b)) OutOfRange b
 
@@ -53,7 +53,7 @@ number_field low high t = ok_or (decimal_number t) BadNumber >>= λ n. only_if (
 
 -- ---- statements
 
--- what stands before a line: the units that were named, and whether a `power` stood
+-- the context of a line: the units that were named before it, and whether there was a `power` line
 pub record Context : Type 0 where
   pub units : List (List ℕ × UnitParts)
   pub powered : Bool
@@ -107,7 +107,7 @@ deck_words =
 abbrev pub new_name : Context → List ℕ → Result (List ℕ) DeckCause
 new_name c name = only_if (is_none (lookup c.units name)) NameTwice name
 
--- a line that stands before each `power`
+-- a line that has to come before each `power`
 abbrev pub early : Context → DeckLine → Result Stated DeckCause
 early c l = only_if (not c.powered) LateLine (Says l c)
 
@@ -163,12 +163,12 @@ made_unit aid code init = record { number = zeros 8; code = code; init = init; d
 abbrev pub unit_within : UnitParts → Result UnitParts UnitRefusal
 unit_within u = only_if (nat_lt 0 (length u.code)) NoCode u >>= λ u. only_if (nat_le (length u.init) 4096) TooLarge u
 
--- a DATA line of a section
+-- whether a line of a section is a DATA line
 abbrev pub is_data : List (List ℕ) → Bool
 is_data [] = false
 is_data (word ∷ rest) = bytes_eq word (codes "DATA")
 
--- the end of a section
+-- whether a line ends a section
 abbrev pub is_end : List (List ℕ) → Bool
 is_end (word ∷ []) = bytes_eq word (codes "end")
 is_end other = false
@@ -208,7 +208,7 @@ pub data Mode : Type 0 where
   Between : Context → Mode
   Within : Section → Context → Mode
 
--- after a line: the lines of the deck that it gives, and the mode
+-- the result of a line: the lines that it adds to the deck, and the mode after it
 pub record LineTurn : Type 0 where
   pub lines : List (ℕ × DeckLine)
   pub mode : Mode
@@ -236,7 +236,7 @@ abbrev pub turn_in : Mode → ℕ × List ℕ → Result LineTurn (ℕ × DeckCa
 turn_in (Between c) l = between c l.0 (fields l.1)
 turn_in (Within s c) l = within (is_end (fields l.1)) s c l
 
--- no deck has a line 20,001
+-- a line of a text, refused if it is line 20,001
 abbrev pub turn_at : Bool → Mode → ℕ × List ℕ → Result LineTurn (ℕ × DeckCause)
 turn_at true m l = Err (l.0, TooManyLines)
 turn_at false m l = turn_in m l

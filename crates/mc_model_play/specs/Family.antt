@@ -11,7 +11,7 @@ abbrev pub ClosedPairs : List (List ℕ) → List (List ℕ × List ℕ) → Typ
 ClosedPairs K [] = ⊤
 ClosedPairs K (p ∷ ps) = (has_name p.0 K ≡ has_name p.1 K) × ClosedPairs K ps
 
--- so does each delegation of a play, those of stopped commands counted as if no stop had come
+-- each delegation of a play stays inside the family or outside it; those of stopped commands count as if no stop had come
 abbrev pub Closed : List (List ℕ) → List Step → Type 0
 Closed K [] = ⊤
 Closed K (t ∷ ts) = ClosedPairs K t.pairs × Closed K ts
@@ -24,12 +24,12 @@ command_of (line.Select n) = Some (select_bytes n)
 command_of (line.Apdu b) = Some b
 command_of _ = None
 
--- the selected application is of the family
+-- whether the selected application is of the family
 abbrev pub selects_in : List (List ℕ) → Option Selected → Bool
 selects_in K None = false
 selects_in K (Some s) = has_name s.name K
 
--- a SELECT whose data are a name of the family, or a command for a selected application of it
+-- whether a command is the family's: a SELECT whose data are a name of the family, or a command for a selected application of it
 abbrev pub routes_in : List (List ℕ) → Seat → Route → Bool
 routes_in K seat WrongLength = false
 routes_in K seat WrongClass = false
@@ -42,19 +42,19 @@ abbrev pub live_in : State → Live
 live_in (Cold m b a) = Unpowered
 live_in (Hot s) = s.live
 
--- a card runs
+-- whether a card runs
 abbrev pub is_running : Live → Bool
 is_running (Running seat) = true
 is_running Unpowered = false
 is_running Muted = false
 
--- a command of the family, on a running card
+-- whether a line's command is one of the family, on a running card
 abbrev pub is_own_command : List (List ℕ) → Live → Option (List ℕ) → Bool
 is_own_command K (Running seat) (Some bytes) = routes_in K seat (route bytes)
 is_own_command K (Running seat) None = false
 is_own_command K Unpowered bytes = false
 is_own_command K Muted bytes = false
 
--- the line is a command of the family, on a running card
+-- whether a line is a command of the family, on a running card
 abbrev pub is_own : List (List ℕ) → Step → Bool
 is_own K t = is_own_command K (live_in t.before) (command_of t.line)

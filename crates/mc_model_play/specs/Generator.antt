@@ -10,11 +10,11 @@ use Rattle.mc_model_play.specs.DeckGrammar.{DeckLine, Format, Power, Named, Load
 
 -- ---- draws
 
--- each draw changes the number, and gives its high bits
+-- the number after a draw: a step of a linear congruential generator modulo 2^31
 abbrev pub next : ℕ → ℕ
 next x = (x * 1103515245 + 12345) % 2 ^ 31
 
--- what a draw gives
+-- the value of a draw: the high bits of the number
 abbrev pub draw : ℕ → ℕ
 draw x = x / 65536
 
@@ -32,7 +32,7 @@ purse_aid = 0xA0 ∷ 0 ∷ 0 ∷ 0 ∷ 2 ∷ []
 abbrev pub relay_aid : List ℕ
 relay_aid = 0xA0 ∷ 0 ∷ 0 ∷ 0 ∷ 3 ∷ []
 
--- one more at each command, and the two bytes as the reply
+-- the counter: it adds one at each command, and replies with its two bytes
 abbrev pub counter : UnitParts
 counter =
     made_unit counter_aid
@@ -42,7 +42,7 @@ counter =
     ∷ 0x06 ∷ 0x00 ∷ 0x02 ∷ [])
     []
 
--- 30 credits, 40 debits, 50 answers the balance
+-- the purse: INS 30 credits, 40 debits, 50 answers with the balance
 abbrev pub purse : UnitParts
 purse =
     made_unit purse_aid
@@ -58,7 +58,7 @@ purse =
     ∷ 0x05 ∷ 0x69 ∷ 0x85 ∷ [])
     []
 
--- hands the command to the application that its static bytes name
+-- the relay: it delegates the command to the application that its static bytes name
 abbrev pub relay : UnitParts
 relay = made_unit relay_aid (0x22 ∷ 0x00 ∷ 0x00 ∷ 0x28 ∷ 0x07 ∷ 0x04 ∷ []) (0x05 ∷ counter_aid)
 
@@ -72,7 +72,7 @@ opening = Format ∷ Power ∷ Named ∷ Named ∷ Named ∷ Load counter 2 0 �
 abbrev pub command : ℕ → List ℕ → DeckLine
 command ins number = Apdu (0x80 ∷ ins ∷ 0 ∷ 0 ∷ 4 ∷ number)
 
--- `OPEN-2--`, the word that opens the gate
+-- `OPEN-2--`, the commit record of journal 2
 abbrev pub opening_word : List ℕ
 opening_word = 0x4F ∷ 0x50 ∷ 0x45 ∷ 0x4E ∷ 0x2D ∷ 0x32 ∷ 0x2D ∷ 0x2D ∷ []
 
@@ -98,7 +98,7 @@ line_of r q =
     (cond (r % 16 == 14) (cut_line q)
     (purse_line q)))))))))
 
--- so many turns, each by two draws
+-- the lines of n turns, each by two draws
 abbrev pub turns : ℕ → ℕ → List DeckLine
 turns zero x = []
 turns (suc k) x = line_of (draw (next x)) (draw (next (next x))) ∷ turns k (next (next x))
@@ -113,41 +113,41 @@ generated n = numbered 1 (opening ++ turns 4000 n ++ closing)
 
 -- ---- the summary of a play
 
--- a reply, or a worn stop
+-- whether a result is a reply, or that of a failed write
 abbrev pub is_reply : LineResult → Bool
 is_reply (Answered (Reply body sw)) = true
 is_reply WornStop = true
 is_reply _ = false
 
--- an abend
+-- whether a result is an abend
 abbrev pub is_abend : LineResult → Bool
 is_abend (Answered (Abended cause)) = true
 is_abend _ = false
 
--- a line that a cut hit
+-- whether a result is that of a line that a cut hit
 abbrev pub is_cut : LineResult → Bool
 is_cut (OffAt k) = true
 is_cut _ = false
 
--- a line without a card
+-- whether a result is that of a line without a card
 abbrev pub is_off : LineResult → Bool
 is_off NoCard = true
 is_off _ = false
 
--- a power line that was ready
+-- whether a result is `ready`
 abbrev pub is_ready : LineResult → Bool
 is_ready (Ready n) = true
 is_ready _ = false
 
--- the results of the lines that answer
+-- the results of the lines that have one
 abbrev pub results : List Step → List LineResult
 results ts = filter_map (λ t. t.result) ts
 
--- how many results pass a test
+-- the number of results that pass a test
 abbrev pub count : (LineResult → Bool) → List LineResult → ℕ
 count test rs = length (filter test rs)
 
--- a dump line
+-- whether a line is a dump
 abbrev pub is_dump : DeckLine → Bool
 is_dump (Dump aid) = true
 is_dump _ = false
@@ -156,7 +156,7 @@ is_dump _ = false
 abbrev pub dump_lines : List Step → List ℕ
 dump_lines ts = flat_map (λ r. shown r ++ codes "\n") (results (filter (λ t. is_dump t.line) ts))
 
--- how many lines a play answers, replies, abends, cuts, lines without a card and power-ups
+-- the counts of a play: of its results, replies, abends, cuts, lines without a card and power-ups
 abbrev pub count_line : List LineResult → List ℕ
 count_line rs =
     codes "lines " ++ decimal (length rs) ++ codes " replies " ++ decimal (count is_reply rs) ++ codes " abends " ++ decimal (count is_abend rs)

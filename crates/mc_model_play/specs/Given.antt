@@ -13,7 +13,7 @@ use Rattle.mc_model_play.specs.Family.{command_of, live_in, is_running, is_own}
 use Rattle.mc_model_play.specs.DeckGrammar.{DeckLine}
 use Rattle.mc_model_play.specs.DeckGrammar as line
 
--- a creation or deletion that stood, a command with its budget and its stop, a dump, or the loss of the selection
+-- an event: a creation or deletion that is durable, a command with its budget and its stop, a dump, or the loss of the selection
 pub data Event : Type 0 where
   Arrives : (name : List ℕ) (app : App) → Event
   Departs : (name : List ℕ) → Event
@@ -43,7 +43,7 @@ abbrev pub apps_in : State → List (List ℕ × App)
 apps_in (Cold m b a) = []
 apps_in (Hot s) = apps_on s.base
 
--- a power line
+-- whether a line is a power line
 abbrev pub is_power : DeckLine → Bool
 is_power line.Power = true
 is_power _ = false
@@ -55,59 +55,59 @@ first_apps (t ∷ ts) = cond (is_power t.line) (apps_in t.after) (first_apps ts)
 
 -- ---- events
 
--- the creations and deletions of the family's names that stood
+-- the event of an item that is durable, if it is a creation or deletion, with its name
 abbrev pub event_of : Item → Option (List ℕ × Event)
 event_of Plain = None
 event_of (Atomic w (Fixed n ps)) = None
 event_of (Atomic w (Created n a)) = Some (n, Arrives n (placed 0 a))
 event_of (Atomic w (Deleted n)) = Some (n, Departs n)
 
--- an event of a name of the family
+-- an event, if its name is of the family
 abbrev pub told_event : List (List ℕ) → Option (List ℕ × Event) → List Event
 told_event K None = []
 told_event K (Some e) = cond (has_name e.0 K) (e.1 ∷ []) []
 
--- the creations and deletions of the family among whole items
+-- the events of the family's creations and deletions among whole items
 abbrev pub told : List (List ℕ) → List Item → List Event
 told K [] = []
 told K (i ∷ is) = told_event K (event_of i) ++ told K is
 
--- the stop of a command: the worn one that hit it, else the cut that was armed, whether it hit or not
+-- the stop of a cut that is armed, if one is
 abbrev pub armed_stop : Armed → Option StopAt
 armed_stop (ArmedCut k x) = Some (record { kind = stop.Off; at = k; left = x })
 armed_stop Unarmed = None
 armed_stop (ArmedFail k) = None
 
--- a worn stop, and else the cut that is armed
+-- a failed write, else the cut that is armed
 abbrev pub stop_by_kind : Stop → Armed → StopAt → Option StopAt
 stop_by_kind stop.Worn armed t = Some t
 stop_by_kind stop.Off armed t = armed_stop armed
 
--- the stop that a command is given
+-- the stop that a command is given: the failed write that hit it, else the cut that was armed, whether it hit or not
 abbrev pub given_stop : Armed → Option StopAt → Option StopAt
 given_stop armed None = armed_stop armed
 given_stop armed (Some t) = stop_by_kind t.kind armed t
 
--- a SELECT that was done
+-- whether a result is a reply with the status 9000
 abbrev pub is_done_reply : Option LineResult → Bool
 is_done_reply (Some (Answered (Reply body sw))) = sw == 0x9000
 is_done_reply _ = false
 
--- a SELECT of a name outside the family
+-- whether a command is a SELECT of a name outside the family
 abbrev pub selects_foreign : List (List ℕ) → Route → Bool
 selects_foreign K (ToSelect a) = not (has_name a.body K)
 selects_foreign K _ = false
 
--- a command that is such a SELECT
+-- whether a line's command is such a SELECT
 abbrev pub is_foreign_select : List (List ℕ) → Option (List ℕ) → Bool
 is_foreign_select K None = false
 is_foreign_select K (Some bytes) = selects_foreign K (route bytes)
 
--- the selection of the family is lost: by a stop, or by a done SELECT of a name outside it
+-- whether the selection of the family is lost: by a stop, or by a SELECT of a name outside it that was answered with 9000
 abbrev pub is_left : List (List ℕ) → Step → Bool
 is_left K t = is_some t.stop || (is_running (live_in t.before) && is_foreign_select K (command_of t.line) && is_done_reply t.result)
 
--- the selection is lost
+-- the event of a lost selection, if it is lost
 abbrev pub left_if : Bool → List Event
 left_if true = Leaves ∷ []
 left_if false = []
@@ -122,7 +122,8 @@ abbrev pub command_event : Step → Option (List ℕ) → List Event
 command_event t None = []
 command_event t (Some bytes) = Commands bytes (budget_in t.before) (given_stop (armed_in t.before) t.stop) ∷ []
 
--- the events of a line that is neither power nor dump: a command of the family, or else what stood, and whether the selection was lost
+-- the events of a line that is neither power nor dump: a command of the family, or else what is durable, and whether the selection was
+-- lost
 abbrev pub line_events : Bool → List (List ℕ) → Step → List Event
 line_events true K t = command_event t (command_of t.line)
 line_events false K t = told K t.whole ++ left_if (is_left K t)

@@ -25,7 +25,7 @@ use Rattle.mc_model_play.specs.DeckGrammar as line
 
 -- ---- every line leaves the card before it with its whole items
 
--- all items where no stop hit, else those that are whole by it
+-- all items if no stop hit, else those that are whole after it
 abbrev pub whole_of : List Item → Option StopAt → List Item
 whole_of is None = is
 whole_of is (Some s) = (at_stop is s.at s.left).whole
@@ -40,7 +40,7 @@ pub record KeepsLine (t : Step) : Type 0 where
   pub whole : t.whole ≡ whole_of t.items t.stop
   pub apps : IsDoneFrom t.before t.whole t.after
 
--- each line does
+-- each line has the whole items of its stop, and leaves the card with them
 abbrev pub KeepsLines : List Step → Type 0
 KeepsLines [] = ⊤
 KeepsLines (t ∷ ts) = KeepsLine t × KeepsLines ts
@@ -65,7 +65,7 @@ sent_app s =
       place = 0;
     }
 
--- a section is sent these bytes more
+-- what was sent, with these bytes more of a section
 abbrev pub with_sent : Part → List ℕ → Option Sent → Option Sent
 with_sent p b None = None
 with_sent p b (Some s) = Some (record s { got = with_got p b s.got })
@@ -107,7 +107,7 @@ made_by s WrongClass = []
 made_by s (ToSelect a) = []
 made_by s (ToApplication a) = []
 
--- over the commands of a line that were done, in order
+-- what is sent after commands that were done, in order
 abbrev pub sent_after_all : Option Sent → List (List ℕ) → Option Sent
 sent_after_all s [] = s
 sent_after_all s (b ∷ bs) = sent_after_all (sent_after s (route b)) bs
@@ -117,7 +117,7 @@ abbrev pub made_by_all : Option Sent → List (List ℕ) → List (List ℕ × A
 made_by_all s [] = []
 made_by_all s (b ∷ bs) = made_by s (route b) ++ made_by_all (sent_after s (route b)) bs
 
--- a command that was taken, and those that were taken behind it
+-- a command, if it was taken, and those that were taken after it
 abbrev pub taken_if : Bool → List ℕ → List (List ℕ) → List (List ℕ)
 taken_if true b rest = b ∷ rest
 taken_if false b rest = []
@@ -148,7 +148,7 @@ abbrev pub taken_in : State → DeckLine → List (List ℕ)
 taken_in (Cold m b a) l = []
 taken_in (Hot s) l = taken_on s.live s.base s.budget l
 
--- the load is lost with power, and by any stop
+-- what of the commands sent so far counts after a line: the load is lost with power, and by any stop
 abbrev pub kept_sent : Bool → Option StopAt → Option Sent → Option Sent
 kept_sent true t s = None
 kept_sent false (Some t) s = None
@@ -166,7 +166,7 @@ abbrev pub created_in : List Item → List (List ℕ × App)
 created_in [] = []
 created_in (i ∷ is) = created_by i ++ created_in is
 
--- applications wherever they lie
+-- applications without their places
 abbrev pub without_places : List (List ℕ × App) → List (List ℕ × App)
 without_places [] = []
 without_places (e ∷ es) = (e.0, placed 0 e.1) ∷ without_places es
@@ -180,10 +180,10 @@ AllAreIn map (e ∷ es) = (lookup map e.0 ≡ Some e.1) × AllAreIn map es
 pub record KeepsFresh (sent : Option Sent) (t : Step) : Type 0 where
   -- what a line creates is what its load's own commands sent
   pub made : without_places (created_in t.items) ≡ made_by_all sent (taken_in t.before t.line)
-  -- and where the creation stands, the map has it
+  -- and if the creation is durable, the map has it
   pub stands : AllAreIn (apps_in t.after) (created_in t.whole)
 
--- each new application of a play has
+-- each new application of a play has what its own load sent, and nothing else
 abbrev pub NoStaleByte : Option Sent → List Step → Type 0
 NoStaleByte sent [] = ⊤
 NoStaleByte sent (t ∷ ts) =
@@ -199,10 +199,10 @@ pub record HoldsOf (m : List (List ℕ)) (steps : List Step) : Type 0 where
   pub few : IsImage m → AreLines steps → AllFitJournal steps
   pub ready : IsImage m → AreLines steps → ReadyAgain false steps
 
--- For every deck, every image and every list of worn stops that is possible, and for every front of the play: what a closed family is told
--- and holds is what it is told and holds on a card of its own; each line leaves the card with its whole items; no new application has a stale byte;
--- and where the deck's lines are bytes, each item fits a journal, and a card that was found or formatted is found by every later power
--- line that no stop hits.
+-- The law of isolation. For every deck, every image and every possible list of failed writes, and for every front of the play: what a
+-- closed family observes and holds is what it observes and holds on a card of its own; each line leaves the card with its whole items; no
+-- new application has a stale byte; and if the deck's lines are bytes, each item fits a journal, and a card that was found or formatted
+-- is found by every later power line that no stop hits.
 abbrev pub IsolationLaw : Type 0
 IsolationLaw =
     (ls : List (ℕ × DeckLine)) (m : List (List ℕ)) (ws : List (Option WornAt)) → Possible (start m) ls ws

@@ -2,20 +2,20 @@
 use Rattle.std.specs.Prelude.{ℕ, Bool, true, false, cond, not, ◌&&◌, ◌||◌, ◌==◌, List, [], ◌∷◌, filter}
 use Rattle.mc_model_machine.specs.Text.{is_blank, is_empty}
 
--- whether this character of a pattern stands for any characters or none
+-- whether a character of a pattern matches any characters or none
 abbrev pub is_star : ℕ → Bool
 is_star p = p == 42
 
--- whether it stands for any one character
+-- whether a character of a pattern matches any one character
 abbrev pub is_any : ℕ → Bool
 is_any p = p == 63
 
--- whether what is left of a text behind some front of it passes a test
+-- whether some end of a text passes a test
 abbrev pub some_rest : (List ℕ → Bool) → List ℕ → Bool
 some_rest test [] = test []
 some_rest test (c ∷ t) = test (c ∷ t) || some_rest test t
 
--- whether the first character of a text is one that this one stands for, and the rest passes a test
+-- whether the first character of a text is one that this character of a pattern matches, and the rest passes a test
 abbrev pub first_and_rest : ℕ → (List ℕ → Bool) → List ℕ → Bool
 first_and_rest p test [] = false
 first_and_rest p test (c ∷ t) = (is_any p || (c == p)) && test t

@@ -1,4 +1,4 @@
--- A deck played on a device, line by line, with the lines' cuts and refused writes, and the words that a play leaves.
+-- A deck played on a device, line by line, with the lines' cuts and failed writes, and the words that a play leaves.
 use Rattle.std.specs.Prelude.{◌≡◌, ◌≢◌, ◌⊎◌, ℕ, zero, suc, ◌+◌, ◌-◌, ◌*◌, ◌/◌, ◌%◌, ◌<◌, ◌≤◌, Bool, true, false, cond, ◌&&◌, nat_lt, nat_le, ◌==◌, List, [], ◌∷◌, ◌++◌, length, take, drop, map, slice_set, Option, Some, None, ⊤}
 use Rattle.mc_model_device.specs.PowerUp.{Base, OnCard, AtFault, migration, migrated, base_of, owing}
 use Rattle.mc_model_card.specs.Commands.{Command, refused, command}
@@ -27,13 +27,14 @@ pub data Armed : Type 0 where
   ArmedCut : (at : ℕ) (fill : List ℕ) → Armed
   ArmedFail : (at : ℕ) → Armed
 
--- whether a card runs; after a worn stop it is mute
+-- whether a card runs, with its session state; after a failed write it is mute
 pub data Live : Type 0 where
   Running : (seat : Seat) → Live
   Unpowered : Live
   Muted : Live
 
--- a play from its first power line on: what is owed, and by which journal
+-- a play after its first power line: its base, the number of writes that recovery still has to make and the journal that holds them,
+-- whether a card runs, the budget, and the stop that is armed
 pub record Warm : Type 0 where
   pub base : Base
   pub owed : ℕ
@@ -42,12 +43,12 @@ pub record Warm : Type 0 where
   pub budget : ℕ
   pub armed : Armed
 
--- a play before its first power line, and from it on
+-- a play before and after its first power line
 pub data State : Type 0 where
   Cold : (image : List (List ℕ)) (budget : ℕ) (armed : Armed) → State
   Hot : (warm : Warm) → State
 
--- the result of a line that answers
+-- the result of a line that has one
 pub data LineResult : Type 0 where
   Formatted : LineResult
   Ready : (writes : ℕ) → LineResult
@@ -60,7 +61,7 @@ pub data LineResult : Type 0 where
   Static : (bytes : List ℕ) → LineResult
   Absent : LineResult
 
--- a worn stop of a line: the number of the write, and the word that it left
+-- a failed write of a line: its number, and the word that it left
 pub record WornAt : Type 0 where
   pub at : ℕ
   pub left : List ℕ
@@ -104,14 +105,14 @@ piece_commands (suc n) ins at b =
 abbrev pub section_commands : ℕ → List ℕ → List (List ℕ)
 section_commands ins b = piece_commands (length b) ins 0 b
 
--- OPEN, the pieces of code, data, DIR and FCI, and CREATE
+-- the commands of a load: OPEN, the pieces of code, data, DIR and FCI, and CREATE
 abbrev pub load_commands : UnitParts → ℕ → ℕ → List (List ℕ)
 load_commands u fixed session =
     (0xBE ∷ 0x12 ∷ 0x00 ∷ 0x00 ∷ 12 ∷ (bytes2 (length u.code) ++ bytes2 fixed ++ bytes2 (length u.init) ++ bytes2 session ++ bytes2 (length u.dir) ++ bytes2 (length u.fci)))
     ∷ (section_commands 0x24 u.code ++ section_commands 0x26 u.init ++ section_commands 0x20 u.dir ++ section_commands 0x22 u.fci
     ++ (0xBE ∷ 0x16 ∷ 0x00 ∷ 0x00 ∷ []) ∷ [])
 
--- an outcome that is 9000 alone
+-- whether an outcome is 9000 alone
 abbrev pub is_done : Outcome → Bool
 is_done (Reply [] sw) = sw == 0x9000
 is_done o = false
@@ -120,7 +121,7 @@ is_done o = false
 abbrev pub with_items : Command → Command → Command
 with_items first r = record r { items = first.items ++ r.items; pairs = first.pairs ++ r.pairs; turns = first.turns ++ r.turns }
 
--- a command, and those behind it where it was answered by 9000 alone
+-- a command, and those after it if it was answered by 9000 alone
 abbrev pub sent_on : Bool → Command → Command → Command
 sent_on true first rest = with_items first rest
 sent_on false first rest = first
@@ -135,7 +136,7 @@ send c seat budget (b ∷ bs) =
 
 -- ---- stops
 
--- a line for which a stop can be armed
+-- whether a stop can be armed for a line
 abbrev pub is_card_line : DeckLine → Bool
 is_card_line line.Power = true
 is_card_line (line.Load u fixed session) = true
@@ -144,35 +145,35 @@ is_card_line (line.Delete n) = true
 is_card_line (line.Apdu b) = true
 is_card_line _ = false
 
--- the stop that hits a card line of so many device writes: a worn one, else the cut that is armed
+-- the stop that hits a card line of m device writes: a failed write, else the cut that is armed
 abbrev pub hit_of : Armed → ℕ → Option WornAt → Option StopAt
 hit_of armed m (Some w) = Some (record { kind = stop.Worn; at = w.at; left = w.left })
 hit_of (ArmedCut k x) m None = cond (nat_le k m) (Some (record { kind = stop.Off; at = k; left = x })) None
 hit_of Unarmed m None = None
 hit_of (ArmedFail k) m None = None
 
--- the device writes of a line: up to its stop, if one hit
+-- the number of device writes of a line: up to its stop, if one hit
 abbrev pub moves_with : ℕ → Option StopAt → ℕ
 moves_with m None = m
 moves_with m (Some s) = s.at
 
--- after a stop: no card runs, and after a worn one it is mute
+-- the card after a stop: none runs, and after a failed write it is mute
 abbrev pub live_after : Stop → Live
 live_after stop.Off = Unpowered
 live_after stop.Worn = Muted
 
--- what a stopped line answers
+-- the result of a stopped line
 abbrev pub result_of_stop : StopAt → Stop → LineResult
 result_of_stop s stop.Off = OffAt s.at
 result_of_stop s stop.Worn = WornStop
 
 -- ---- power lines
 
--- the owed and migration writes of a power line
+-- the number of device writes of a power line: those that recovery still has to make, and those of the migration
 abbrev pub power_moves : Warm → ℕ
 power_moves s = s.owed + migration s.base
 
--- what a power line answers that no stop hit
+-- the result of a power line that no stop hit
 abbrev pub power_result : ℕ → Base → LineResult
 power_result m (OnCard c) = Ready m
 power_result m (AtFault cause p) = Unusable cause p
@@ -182,7 +183,7 @@ abbrev pub power_live : Base → Live
 power_live (OnCard c) = Running empty_seat
 power_live (AtFault cause p) = Unpowered
 
--- a power-up that is stopped in its owed writes, or in its migration
+-- the play after a power-up that was stopped in its recovery, or in its migration
 abbrev pub stopped_power : Warm → StopAt → Bool → Warm
 stopped_power s t true = record s { owed = remains s.by (s.owed - 1) t.at t.left; live = live_after t.kind; armed = Unarmed }
 stopped_power s t false =
@@ -200,7 +201,7 @@ abbrev pub power_after : Warm → Option StopAt → Warm
 power_after s None = record s { base = migrated s.base; owed = 0; live = power_live s.base; armed = Unarmed }
 power_after s (Some t) = stopped_power s t (nat_le t.at s.owed)
 
--- what a power line answers
+-- the result of a power line
 abbrev pub power_says : Warm → Option StopAt → LineResult
 power_says s None = power_result (power_moves s) s.base
 power_says s (Some t) = result_of_stop t t.kind
@@ -233,7 +234,7 @@ abbrev pub line_after : Warm → Card → Command → Option StopAt → Warm
 line_after s c r None = record s { base = OnCard (card_done c r.items); live = Running r.seat; armed = Unarmed }
 line_after s c r (Some t) = stopped_line s c t (at_stop r.items t.at t.left)
 
--- what a line of a running card answers
+-- the result of a line of a running card
 abbrev pub line_says : Command → Option StopAt → LineResult
 line_says r None = Answered r.outcome
 line_says r (Some t) = result_of_stop t t.kind
@@ -262,7 +263,7 @@ command_step n l s c r t =
 
 -- ---- lines that write nothing
 
--- a line that makes no write: what it answers, and the state after it
+-- a line that makes no write: its result, and the state after it
 abbrev pub quiet : ℕ → DeckLine → State → Option LineResult → State → Step
 quiet n l before result after =
     record {
@@ -284,13 +285,13 @@ abbrev pub static_of : Option App → LineResult
 static_of None = Absent
 static_of (Some a) = Static a.fixed
 
--- what a line that wants a card answers where none runs
+-- the result of a line that wants a card, if none runs
 abbrev pub without_card : Live → LineResult
 without_card (Running seat) = NoCard
 without_card Unpowered = NoCard
 without_card Muted = Silenced
 
--- what a dump answers
+-- the result of a dump
 abbrev pub dumped : Live → Base → List ℕ → LineResult
 dumped (Running seat) (OnCard c) n = static_of (lookup c.apps n)
 dumped (Running seat) (AtFault cause p) n = NoCard
@@ -313,14 +314,14 @@ line_command c seat budget (line.Apdu b) = command c seat b budget
 line_command c seat budget (line.Load u fixed session) = send c seat budget (load_commands u fixed session)
 line_command c seat budget _ = refused seat 0x9000
 
--- a card line other than power: where a card runs its command, else that none runs
+-- a card line other than power: its command if a card runs, else the result that none does
 abbrev pub card_line : ℕ → DeckLine → Warm → Live → Base → Option WornAt → Step
 card_line n l s (Running seat) (OnCard c) w =
     let r = line_command c seat s.budget l in
     command_step n l s c r (hit_of s.armed (moves r.items) w)
 card_line n l s live base w = quiet n l (Hot s) (Some (without_card live)) (Hot (record s { armed = Unarmed }))
 
--- a line from the first power line on
+-- a line after the first power line
 abbrev pub hot_step : ℕ → DeckLine → Warm → Option WornAt → Step
 hot_step n line.Format s w = quiet n line.Format (Hot s) None (Hot s)
 hot_step n (line.Poke at x) s w = quiet n (line.Poke at x) (Hot s) None (Hot s)
@@ -344,7 +345,7 @@ warmed m budget armed =
 abbrev pub cold_line : ℕ → DeckLine → List (List ℕ) → ℕ → Armed → Armed → Step
 cold_line n l m budget armed after = quiet n l (Cold m budget armed) (Some NoCard) (Cold m budget after)
 
--- a line up to the first power line
+-- a line before the first power line, or that line
 abbrev pub cold_step : ℕ → DeckLine → List (List ℕ) → ℕ → Armed → Option WornAt → Step
 cold_step n line.Format m b a w = quiet n line.Format (Cold m b a) (Some Formatted) (Cold (formatted m) b a)
 cold_step n (line.Poke at x) m b a w = quiet n (line.Poke at x) (Cold m b a) None (Cold (slice_set m at x) b a)
@@ -359,14 +360,14 @@ cold_step n (line.Select x) m b a w = cold_line n (line.Select x) m b a Unarmed
 cold_step n (line.Delete x) m b a w = cold_line n (line.Delete x) m b a Unarmed
 cold_step n (line.Apdu x) m b a w = cold_line n (line.Apdu x) m b a Unarmed
 
--- one line
+-- the step of one line from a state
 unfoldable pub step : State → ℕ × DeckLine → Option WornAt → Step
 step (Cold m b a) l w = cold_step l.0 l.1 m b a w
 step (Hot s) l w = hot_step l.0 l.1 s w
 
 -- ---- a play
 
--- the worn stop of the first line, and those of the others
+-- the failed write of the first line, if it has one
 abbrev pub first_worn : List (Option WornAt) → Option WornAt
 first_worn [] = None
 first_worn (w ∷ ws) = w
@@ -387,16 +388,16 @@ abbrev pub last_state : State → List Step → State
 last_state s [] = s
 last_state s (t ∷ ts) = last_state t.after ts
 
--- ---- which worn stops are possible
+-- ---- which failed writes are possible
 
--- the owed and migration writes of a power line
+-- the number of device writes of a power line: those that recovery still has to make, and those of the migration
 abbrev pub power_part : State → DeckLine → ℕ
 power_part (Cold m b a) line.Power = power_moves (warmed m b a)
 power_part (Hot s) line.Power = power_moves s
 power_part (Cold m b a) _ = 0
 power_part (Hot s) _ = 0
 
--- the device writes that a line makes where nothing stops it
+-- the number of device writes that a line makes if nothing stops it
 unfoldable pub moves_of : State → ℕ × DeckLine → ℕ
 moves_of s l = power_part s l.1 + moves (step s l None).items
 
@@ -405,40 +406,40 @@ abbrev pub armed_in : State → Armed
 armed_in (Cold m b a) = a
 armed_in (Hot s) = s.armed
 
--- a worn stop comes before the cut that is armed
+-- a failed write with this number comes before the cut that is armed
 abbrev pub IsBeforeCut : Armed → ℕ → Type 0
 IsBeforeCut (ArmedCut k x) j = j < k
 IsBeforeCut Unarmed j = ⊤
 IsBeforeCut (ArmedFail k) j = ⊤
 
--- a worn stop that a line may have: a card line with so many device writes, before the cut that is armed
+-- a failed write that a line may have: one of the device writes of a card line, before the cut that is armed
 pub record IsPossibleAt (s : State) (l : ℕ × DeckLine) (w : WornAt) : Type 0 where
   pub card_line : is_card_line l.1 ≡ true
   pub low : 1 ≤ w.at
   pub high : w.at ≤ moves_of s l
   pub first : IsBeforeCut (armed_in s) w.at
 
--- the worn stop of a line is possible, if it has one
+-- the failed write of a line is possible, if it has one
 abbrev pub MayHit : State → ℕ × DeckLine → Option WornAt → Type 0
 MayHit s l None = ⊤
 MayHit s l (Some w) = IsPossibleAt s l w
 
--- one entry for each line, each possible where it stands
+-- one entry for each line, each possible at its line
 abbrev pub Possible : State → List (ℕ × DeckLine) → List (Option WornAt) → Type 0
 Possible s [] [] = ⊤
 Possible s [] (w ∷ ws) = ⊥
 Possible s (l ∷ ls) [] = ⊥
 Possible s (l ∷ ls) (w ∷ ws) = MayHit s l w × Possible (step s l w).after ls ws
 
--- ---- where worn stops come from
+-- ---- where failed writes come from
 
--- a steady bench refuses just the writes of `fail` lines, and leaves zeros
+-- the failed write of a line on a steady bench: the one that a `fail` line armed and no other, and it leaves zeros
 abbrev pub steady_at : Armed → DeckLine → ℕ → Option WornAt
 steady_at (ArmedFail k) l m = cond (is_card_line l && nat_le k m) (Some (record { at = k; left = zeros 8 })) None
 steady_at Unarmed l m = None
 steady_at (ArmedCut k x) l m = None
 
--- the worn stops of a play on a steady bench
+-- the failed writes of a play on a steady bench
 unfoldable pub steady_worn : State → List (ℕ × DeckLine) → List (Option WornAt)
 steady_worn s [] = []
 steady_worn s (l ∷ ls) =
@@ -446,7 +447,7 @@ steady_worn s (l ∷ ls) =
     let w = steady_at (armed_in s) l.1 m in
     w ∷ steady_worn (step s l w).after ls
 
--- an entry that is a stop
+-- whether an entry of a tape is a stop
 abbrev pub ends_tape : Option Stop → Bool
 ends_tape None = false
 ends_tape (Some s) = true
@@ -461,19 +462,19 @@ chunk zero t = ([], t)
 chunk (suc n) [] = ([], [])
 chunk (suc n) (e ∷ t) = cond (ends_tape e.«end») (e ∷ [], t) (with_entry e (chunk n t))
 
--- the worn stop of an entry with this number, if it is one
+-- the failed write of an entry with this number, if it is one
 abbrev pub worn_entry : ℕ → List ℕ → Option Stop → Option WornAt
 worn_entry k left None = None
 worn_entry k left (Some stop.Off) = None
 worn_entry k left (Some stop.Worn) = Some (record { at = k; left = left })
 
--- the worn stop of a line's entries: the last one
+-- the failed write of a line's entries, if the last one is one
 abbrev pub worn_in : ℕ → List Entry → Option WornAt
 worn_in k [] = None
 worn_in k (e ∷ []) = worn_entry (k + 1) e.left e.«end»
 worn_in k (e ∷ f ∷ es) = worn_in (k + 1) (f ∷ es)
 
--- a bench that tells its tape refuses what the tape says
+-- the failed writes of a play on a bench that records its tape: those of the tape
 unfoldable pub tape_worn : State → List (ℕ × DeckLine) → List Entry → List (Option WornAt)
 tape_worn s [] t = []
 tape_worn s (l ∷ ls) t =
@@ -483,7 +484,8 @@ tape_worn s (l ∷ ls) t =
 
 -- ---- the words that a play leaves
 
--- the words fit a play whose base is a card: they have no fault, they mean the card, and they owe what the play owes
+-- the words fit a play whose base is a card: they have no fault, they hold the card, and recovery still has to make the writes of the
+-- play
 pub record StandsForCard (m : List (List ℕ)) (c : Card) (s : Warm) : Type 0 where
   pub sound : fault m ≡ None
   pub meaning : means m ≡ c
@@ -499,7 +501,8 @@ abbrev pub StandsForBase : List (List ℕ) → Base → Warm → Type 0
 StandsForBase m (OnCard c) s = StandsForCard m c s
 StandsForBase m (AtFault cause p) s = StandsForFault m cause p s
 
--- the words fit a state: before the first power line they are the image; then they fit its base, and what they owe is owed by its journal
+-- the words fit a state: before the first power line they are the image; after it they fit its base, and the journal whose writes
+-- recovery still has to make is that of the play
 abbrev pub StandsForState : List (List ℕ) → State → Type 0
 StandsForState m (Cold image b a) = m ≡ image
 StandsForState m (Hot s) = StandsForBase m s.base s × (s.owed ≢ 0 → owing (which m) ≡ s.by)
@@ -530,7 +533,7 @@ abbrev pub kind_of : Option StopAt → Option Stop
 kind_of None = None
 kind_of (Some t) = Some t.kind
 
--- behind the entries `es` of a line, which left the words m, and with those to come: after each the words stand for the play that was stopped there
+-- with the entries `es` of a line still to come, after words m: after each of them the words fit the play that was stopped there
 abbrev pub StandsAtEach : List (List ℕ) → State → ℕ × DeckLine → ℕ → List Entry → Type 0
 StandsAtEach m s l k [] = ⊤
 StandsAtEach m s l k (e ∷ es) =
@@ -543,7 +546,7 @@ pub record AccountsForLine (m : List (List ℕ)) (s : State) (l : ℕ × DeckLin
   pub each : StandsAtEach m s l 0 es
   pub ends : EndsAs (kind_of t.stop) es
 
--- a told tape accounts for a play from the words m on
+-- a recorded tape accounts for a play from the words m on
 abbrev pub Accounts : List (List ℕ) → State → List (ℕ × DeckLine) → List (Option WornAt) → List Entry → Type 0
 Accounts m s [] ws t = t ≡ []
 Accounts m s (l ∷ ls) ws t =

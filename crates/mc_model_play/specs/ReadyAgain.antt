@@ -9,29 +9,29 @@ use Rattle.mc_model_play.specs.DeckGrammar as line
 
 -- ---- when a card is sure to be there
 
--- a result after which a card is there: `ready`, or `formatted`
+-- whether after a result a card is there: `ready`, or `formatted`
 abbrev pub is_found : Option LineResult → Bool
 is_found (Some (Ready n)) = true
 is_found (Some Formatted) = true
 is_found _ = false
 
--- a state before the first power line
+-- whether a state is before the first power line
 abbrev pub is_cold : State → Bool
 is_cold (Cold m b a) = true
 is_cold (Hot s) = false
 
--- a poke
+-- whether a line is a poke
 abbrev pub is_poke : DeckLine → Bool
 is_poke (line.Poke at x) = true
 is_poke _ = false
 
--- a card is sure to be there after a line: it was found, or it was sure before and no poke could spoil it
+-- whether a card is sure to be there after a line: it was found, or it was sure before and no poke could spoil it
 abbrev pub sure_after : Bool → Step → Bool
 sure_after sure t = is_found t.result || (not (is_poke t.line && is_cold t.before) && sure)
 
--- ---- what a power line answers then
+-- ---- the result of a power line then
 
--- the most device writes of a power line: 65 that a journal owes, and 6 of a migration
+-- the greatest number of device writes of a power line: 65 of a recovery, and 6 of a migration
 abbrev pub most_power_writes : ℕ
 most_power_writes = 71
 
@@ -40,17 +40,17 @@ abbrev pub IsReady : Option LineResult → Type 0
 IsReady (Some (Ready n)) = n ≤ most_power_writes
 IsReady _ = ⊥
 
--- so answers a power line that no stop hit
+-- a power line that no stop hit has that result
 abbrev pub PowerIsReady : DeckLine → Option StopAt → Option LineResult → Type 0
 PowerIsReady line.Power None r = IsReady r
 PowerIsReady _ _ _ = ⊤
 
--- so answers this line, where a card is sure to be there before it
+-- if a card is sure to be there before this line, it has that result, unless it is no power line or a stop hit it
 abbrev pub ReadyLine : Bool → Step → Type 0
 ReadyLine true t = PowerIsReady t.line t.stop t.result
 ReadyLine false t = ⊤
 
--- from a state in which a card is sure to be there, or is not: so does each line behind the first that finds one
+-- each line of a play after the first that finds a card does so; `sure` is whether a card is sure to be there at its start
 abbrev pub ReadyAgain : Bool → List Step → Type 0
 ReadyAgain sure [] = ⊤
 ReadyAgain sure (t ∷ ts) = ReadyLine sure t × ReadyAgain (sure_after sure t) ts
@@ -62,7 +62,7 @@ abbrev pub FitsJournal : Item → Type 0
 FitsJournal Plain = ⊤
 FitsJournal (Atomic w c) = w ≤ 64
 
--- each item of a play does
+-- each item of a play fits a journal
 abbrev pub AllFitJournal : List Step → Type 0
 AllFitJournal [] = ⊤
 AllFitJournal (t ∷ ts) = AllByRecursion FitsJournal t.items × AllFitJournal ts
@@ -78,7 +78,7 @@ IsLine (line.Apdu b) = AreBytes b
 IsLine (line.Poke at x) = AreBytes x × (length x ≡ 8)
 IsLine _ = ⊤
 
--- each line of a play is
+-- each line of a play carries bytes
 abbrev pub AreLines : List Step → Type 0
 AreLines [] = ⊤
 AreLines (t ∷ ts) = IsLine t.line × AreLines ts

@@ -14,7 +14,7 @@ pub record Solo : Type 0 where
   pub map : List (List ℕ × App)
   pub selected : Option Selected
 
--- a command on it: its items, its outcome, and the selection after it
+-- a command on such a card: its items, its outcome, and the selection after it
 pub record SoloCommand : Type 0 where
   pub items : List Item
   pub outcome : Outcome
@@ -24,12 +24,12 @@ pub record SoloCommand : Type 0 where
 abbrev pub solo_refused : Solo → ℕ → SoloCommand
 solo_refused t sw = record { items = []; outcome = Reply [] sw; selected = t.selected }
 
--- a SELECT on it
+-- a SELECT on such a card
 abbrev pub solo_selected : Solo → Managed → SoloCommand
 solo_selected t (Declines sw) = solo_refused t sw
 solo_selected t (Accepts a) = record { items = []; outcome = Reply a.body 0x9000; selected = a.seat.selected }
 
--- a run on it
+-- a run on such a card
 abbrev pub solo_ran : List ℕ → Ran → SoloCommand
 solo_ran n r = record { items = write_items r.writes; outcome = r.outcome; selected = Some (record { name = n; session = r.session }) }
 
@@ -46,22 +46,23 @@ solo_routed t budget WrongLength = solo_refused t 0x6700
 solo_routed t budget WrongClass = solo_refused t 0x6E00
 solo_routed t budget (ToManager a) = solo_refused t 0x6D00
 
--- one command on it
+-- one command on such a card
 unfoldable pub solo_command : Solo → List ℕ → ℕ → SoloCommand
 solo_command t bytes budget = solo_routed t budget (route bytes)
 
--- the stop where it hits: it needs so many device writes
+-- the stop, if it hits a command of m device writes
 abbrev pub hits : ℕ → Option StopAt → Option StopAt
 hits m None = None
 hits m (Some s) = cond (nat_le s.at m) (Some s) None
 
--- an event's part of the fold: the card after it, its answer where it has one, and its items and stop where it is a command
+-- an event's part of the fold: the card after it, its result if it has one, and its items and stop if it is a command
 pub record Heard : Type 0 where
   pub after : Solo
   pub answer : List LineResult
   pub work : List (List Item × Option StopAt)
 
--- after a hit the whole items stand and the selection is gone; what is owed is dropped
+-- a command with the stop that hits it, if one does: its whole items are done and the selection is lost; the writes that recovery still
+-- has to make are dropped
 abbrev pub solo_hit : Solo → SoloCommand → Option StopAt → Heard
 solo_hit t r None =
     record { after = record { map = done t.map r.items; selected = r.selected }; answer = Answered r.outcome ∷ []; work = (r.items, None) ∷ [] }
@@ -76,11 +77,11 @@ solo_hit t r (Some s) =
 abbrev pub heard_command : Solo → SoloCommand → Option StopAt → Heard
 heard_command t r s = solo_hit t r (hits (moves r.items) s)
 
--- an event without an answer
+-- an event without a result
 abbrev pub silent : Solo → Heard
 silent t = record { after = t; answer = []; work = [] }
 
--- one event
+-- one event on such a card
 unfoldable pub hears : Solo → Event → Heard
 hears t (Arrives n a) = silent (record t { map = insert t.map n a })
 hears t (Departs n) = silent (record t { map = remove t.map n })
@@ -88,7 +89,7 @@ hears t Leaves = silent (record t { selected = None })
 hears t (Dumps n) = record { after = t; answer = static_of (lookup t.map n) ∷ []; work = [] }
 hears t (Commands b budget s) = heard_command t (solo_command t b budget) s
 
--- what was heard of one event, and of those behind it
+-- what was heard of one event, and of those after it
 abbrev pub heard_before : Heard → Heard → Heard
 heard_before h r = record { after = r.after; answer = h.answer ++ r.answer; work = h.work ++ r.work }
 

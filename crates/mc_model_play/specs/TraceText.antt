@@ -27,7 +27,7 @@ abbrev pub shown_turns : List Turn → Option StopAt → List Turn
 shown_turns ts None = ts
 shown_turns ts (Some s) = before_stop ts s.at
 
--- the text of a line that was played, behind the lines of its turns
+-- the text of a line that was played, after the lines of its turns
 abbrev pub traced_text : Step → List ℕ
 traced_text t = turn_lines (shown_turns t.turns t.stop) ++ plain_text t
 
@@ -37,7 +37,7 @@ traced ts = texts traced_text ts
 
 -- ---- the transcript in it
 
--- a line of a turn, and no other line, begins with `>`
+-- whether a line of a trace is that of a turn: it begins with `>`, as no other line does
 abbrev pub is_turn_line : List ℕ → Bool
 is_turn_line l = begins 62 l
 

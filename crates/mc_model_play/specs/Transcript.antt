@@ -1,4 +1,4 @@
--- The text that a play writes: for each line that answers its number, a blank, its result and a line feed.
+-- The text that a play writes: for each line that has a result its number, a blank, the result and a line feed.
 use Rattle.std.specs.Prelude.{ℕ, ◌/◌, ◌%◌, List, [], ◌∷◌, ◌++◌, Option, Some, None, codes, decimal}
 use Rattle.mc_model_machine.specs.Words.{abend_code}
 use Rattle.mc_model_machine.specs.Listing.{hex_text, hex_digit}

@@ -1,4 +1,4 @@
--- What a family is told and holds, in a play and on a card of its own, and the law that both are the same.
+-- What a family observes and holds, in a play and on a card of its own, and the law that both are equal.
 use Rattle.std.specs.Prelude.{◌≡◌, ℕ, Bool, true, false, ◌&&◌, List, [], ◌∷◌, ◌++◌, map, Option, Some, None}
 use Rattle.mc_model_device.specs.Bytes.{has_name, lookup}
 use Rattle.mc_model_device.specs.Card.{App}
@@ -10,7 +10,7 @@ use Rattle.mc_model_play.specs.Solo.{solo}
 use Rattle.mc_model_play.specs.DeckGrammar.{DeckLine}
 use Rattle.mc_model_play.specs.DeckGrammar as line
 
--- the answers to its commands and dumps in order, and its static bytes at the end
+-- the view of a family: the results of its commands and dumps in order, and its static bytes at the end
 pub record View : Type 0 where
   pub answers : List LineResult
   pub rest : List LineResult
@@ -20,13 +20,13 @@ abbrev pub is_seen : List (List ℕ) → Step → DeckLine → Bool
 is_seen K t (line.Dump n) = has_name n K && is_running (live_in t.before)
 is_seen K t _ = is_own K t
 
--- a result, where it is the family's
+-- a result, if it is the family's
 abbrev pub seen_if : Bool → Option LineResult → List LineResult
 seen_if true (Some r) = r ∷ []
 seen_if true None = []
 seen_if false r = []
 
--- the answers of a play that are the family's
+-- the results of a play that are the family's
 unfoldable pub answers : List (List ℕ) → List Step → List LineResult
 answers K [] = []
 answers K (t ∷ ts) = seen_if (is_seen K t t.line) t.result ++ answers K ts
@@ -43,9 +43,9 @@ view K s steps = record { answers = answers K steps; rest = rest_of K (apps_in (
 abbrev pub solo_view : List (List ℕ) → Given → View
 solo_view K g = record { answers = (solo g).answer; rest = rest_of K (solo g).after.map }
 
--- ---- same items, same stop
+-- ---- equal items, equal stops
 
--- a line's items and stop, where it is a command of the family
+-- a line's items and stop, if it is a command of the family
 abbrev pub work_if : Bool → Step → List (List Item × Option StopAt)
 work_if true t = (t.items, t.stop) ∷ []
 work_if false t = []

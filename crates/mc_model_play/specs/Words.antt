@@ -1,11 +1,11 @@
--- The words that are printed of the causes that refuse a line of a deck.
+-- The words that are printed for the causes that refuse a line of a deck.
 use Rattle.std.specs.Prelude.{ℕ, List, codes}
 use Rattle.mc_model_card.specs.Words.{unit_word}
 use Rattle.mc_model_machine.specs.Words.{asm_word}
 use Rattle.mc_model_play.specs.declared.deck.DeckCause.{DeckCause}
 use Rattle.mc_model_play.specs.declared.deck.DeckCause.TheVariants as deck
 
--- why a line of a deck is refused: the word of the cause inside, where there is one
+-- the printed word of why a line of a deck is refused: that of the cause inside, if there is one
 abbrev pub deck_word : DeckCause → List ℕ
 deck_word deck.TooManyLines = codes "TooManyLines"
 deck_word deck.BadLine = codes "BadLine"

@@ -22,7 +22,7 @@ pub enum DeckCause {
 }
 
 impl DeckCause {
-    /// The word that a refusal prints: that of the unit's or the assembler's cause where it has one.
+    /// Returns the word that a refusal prints: that of the unit's or the assembler's cause if it has one.
     pub fn word(&self) -> &'static str
         ensures { result.now ≡ deck_word self.now }
     {

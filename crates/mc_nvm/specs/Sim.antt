@@ -1,4 +1,4 @@
--- A device in memory: what it means, and its writes under two fuses.
+-- A device in memory: its state, and its writes under two fuses.
 use Rattle.std.specs.Prelude.{◌≡◌, ◌+◌, ◌<◌, ◌≤◌, ℕ, Bool, true, false, replicate, List, length, slice_set, Option, Some, None, option_map, Ok, Err, refl}
 use Rattle.std.proofs.Common.{subst, sym, inl, inr, arith, zero, suc}
 use Rattle.std.proofs.lemmas.Bool.{cases_lt}
@@ -12,7 +12,7 @@ use Rattle.mc_nvm.specs.declared.fuse.Due.TheVariants.{Cut as FoundCut, Worn as 
 use Rattle.mc_model_device.specs.Counts.{Rose, last_count}
 use Rattle.mc_model_device.specs.Device.{blank_words, DeviceState, BenchState, Fuse, Wrote, NextWriteEnds, fill_at, BenchWrote, Due, DueCut, DueWorn, DueNot, due, falling, counted, next_count}
 
--- what a device in memory means
+-- the state of a device in memory
 pub record Sim : Type 0 where
   pub words : List (List ℕ)
   pub on : Bool
@@ -26,39 +26,39 @@ pub record Sim : Type 0 where
   pub arms : ℕ
   pub wears : ℕ
 
--- what a fuse in memory means
+-- the fuse that a fuse in memory is
 abbrev pub fuse_of : Inside → Fuse
 fuse_of f = record { writes = f.writes; fill = f.fill }
 
--- what was found of the next write
+-- what the fuses do to the next write, as the code found it
 abbrev pub due_of : Found → Due
 due_of (FoundCut fill) = DueCut fill
 due_of (FoundWorn fill) = DueWorn fill
 due_of FoundNot = DueNot
 
--- a device in memory as it is seen
+-- the state of a device in memory, from its fields
 abbrev pub sim_of : Held → Sim
 sim_of a = record { words = a.words.items; on = a.on; cuts = a.cuts; faults = a.faults; cut = option_map fuse_of a.cut; worn = option_map fuse_of a.worn; powers = a.powers; pokes = a.pokes; poked = a.poked; arms = a.arms; wears = a.wears }
 
--- a blank device: power is off, there is no fuse, nothing was counted
+-- a blank device: power is off, there is no fuse, and every count is 0
 abbrev pub blank_sim : ℕ → Sim
 blank_sim n = record { words = blank_words n; on = false; cuts = 0; faults = 0; cut = None; worn = None; powers = 0; pokes = 0; poked = 0; arms = 0; wears = 0 }
 
--- the device that it is; it tells no tape
+-- a device in memory as a device; it records no tape
 abbrev pub sim_state : Sim → DeviceState
 sim_state s = record { words = s.words; on = s.on; cuts = s.cuts; faults = s.faults; tape = None }
 
--- the bench that it is; it refuses no write by itself
+-- a device in memory as a bench; no write fails but by a fuse
 abbrev pub sim_bench : Sim → BenchState
 sim_bench s = record { cut = s.cut; worn = s.worn; powers = s.powers; pokes = s.pokes; poked = s.poked; arms = s.arms; wears = s.wears; steady = true }
 
--- the device after a write of which this came, its fuses nearer by one
+-- the device after a write with this due, its fuses nearer by one
 abbrev pub after_write : Sim → ℕ → List ℕ → Due → Sim
 after_write s at w (DueCut fill) = record s { words = slice_set s.words at fill; on = false; cuts = next_count s.cuts; cut = counted s.cut; worn = counted s.worn }
 after_write s at w (DueWorn fill) = record s { words = slice_set s.words at fill; faults = next_count s.faults; cut = counted s.cut; worn = counted s.worn }
 after_write s at w DueNot = record s { words = slice_set s.words at w; cut = counted s.cut; worn = counted s.worn }
 
--- what a write answers of which this came
+-- how a write with this due ends
 abbrev pub answer_to : Due → Answer
 answer_to (DueCut fill) = Err Off
 answer_to (DueWorn fill) = Err Worn
@@ -69,14 +69,14 @@ abbrev pub Fills : Option Fuse → Type 0
 Fills None = Unit {0}
 Fills (Some f) = length f.fill ≡ 8
 
--- the due of a write that the device refuses by itself, or does not: a cut goes before that
+-- the due of a write that fails by itself, or does not: a cut goes before that
 abbrev pub own : Bool → Due → Due
 own false d = d
 own true (DueCut fill) = DueCut fill
 own true (DueWorn fill) = DueWorn (replicate 8 0)
 own true DueNot = DueWorn (replicate 8 0)
 
--- what comes of the next write, where the device refuses it by itself or not
+-- the due of the next write, by whether it fails by itself
 abbrev pub next_due : Bool → Sim → Due
 next_due refused s = own refused (due (falling s.cut) (falling s.worn))
 
@@ -89,7 +89,7 @@ pub record Sound (s : Sim) : Type 0 where
   pub cut : Fills s.cut
   pub worn : Fills s.worn
 
--- one write of a device in memory, which refuses none by itself
+-- one write of a device in memory, which fails only by a fuse
 pub record SimWrote (s : Sim) (at : ℕ) (w : List ℕ) (a : Answer) (e : Sim) : Type 0 where
   pub place : at < length s.words
   pub size : length w ≡ 8
@@ -99,7 +99,7 @@ pub record SimWrote (s : Sim) (at : ℕ) (w : List ℕ) (a : Answer) (e : Sim) :
 
 -- ---- the rules
 
--- a count that is one higher rose, and falls not
+-- a count that is one higher rose
 pub next_rose : (n : ℕ) → n ≤ last_count → Rose n (next_count n)
 next_rose n h = elim (cases_lt n last_count) [
   | inl below ↦ inl (subst (λ (m : ℕ). n < m) (sym (min-eq_left {n = n + 1} {m = last_count} (omega arith))) (omega arith))
@@ -140,7 +140,7 @@ burnt s at w (DueCut fill) is = record { ends = subst (λ (t : Due). NextWriteEn
 burnt s at w (DueWorn fill) is = record { ends = subst (λ (t : Due). NextWriteEnds t true (sim_state s) at (Err Worn) (sim_state (after_write s at w (DueWorn fill)))) (sym is) (refl, refl); counts = (refl, refl); fuses = inl refl }
 burnt s at w DueNot is = record { ends = subst (λ (t : Due). NextWriteEnds t true (sim_state s) at (Ok tt) (sim_state (after_write s at w DueNot))) (sym is) refl; counts = (refl, refl); fuses = refl }
 
--- and is stopped by its fuses alone
+-- a write of a device in memory is stopped by the fuses alone
 pub sim_burns : (s : Sim) (at : ℕ) (w : List ℕ) (a : Answer) (e : Sim) → (sim_state s).on ≡ true → SimWrote s at w a e → BenchWrote (sim_state s) (sim_bench s) at a (sim_state e) (sim_bench e)
 sim_burns s at w a e on r =
     subst (λ (t : Answer). BenchWrote (sim_state s) (sim_bench s) at t (sim_state e) (sim_bench e)) (sym r.answer)

@@ -1,4 +1,4 @@
--- A device in memory that tells its tape, and refuses the writes of a list besides.
+-- A device in memory that records its tape, and on which the writes of a list fail besides.
 use Rattle.std.specs.Prelude.{◌≡◌, ◌<◌, ℕ, Bool, true, false, ◌||◌, ◌==◌, nat_le, List, [], ◌∷◌, ◌++◌, length, slice_set, Option, Some, None, refl}
 use Rattle.std.proofs.Common.{subst, sym, inl}
 use Rattle.mc_model_device.specs.declared.device.Stop.{Stop}
@@ -9,14 +9,14 @@ use Rattle.mc_nvm.specs.declared.tape_nvm.TapeNvm.TheInside.{Inside as Held}
 use Rattle.mc_nvm.specs.Sim.{Sim, sim_state, sim_bench, blank_sim, own, next_due, after_write, answer_to, Sound, falls_word, next_rose, next_not_less}
 use Rattle.mc_nvm.specs.Tape.{ToldTape, more, unless}
 
--- what a device with a tape means
+-- the state of a device with a tape
 pub record Taped : Type 0 where
   pub device : Sim
   pub tape : ToldTape
   pub worn : List ℕ
   pub tried : ℕ
 
--- a device with its tape as it is seen
+-- the state of a device with a tape, from its fields
 abbrev pub taped_inside : Held → Taped
 taped_inside d = record { device = d.device; tape = d.tape; worn = d.worn.items; tried = d.tried }
 
@@ -34,31 +34,31 @@ abbrev pub no_entry : List ℕ → Bool
 no_entry [] = true
 no_entry (w ∷ ws) = false
 
--- the device with what it tells of its tape
+-- a device with a tape as a device
 abbrev pub taped_state : Taped → DeviceState
 taped_state t = record (sim_state t.device) { tape = t.tape.told }
 
--- it is steady exactly where its list is empty
+-- a device with a tape as a bench: it is steady if and only if its list is empty
 abbrev pub taped_bench : Taped → BenchState
 taped_bench t = record (sim_bench t.device) { steady = no_entry t.worn }
 
--- the word that a write leaves, and its stop
+-- the word that a write with this due leaves
 abbrev pub left_by : Due → List ℕ → List ℕ
 left_by (DueCut fill) w = fill
 left_by (DueWorn fill) w = fill
 left_by DueNot w = w
 
--- the stop of a write of which this came
+-- the stop of a write with this due, if it has one
 abbrev pub stop_of : Due → Option Stop
 stop_of (DueCut fill) = Some Off
 stop_of (DueWorn fill) = Some Worn
 stop_of DueNot = None
 
--- what becomes of the next write
+-- the due of the next write
 abbrev pub taped_due : Taped → Due
 taped_due t = next_due (is_listed t.worn (next_count t.tried)) t.device
 
--- the device after a write of which this came, with its entry
+-- the device after a write with this due, with its entry on the tape
 abbrev pub after_taped : Taped → ℕ → List ℕ → Due → Taped
 after_taped t at w d =
     record t {
@@ -67,7 +67,7 @@ after_taped t at w d =
       tape = record t.tape { told = more t.tape.room t.tape.told (record { at = at; left = left_by d w; end = stop_of d }) };
     }
 
--- one write
+-- one write on a device with a tape
 pub record TapedWrote (t : Taped) (at : ℕ) (w : List ℕ) (a : Answer) (e : Taped) : Type 0 where
   pub place : at < length t.device.words
   pub size : length w ≡ 8
@@ -86,7 +86,7 @@ grown : (room : ℕ) (t : Option (List Entry)) (e : Entry) → Grows t e (more r
 grown room None e = tt
 grown room (Some es) e = grown_if (nat_le room (length es)) es e
 
--- what comes of the fuses leaves a word of eight bytes
+-- a due leaves a word of eight bytes
 DueFills : Due → Type 0
 DueFills (DueCut fill) = length fill ≡ 8
 DueFills (DueWorn fill) = length fill ≡ 8
@@ -121,7 +121,7 @@ taped_obeys t at w a e on r =
     (subst (λ (x : Taped). Wrote (taped_state t) at w (answer_to (taped_due t)) (taped_state x)) (sym r.after)
     (rules t at w on r.sound (taped_due t) (own_fills (is_listed t.worn (next_count t.tried)) _ (due_fills t.device r.sound (falling t.device.cut) (falling t.device.worn) refl refl))))
 
--- what a bench's end of a write is, where a write of the list may be refused
+-- how a write of a bench ends, if a write of the list may fail
 ends : (s : Bool) (b : Bool) (x : DeviceState) (at : ℕ) (w : List ℕ) (d : Due) (e : DeviceState) → (s ≡ true → b ≡ false) → e.words ≡ slice_set x.words at (left_by (own b d) w)
     → NextWriteEnds d s x at (answer_to (own b d)) e
 ends s false x at w (DueCut fill) e h words = (refl, words)
@@ -149,7 +149,7 @@ none_listed : (ws : List ℕ) (n : ℕ) → no_entry ws ≡ true → is_listed w
 none_listed [] n h = refl
 none_listed (w ∷ ws) n h = absurd (cc h)
 
--- and is stopped by its fuses, or by its list where it has one
+-- a write is stopped by the fuses, or by the list if there is one
 pub taped_burns : (t : Taped) (at : ℕ) (w : List ℕ) (a : Answer) (e : Taped) → (taped_state t).on ≡ true → TapedWrote t at w a e → BenchWrote (taped_state t) (taped_bench t) at a (taped_state e) (taped_bench e)
 taped_burns t at w a e on r =
     subst (λ (x : Answer). BenchWrote (taped_state t) (taped_bench t) at x (taped_state e) (taped_bench e)) (sym r.answer)

@@ -5,30 +5,34 @@ ghost use Rattle.mc_model_device.specs.Device.{DeviceState, BenchState, IsImage,
 
 use mc_base::{Stop, Word};
 
-/// A device of 256 to 16,384 words of eight bytes, written one word at a time. A write may stop: power goes or the
-/// device refuses it, and then its word may hold anything.
+/// A device of 256 to 16,384 words of eight bytes, written one word at a time. A write may stop: it is torn as power
+/// goes, or it fails. Its word may hold anything then.
 pub trait Nvm {
-    /// The words, power, the counts of cuts and faults, and the tape where it is told.
+    /// The words, whether power is on, the counts of cuts and failed writes, and the tape, if one is recorded.
     ghost state: { Self → DeviceState };
 
     /// One write: the device before, the place, the word, the answer, the device after.
     ghost wrote: { Self → ℕ → List ℕ → Answer → Self → Type 0 };
 
-    /// The same device, where one is lent.
+    /// Two states belong to one device, if it is borrowed.
     ghost same: { Self → Self → Type 0 };
 
-    /// The number of words, which never changes.
+    /// Returns the number of words, 256 to 16,384, which never changes.
     fn len(&self) -> u32
         ensures len { result ≡ length (state self.now).words }
         ensures image { IsImage (state self.now).words };
 
-    /// The word at a place below the length, with power or without.
+    /// Returns the word at a place below the length, with power or without.
     fn read(&self, at: u32) -> Word
         requires { at < length (state self.now).words }
         ensures { result ≡ slice_index_or (state self.now).words at [] };
 
-    /// Sets one word at a place below the length, where power is on. `Stop::Off` comes only where the count of cuts
-    /// rose, `Stop::Worn` only where the count of faults rose.
+    /// Writes one word at a place below the length, while power is on.
+    ///
+    /// # Errors
+    ///
+    /// Returns `Stop::Off` if power went during the write, and `Stop::Worn` if the write failed. The count of cuts or
+    /// of failed writes rose then, and the word at `at` may hold anything.
     fn write(&mut self, at: u32, word: Word) -> Result<(), Stop>
         requires place { at < length (state self.old).words }
         requires power { (state self.old).on ≡ true }
@@ -44,22 +48,22 @@ pub trait Nvm {
     ghost fits: { (d : Self) (at : ℕ) (w : List ℕ) (a : Answer) (e : Self) → wrote d at w a e
         → (at < length (state d).words) × (length w ≡ 8) };
 
-    /// A write keeps which device is lent.
+    /// A write keeps which device is borrowed.
     ghost keeps: { (d : Self) (at : ℕ) (w : List ℕ) (a : Answer) (e : Self) → wrote d at w a e → same d e };
 
-    /// Any device is the same as itself.
+    /// That relation is reflexive.
     ghost itself: { (d : Self) → same d d };
 
-    /// The same as the same is the same.
+    /// That relation is transitive.
     ghost onward: { (d : Self) (e : Self) (f : Self) → same d e → same e f → same d f };
 }
 
 /// A device whose writes can be stopped on demand, and whose calls are counted.
 pub trait Bench: Nvm {
-    /// The fuses, the numbers of calls, and whether it refuses no write by itself.
+    /// The fuses, the counts of calls, and whether no write fails but by a fuse.
     ghost bench: { Self → BenchState };
 
-    /// Cuts the k-th write from now, which leaves `fill` in its word. It takes the place of an earlier fuse.
+    /// Arms a cut at the k-th write from now, which leaves `fill` in its word. It replaces an earlier cut fuse.
     fn arm(&mut self, k: u32, fill: Word)
         requires { 1 ≤ k }
         ensures state { Self.state self.new ≡ Self.state self.old }
@@ -81,8 +85,8 @@ pub trait Bench: Nvm {
         ensures bench { bench self.new ≡ record (bench self.old) { powers = next_count (bench self.old).powers } }
         ensures lent { Self.same self.old self.new };
 
-    /// Sets one word at a place below the length. It is no write and needs no power. The bench keeps how often power
-    /// had been turned on by then.
+    /// Sets one word at a place below the length. It is no write and needs no power. The bench keeps the count of
+    /// power-ups before it.
     fn poke(&mut self, at: u32, word: Word)
         requires { at < length (Self.state self.old).words }
         ensures state { Self.state self.new
@@ -90,8 +94,8 @@ pub trait Bench: Nvm {
         ensures bench { bench self.new ≡ poked_once (bench self.old) }
         ensures lent { Self.same self.old self.new };
 
-    /// Refuses the k-th write from now, which leaves `fill` in its word, unless another stop comes before it or falls
-    /// on it. It takes the place of an earlier wear fuse.
+    /// Makes the k-th write from now fail and leave `fill` in its word, unless another stop comes before it or falls
+    /// on it. It replaces an earlier wear fuse.
     fn wear(&mut self, k: u32, fill: Word)
         requires { 1 ≤ k }
         ensures state { Self.state self.new ≡ Self.state self.old }

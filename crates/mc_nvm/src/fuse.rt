@@ -4,14 +4,14 @@ ghost use Rattle.mc_nvm.specs.Sim.{fuse_of, due_of, own};
 
 use mc_base::Word;
 
-/// A write to come, counted from now, and the word that it leaves.
+/// A write to come, counted with 1 for the next, and the word that it leaves.
 #[derive(Clone, Copy, Debug, Drop)]
 pub struct Fuse {
     pub writes: u32,
     pub fill: Word,
 }
 
-/// What becomes of the next write.
+/// What happens to the next write: power goes during it, it fails, or neither. A stop leaves this word.
 #[derive(Clone, Copy, Debug, Drop)]
 pub enum Due {
     Cut(Word),
@@ -19,7 +19,7 @@ pub enum Due {
     Not,
 }
 
-/// The fuse after one write.
+/// Returns the fuse after one write, or `None` if the write was its own.
 pub fn nearer(fuse: Option<Fuse>) -> Option<Fuse>
     ensures { option_map fuse_of result ≡ counted (option_map fuse_of fuse) }
 {
@@ -35,7 +35,7 @@ pub fn nearer(fuse: Option<Fuse>) -> Option<Fuse>
     }
 }
 
-/// The word that the fuse leaves in the next write, where it falls on it.
+/// Returns the word that the fuse leaves in the next write, or `None` if it does not fall on it.
 pub fn falls(fuse: Option<Fuse>) -> Option<Word>
     ensures { result ≡ falling (option_map fuse_of fuse) }
 {
@@ -45,8 +45,8 @@ pub fn falls(fuse: Option<Fuse>) -> Option<Word>
     }
 }
 
-/// What becomes of the next write: a cut goes before a refusal by the device itself, and that before a refusal by the
-/// other fuse.
+/// Returns what happens to the next write: a cut goes before a write that fails by itself (`refused`), and that before
+/// the wear fuse.
 pub fn next(cut: Option<Fuse>, worn: Option<Fuse>, refused: bool) -> Due
     ensures { due_of result ≡ own refused (due (falling (option_map fuse_of cut)) (falling (option_map fuse_of worn))) }
 {

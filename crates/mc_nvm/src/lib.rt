@@ -1,6 +1,6 @@
 #![tactic(auto)]
 
-//! Memory that holds words of eight bytes, whose writes may stop: what it means, and devices that live in memory.
+//! Nonvolatile memory of words of eight bytes, whose writes may stop: its traits, and devices that live in memory.
 
 mod device;
 mod fuse;

@@ -16,7 +16,7 @@ pub struct Probe<'a, N: Nvm, L: Ledger> {
 }
 
 impl<'a, N: Nvm, L: Ledger> Probe<'a, N, L> {
-    /// A probe of this device.
+    /// Creates a probe of this device.
     pub fn new(device: &'a N) -> Probe<'a, N, L>
         ensures { probed result ≡ device.now }
     {
@@ -26,7 +26,7 @@ impl<'a, N: Nvm, L: Ledger> Probe<'a, N, L> {
         }
     }
 
-    /// The device's number of words.
+    /// Returns the device's number of words.
     pub fn len(&self) -> u32
         ensures len { result ≡ length (N.state (probed self.now)).words }
         ensures image { IsImage (N.state (probed self.now)).words }
@@ -34,7 +34,7 @@ impl<'a, N: Nvm, L: Ledger> Probe<'a, N, L> {
         self.device.len()
     }
 
-    /// The word at a place below the length; it counts one step.
+    /// Returns the word at a place below the length, and counts one step.
     pub fn read(&self, at: u32, steps: &mut Steps<L>) -> Word
         requires { at < length (N.state (probed self.now)).words }
         ensures word { result ≡ slice_index_or (N.state (probed self.now)).words at [] }

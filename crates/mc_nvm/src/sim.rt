@@ -8,10 +8,10 @@ use mc_base::{NoMemory, Stop, Word};
 use std::alloc::Global;
 use std::marker::Model;
 
-/// What every word of a blank device holds.
+/// The word that a blank device holds in every place.
 const BLANK: Word = [0xFF; 8];
 
-/// A device in memory, under a fuse of either kind. It refuses no write by itself, and tells no tape.
+/// A device in memory, with a fuse of either kind. No write fails but by a fuse, and no tape is recorded.
 #[derive(Drop)]
 pub struct SimNvm {
     words: Vec<Word>,
@@ -38,7 +38,12 @@ impl Model for SimNvm {
 }
 
 impl SimNvm {
-    /// A blank device of 256 to 16,384 words: every byte is FF, power is off, there is no fuse, and every count is 0.
+    /// Creates a blank device of 256 to 16,384 words: every byte is FF, power is off, there is no fuse, and every
+    /// count is 0.
+    ///
+    /// # Errors
+    ///
+    /// Returns `NoMemory` if the system is out of memory.
     pub fn new(alloc: Global, words: u32) -> Result<SimNvm, NoMemory>
         requires low { 256 ≤ words }
         requires high { words ≤ 16384 }
@@ -60,7 +65,7 @@ impl SimNvm {
     }
 
     /// Makes this device blank again, as `new` made it: every byte FF, power off, no fuse, every count 0. Its length
-    /// stays, and it takes no memory.
+    /// stays, and it allocates nothing.
     pub fn erase(&mut self)
         ensures { self.new ≡ blank_sim (length self.old.words) }
     {
@@ -77,8 +82,12 @@ impl SimNvm {
         self.wears = 0;
     }
 
-    /// A write that the device refuses by itself, where `refused` says so, and leaves eight zero bytes. The fuse of
-    /// `arm` goes before that, and that before the fuse of `wear`.
+    /// Writes one word. With `refused` the write fails by itself and leaves eight zero bytes, but the fuse of `arm` goes
+    /// before that, and that before the fuse of `wear`.
+    ///
+    /// # Errors
+    ///
+    /// Returns `Stop::Off` if power went during the write, and `Stop::Worn` if the write failed.
     pub(crate) fn try_write(&mut self, at: u32, word: Word, refused: bool) -> Result<(), Stop>
         requires { at < length self.old.words }
         ensures sound { Sound self.old }
@@ -95,7 +104,7 @@ impl SimNvm {
         }
     }
 
-    // The same write by the fuses that there are.
+    // Writes one word as `try_write` does, by the fuses.
     #[inline(never)]
     fn write_by_fuses(&mut self, at: u32, word: Word, refused: bool) -> Result<(), Stop>
         requires { at < length self.old.words }
@@ -201,7 +210,7 @@ fn bytes_by_eight(words: &[Word])
     each_byte(words.as_flattened());
 }
 
-// The same of a slice of bytes.
+// A byte is below 256; a caller learns it here of a slice.
 fn each_byte(bytes: &[u8])
     ensures { AreBytes bytes.now }
 {}

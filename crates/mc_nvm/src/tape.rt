@@ -5,7 +5,7 @@ use mc_base::{NoMemory, Stop, Word};
 use std::alloc::Global;
 use std::marker::Model;
 
-/// One write that was tried: its place, the word that stood there afterwards, and the stop where there was one.
+/// One write that was tried: its place, the word that is there afterwards, and the stop if there was one.
 #[derive(Clone, Copy, Debug, PartialEq, Eq, Drop)]
 pub struct Entry {
     pub at: u32,
@@ -13,7 +13,7 @@ pub struct Entry {
     pub end: Option<Stop>,
 }
 
-/// The entries of all writes so far, up to a number of them; it tells none once there were more.
+/// The entries of all writes so far, up to a number of them; once there were more it returns none.
 #[derive(Drop)]
 pub struct Tape {
     entries: Vec<Entry>,
@@ -32,7 +32,11 @@ impl Model for Tape {
 }
 
 impl Tape {
-    /// An empty tape with room for so many entries.
+    /// Creates an empty tape with room for `room` entries.
+    ///
+    /// # Errors
+    ///
+    /// Returns `NoMemory` if the system is out of memory.
     pub fn new(alloc: Global, room: usize) -> Result<Tape, NoMemory>
         ensures { IfOk result (λ tape. tape ≡ record { room = room; told = Some [] }) }
     {
@@ -43,7 +47,7 @@ impl Tape {
         })
     }
 
-    /// Adds an entry, or tells none from now on.
+    /// Adds an entry; if there is no room for it, the tape returns no entries from now on.
     pub fn add(&mut self, entry: Entry)
         ensures { self.new ≡ record self.old { told = more self.old.room self.old.told (entry_of entry) } }
     {
@@ -54,7 +58,7 @@ impl Tape {
         let _pushed = self.entries.push(entry);
     }
 
-    /// The entries, where they are all there.
+    /// Returns all entries in order, or `None` if there were more than there is room for.
     pub fn entries(&self) -> Option<&[Entry]>
         ensures { MatchOption result (self.now.told ≡ None)
             (λ entries. self.now.told ≡ Some (map entry_of entries.now)) }

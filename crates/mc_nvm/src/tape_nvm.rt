@@ -10,7 +10,7 @@ use mc_base::{NoMemory, Stop, Word};
 use std::alloc::Global;
 use std::marker::Model;
 
-/// A device in memory for tests: besides its fuses it refuses the writes of a list, and it tells its tape.
+/// A device in memory for tests: besides its fuses the writes of a list fail, and it records its tape.
 #[derive(Drop)]
 pub struct TapeNvm {
     device: SimNvm,
@@ -28,9 +28,13 @@ impl Model for TapeNvm {
 }
 
 impl TapeNvm {
-    /// A blank device of 256 to 16,384 words with an empty tape of room for so many entries. The writes whose numbers
-    /// stand in `worn`, counted from 1 over all that are tried, answer `Worn` and leave eight zero bytes, unless the
-    /// fuse of `arm` stops them.
+    /// Creates a blank device of 256 to 16,384 words with an empty tape with room for `room` entries. The writes whose
+    /// numbers are in `worn`, counted from 1 over all that are tried, fail with `Stop::Worn` and leave eight zero
+    /// bytes, unless the fuse of `arm` stops them.
+    ///
+    /// # Errors
+    ///
+    /// Returns `NoMemory` if the system is out of memory.
     pub fn new(alloc: Global, words: u32, room: usize, worn: &[u32]) -> Result<TapeNvm, NoMemory>
         requires low { 256 ≤ words }
         requires high { words ≤ 16384 }
@@ -46,7 +50,7 @@ impl TapeNvm {
         })
     }
 
-    /// All writes that were tried, or `None` where there were more than the tape has room for.
+    /// Returns all writes that were tried, or `None` if there were more than the tape has room for.
     pub fn tape(&self) -> Option<&[Entry]>
         ensures { MatchOption result (self.now.tape.told ≡ None)
             (λ entries. self.now.tape.told ≡ Some (map entry_of entries.now)) }
@@ -54,7 +58,7 @@ impl TapeNvm {
         self.tape.entries()
     }
 
-    // One write, which goes onto the tape with what it left.
+    // Writes one word, and adds the write to the tape with the word that it left.
     fn try_write(&mut self, at: u32, word: Word) -> Result<(), Stop>
         requires { at < length (taped_state self.old).words }
         ensures { TapedWrote self.old at word result self.new }
@@ -135,7 +139,7 @@ impl Bench for TapeNvm {
     }
 }
 
-// Whether the number stands in the list.
+// Returns whether the number is in the list.
 fn is_in(worn: &[u32], number: u64) -> bool
     ensures { result ≡ is_listed worn.now number }
 {

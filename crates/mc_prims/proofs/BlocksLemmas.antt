@@ -1,11 +1,11 @@
--- Messages that are turned block by block in their place.
+-- Messages that are enciphered or deciphered block by block in place.
 use Rattle.std.proofs.Common.{◌≡◌, ℕ, suc, ◌+◌, ◌≤◌, List, ◌++◌, length, take, drop, ap, sym, ◌∙◌, arith, subst, append_assoc}
 use Rattle.std.proofs.lemmas.List.{drop-drop}
 use Rattle.std.proofs.lemmas.Slice.{take-put_mid, drop-put_mid}
 use borrow.Rule.Slice.PartMut.{put_mid}
 use Rattle.mc_model_machine.specs.Modes.{blocks_of, each}
 
--- one more block, which begins at a
+-- one more block, which begins at a, is done
 pub each_step : (f : List ℕ → List ℕ) (size k a j q : ℕ) (l b e : List ℕ) → j ≡ size → q ≡ a + size → a + size ≤ length l → length b ≡ size → b ≡ f (take j (drop a l))
     → take a l ++ each f (blocks_of (suc k) size (drop a l)) ≡ e
     → take q (put_mid a j l b) ++ each f (blocks_of k size (drop q (put_mid a j l b))) ≡ e

@@ -1,4 +1,4 @@
--- How primitives act, and how the calls that they share end.
+-- The effects of primitives, and how the calls that they share end.
 use Rattle.std.specs.Prelude.{◌≡◌, ℕ, ◌+◌, ◌≤◌, Bool, true, false, List, [], ◌∷◌, length, ◌||◌, Option, None, Result, Ok, Err}
 use Rattle.mc_model_machine.specs.declared.machine.Abend.{Abend}
 use Rattle.mc_model_machine.specs.declared.machine.Abend.TheVariants.{A03, A04, A06}
@@ -14,49 +14,50 @@ use Rattle.mc_segs.specs.Ends.{Scene, before, EndActs}
 use Rattle.mc_segs.specs.declared.ends.Halt.{Halt}
 use Rattle.mc_segs.specs.declared.ends.Next.{Next}
 
--- what a primitive knows that asks nothing around it
+-- some surroundings, for primitives that do not depend on them
 abbrev pub alone : Around
 alone = record { case = 0; delegator = None }
 
--- causes in their order, and what is done where none holds, by the result of the call
+-- the result of a call is the abend of the first cause that holds, and else the effect `done`
 abbrev pub CausesAct : {B : Type 0} → (B → BankItem → Answer → B → Type 0) → (B → BankState) → (B → ℕ → Option (List ℕ)) → Scene B → List (Abend × Bool) → Done → Result Next Halt → Type 0
 CausesAct did state named s causes done r = EndActs did state named s (judged (first_cause causes) done) r
 
--- a primitive whose own bytes are good and which is not denied, by the result of the call
+-- the result of a call is that of a primitive whose argument bytes are good and which is not denied
 abbrev pub PrimActs : {B : Type 0} → (B → BankItem → Answer → B → Type 0) → (B → BankState) → (B → ℕ → Option (List ℕ)) → Scene B → Primitive → List ℕ → Around → Result Next Halt → Type 0
 PrimActs did state named s p args x r =
     let f = before state named s in
     CausesAct did state named s (later_causes p args f s.public x) (prim_effect p args f s.public x) r
 
--- n bytes were popped, which gave this value: they have room again. Abend 04 where the stack has fewer, and then registers alone have moved
+-- the top n bytes were popped and have this value, and n bytes have room on the stack again; abend 04 if the stack has fewer, and then
+-- only registers have changed
 abbrev pub Pops : {A : Type 0} → Result A Abend → A → ℕ → Held → Held → Type 0
 Pops (Ok v) value n h k = (is_under h.frame n ≡ false) × (v ≡ value) × (k ≡ record h { frame = popped h.frame n }) × (k.frame.dt + n ≤ 0x8200)
 Pops (Err a) value n h k = (is_under h.frame n ≡ true) × (a ≡ A04) × (k.frame.dyn ≡ h.frame.dyn) × (k.frame.session ≡ h.frame.session)
 
--- the same for the bytes themselves, into a place where they lie then
+-- the top n bytes were popped into an array, and n bytes have room on the stack again; abend 04 if the stack has fewer
 abbrev pub PopsInto : Result (Unit {0}) Abend → ℕ → Held → Held → List ℕ → Type 0
 PopsInto (Ok u) n h k into = (is_under h.frame n ≡ false) × (into ≡ top h.frame n) × (k ≡ record h { frame = popped h.frame n }) × (k.frame.dt + n ≤ 0x8200)
 PopsInto (Err a) n h k into = (is_under h.frame n ≡ true) × (a ≡ A04) × (k ≡ h)
 
--- n bytes at an address were read; abend 03 where they are not whole in a segment
+-- the n bytes at an address were read; abend 03 if they do not lie whole in a segment
 abbrev pub ReadsBytes : Result (List ℕ) Abend → Frame → List ℕ → ℕ → ℕ → Type 0
 ReadsBytes (Ok b) f public a n = (is_outside f a n ≡ false) × (b ≡ bytes_at f public a n) × (length b ≡ n)
 ReadsBytes (Err e) f public a n = (is_outside f a n ≡ true) × (e ≡ A03)
 
--- the byte at an address was read, with the address behind it; abend 03 where it is in no segment
+-- the byte at an address was read, and the address after it; abend 03 if it is in no segment
 abbrev pub ReadsCount : Result (ℕ × ℕ) Abend → Frame → List ℕ → ℕ → Type 0
 ReadsCount (Ok c) f public a = (is_outside f a 1 ≡ false) × (c.0 ≡ count_at f public a) × (c.1 ≡ a + 1)
 ReadsCount (Err e) f public a = (is_outside f a 1 ≡ true) × (e ≡ A03)
 
--- a length that was read: abend 06 where it is not 1 to 255
+-- a length from 1 to 255; any other is abend 06
 abbrev pub IsLength : Result ℕ Abend → ℕ → Type 0
 IsLength (Ok n) len = (in_range 1 255 len ≡ true) × (n ≡ len)
 IsLength (Err e) len = (in_range 1 255 len ≡ false) × (e ≡ A06)
 
--- the causes of a comparison of n bytes, and what it does
+-- the causes of abends of a comparison of n bytes
 abbrev pub compare_causes : Frame → ℕ → ℕ → ℕ → List (Abend × Bool)
 compare_causes g n first second = (A03, is_outside g first n || is_outside g second n) ∷ []
 
--- the flags of two blocks that are compared
+-- the effect of a comparison of n bytes: the flags of their difference
 abbrev pub flags_compared : Frame → List ℕ → ℕ → ℕ → ℕ → Done
 flags_compared g public n first second = going (compared g public (sub_blocks (bytes_at g public first n) (bytes_at g public second n)))

@@ -1,4 +1,4 @@
--- The primitives, ciphers and surroundings of the code in the definition's words.
+-- The code's primitives, ciphers and surroundings as values of the definition's types.
 use Rattle.std.specs.Prelude.{ℕ, List}
 use Rattle.mc_model_machine.specs.Blocks.{Worked, shift_left_block, shift_right_block}
 use Rattle.mc_model_machine.specs.Primitives as model
@@ -12,13 +12,13 @@ use Rattle.mc_prims.specs.declared.bits.Side.{Side}
 use Rattle.mc_prims.specs.declared.bits.Side.TheVariants as side
 use Rattle.mc_prims.specs.declared.dispatch.Around.{Around}
 
--- a cipher of the code
+-- a cipher as the definition's value
 abbrev pub cipher_of : Cipher → model.Cipher
 cipher_of cipher.Des = model.Des
 cipher_of cipher.TripleDes = model.TripleDes
 cipher_of cipher.Aes = model.Aes
 
--- a primitive of the code
+-- a primitive as the definition's value
 abbrev pub primitive_of : Primitive → model.Primitive
 primitive_of prim.CheckCase = model.CheckCase
 primitive_of prim.LoadCcr = model.LoadCcr
@@ -40,16 +40,16 @@ primitive_of prim.ShiftLeft = model.ShiftLeft
 primitive_of prim.ShiftRight = model.ShiftRight
 primitive_of prim.BitWord = model.BitWord
 
--- a block enciphered or deciphered
+-- a block enciphered or deciphered by a cipher and a key
 abbrev pub turned : Way → model.Cipher → List ℕ → List ℕ → List ℕ
 turned way.Encipher c = model.enciphered c
 turned way.Decipher c = model.deciphered c
 
--- a block shifted to a side
+-- a block shifted left or right by a number of bits
 abbrev pub shift_block : Side → List ℕ → ℕ → Worked
 shift_block side.Left = shift_left_block
 shift_block side.Right = shift_right_block
 
--- what a primitive knows around it
+-- the surroundings of a primitive as the definition's value
 abbrev pub known : Around → model.Around
 known a = record { case = a.case; delegator = a.delegator }

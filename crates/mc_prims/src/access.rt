@@ -15,7 +15,7 @@ use mc_model_machine::Abend;
 use mc_segs::{Frame, Public, load};
 use std::marker::Model;
 
-/// At most 255 bytes.
+/// A block of at most 255 bytes.
 #[derive(Drop)]
 pub struct Block {
     bytes: [u8; 255],
@@ -31,7 +31,11 @@ impl Model for Block {
 }
 
 impl Block {
-    /// Reads so many bytes at an address. Abend 03 where they are not whole in a segment.
+    /// Reads the `len` bytes at the address `at`.
+    ///
+    /// # Errors
+    ///
+    /// Returns abend 03 if they do not lie whole in a segment.
     pub fn read<B: Bank>(
         bank: &B,
         frame: &Frame,
@@ -47,7 +51,7 @@ impl Block {
         Ok(Block { bytes, len })
     }
 
-    /// A count and the bytes that it counts.
+    /// Returns the block of a count byte and the bytes that it counts, at most 254.
     pub fn counted(counted: &[u8]) -> Block
         requires { length counted.now ≤ 254 }
         ensures { result ≡ length counted.now ∷ counted.now }
@@ -62,14 +66,14 @@ impl Block {
         }
     }
 
-    /// Its bytes.
+    /// Returns its bytes.
     pub fn bytes(&self) -> &[u8]
         ensures { result.now ≡ self.now }
     {
         &self.bytes[..self.len as usize]
     }
 
-    /// Enciphers or deciphers it as a message, each block by itself.
+    /// Enciphers or deciphers it in ECB mode (FIPS 81); it is a message of whole blocks.
     pub fn turn(&mut self, way: Way, cipher: Cipher, key: &[u8])
         requires key { length key.now ≡ model.key_len (cipher_of cipher) }
         requires whole { length self.old % model.block_len (cipher_of cipher) ≡ 0 }
@@ -81,7 +85,7 @@ impl Block {
         cipher.turn_each(way, key, &mut self.bytes[..len]);
     }
 
-    /// Takes it as the start of a chain over a message of whole blocks, and becomes the last block of the chain.
+    /// Replaces it, the start block, by the last block of CBC mode (FIPS 81) over a message of whole blocks.
     pub fn sign(&mut self, cipher: Cipher, key: &[u8], message: &[u8])
         requires key { length key.now ≡ model.key_len (cipher_of cipher) }
         requires start { length self.old ≡ model.block_len (cipher_of cipher) }
@@ -95,7 +99,11 @@ impl Block {
     }
 }
 
-/// Abend 03 where so many bytes at an address are not whole in a segment.
+/// Tests that the `len` bytes at the address `at` lie whole in a segment.
+///
+/// # Errors
+///
+/// Returns abend 03 if they do not.
 pub fn reach<B: Bank>(
     bank: &B,
     frame: &Frame,
@@ -110,7 +118,11 @@ pub fn reach<B: Bank>(
     Ok(())
 }
 
-/// Reads a count at an address, and tells the address of the bytes that it counts. Abend 03 where it is in no segment.
+/// Returns the count byte at the address `at`, and the address of the bytes that it counts.
+///
+/// # Errors
+///
+/// Returns abend 03 if the count is in no segment.
 #[tactic(auto, using(crate::proofs::FrameLemmas::inside_low))]
 pub fn read_count<B: Bank>(
     bank: &B,
@@ -122,14 +134,18 @@ pub fn read_count<B: Bank>(
     requires room { length frame.now.frame.fixed ≤ 4096 }
     ensures { ReadsCount result (shown (B.state bank.now) (B.named bank.now) frame.now) public.now at }
 {
-    // No segment holds the last address: the static one ends at 1000, and DT is at most 8200.
+    // No segment holds the address FFFF: the static segment ends at 1000, and DT is at most 8200.
     let _top = frame.dt();
     let mut count = [0];
     load(bank, frame, public, at, &mut count)?;
     Ok((count[0], at + 1))
 }
 
-/// A length that was read. Abend 06 where it is not 1 to 255.
+/// Returns a length as a byte.
+///
+/// # Errors
+///
+/// Returns abend 06 if it is not 1 to 255.
 pub fn as_length(len: u16) -> Result<u8, Abend>
     ensures { IsLength result len }
 {

@@ -1,4 +1,4 @@
-// The top of the stack under a mask, and shifted.
+// Bitwise operations with a mask and shifts of the top of the stack.
 ghost use Rattle.std.specs.Prelude.{◌≡◌, ◌≤◌, ◌<◌, ◌*◌, ◌==◌, cond, [], ◌∷◌, false, slice_index, length};
 ghost use Rattle.mc_model_machine.specs.declared.machine.Abend.TheVariants.{A04};
 ghost use Rattle.mc_model_machine.specs.Blocks.{and_blocks, is_zero};
@@ -14,14 +14,15 @@ use mc_arith::{Flags, and, not, or, shift_left, shift_right, xor};
 use mc_bank::Bank;
 use mc_segs::{Frame, Halt, Next, Public, push};
 
-/// Where bits go.
+/// The direction of a shift.
 #[derive(Clone, Copy, Debug, PartialEq, Eq)]
 pub enum Side {
     Left,
     Right,
 }
 
-/// Changes or tests the top bytes of the stack under a mask: op 0 clears its bits, 1 sets them, 2 inverts them, 3 only tests.
+/// Changes or tests the top `N` bytes of the stack with a mask: op 0 clears its bits, 1 sets them, 2 inverts
+/// them, 3 only tests them. Sets Z to whether the result is zero.
 #[tactic(auto, using(crate::proofs::FrameLemmas::pushed_popped))]
 pub fn manipulate_top<B: Bank, const N: usize>(
     op: u8,
@@ -48,7 +49,7 @@ pub fn manipulate_top<B: Bank, const N: usize>(
     Ok(Next::Go)
 }
 
-// Works on a value under a mask, and says whether the result is zero.
+// Changes or tests a value with a mask, and returns whether the result is zero.
 fn manipulate<const N: usize>(op: u8, value: &mut [u8; N], mask: &[u8; N]) -> bool
     requires op { op ≤ 3 }
     requires low { 1 ≤ N }
@@ -72,7 +73,7 @@ fn manipulate<const N: usize>(op: u8, value: &mut [u8; N], mask: &[u8; N]) -> bo
     }
 }
 
-/// Shifts the top bytes of the stack, so many, by so many bits.
+/// Shifts the top `len` bytes of the stack by `by` bits, and sets both flags.
 #[tactic(auto, using(crate::proofs::FrameLemmas::pushed_popped))]
 pub fn shift_top<B: Bank>(
     side: Side,
@@ -102,7 +103,7 @@ pub fn shift_top<B: Bank>(
     Ok(Next::Go)
 }
 
-// Shifts a value to a side.
+// Shifts a value left or right.
 fn shift(side: Side, value: &mut [u8], by: u8) -> Flags
     requires low { 1 ≤ length value.old }
     requires high { length value.old ≤ 16 }

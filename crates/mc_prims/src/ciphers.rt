@@ -1,4 +1,4 @@
-// Messages through ciphers.
+// Ciphers over messages.
 ghost use Rattle.std.specs.Prelude.{◌≡◌, ◌%◌, ◌<◌, length, [], ◌∷◌, false, not};
 ghost use Rattle.mc_model_machine.specs.Modes.{ecb};
 ghost use Rattle.mc_model_machine.specs.Primitives as model;
@@ -10,7 +10,7 @@ use mc_des::{
     des_decipher, des_encipher, des_signature, tdes_decipher, tdes_encipher, tdes_signature,
 };
 
-/// What becomes of a message.
+/// The direction of a cipher.
 #[derive(Clone, Copy, Debug, PartialEq, Eq)]
 pub enum Way {
     Encipher,
@@ -28,7 +28,7 @@ fn array<const N: usize>(bytes: &[u8]) -> [u8; N]
 }
 
 impl Cipher {
-    // Enciphers a block in its place.
+    // Enciphers a block in place.
     fn encipher(self, key: &[u8], block: &mut [u8])
         requires key { length key.now ≡ model.key_len (cipher_of self) }
         requires block { length block.old ≡ model.block_len (cipher_of self) }
@@ -41,7 +41,7 @@ impl Cipher {
         }
     }
 
-    // Deciphers a block in its place.
+    // Deciphers a block in place.
     fn decipher(self, key: &[u8], block: &mut [u8])
         requires key { length key.now ≡ model.key_len (cipher_of self) }
         requires block { length block.old ≡ model.block_len (cipher_of self) }
@@ -54,7 +54,7 @@ impl Cipher {
         }
     }
 
-    // Enciphers or deciphers a block in its place.
+    // Enciphers or deciphers a block in place.
     fn turn(self, way: Way, key: &[u8], block: &mut [u8])
         requires key { length key.now ≡ model.key_len (cipher_of self) }
         requires block { length block.old ≡ model.block_len (cipher_of self) }
@@ -66,7 +66,7 @@ impl Cipher {
         }
     }
 
-    /// Enciphers or deciphers a message of whole blocks in its place, each block by itself.
+    /// Enciphers or deciphers a message of whole blocks in place, in ECB mode (FIPS 81).
     pub fn turn_each(self, way: Way, key: &[u8], message: &mut [u8])
         requires key { length key.now ≡ model.key_len (cipher_of self) }
         requires whole { length message.old % model.block_len (cipher_of self) ≡ 0 }
@@ -79,7 +79,8 @@ impl Cipher {
         }
     }
 
-    /// Writes the last block of a chain over a message of whole blocks; what it is written over is the start block.
+    /// Replaces `last`, the start block, by the last block of CBC mode (FIPS 81) over a message of whole
+    /// blocks.
     pub fn sign(self, key: &[u8], message: &[u8], last: &mut [u8])
         requires key { length key.now ≡ model.key_len (cipher_of self) }
         requires start { length last.old ≡ model.block_len (cipher_of self) }

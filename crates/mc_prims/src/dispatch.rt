@@ -19,19 +19,24 @@ use mc_base::Aid;
 use mc_model_machine::Abend;
 use mc_segs::{Frame, Halt, Next, Public};
 
-/// What a primitive knows besides its frame: the case of the chain's command, 1 to 4, and the name of the application
-/// whose frame delegated to the running one, where there is one.
+/// The surroundings of a frame: the case of the chain's command, 1 to 4, and the name of the application
+/// whose frame delegated to the running one, if there is one.
 #[derive(Clone, Copy, Debug, PartialEq, Eq)]
 pub struct Around {
     pub case: u8,
     pub delegator: Option<Aid>,
 }
 
-/// Does the primitive of a set and a number. As many of the argument bytes count as the set's number says. It abends with 06
-/// where there is no such pair or the argument bytes are out of their range, then with 0A where the access list of the
-/// frame's application denies the primitive, and then by the primitive's other causes, the first that holds. An abend
-/// writes no byte. A `Stop` is the bank's, which stopped in the static change. The ciphers are DES and two-key triple DES
-/// (FIPS 46-3) and AES-128 (FIPS 197), by ECB or as the last block of CBC (FIPS 81), and the digest is SHA-1 (FIPS 180-4).
+/// Executes the primitive of a set and a number. A set has as many arguments as its number; the other bytes
+/// of `args` do not count. The ciphers are DES and two-key triple DES (FIPS 46-3) and AES-128 (FIPS 197), in
+/// ECB mode or as the last block of CBC (FIPS 81), and the digest is SHA-1 (FIPS 180-4).
+///
+/// # Errors
+///
+/// Returns abend 06 if there is no such pair or the argument bytes are out of their range, else abend 0A if
+/// the access list of the frame's application denies the primitive, else the abend of the primitive's first
+/// other cause that holds. An abend writes no byte. Returns the `Stop` of the bank if it stopped during the
+/// change of static bytes.
 #[tactic(auto, unfolding(mc_model_machine::specs::Row::row, mc_model_machine::specs::Row::causes, mc_model_machine::specs::Row::effect))]
 pub fn prim<B: Bank>(
     set: u8,
@@ -59,7 +64,7 @@ pub fn prim<B: Bank>(
     run(primitive, args, around, frame, public, bank)
 }
 
-// Does a primitive whose argument bytes are good and which is not denied.
+// Executes a primitive whose argument bytes are good and which is not denied.
 #[tactic(auto, unfolding(mc_model_machine::specs::Primitives::later_causes, mc_model_machine::specs::Primitives::prim_effect))]
 fn run<B: Bank>(
     primitive: Primitive,

@@ -1,4 +1,4 @@
-// Bytes copied, compared, digested and looked up.
+// The primitives that copy, compare, digest and look up bytes.
 ghost use Rattle.std.specs.Prelude.{◌≡◌, ◌+◌, ◌==◌, ◌≤◌, [], ◌∷◌, false, length, position, Ok};
 ghost use Rattle.mc_model_machine.specs.Frame.{flagged, pushed};
 ghost use Rattle.mc_model_machine.specs.Primitives as model;
@@ -15,7 +15,7 @@ use mc_bank::Bank;
 use mc_segs::{Frame, Halt, Next, Public, push, store};
 use sha1::Sha1;
 
-/// Memory Copy: length, to and from are on the stack.
+/// Executes Memory Copy: copies bytes. Their length and the addresses of target and source are on the stack.
 #[tactic(auto, unfolding(mc_model_machine::specs::Primitives::later_causes, mc_model_machine::specs::Primitives::prim_effect))]
 pub fn copy_memory<B: Bank>(
     frame: &mut Frame,
@@ -33,7 +33,8 @@ pub fn copy_memory<B: Bank>(
     Ok(Next::Go)
 }
 
-/// Memory Copy Fixed Length: to and from are on the stack.
+/// Executes Memory Copy Fixed Length: copies as many bytes as the argument byte states. The addresses of
+/// target and source are on the stack.
 #[tactic(auto, unfolding(mc_model_machine::specs::Primitives::later_causes, mc_model_machine::specs::Primitives::prim_effect))]
 pub fn copy_fixed<B: Bank>(
     args: &[u8; 3],
@@ -52,7 +53,8 @@ pub fn copy_fixed<B: Bank>(
     Ok(Next::Go)
 }
 
-/// Memory Compare: length, first and second are on the stack.
+/// Executes Memory Compare: sets the flags of the first block minus the second. Their length and their
+/// addresses are on the stack.
 #[tactic(auto, unfolding(mc_model_machine::specs::Primitives::later_causes, mc_model_machine::specs::Primitives::prim_effect))]
 pub fn compare_memory<B: Bank>(
     frame: &mut Frame,
@@ -68,7 +70,8 @@ pub fn compare_memory<B: Bank>(
     compare_bytes(len, first, second, frame, public, bank)
 }
 
-/// Memory Compare Fixed Length: first and second are on the stack.
+/// Executes Memory Compare Fixed Length: sets the flags of the first block minus the second, of the length in
+/// the argument byte. Their addresses are on the stack.
 #[tactic(auto, unfolding(mc_model_machine::specs::Primitives::later_causes, mc_model_machine::specs::Primitives::prim_effect))]
 pub fn compare_fixed<B: Bank>(
     args: &[u8; 3],
@@ -107,7 +110,8 @@ fn compare_bytes<B: Bank>(
     Ok(Next::Go)
 }
 
-/// SHA-1 (FIPS 180-4): length, from and to are on the stack.
+/// Executes SHA-1 (FIPS 180-4): writes the digest of a message. The length of the message and the addresses
+/// of the message and the digest are on the stack.
 #[tactic(auto, unfolding(mc_model_machine::specs::Primitives::later_causes, mc_model_machine::specs::Primitives::prim_effect))]
 pub fn digest<B: Bank>(frame: &mut Frame, public: &mut Public, bank: &mut B) -> Result<Next, Halt>
     requires runs { CanRun (B.state bank.old) (B.named bank.old) frame.old }
@@ -115,7 +119,7 @@ pub fn digest<B: Bank>(frame: &mut Frame, public: &mut Public, bank: &mut B) -> 
         (scene bank.old bank.new frame.old frame.new public.old public.new) Digest [] alone result }
 {
     let (len, from, to) = pop_three(frame)?;
-    // The length of the digest does not hang on the one that was read: its place is tested first.
+    // The length of the digest does not depend on the one that was read, so its place is tested first.
     reach(bank, frame, public, to, 20)?;
     let len = as_length(len)?;
     let message = Block::read(bank, frame, public, from, len)?;
@@ -123,8 +127,8 @@ pub fn digest<B: Bank>(frame: &mut Frame, public: &mut Public, bank: &mut B) -> 
     Ok(Next::Go)
 }
 
-/// Lookup: a byte and an address are on the stack. At the address are a count and the bytes among which the byte is
-/// looked up.
+/// Executes Lookup: pushes the first index of a byte, or 0, and sets Z to whether it was found. The byte and
+/// an address are on the stack; at the address are a count and the bytes among which the byte is looked up.
 #[tactic(auto, unfolding(mc_model_machine::specs::Primitives::later_causes, mc_model_machine::specs::Primitives::prim_effect))]
 pub fn look_up<B: Bank>(frame: &mut Frame, public: &mut Public, bank: &mut B) -> Result<Next, Halt>
     requires runs { CanRun (B.state bank.old) (B.named bank.old) frame.old }
@@ -141,7 +145,7 @@ pub fn look_up<B: Bank>(frame: &mut Frame, public: &mut Public, bank: &mut B) ->
     }
 }
 
-// Pushes a place, and tells by Z whether it is one.
+// Pushes an index, and sets Z to whether the byte was found.
 fn tell_place(place: u8, found: bool, frame: &mut Frame) -> Result<Next, Halt>
     requires room { frame.old.frame.dt + 1 ≤ 0x8200 }
     ensures done { result ≡ Ok Go }
@@ -155,7 +159,7 @@ fn tell_place(place: u8, found: bool, frame: &mut Frame) -> Result<Next, Halt>
     Ok(Next::Go)
 }
 
-// The first place of a byte.
+// The first index of a byte.
 fn first_place(bytes: &[u8], value: u8) -> Option<u8>
     requires { length bytes.now ≤ 255 }
     ensures { result ≡ position (λ b. b == value) bytes.now }

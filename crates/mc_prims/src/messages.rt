@@ -1,4 +1,4 @@
-// Messages enciphered, deciphered and signed.
+// The primitives that encipher, decipher and sign messages.
 ghost use Rattle.std.specs.Prelude.{◌≡◌, [], ◌∷◌, false, true, get_or, slice_index};
 ghost use Rattle.mc_model_machine.specs.Primitives as model;
 ghost use Rattle.mc_segs.specs.HeldFrames.{shown, CanRun};

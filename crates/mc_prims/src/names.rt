@@ -1,4 +1,4 @@
-// The names of applications that delegate and are delegated to.
+// The primitives on the names of applications that delegate and are delegated to.
 ghost use Rattle.std.specs.Prelude.{◌≡◌, ◌≤◌, [], ◌∷◌, false, length};
 ghost use Rattle.mc_model_machine.specs.Primitives as model;
 ghost use Rattle.mc_model_machine.specs.Primitives.{DelegateTo, DelegatorAid};
@@ -13,7 +13,8 @@ use mc_base::Aid;
 use mc_model_machine::Abend;
 use mc_segs::{Frame, Halt, Next, Public, store};
 
-/// Delegate: an address is on the stack, and at the address a length and a name.
+/// Executes Delegate: returns the name of the application to run next. An address is on the stack; at the
+/// address are the name's length and the name.
 #[tactic(auto, unfolding(mc_model_machine::specs::Primitives::later_causes, mc_model_machine::specs::Primitives::prim_effect))]
 pub fn delegate<B: Bank>(frame: &mut Frame, public: &mut Public, bank: &mut B) -> Result<Next, Halt>
     requires runs { CanRun (B.state bank.old) (B.named bank.old) frame.old }
@@ -33,7 +34,8 @@ pub fn delegate<B: Bank>(frame: &mut Frame, public: &mut Public, bank: &mut B) -
     }
 }
 
-/// Get Delegator AID: an address is on the stack. Without a delegator the address is not tested.
+/// Executes Get Delegator AID: writes the length and the name of the delegator to the address on the stack,
+/// and clears Z. Without a delegator sets Z, and does not test the address.
 #[tactic(auto, unfolding(mc_model_machine::specs::Primitives::later_causes, mc_model_machine::specs::Primitives::prim_effect))]
 pub fn tell_delegator<B: Bank>(
     delegator: Option<Aid>,

@@ -1,5 +1,5 @@
-// The command's case, the flags as a byte, and the protection of static bytes. Each primitive is lent what every primitive
-// is lent, so that its contract is that of its row.
+// The primitives on the command's case, the flags and the protection of static bytes. Each of them borrows
+// what every primitive borrows, so that its contract is that of its row.
 ghost use Rattle.std.specs.Prelude.{◌≡◌, [], ◌∷◌, false};
 ghost use Rattle.mc_model_machine.specs.Primitives as model;
 ghost use Rattle.mc_model_machine.specs.Primitives.{CheckCase, LoadCcr, StoreCcr, SetProtection};
@@ -12,7 +12,7 @@ use mc_bank::Bank;
 use mc_model_machine::Abend;
 use mc_segs::{Frame, Halt, Next, Public, protect, push};
 
-/// Check Case: a case, 1 to 4, is on the stack.
+/// Executes Check Case: pops a case, 1 to 4, and sets Z to whether it is the command's.
 #[tactic(auto, unfolding(mc_model_machine::specs::Primitives::later_causes, mc_model_machine::specs::Primitives::prim_effect))]
 pub fn check_case<B: Bank>(
     case: u8,
@@ -33,7 +33,7 @@ pub fn check_case<B: Bank>(
     Ok(Next::Go)
 }
 
-/// Load CCR: pushes the flags, C as 02 and Z as 01.
+/// Executes Load CCR: pushes the flags, C as 02 and Z as 01.
 #[tactic(auto, unfolding(mc_model_machine::specs::Primitives::later_causes, mc_model_machine::specs::Primitives::prim_effect))]
 pub fn load_flags<B: Bank>(
     frame: &mut Frame,
@@ -48,7 +48,7 @@ pub fn load_flags<B: Bank>(
     Ok(Next::Go)
 }
 
-/// Store CCR: pops the flags, as Load CCR pushes them.
+/// Executes Store CCR: pops the flags, as Load CCR pushes them.
 #[tactic(auto, unfolding(mc_model_machine::specs::Primitives::later_causes, mc_model_machine::specs::Primitives::prim_effect))]
 pub fn store_flags<B: Bank>(
     frame: &mut Frame,
@@ -64,7 +64,8 @@ pub fn store_flags<B: Bank>(
     Ok(Next::Go)
 }
 
-/// Set Transaction Protection.
+/// Executes Set Transaction Protection: sets the protection of static writes to the mode in the argument
+/// byte.
 #[tactic(auto, unfolding(mc_model_machine::specs::Primitives::later_causes, mc_model_machine::specs::Primitives::prim_effect))]
 pub fn set_protection<B: Bank>(
     args: &[u8; 3],

@@ -8,11 +8,15 @@ ghost use Rattle.mc_prims.specs.Acting.{Pops, PopsInto};
 use mc_model_machine::Abend;
 use mc_segs::{Frame, pop};
 
-/// Pops bytes, which have room on the stack again.
+/// Pops bytes into the slice.
+///
+/// # Errors
+///
+/// Returns abend 04 if the stack has fewer bytes; nothing of the frame changes then.
 pub fn pop_into(frame: &mut Frame, into: &mut [u8]) -> Result<(), Abend>
     ensures { PopsInto result (length into.old) frame.old frame.new into.new }
 {
-    // DT is never past the end of the stack, so that what is popped has room again.
+    // DT is never past the end of the stack, so there is room to push as many bytes again.
     let _top = frame.dt();
     pop(frame, into)
 }

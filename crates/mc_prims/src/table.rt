@@ -1,4 +1,4 @@
-// The table of the primitives, what their own bytes may be, and which of them an access list denies.
+// The table of the primitives, the ranges of their argument bytes, and which of them an access list denies.
 ghost use Rattle.std.specs.Prelude.{◌≡◌, ◌*◌, ◌-◌, ◌&&◌, option_map};
 ghost use Rattle.mc_model_machine.specs.Primitives as model;
 ghost use Rattle.mc_prims.specs.Table.{cipher_of, primitive_of};
@@ -36,7 +36,7 @@ pub enum Primitive {
 }
 
 impl Cipher {
-    /// The bytes of a block.
+    /// Returns the length of a block in bytes.
     pub fn block_len(self) -> u8
         ensures { result ≡ model.block_len (cipher_of self) }
     {
@@ -46,7 +46,7 @@ impl Cipher {
         }
     }
 
-    /// The bytes of a key.
+    /// Returns the length of a key in bytes.
     pub fn key_len(self) -> u8
         ensures { result ≡ model.key_len (cipher_of self) }
     {
@@ -56,7 +56,7 @@ impl Cipher {
         }
     }
 
-    // Whether a message of so many bytes is one of whole blocks.
+    // Whether a message of `len` bytes is one or more whole blocks.
     fn is_message(self, len: u8) -> bool
         ensures { result ≡ model.is_message (cipher_of self) len }
     {
@@ -65,7 +65,7 @@ impl Cipher {
 }
 
 impl Primitive {
-    /// The primitive of a pair of set and number; `None` where the table has no such pair.
+    /// Returns the primitive of a pair of set and number, or `None` if the table has no such pair.
     pub fn of(set: u8, number: u8) -> Option<Primitive>
         ensures { option_map primitive_of result ≡ model.primitive set number }
     {
@@ -78,7 +78,7 @@ impl Primitive {
         }
     }
 
-    /// Whether the argument bytes alone are a cause for abend 06.
+    /// Returns whether the argument bytes alone are a cause of abend 06.
     pub fn has_bad_argument(self, args: &[u8; 3]) -> bool
         ensures { result ≡ model.has_bad_argument (primitive_of self) args.now }
     {
@@ -93,7 +93,7 @@ impl Primitive {
         }
     }
 
-    /// Whether the access list denies it.
+    /// Returns whether the access list `deny` denies it.
     pub fn is_denied(self, deny: u16) -> bool
         ensures { result ≡ model.is_denied deny (primitive_of self) }
     {
@@ -164,7 +164,7 @@ fn with_three(number: u8) -> Option<Primitive>
     }
 }
 
-// Whether a value of so many bytes can be shifted by so many bits.
+// Whether a value of `len` bytes, 1 to 16, can be shifted by `by` bits, fewer than it has.
 fn is_shift(len: u8, by: u8) -> bool
     ensures { result ≡ (model.in_range 1 16 len && model.in_range 1 (8 * len - 1) by) }
 {

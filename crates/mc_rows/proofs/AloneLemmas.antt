@@ -1,4 +1,4 @@
--- Only primitives ask what is around their frame.
+-- Only primitives depend on the surroundings of their frame.
 use Rattle.std.proofs.Common.{◌≡◌, ℕ, List, refl}
 use Rattle.mc_model_machine.specs.declared.instruction.Ins.{Ins}
 use Rattle.mc_model_machine.specs.declared.instruction.Ins.TheVariants.{Nop, Setsw, Setla, Setswla, Exit, Exitsw, Exitla, Exitswla, Branch, Jump, Call, Pushz, Pushb, Pushw, Popn, Popb, Popw, Prim, Ret, Reti, Reto, Retio, Load, Store, Loadi, Storei, Loada, Index, Setb, Cmpb, Addb, Subb, Setw, Cmpw, Addw, Subw, Clearn, Testn, Incn, Decn, Notn, Cmpn, Addn, Subn, Andn, Orn, Xorn}
@@ -8,7 +8,7 @@ use Rattle.mc_model_machine.specs.Row.{row, causes, effect}
 use Rattle.mc_rows.specs.Rows.{alone}
 use Rattle.mc_rows.specs.Families.{IsNoPrimitive}
 
--- a row that is no primitive's is the same whatever is around its frame
+-- a row other than PRIM does not depend on the surroundings of its frame
 pub row_alone : (ins : Ins) (f : Frame) (public : List ℕ) (x : Around) → IsNoPrimitive ins → row ins f public x ≡ row ins f public alone
 unfolding row causes effect
 row_alone Nop f public x h = refl

@@ -1,4 +1,4 @@
--- Rows that look at their frame alone, on a bank.
+-- Rows that depend on their frame alone, on a bank.
 use Rattle.std.proofs.Common.{◌≡◌, ℕ, false, List, Option, Result, Ok, Err, refl, sym, ap, subst, ◌∙◌, length}
 use Rattle.std.specs.Prelude.{IsSome}
 use Rattle.mc_model_machine.specs.declared.instruction.Ins.{Ins}
@@ -16,7 +16,7 @@ use Rattle.mc_rows.specs.Rows.{alone, flowing}
 use Rattle.mc_rows.specs.FrameRows.{on_app, AreOfOneApp, FrameEnds, FrameActs, framing}
 
 module _ {B : Type 0} (did : B → BankItem → Answer → B → Type 0) (state : B → BankState) (named : B → ℕ → Option (List ℕ)) where
-  -- a frame fits a bank where one for the same application does
+  -- a frame fits a bank if one for the same application does
   fits_still : (b : B) (h k : Held) → FitsBank (state b) (named b) h → AreOfOneApp h k → FitsBank (state b) (named b) k
   fits_still b h k fits same =
       record {
@@ -28,7 +28,7 @@ module _ {B : Type 0} (did : B → BankItem → Answer → B → Type 0) (state 
         session = same.session ∙ fits.session ∙ ap (λ (n : ℕ). (app_of (state b).apps (named b n)).session) (sym same.slot);
       }
 
-  -- a change of the frame alone leaves the bank as it was
+  -- a change of the frame alone does not change the bank
   left_alone : (b : B) (h k : Held) (public : List ℕ) → (state b).stopped ≡ false → FitsBank (state b) (named b) h → AreOfOneApp h k
       → EffectDone did state named (scene b b h k public public) (framed (on_app k (name_or (named b h.slot)) (app_under (state b) (named b) h).fixed) public)
   left_alone b h k public going fits same =
@@ -50,7 +50,7 @@ module _ {B : Type 0} (did : B → BankItem → Answer → B → Type 0) (state 
       subst (λ (x : Done). EndActs did state named (scene b b h k public public) (Does x) (Ok Go)) (sym ends.0) (refl, left_alone b h k public going fits ends.1)
   frame_ends b h k public (Does d) (Err c) going fits ends = absurd ends
 
-  -- a row that looks at its frame alone acts on every bank that the frame fits
+  -- a row that depends on its frame alone acts as defined on every bank that the frame fits
   pub frame_acts : (i : Ins) (b : B) (h k : Held) (public : List ℕ) (o : Result (Unit {0}) Abend) → (state b).stopped ≡ false → FitsBank (state b) (named b) h
       → FrameActs i h k o → RowActs did state named (scene b b h k public public) i alone (flowing (framing o))
   frame_acts i b h k public o going fits acts =

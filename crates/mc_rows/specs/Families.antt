@@ -1,8 +1,8 @@
--- The families into which the rows are sorted.
+-- The families of instructions, by what a row reads and changes.
 use Rattle.mc_model_machine.specs.declared.instruction.Ins.{Ins}
 use Rattle.mc_model_machine.specs.declared.instruction.Ins.TheVariants.{Nop, Setsw, Setla, Setswla, Exit, Exitsw, Exitla, Exitswla, Branch, Jump, Call, Ret, Reti, Reto, Retio, Pushz, Pushb, Pushw, Popn, Popb, Popw, Loada, Index, Setb, Cmpb, Addb, Subb, Setw, Cmpw, Addw, Subw, Prim}
 
--- every row but those of primitives
+-- the rows other than PRIM
 abbrev pub IsNoPrimitive : Ins → Type 0
 IsNoPrimitive (Prim set number args) = ⊥
 IsNoPrimitive _ = Unit {0}
@@ -19,7 +19,7 @@ IsRegisterRow (Exitla la) = Unit {0}
 IsRegisterRow (Exitswla sw la) = Unit {0}
 IsRegisterRow _ = ⊥
 
--- the rows that look at their frame alone
+-- the rows that depend on their frame alone
 abbrev pub IsFrameRow : Ins → Type 0
 IsFrameRow (Branch cond d) = Unit {0}
 IsFrameRow (Jump cond to) = Unit {0}
@@ -38,7 +38,7 @@ IsFrameRow (Loada tag off) = Unit {0}
 IsFrameRow (Index tag off size) = Unit {0}
 IsFrameRow _ = ⊥
 
--- the other rows but those of primitives: they read or write an operand with an address tag
+-- the other rows than PRIM: those that read or write an operand with an address tag
 abbrev pub HasOperand : Ins → Type 0
 HasOperand Nop = ⊥
 HasOperand (Setsw sw) = ⊥
@@ -66,7 +66,7 @@ HasOperand (Index tag off size) = ⊥
 HasOperand (Prim set number args) = ⊥
 HasOperand _ = Unit {0}
 
--- the rows of a byte or a word against an immediate
+-- the rows of a byte or a word with an immediate operand
 abbrev pub IsImmediate : Ins → Type 0
 IsImmediate (Setb tag off b) = Unit {0}
 IsImmediate (Cmpb tag off b) = Unit {0}

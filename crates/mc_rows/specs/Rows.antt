@@ -1,4 +1,4 @@
--- How the rows of a family end, whatever their operation and the length of their operands.
+-- How the rows of a family end, for each operation and length of their operands.
 use Rattle.std.specs.Prelude.{◌≡◌, ℕ, ◌+◌, ◌*◌, Bool, true, false, not, ◌==◌, ℤ, List, ◌∷◌, length, Option, Some, None, Result, Ok, Err}
 use Rattle.mc_model_machine.specs.declared.machine.Abend.{Abend}
 use Rattle.mc_model_machine.specs.declared.machine.Abend.TheVariants.{A02, A03, A04, A06}
@@ -16,34 +16,35 @@ use Rattle.mc_rows.specs.declared.operations.Binary.TheVariants.{Add, Sub, And, 
 use Rattle.mc_rows.specs.declared.operations.Unary.{Unary}
 use Rattle.mc_rows.specs.declared.operations.Unary.TheVariants.{Inc, Dec, Not}
 
--- nothing is known around the frame: only primitives ask
+-- some surroundings of a frame, on which only primitives depend
 abbrev pub alone : Around
 alone = record { case = 0; delegator = None }
 
--- a row that leads to the next instruction where it is done, as all rows answer
+-- the result of a row that goes on with the next instruction, as that of any row
 abbrev pub onward : Result (Unit {0}) Halt → Result Next Halt
 onward (Ok u) = Ok Go
 onward (Err halt) = Err halt
 
--- an instruction that is not PRIM, as all instructions answer
+-- the result of an instruction other than PRIM, as that of any instruction
 abbrev pub flowing : Result Flow Halt → Result Next Halt
 flowing (Ok flow.Go) = Ok Go
 flowing (Ok flow.Exit) = Ok Exit
 flowing (Err halt) = Err halt
 
--- the place of an operand: 04 where the stack is too short, 03 where there is no such address
+-- the address of an operand: 04 if the stack is too short, else 03 if there is no such address
 abbrev pub OperandPlaced : Result ℕ Abend → Bool → Option ℕ → Type 0
 OperandPlaced (Ok a) under place = (under ≡ false) × (place ≡ Some a)
 OperandPlaced (Err A04) under place = under ≡ true
 OperandPlaced (Err A03) under place = (under ≡ false) × (place ≡ None)
 OperandPlaced (Err _) under place = ⊥
 
--- a place to go to: 02 where there is no such address
+-- the target of a branch: 02 if there is no such address
 abbrev pub Led : Result ℕ Abend → Option ℕ → Type 0
 Led (Ok a) to = to ≡ Some a
 Led (Err b) to = (to ≡ None) × (b ≡ A02)
 
--- the address to which n bytes from the top of the stack go: 04 where the stack is too short, 03 where the place that has it lies in no segment
+-- the address to which STOREI writes the top n bytes: 04 if the stack is too short, else 03 if the place that holds the address lies in
+-- no segment
 abbrev pub AddressUnder : Result ℕ Abend → Frame → List ℕ → ℕ → ℤ → ℕ → Type 0
 AddressUnder (Ok a) f public tag off n =
     (is_under f (on_stack tag (n + 2) n) ≡ false) × (no_access f (operand f tag off (n + 2)) 2 ≡ false) × (a ≡ address_at f public (place_of f tag off (n + 2)))
@@ -51,7 +52,8 @@ AddressUnder (Err A04) f public tag off n = is_under f (on_stack tag (n + 2) n) 
 AddressUnder (Err A03) f public tag off n = (is_under f (on_stack tag (n + 2) n) ≡ false) × (no_access f (operand f tag off (n + 2)) 2 ≡ true)
 AddressUnder (Err _) f public tag off n = ⊥
 
--- the first of a pair of operands: 04 where the stack is too short, 03 where it lies in no segment, else its address and its value
+-- the first of a pair of operands of n bytes: 04 if the stack is too short, else 03 if it lies in no segment, else its address and its
+-- value
 abbrev pub FirstRead : Result ℕ Abend → Frame → List ℕ → ℕ → ℤ → ℕ → List ℕ → Type 0
 FirstRead (Ok a) f public tag off n value =
     (is_under f (on_stack tag (2 * n) n) ≡ false) × (operand f tag off (2 * n) ≡ Some a) × (is_outside f a n ≡ false) × (value ≡ bytes_at f public a n)
@@ -59,17 +61,17 @@ FirstRead (Err A04) f public tag off n value = is_under f (on_stack tag (2 * n) 
 FirstRead (Err A03) f public tag off n value = (is_under f (on_stack tag (2 * n) n) ≡ false) × (no_access f (operand f tag off (2 * n)) n ≡ true)
 FirstRead (Err _) f public tag off n value = ⊥
 
--- a row by its causes and its effect
+-- the end of a row: the abend of the first cause that holds, else its effect
 abbrev pub ended : List (Abend × Bool) → Done → RowEnd
 ended causes done = judged (first_cause causes) done
 
 -- ---- operations
 
--- bits alone leave C
+-- the result b of a bitwise operation, which keeps C
 abbrev pub bits : Bool → List ℕ → Worked
 bits c b = record { value = b; c = c; z = is_zero b }
 
--- what two blocks give where C was c
+-- the result and the flags of an operation on two blocks, if C was c
 abbrev pub combined_by : Binary → Bool → List ℕ → List ℕ → Worked
 combined_by Add c a b = add_blocks a b
 combined_by Sub c a b = sub_blocks a b
@@ -77,13 +79,13 @@ combined_by And c a b = bits c (and_blocks a b)
 combined_by Or c a b = bits c (or_blocks a b)
 combined_by Xor c a b = bits c (xor_blocks a b)
 
--- what one block gives where C was c
+-- the result and the flags of an operation on one block, if C was c
 abbrev pub changed_by : Unary → Bool → List ℕ → Worked
 changed_by Inc c a = inc_block a
 changed_by Dec c a = dec_block a
 changed_by Not c a = bits c (not_block a)
 
--- the most bytes of an operand
+-- the greatest length in bytes of two operands
 abbrev pub most_binary : Binary → ℕ
 most_binary Add = 16
 most_binary Sub = 16
@@ -91,7 +93,7 @@ most_binary And = 255
 most_binary Or = 255
 most_binary Xor = 255
 
--- abend 06 by the length of two operands
+-- whether two operands of n bytes have a bad length, which is abend 06
 abbrev pub bad_binary : Binary → ℕ → Bool
 bad_binary Add n = not (in_range 1 16 n)
 bad_binary Sub n = not (in_range 1 16 n)
@@ -99,13 +101,13 @@ bad_binary And n = n == 0
 bad_binary Or n = n == 0
 bad_binary Xor n = n == 0
 
--- the most bytes of one operand
+-- the greatest length in bytes of one operand
 abbrev pub most_unary : Unary → ℕ
 most_unary Inc = 16
 most_unary Dec = 16
 most_unary Not = 255
 
--- abend 06 by the length of one operand
+-- whether an operand of n bytes has a bad length, which is abend 06
 abbrev pub bad_unary : Unary → ℕ → Bool
 bad_unary Inc n = not (in_range 1 16 n)
 bad_unary Dec n = not (in_range 1 16 n)
@@ -113,40 +115,40 @@ bad_unary Not n = n == 0
 
 -- ---- families of rows
 
--- bytes are set at a place
+-- the rows that set the bytes at a place
 abbrev pub set_end : Frame → List ℕ → ℕ → ℤ → List ℕ → RowEnd
 set_end f public tag off b = ended (immediate_writes f tag off (length b)) (going (written f public (place_of f tag off (length b)) b))
 
--- bytes at a place are compared
+-- the rows that compare the bytes at a place with an immediate
 abbrev pub compare_end : Frame → List ℕ → ℕ → ℤ → List ℕ → RowEnd
 compare_end f public tag off b = ended (immediate_reads f tag off (length b)) (flags_of f public (sub_blocks (value_of f public tag off (length b)) b))
 
--- bytes at a place become the result with an immediate
+-- the rows that combine the bytes at a place with an immediate
 abbrev pub combine_end : Binary → Frame → List ℕ → ℕ → ℤ → List ℕ → RowEnd
 combine_end w f public tag off b =
     ended (immediate_writes f tag off (length b))
     (becomes f public (place_of f tag off (length b)) (combined_by w f.c (value_of f public tag off (length b)) b))
 
--- what a change of n bytes at a place makes
+-- the effect of a change of n bytes at a place
 abbrev pub change_done : Unary → Frame → List ℕ → ℕ → ℤ → ℕ → Done
 change_done w f public tag off n = becomes f public (place_of f tag off n) (changed_by w f.c (value_of f public tag off n))
 
--- n bytes at a place are changed, where n is right
+-- the rows that change n bytes at a place, if n is a good length
 abbrev pub changed_end : Unary → Frame → List ℕ → ℕ → ℤ → ℕ → RowEnd
 changed_end w f public tag off n = ended (immediate_writes f tag off n) (change_done w f public tag off n)
 
--- n bytes at a place are changed
+-- the rows that change n bytes at a place
 abbrev pub change_end : Unary → Frame → List ℕ → ℕ → ℤ → ℕ → RowEnd
 change_end w f public tag off n = ended ((A06, bad_unary w n) ∷ immediate_writes f tag off n) (change_done w f public tag off n)
 
--- what a result with the top n bytes makes of n bytes at a place
+-- the effect of combining n bytes at a place with the top n bytes
 abbrev pub pair_done : Binary → Frame → List ℕ → ℕ → ℤ → ℕ → Done
 pair_done w f public tag off n = becomes f public (place_of f tag off (2 * n)) (combined_by w f.c (first_of f public tag off n) (top f n))
 
--- n bytes at a place become the result with the top n bytes, where n is right
+-- the rows that combine n bytes at a place with the top n bytes, if n is a good length
 abbrev pub paired_end : Binary → Frame → List ℕ → ℕ → ℤ → ℕ → RowEnd
 paired_end w f public tag off n = ended (pair_writes f tag off n) (pair_done w f public tag off n)
 
--- n bytes at a place become the result with the top n bytes
+-- the rows that combine n bytes at a place with the top n bytes
 abbrev pub pair_end : Binary → Frame → List ℕ → ℕ → ℤ → ℕ → RowEnd
 pair_end w f public tag off n = ended ((A06, bad_binary w n) ∷ pair_writes f tag off n) (pair_done w f public tag off n)

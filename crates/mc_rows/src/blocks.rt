@@ -11,7 +11,7 @@ use crate::operations::{Unary, change, check_block, check_unary};
 use mc_bank::Bank;
 use mc_segs::{Frame, Halt, Public, load, store};
 
-/// INCN, DECN and NOTN: the operand becomes the result.
+/// Executes INCN, DECN or NOTN: replaces the operand by the result.
 pub fn change_block<B: Bank>(
     kind: Unary,
     tag: u8,
@@ -36,7 +36,7 @@ pub fn change_block<B: Bank>(
     }
 }
 
-// The same in a buffer of the operand's length, which is right.
+// INCN, DECN and NOTN in a buffer of the operand's length, which is a good one.
 fn change_in<B: Bank>(
     value: &mut [u8],
     kind: Unary,
@@ -62,7 +62,7 @@ fn change_in<B: Bank>(
     Ok(())
 }
 
-/// CLEARN: the bytes at the operand's place become zero.
+/// Executes CLEARN: sets the bytes at the operand's place to zero.
 #[tactic(auto, unfolding(mc_model_machine::specs::Row::row, mc_model_machine::specs::Row::causes, mc_model_machine::specs::Row::effect))]
 pub fn clear_block<B: Bank>(
     tag: u8,
@@ -85,7 +85,7 @@ pub fn clear_block<B: Bank>(
     Ok(())
 }
 
-/// TESTN: whether the operand is zero.
+/// Executes TESTN: sets Z to whether the operand is zero.
 #[tactic(auto, unfolding(mc_model_machine::specs::Row::row, mc_model_machine::specs::Row::causes, mc_model_machine::specs::Row::effect))]
 pub fn test_block<B: Bank>(
     tag: u8,

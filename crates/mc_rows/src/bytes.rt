@@ -1,11 +1,11 @@
-// Zeros, words and blocks as they stand in bytes.
+// Zeros, words and blocks as bytes.
 ghost use Rattle.std.specs.Prelude.{◌≡◌, length, true};
 ghost use Rattle.mc_model_device.specs.Bytes.{num, zeros};
 ghost use Rattle.mc_model_machine.specs.Blocks.{is_zero};
 
 const ZEROS: [u8; 255] = [0; 255];
 
-/// So many zero bytes.
+/// Returns `count` zero bytes.
 #[tactic(auto, using(crate::proofs::BlockLemmas::front_of_zeros, crate::proofs::BlockLemmas::zeros_are_zero))]
 pub fn zeros(count: u8) -> &'static [u8]
     ensures value { result.now ≡ zeros count }
@@ -15,7 +15,7 @@ pub fn zeros(count: u8) -> &'static [u8]
     &ZEROS[..count as usize]
 }
 
-/// The word in two bytes.
+/// Returns the word in two bytes, high byte first.
 pub fn number(pair: [u8; 2]) -> u16
     ensures { result ≡ num pair }
 {
@@ -23,7 +23,7 @@ pub fn number(pair: [u8; 2]) -> u16
     high as u16 * 256 + low as u16
 }
 
-/// Whether a block is the number 0.
+/// Returns whether a block is the number 0.
 pub fn is_zero(block: &[u8]) -> bool
     ensures { result ≡ is_zero block.now }
 {

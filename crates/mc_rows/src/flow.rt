@@ -10,7 +10,7 @@ ghost use Rattle.mc_rows.specs.FrameRows.{FrameActs};
 use crate::bytes::number;
 use mc_segs::{Abend, Frame, come_back, enter, pop, return_address};
 
-/// BRANCH: where the condition holds, to a place relative to the next instruction.
+/// Executes BRANCH: if the condition holds, goes to a place relative to the next instruction.
 #[tactic(auto, unfolding(mc_model_machine::specs::Row::row, mc_model_machine::specs::Row::causes, mc_model_machine::specs::Row::effect))]
 pub fn branch(cond: u8, d: i8, frame: &mut Frame) -> Result<(), Abend>
     ensures { FrameActs (Branch cond d) frame.old frame.new result }
@@ -23,7 +23,7 @@ pub fn branch(cond: u8, d: i8, frame: &mut Frame) -> Result<(), Abend>
     Ok(())
 }
 
-/// JUMP: where the condition holds, to an address, which condition 0 pops.
+/// Executes JUMP: goes to an address if the condition holds. Condition 0 always holds, and pops the address.
 #[tactic(auto, unfolding(mc_model_machine::specs::Row::row, mc_model_machine::specs::Row::causes, mc_model_machine::specs::Row::effect))]
 pub fn jump(cond: u8, to: u16, frame: &mut Frame) -> Result<(), Abend>
     ensures { FrameActs (Jump cond to) frame.old frame.new result }
@@ -36,7 +36,8 @@ pub fn jump(cond: u8, to: u16, frame: &mut Frame) -> Result<(), Abend>
     Ok(())
 }
 
-/// CALL: the same, with LB and the next place on the stack.
+/// Executes CALL: if the condition holds, pushes LB and the next place, and goes to an address. Condition 0
+/// always holds, and pops the address.
 #[tactic(auto, unfolding(mc_model_machine::specs::Row::row, mc_model_machine::specs::Row::causes, mc_model_machine::specs::Row::effect))]
 pub fn call(cond: u8, to: u16, frame: &mut Frame) -> Result<(), Abend>
     ensures { FrameActs (Call cond to) frame.old frame.new result }
@@ -49,7 +50,8 @@ pub fn call(cond: u8, to: u16, frame: &mut Frame) -> Result<(), Abend>
     Ok(())
 }
 
-/// RETIO, and with no bytes RET, RETI and RETO: the call is left, its top `o` bytes stay, and the `i` bytes below it go.
+/// Executes RETIO, and with no bytes RET, RETI or RETO: leaves a call, keeps its top `o` bytes, and drops the
+/// `i` bytes below it.
 #[tactic(auto, unfolding(mc_model_machine::specs::Row::row, mc_model_machine::specs::Row::causes, mc_model_machine::specs::Row::effect))]
 pub fn return_with(i: u8, o: u8, frame: &mut Frame) -> Result<(), Abend>
     ensures { FrameActs (Retio i o) frame.old frame.new result }
@@ -59,7 +61,7 @@ pub fn return_with(i: u8, o: u8, frame: &mut Frame) -> Result<(), Abend>
     come_back(frame, i, o)
 }
 
-// Whether a condition holds: 1 to 7 are EQ, LT, LE, GT, GE, NE and ALL, and 0 has none.
+// Whether a condition holds: 1 to 7 are EQ, LT, LE, GT, GE, NE and ALL; 0 always holds.
 fn holds(frame: &Frame, cond: u8) -> bool
     ensures { result ≡ holds cond frame.now.frame }
 {
@@ -74,7 +76,7 @@ fn holds(frame: &Frame, cond: u8) -> bool
     }
 }
 
-// Abend 02 where a place is not in the code.
+// Abend 02 if a place is not in the code.
 fn check_place(frame: &Frame, to: u16) -> Result<(), Abend>
     ensures { IfDue result (no_place frame.now.frame (Some to)) Abend.A02 }
 {
@@ -84,7 +86,7 @@ fn check_place(frame: &Frame, to: u16) -> Result<(), Abend>
     Ok(())
 }
 
-// The place that a branch leads to. Abend 02 where there is none.
+// The target of a branch. Abend 02 if there is none.
 fn moved(at: u16, d: i8) -> Result<u16, Abend>
     ensures { Led result (moved at d) }
 {
@@ -95,7 +97,7 @@ fn moved(at: u16, d: i8) -> Result<u16, Abend>
     Ok(to as u16)
 }
 
-// The address of a jump or a call, which condition 0 pops. Abend 04 where the stack has none.
+// The address of a jump or a call, which condition 0 pops. Abend 04 if the stack has none.
 fn target(frame: &mut Frame, cond: u8, to: u16) -> Result<u16, Abend>
     ensures due { GivesOrAbends result (cond == 0 && is_under frame.old.frame 2) Abend.A04
         (target frame.old.frame cond to) }

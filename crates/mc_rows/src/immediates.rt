@@ -1,4 +1,4 @@
-// Rows of a byte or a word at a place against an immediate.
+// Rows of a byte or a word at a place with an immediate operand.
 ghost use Rattle.std.specs.Prelude.{◌≡◌, ◌≤◌, false, length};
 ghost use Rattle.mc_segs.specs.HeldFrames.{shown, CanRun};
 ghost use Rattle.mc_segs.specs.Ends.{scene, EndActs};
@@ -10,7 +10,7 @@ use mc_arith::compare;
 use mc_bank::Bank;
 use mc_segs::{Frame, Halt, Public, load, store};
 
-/// SETB and SETW: the bytes at the operand's place become these, one or two.
+/// Executes SETB or SETW: sets the bytes at the operand's place to these, one or two.
 pub fn set<B: Bank>(
     tag: u8,
     off: i16,
@@ -31,7 +31,7 @@ pub fn set<B: Bank>(
     Ok(())
 }
 
-/// CMPB and CMPW: the flags of the operand minus these bytes, one or two.
+/// Executes CMPB or CMPW: sets the flags of the operand minus these bytes, one or two.
 pub fn compare_with<B: Bank>(
     tag: u8,
     off: i16,
@@ -57,7 +57,7 @@ pub fn compare_with<B: Bank>(
     Ok(())
 }
 
-/// ADDB, ADDW, SUBB and SUBW: the operand becomes the result with these bytes, one or two.
+/// Executes ADDB, ADDW, SUBB or SUBW: replaces the operand by the result with these bytes, one or two.
 pub fn combine_with<B: Bank>(
     kind: Binary,
     tag: u8,

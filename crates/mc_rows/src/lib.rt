@@ -1,6 +1,6 @@
 #![tactic(auto)]
 
-//! The rows of the byte code machine but those of primitives.
+//! The instructions of the byte code machine other than PRIM.
 
 mod blocks;
 mod bytes;

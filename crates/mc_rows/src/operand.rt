@@ -1,4 +1,4 @@
-// Where the operands of a row lie.
+// The addresses of the operands of a row.
 ghost use Rattle.std.specs.Prelude.{◌≡◌, ◌+◌, ◌*◌, ◌≤◌, ◌==◌, ◌&&◌, OnOk, length, false};
 ghost use Rattle.mc_model_device.specs.Bytes.{num};
 ghost use Rattle.mc_model_machine.specs.Frame.{address_at, in_two_bytes, is_outside, is_under, popped};
@@ -11,7 +11,11 @@ use crate::bytes::number;
 use mc_bank::Bank;
 use mc_segs::{Abend, Frame, Public, load, pop, resolve};
 
-/// Abend 04 where fewer than so many bytes are on the stack.
+/// Tests that the stack has at least `count` bytes.
+///
+/// # Errors
+///
+/// Returns abend 04 if it has fewer.
 #[inline(always)]
 pub fn need(frame: &Frame, count: u16) -> Result<(), Abend>
     requires { count ≤ 512 }
@@ -23,7 +27,7 @@ pub fn need(frame: &Frame, count: u16) -> Result<(), Abend>
     Ok(())
 }
 
-/// How many bytes an operand takes of the stack: with tag 0 these, else those.
+/// Returns the number of bytes that operands take of the stack: `with` if the tag is 0, else `without`.
 #[inline(always)]
 pub fn on_stack(tag: u8, with: u16, without: u16) -> u16
     ensures { result ≡ on_stack tag with without }
@@ -31,7 +35,11 @@ pub fn on_stack(tag: u8, with: u16, without: u16) -> u16
     if tag == 0 { with } else { without }
 }
 
-/// The address of an operand: with tag 0 it begins so many bytes below the top of the stack.
+/// Returns the address of an operand; if the tag is 0 it begins `below` bytes below the top of the stack.
+///
+/// # Errors
+///
+/// Returns abend 03 if there is no such address.
 #[inline(always)]
 pub fn operand(frame: &Frame, tag: u8, off: i16, below: u16) -> Result<u16, Abend>
     requires tag { tag ≤ 7 }
@@ -44,8 +52,11 @@ pub fn operand(frame: &Frame, tag: u8, off: i16, below: u16) -> Result<u16, Aben
     resolve(frame, tag, off)
 }
 
-/// The address of an operand of so many bytes; with tag 0 it is the top of the stack. Abend 04 where the stack has fewer,
-/// 03 where the address is none.
+/// Returns the address of an operand of `count` bytes; if the tag is 0 it is the top of the stack.
+///
+/// # Errors
+///
+/// Returns abend 04 if the stack has fewer bytes, and abend 03 if there is no such address.
 #[inline(always)]
 pub fn place(frame: &Frame, tag: u8, off: i16, count: u16) -> Result<u16, Abend>
     requires tag { tag ≤ 7 }
@@ -59,7 +70,11 @@ pub fn place(frame: &Frame, tag: u8, off: i16, count: u16) -> Result<u16, Abend>
     operand(frame, tag, off, count)
 }
 
-/// Reads the address in the two bytes at another one. Abend 03 where those lie in no segment.
+/// Reads the address in the two bytes at the address `at`.
+///
+/// # Errors
+///
+/// Returns abend 03 if they lie in no segment.
 pub fn read_address<B: Bank>(
     at: u16,
     frame: &Frame,
@@ -75,8 +90,12 @@ pub fn read_address<B: Bank>(
     Ok(number(address))
 }
 
-/// Reads the first of a pair of operands of one length; the second lies on top of the stack. The first one's address;
-/// abend 04 where the stack has too few bytes, 03 where the first lies in no segment.
+/// Reads the first of a pair of operands of one length into the slice, and returns its address. The second
+/// operand is the top of the stack.
+///
+/// # Errors
+///
+/// Returns abend 04 if the stack has too few bytes, and abend 03 if the first operand lies in no segment.
 #[inline(always)]
 pub fn read_first<B: Bank>(
     tag: u8,
@@ -101,8 +120,12 @@ pub fn read_first<B: Bank>(
     Ok(at)
 }
 
-/// Pops an index, and with tag 0 the base that lies under it; else the base is the address of the tag. The address of the
-/// element of this size with that index. Abend 04 where the stack has too few bytes, 03 where there is no such address.
+/// Pops an index, and if the tag is 0 the base that lies under it; else the base is the address of the tag.
+/// Returns the address of the element of `size` bytes with that index.
+///
+/// # Errors
+///
+/// Returns abend 04 if the stack has too few bytes, and abend 03 if there is no such address.
 pub fn indexed(frame: &mut Frame, tag: u8, off: i16, size: u8) -> Result<u16, Abend>
     requires tag { tag ≤ 7 }
     ensures place { OperandPlaced result (is_under frame.old.frame (on_stack tag 3 1))
@@ -124,7 +147,7 @@ pub fn indexed(frame: &mut Frame, tag: u8, off: i16, size: u8) -> Result<u16, Ab
     element(base, index, size)
 }
 
-// The address of an element behind a base. Abend 03 where there is none.
+// The address of an element of a table at a base. Abend 03 if there is none.
 fn element(base: u16, index: [u8; 1], size: u8) -> Result<u16, Abend>
     ensures { result ≡ addressed (in_two_bytes (base + num index * size)) }
 {

@@ -7,7 +7,7 @@ ghost use Rattle.mc_rows.specs.Rows.{combined_by, changed_by, most_binary, most_
 use mc_arith::{Flags, add, and, dec, inc, not, or, sub, xor};
 use mc_segs::Abend;
 
-/// What a row makes of two operands.
+/// An operation on two operands.
 #[derive(Clone, Copy, Debug, PartialEq, Eq)]
 pub enum Binary {
     Add,
@@ -17,7 +17,7 @@ pub enum Binary {
     Xor,
 }
 
-/// What a row makes of one operand.
+/// An operation on one operand.
 #[derive(Clone, Copy, Debug, PartialEq, Eq)]
 pub enum Unary {
     Inc,
@@ -25,7 +25,8 @@ pub enum Unary {
     Not,
 }
 
-/// Sets the first block to the result with the second, of the same length. C stays as it was where bits alone change.
+/// Replaces the first block by the result with the second, of the same length, and returns the flags. Bitwise
+/// operations keep C.
 #[inline(always)]
 pub fn combine(kind: Binary, c: bool, a: &mut [u8], b: &[u8]) -> Flags
     requires same { length a.old ≡ length b.now }
@@ -42,7 +43,7 @@ pub fn combine(kind: Binary, c: bool, a: &mut [u8], b: &[u8]) -> Flags
     }
 }
 
-/// Sets a block to what the change makes of it. C stays as it was where bits alone change.
+/// Replaces a block by the result of the operation, and returns the flags. Bitwise operations keep C.
 #[inline(always)]
 pub fn change(kind: Unary, c: bool, a: &mut [u8]) -> Flags
     requires low { 1 ≤ length a.old }
@@ -56,8 +57,12 @@ pub fn change(kind: Unary, c: bool, a: &mut [u8]) -> Flags
     }
 }
 
-/// Abend 06 where operands of so many bytes are too short or too long to be combined: 1 to 16 bytes are added and
-/// subtracted, 1 to 255 otherwise.
+/// Tests the length in bytes of two operands: 1 to 16 for sums and differences, 1 to 255 for bitwise
+/// operations.
+///
+/// # Errors
+///
+/// Returns abend 06 if the length is out of range.
 #[inline(always)]
 pub fn check_binary(kind: Binary, count: u8) -> Result<(), Abend>
     ensures due { IfDue result (bad_binary kind count) Abend.A06 }
@@ -70,8 +75,11 @@ pub fn check_binary(kind: Binary, count: u8) -> Result<(), Abend>
     }
 }
 
-/// Abend 06 where an operand of so many bytes is too short or too long to be changed: 1 to 16 bytes are counted up and
-/// down, 1 to 255 inverted.
+/// Tests the length in bytes of one operand: 1 to 16 to add or subtract 1, 1 to 255 to invert bits.
+///
+/// # Errors
+///
+/// Returns abend 06 if the length is out of range.
 #[inline(always)]
 pub fn check_unary(kind: Unary, count: u8) -> Result<(), Abend>
     ensures due { IfDue result (bad_unary kind count) Abend.A06 }
@@ -84,7 +92,11 @@ pub fn check_unary(kind: Unary, count: u8) -> Result<(), Abend>
     }
 }
 
-/// Abend 06 where a block has no bytes.
+/// Tests that a block has bytes.
+///
+/// # Errors
+///
+/// Returns abend 06 if `count` is 0.
 #[inline(always)]
 pub fn check_block(count: u8) -> Result<(), Abend>
     ensures due { IfDue result (count == 0) Abend.A06 }
@@ -96,7 +108,7 @@ pub fn check_block(count: u8) -> Result<(), Abend>
     Ok(())
 }
 
-// Abend 06 where a number has not 1 to 16 bytes.
+// Abend 06 if a number does not have 1 to 16 bytes.
 fn check_number(count: u8) -> Result<(), Abend>
     ensures due { IfDue result (not (in_range 1 16 count)) Abend.A06 }
     ensures low { OnOk result (1 ≤ count) }

@@ -11,7 +11,8 @@ use mc_arith::compare;
 use mc_bank::Bank;
 use mc_segs::{Frame, Halt, Public, store, top};
 
-/// ADDN, SUBN, ANDN, ORN and XORN: the first operand becomes the result with the second, which stays on the stack.
+/// Executes ADDN, SUBN, ANDN, ORN or XORN: replaces the first operand by the result with the second, which
+/// stays on the stack.
 pub fn combine_pair<B: Bank>(
     kind: Binary,
     tag: u8,
@@ -38,7 +39,7 @@ pub fn combine_pair<B: Bank>(
     }
 }
 
-// The same in a buffer of the operands' length, which is right.
+// ADDN, SUBN, ANDN, ORN and XORN in a buffer of the operands' length, which is a good one.
 fn combine_in<B: Bank>(
     first: &mut [u8],
     kind: Binary,
@@ -64,7 +65,7 @@ fn combine_in<B: Bank>(
     Ok(())
 }
 
-/// CMPN: the flags of the first operand minus the second.
+/// Executes CMPN: sets the flags of the first operand minus the second.
 #[tactic(auto, unfolding(mc_model_machine::specs::Row::row, mc_model_machine::specs::Row::causes, mc_model_machine::specs::Row::effect))]
 pub fn compare_pair<B: Bank>(
     tag: u8,

@@ -5,14 +5,14 @@ ghost use Rattle.mc_rows.specs.Families.{IsRegisterRow};
 use mc_model_machine::Ins;
 use mc_segs::Public;
 
-/// What comes after an instruction that was done and is not PRIM: the next one, or the frame's exit.
+/// The continuation after an instruction other than PRIM that was done: the next one, or the frame's exit.
 #[derive(Clone, Copy, Debug, PartialEq, Eq)]
 pub enum Flow {
     Go,
     Exit,
 }
 
-/// NOP, SETSW, SETLA and SETSWLA, and the exits after each of them.
+/// Executes NOP, SETSW, SETLA or SETSWLA, or the exit after one of them.
 #[tactic(auto, unfolding(mc_model_machine::specs::Row::row, mc_model_machine::specs::Row::causes, mc_model_machine::specs::Row::effect))]
 #[inline(always)]
 pub fn registers(ins: &Ins, public: &mut Public) -> Flow

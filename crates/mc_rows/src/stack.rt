@@ -7,7 +7,7 @@ use crate::operations::check_block;
 use mc_base::bytes_of;
 use mc_segs::{Abend, Frame, discard, push};
 
-/// PUSHZ: n zero bytes.
+/// Executes PUSHZ: pushes n zero bytes.
 #[tactic(auto, unfolding(mc_model_machine::specs::Row::row, mc_model_machine::specs::Row::causes, mc_model_machine::specs::Row::effect))]
 pub fn push_zeros(n: u8, frame: &mut Frame) -> Result<(), Abend>
     ensures { FrameActs (Pushz n) frame.old frame.new result }
@@ -16,7 +16,7 @@ pub fn push_zeros(n: u8, frame: &mut Frame) -> Result<(), Abend>
     push(frame, zeros(n))
 }
 
-/// PUSHB: one byte.
+/// Executes PUSHB: pushes one byte.
 #[tactic(auto, unfolding(mc_model_machine::specs::Row::row, mc_model_machine::specs::Row::causes, mc_model_machine::specs::Row::effect))]
 pub fn push_byte(b: u8, frame: &mut Frame) -> Result<(), Abend>
     ensures { FrameActs (Pushb b) frame.old frame.new result }
@@ -24,7 +24,7 @@ pub fn push_byte(b: u8, frame: &mut Frame) -> Result<(), Abend>
     push(frame, &[b])
 }
 
-/// PUSHW: two bytes.
+/// Executes PUSHW: pushes two bytes.
 #[tactic(auto, unfolding(mc_model_machine::specs::Row::row, mc_model_machine::specs::Row::causes, mc_model_machine::specs::Row::effect))]
 pub fn push_word(w: u16, frame: &mut Frame) -> Result<(), Abend>
     ensures { FrameActs (Pushw w) frame.old frame.new result }
@@ -32,7 +32,7 @@ pub fn push_word(w: u16, frame: &mut Frame) -> Result<(), Abend>
     push(frame, &bytes_of(w))
 }
 
-/// POPN: n bytes.
+/// Executes POPN: pops n bytes.
 #[tactic(auto, unfolding(mc_model_machine::specs::Row::row, mc_model_machine::specs::Row::causes, mc_model_machine::specs::Row::effect))]
 pub fn pop_bytes(n: u8, frame: &mut Frame) -> Result<(), Abend>
     ensures { FrameActs (Popn n) frame.old frame.new result }
@@ -41,7 +41,7 @@ pub fn pop_bytes(n: u8, frame: &mut Frame) -> Result<(), Abend>
     discard(frame, n)
 }
 
-/// POPB: one byte.
+/// Executes POPB: pops one byte.
 #[tactic(auto, unfolding(mc_model_machine::specs::Row::row, mc_model_machine::specs::Row::causes, mc_model_machine::specs::Row::effect))]
 pub fn pop_byte(frame: &mut Frame) -> Result<(), Abend>
     ensures { FrameActs Popb frame.old frame.new result }
@@ -49,7 +49,7 @@ pub fn pop_byte(frame: &mut Frame) -> Result<(), Abend>
     discard(frame, 1)
 }
 
-/// POPW: two bytes.
+/// Executes POPW: pops two bytes.
 #[tactic(auto, unfolding(mc_model_machine::specs::Row::row, mc_model_machine::specs::Row::causes, mc_model_machine::specs::Row::effect))]
 pub fn pop_word(frame: &mut Frame) -> Result<(), Abend>
     ensures { FrameActs Popw frame.old frame.new result }

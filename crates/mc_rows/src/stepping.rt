@@ -22,9 +22,13 @@ use mc_base::bytes_of;
 use mc_model_machine::Ins;
 use mc_segs::{Abend, Frame, Halt, Public};
 
-/// Does one instruction that is not PRIM and whose fields are in their ranges; the frame's code address is already the
-/// place behind it. What comes next; an abend exactly by the first cause of its row, and then no byte at an address
-/// changes; a stop of the bank where one hits the change of static bytes.
+/// Executes one instruction other than PRIM whose fields are in their ranges; the frame's code address is
+/// already that of the next instruction. Returns the continuation.
+///
+/// # Errors
+///
+/// Returns an abend exactly by the first cause of its row that holds; no byte at an address has changed then.
+/// Returns the `Stop` of the bank if it stopped during the change of static bytes.
 #[tactic(auto, unfolding(mc_model_machine::specs::Row::row, mc_model_machine::specs::Row::causes, mc_model_machine::specs::Row::effect))]
 #[inline(always)]
 pub fn step<B: Bank>(
@@ -73,7 +77,7 @@ pub fn step<B: Bank>(
     }
 }
 
-// The rows that look at their frame alone.
+// The rows that depend on their frame alone.
 #[tactic(auto, unfolding(mc_model_machine::specs::Row::row, mc_model_machine::specs::Row::causes, mc_model_machine::specs::Row::effect))]
 #[inline(always)]
 fn step_frame(ins: &Ins, frame: &mut Frame) -> Result<(), Abend>
@@ -136,7 +140,7 @@ fn step_operand<B: Bank>(
     }
 }
 
-// The rows of a byte or a word at a place against an immediate.
+// The rows of a byte or a word at a place with an immediate operand.
 #[tactic(auto, unfolding(mc_model_machine::specs::Row::row, mc_model_machine::specs::Row::causes, mc_model_machine::specs::Row::effect))]
 #[inline(always)]
 fn step_immediate<B: Bank>(

@@ -12,7 +12,7 @@ use mc_bank::Bank;
 use mc_base::bytes_of;
 use mc_segs::{Abend, Frame, Halt, Public, load, pop, push, store};
 
-/// LOAD: the n bytes of the operand are pushed.
+/// Executes LOAD: pushes the n bytes of the operand.
 #[tactic(auto, unfolding(mc_model_machine::specs::Row::row, mc_model_machine::specs::Row::causes, mc_model_machine::specs::Row::effect))]
 pub fn load_block<B: Bank>(
     tag: u8,
@@ -36,7 +36,7 @@ pub fn load_block<B: Bank>(
     Ok(())
 }
 
-/// STORE: n bytes are popped, and written to the operand's place.
+/// Executes STORE: pops n bytes, and writes them to the operand's place.
 #[tactic(auto, unfolding(mc_model_machine::specs::Row::row, mc_model_machine::specs::Row::causes, mc_model_machine::specs::Row::effect))]
 pub fn store_block<B: Bank>(
     tag: u8,
@@ -62,7 +62,7 @@ pub fn store_block<B: Bank>(
     Ok(())
 }
 
-/// LOADI: the operand is the address of n bytes that are pushed.
+/// Executes LOADI: pushes n bytes, of which the operand is the address.
 #[tactic(auto, unfolding(mc_model_machine::specs::Row::row, mc_model_machine::specs::Row::causes, mc_model_machine::specs::Row::effect))]
 pub fn load_indirect<B: Bank>(
     tag: u8,
@@ -87,7 +87,7 @@ pub fn load_indirect<B: Bank>(
     Ok(())
 }
 
-/// STOREI: n bytes are popped, and written to the address that the operand was before.
+/// Executes STOREI: pops n bytes, and writes them to the address that the operand was before.
 #[tactic(auto, unfolding(mc_model_machine::specs::Row::row, mc_model_machine::specs::Row::causes, mc_model_machine::specs::Row::effect))]
 pub fn store_indirect<B: Bank>(
     tag: u8,
@@ -111,7 +111,7 @@ pub fn store_indirect<B: Bank>(
     Ok(())
 }
 
-/// LOADA: the operand's address is pushed, with tag 0 that of the top of the stack.
+/// Executes LOADA: pushes the operand's address, if the tag is 0 that of the top of the stack.
 #[tactic(auto, unfolding(mc_model_machine::specs::Row::row, mc_model_machine::specs::Row::causes, mc_model_machine::specs::Row::effect))]
 pub fn load_address(tag: u8, off: i16, frame: &mut Frame) -> Result<(), Abend>
     requires { tag ≤ 7 }
@@ -121,7 +121,8 @@ pub fn load_address(tag: u8, off: i16, frame: &mut Frame) -> Result<(), Abend>
     push(frame, &bytes_of(at))
 }
 
-/// INDEX: the address of an element of a table is pushed; its number is popped, and with tag 0 the table's address too.
+/// Executes INDEX: pushes the address of an element of a table; pops its number, and if the tag is 0 the
+/// table's address too.
 #[tactic(auto, unfolding(mc_model_machine::specs::Row::row, mc_model_machine::specs::Row::causes, mc_model_machine::specs::Row::effect))]
 pub fn index(tag: u8, off: i16, size: u8, frame: &mut Frame) -> Result<(), Abend>
     requires { tag ≤ 7 }
@@ -131,7 +132,7 @@ pub fn index(tag: u8, off: i16, size: u8, frame: &mut Frame) -> Result<(), Abend
     push(frame, &bytes_of(at))
 }
 
-// The address to which STOREI writes n bytes from the top of the stack.
+// The address to which STOREI writes the top n bytes of the stack.
 fn address_under<B: Bank>(
     n: u8,
     tag: u8,

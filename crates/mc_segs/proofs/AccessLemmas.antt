@@ -16,7 +16,7 @@ use Rattle.mc_segs.specs.declared.frame.Frame.TheInside.{Inside}
 use Rattle.mc_segs.proofs.PendingLemmas.{read_byte, pieces_lie}
 use Rattle.std.proofs.lemmas.Option.{slice_get_past}
 
--- ---- a word laid over bytes
+-- ---- a word written over bytes
 
 abbrev word_at : ℕ → List ℕ → ℕ → Option ℕ
 word_at place word j = cond (nat_le place j) (slice_get word (j - place)) None
@@ -47,7 +47,7 @@ overlaid old word at place from to eight low_at low_place high_at high_place som
           ];
     }
 
--- a word that lies elsewhere
+-- a word that does not overlap the bytes leaves them as they are
 pub not_overlaid : (old word : List ℕ) (at place : ℕ) → length word ≡ 8 → ((j : ℕ) → at ≤ j → place ≤ j → j < at + length old → j < place + 8 → ⊥) → IsOverlaid old at place word old
 not_overlaid old word at place eight apart =
     record {
@@ -63,7 +63,7 @@ not_overlaid old word at place eight apart =
 
 -- ---- a frame by its fields
 
--- the pending words of a frame, over static bytes of its length
+-- a frame has these pending words, over static bytes of its length
 pub record HasWords (l : List ℕ) (n : ℕ) (ws : List (ℕ × List ℕ)) (h : Held) : Type 0 where
   pub len : n ≡ length l
   pub pieces : h.frame.pieces ≡ pieces_of (length l) ws
@@ -94,7 +94,7 @@ static_read l ps ws at n into pieces are range len bytes =
 
 -- ---- places
 
--- an access lies in the same place of a frame on a bank
+-- an access lies in the same place of a frame whether or not it is completed from its bank
 pub where_shown : (s : BankState) (named : ℕ → Option (List ℕ)) (h : Held) (a n : ℕ) → FitsBank s named h → where_is (shown s named h) a n ≡ where_is h.frame a n
 where_shown s named h a n fits = rw (sym fits.fixed) refl
 

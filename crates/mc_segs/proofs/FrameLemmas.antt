@@ -1,4 +1,4 @@
--- Arrays of zeros, and bytes at their front.
+-- Arrays of zeros, and bytes written to their front.
 use Rattle.std.proofs.Common.{◌≡◌, ℕ, ◌+◌, ◌-◌, ◌≤◌, List, [], ◌++◌, false, length, take, drop, refl, arith, sym, ◌∙◌, ap, subst, length-append}
 use Rattle.std.proofs.lemmas.List.{take-append-drop, drop-replicate, length-replicate}
 use Rattle.std.proofs.Math.Seq.{take-append_seam}
@@ -8,11 +8,11 @@ use Rattle.mc_segs.specs.Sessions.{KeepsSession}
 use Rattle.mc_segs.specs.HeldFrames.{Held, new_held}
 use Rattle.mc_segs.specs.Inside.{frame_value}
 
--- zeros, as a front of them and the rest
+-- zeros are their first n and the rest
 pub zeros_split : (m n : ℕ) → zeros m ≡ take n (zeros m) ++ zeros (m - n)
 zeros_split m n = subst (λ (t : List ℕ). zeros m ≡ take n (zeros m) ++ t) (drop-replicate n m 0) (sym (take-append-drop n (zeros m)))
 
--- bytes that were written to the front of zeros
+-- bytes written to the front of zeros are the bytes and the other zeros
 pub padded_is : (n : ℕ) (into bytes : List ℕ) → into ≡ splice (zeros n) 0 bytes → into ≡ bytes ++ zeros (n - length bytes)
 padded_is n into bytes h =
     let same : 0 + length bytes ≡ length bytes = omega arith in
@@ -20,11 +20,11 @@ padded_is n into bytes h =
     ap (λ (k : ℕ). drop k (zeros n)) same ∙ drop-replicate {X = ℕ} (length bytes) n 0 in
     h ∙ ap (λ (t : List ℕ). bytes ++ t) back
 
--- the front of zeros
+-- session bytes that are all zero keep the invariant
 pub keeps_zeros : (n : ℕ) → n ≤ 256 → KeepsSession record { bytes = zeros 256; len = n }
 keeps_zeros n h = record { room = refl; high = h; behind = zeros_split 256 n }
 
--- bytes at the front of zeros
+-- session bytes written to the front of zeros keep the invariant
 pub keeps_padded : (into bytes : List ℕ) → length bytes ≤ 256 → into ≡ splice (zeros 256) 0 bytes → KeepsSession record { bytes = into; len = length bytes }
 keeps_padded into bytes h e =
     let is : into ≡ bytes ++ zeros (256 - length bytes) = padded_is 256 into bytes e in
@@ -35,7 +35,7 @@ keeps_padded into bytes h e =
       behind = is ∙ ap (λ (t : List ℕ). t ++ zeros (256 - length bytes)) (sym front);
     }
 
--- the frame of a new frame's fields, by what may be given in other words
+-- the frame of a new frame's fields, as a function of the values that a call may compute otherwise
 abbrev pub built : ℕ → Sizes → ℕ → ℕ → List (ℕ × List ℕ) → List ℕ → Held
 built slot s n k p d =
     frame_value record {

@@ -1,4 +1,4 @@
--- Pending words, and the pieces of a segment that they are.
+-- Pending words, and the pieces of a segment that they make.
 use Rattle.std.proofs.Common.{◌≡◌, ℕ, zero, suc, ◌+◌, ◌-◌, ◌*◌, ◌/◌, ◌%◌, ◌≤◌, ◌<◌, cond, List, [], ◌∷◌, ◌++◌, length, take, get_or, Option, Some, None, refl, sym, ap, subst, ◌∙◌, inl, inr, arith, append_assoc}
 use Rattle.std.specs.Prelude.{nat_le, slice_get, unwrap_or, option_map, IfSome}
 use Rattle.std.specs.List.{AllByRecursion}
@@ -85,7 +85,7 @@ word_holds : (o : Option (List ℕ)) (d x k : ℕ) → x ≡ unwrap_or (option_m
 word_holds (Some b) d x k e = sym e
 word_holds None d x k e = tt
 
--- pending words hold the pieces that they are
+-- pending words hold the pieces that they make
 pub pieces_held : (l : List ℕ) (ws : List (ℕ × List ℕ)) → ArePendingIn (length l) ws → HoldPieces l (pieces_of (length l) ws) ws
 unfolding touched
 pieces_held l ws are =
@@ -109,7 +109,7 @@ pieces_held l ws are =
 
 -- ---- reading
 
--- a byte of a segment with the pieces of pending words laid over it
+-- a byte of a segment with pending words written over it: that of the word that covers it, and else the segment's
 pub read_byte : (l : List ℕ) (ws : List (ℕ × List ℕ)) (i : ℕ) → ArePendingIn (length l) ws → i < length l → get_or (laid_pieces l (pieces_of (length l) ws)) i 0 ≡ unwrap_or (covered (word_pieces ws) i) (get_or l i 0)
 read_byte l ws i are lt =
     let n = length l in

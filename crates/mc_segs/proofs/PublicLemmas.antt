@@ -1,15 +1,15 @@
--- Words in the public segment, and writes one behind the other into zeros.
+-- Words in the public segment, and successive writes into zeros.
 use Rattle.std.proofs.Common.{◌≡◌, ℕ, ◌+◌, ◌-◌, ◌≤◌, List, [], ◌∷◌, ◌++◌, length, take, drop, arith, sym, ◌∙◌, ap, append_assoc, length-append}
 use Rattle.std.proofs.lemmas.List.{append-nil, take-replicate, drop-replicate, length-replicate}
 use Rattle.std.proofs.Math.Seq.{take-append-add, drop-append-add}
 use Rattle.mc_model_device.specs.Bytes.{zeros, splice, bytes2}
 use Rattle.mc_segs.proofs.FrameLemmas.{padded_is}
 
--- a word at a place, by the bytes that were written there
+-- a word written at a place, by its two bytes
 pub spliced_word : (into inside bytes word : List ℕ) (at n : ℕ) → into ≡ splice inside at word → word ≡ bytes2 n → inside ≡ bytes → into ≡ splice bytes at (bytes2 n)
 spliced_word into inside bytes word at n written is same = written ∙ ap (λ (w : List ℕ). splice inside at w) is ∙ ap (λ (b : List ℕ). splice b at (bytes2 n)) same
 
--- a write k zeros behind what stands at the front of m zeros
+-- a write k places after the bytes that precede m zeros
 pub write_behind : (l b : List ℕ) (k m at : ℕ) → at ≡ length l + k → k ≤ m → splice (l ++ zeros m) at b ≡ (l ++ (zeros k ++ b)) ++ zeros (m - (k + length b))
 write_behind l b k m at e h =
     let front : take at (l ++ zeros m) ≡ l ++ zeros k =
@@ -21,7 +21,7 @@ write_behind l b k m at e h =
     ∙ ap (λ (t : List ℕ). (l ++ zeros k) ++ b ++ t) back
     ∙ grind (arith, append_assoc)
 
--- the writes of a new public segment, one behind the other
+-- the successive writes of a new public segment
 pub new_public_is : (a b c d body lengths status : List ℕ) (cla ins p1 p2 p3 lc le : ℕ) → length body ≤ 1024
     → a ≡ splice (zeros 1041) 0 body
     → b ≡ splice a 1028 (cla ∷ ins ∷ p1 ∷ p2 ∷ p3 ∷ [])

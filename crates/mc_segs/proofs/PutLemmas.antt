@@ -33,7 +33,7 @@ later_put : (n m count : ℕ) (b : List ℕ) (ws : List (ℕ × List ℕ)) → n
 later_put n m zero b ws lt = refl
 later_put n m (suc count) b ws lt = rw (other_put n m b ws lt, later_put n (m + 1) count b ws (omega arith)) refl
 
--- a word that is put is no more missing
+-- a word that is put counts as pending and no more as not pending
 pub count_put : (n count : ℕ) (b : List ℕ) (ws : List (ℕ × List ℕ)) → ArePending ws → length (put_word n b ws) + not_pending (n + 1) count (put_word n b ws) ≡ length ws + not_pending n (suc count) ws
 count_put n count b ws are = omega (arith, length-put n 0 b ws are.ascending, later_put n (n + 1) count b ws (omega arith))
 
@@ -53,7 +53,7 @@ base_byte l ps ws n k word None e is lie held lt within =
     let number : (8 * n + k) / 8 ≡ n = omega arith in
     is.fresh e k lt within ∙ sym (untouched l ps ws (8 * n + k) lie held.touched_words (ap (pending_at ws) number ∙ e))
 
--- bytes as a piece, if there are some
+-- bytes as a piece, and no piece if there are no bytes
 abbrev pub some_piece : ℕ → List ℕ → List (ℕ × List ℕ)
 some_piece at [] = []
 some_piece at (b ∷ bs) = (at, b ∷ bs) ∷ []
@@ -82,7 +82,7 @@ next_held l ps ws at n j (x ∷ a) piece word lie held is some small place range
 
 -- ---- word by word
 
--- the first bytes are put into their words
+-- the words after the first bytes a are put at `at`
 pub record PutsSome (l : List ℕ) (ws : List (ℕ × List ℕ)) (at : ℕ) (a : List ℕ) (after : List (ℕ × List ℕ)) : Type 0 where
   pub pending : ArePendingIn (length l) after
   pub holds : (ps : List (ℕ × List ℕ)) → LieIn (length l) ps → HoldPieces l ps ws → HoldPieces l (ps ++ some_piece at a) after
@@ -98,7 +98,7 @@ puts_next l begin ws after at n j a piece next done put some small place range f
     } in
     subst (λ (t : List (ℕ × List ℕ)). PutsSome l begin at next t) (sym put.words) (subst (λ (t : List ℕ). PutsSome l begin at t (put_word n now ws)) is all)
 
--- the bytes of one word more
+-- the bytes up to the end of word n are those before it and those in it
 pub next_bytes : (from : List ℕ) (at n low high : ℕ) → low - at ≡ 8 * n - at → low ≤ high → high ≤ at + length from → ((high ≡ 8 * n + 8) ⊎ (high ≡ at + length from × (high ≤ 8 * n + 8))) → at ≤ low
     → take (8 * n - at) from ++ take (high - at - (low - at)) (drop (low - at) from) ≡ take (8 * (n + 1) - at) from
 next_bytes from at n low high begin order range end after =
@@ -117,7 +117,7 @@ count_next l ws after n j last total piece are put lt so =
     let now : length ws + not_pending n (suc (last - (n + 1))) ws ≡ total = subst (λ (c : ℕ). length ws + not_pending n c ws ≡ total) one so in
     subst (λ (t : List (ℕ × List ℕ)). length t + not_pending (n + 1) (last - (n + 1)) t ≡ total) (sym put.words) (count_put n (last - (n + 1)) (splice put.word j piece) ws are ∙ now)
 
--- one number of those that may be missing
+-- the number of words in n..end that are not pending, by the first of them
 pub missing_next : (n end : ℕ) (ws : List (ℕ × List ℕ)) (b : Bool) → is_none (pending_at ws n) ≡ b → n < end → not_pending n (end - n) ws ≡ cond b 1 0 + not_pending (n + 1) (end - (n + 1)) ws
 missing_next n end ws b is lt =
     let one : end - n ≡ suc (end - (n + 1)) = omega arith in

@@ -7,17 +7,17 @@ use Rattle.mc_segs.specs.HeldFrames.{Held}
 use Rattle.mc_segs.specs.Inside.{frame_value}
 use Rattle.mc_segs.specs.declared.frame.Frame.TheInside.{Inside}
 
--- two bytes as a word, and as a block
+-- a big-endian word of two bytes is the number of their block
 pub word_is : (d : List ℕ) (i : ℕ) → i + 1 < length d → be2 d i ≡ num (take 2 (drop i d))
 word_is d i h =
     let h1 : i < length d = omega arith in
     sym (ap (λ (t : List ℕ). num (take 2 t)) (drop_more d i 0 h1 ∙ ap (λ (t : List ℕ). slice_index d i ∷ t) (drop_more d (i + 1) 0 h)) ∙ grind arith)
 
--- the frame of the fields after a return, by what may be given in other words
+-- the frame of the fields after a return, as a function of the values that the call computes
 abbrev pub returned : Inside → List ℕ → ℕ → ℕ → ℕ → Held
 returned f d dt lb at = frame_value (record f { dynamic = d; dt = dt; lb = lb; at = at })
 
--- a return: the moved bytes, the new top and the saved registers
+-- a return: the bytes it moved, its new top and the saved registers are those of the definition
 pub back_is : (f : Inside) (h : Held) (d : List ℕ) (i o lb at : ℕ) → frame_value f ≡ h → length f.dynamic ≡ 512
     → 32768 + f.session_len + 4 + i ≤ f.lb → f.lb + o ≤ f.dt → f.dt ≤ 33280
     → lb ≡ be2 f.dynamic (f.lb - 32768 - 4) → at ≡ be2 f.dynamic (f.lb - 32768 - 2)

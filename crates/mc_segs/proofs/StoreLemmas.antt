@@ -29,7 +29,7 @@ none_there : (n count : ℕ) → not_pending n count [] ≡ count
 none_there n zero = refl
 none_there n (suc count) = omega (arith, none_there (n + 1) count)
 
--- the words of 1 to 255 bytes have room where none is pending
+-- 1 to 255 bytes lie in at most 64 words
 pub few_words : (at len : ℕ) → 1 ≤ len → len ≤ 255 → 0 + not_pending (at / 8) (words_under at len) [] ≤ 64
 few_words at len low high = omega (arith, none_there (at / 8) (words_under at len))
 
@@ -49,7 +49,7 @@ there_after s s' o o' ws there same apps =
     let found : lookup s'.apps (name_or o') ≡ Some a = ap (λ (m : List (List ℕ × App)). lookup m (name_or o')) apps ∙ ap (λ (k : Option (List ℕ)). lookup (insert s.apps n a) (name_or k)) same ∙ lookup-inserted s.apps n a in
     subst (λ (f : Option App). IsSome f) (sym found) refl
 
--- after a commit of words that hold some pieces
+-- a commit of words that hold some pieces writes these pieces over the static bytes
 pub is_committed : (s s' : BankState) (named named' : ℕ → Option (List ℕ)) (h : Held) (ps ws : List (ℕ × List ℕ)) → FitsBank s named h → LieIn (length (app_under s named h).fixed) ps → HoldPieces (app_under s named h).fixed ps ws
     → s'.apps ≡ committed s.apps (name_or (named h.slot)) ws → ((k : ℕ) → named' k ≡ named k) → IsCommitted s s' named named' h (laid_pieces (app_under s named h).fixed ps)
 is_committed s s' named named' h ps ws fits lie held apps slots =
@@ -104,7 +104,7 @@ module _ {B : Type 0} (did : B → BankItem → Answer → B → Type 0) (state 
   done_by_answer b e h at from ws (Ok u) fits some range puts items changes slots = committed_at_once b e h at from ws fits some range puts items changes.apps slots changes.going
   done_by_answer b e h at from ws (Err s) fits some range puts items changes slots = tt
 
-  -- the same by what the calls say: of a slot, of no words, and of a list
+  -- the puts of a write at once, from the slot, the empty words and the list of the calls
   put_at_once : (b : B) (h : Held) (k : ℕ) (at : ℕ) (from : List ℕ) (none ws : List (ℕ × List ℕ)) → k ≡ h.slot → none ≡ [] → PutsBytes (app_of (state b).apps (named b k)).fixed none at from ws → PutsBytes (fixed_under state named b h) [] at from ws
   put_at_once b h k at from none ws same empty puts =
       subst (λ (t : List (ℕ × List ℕ)). PutsBytes (fixed_under state named b h) t at from ws) empty (subst (λ (i : ℕ). PutsBytes (app_of (state b).apps (named b i)).fixed none at from ws) same puts)
@@ -127,14 +127,14 @@ module _ {B : Type 0} (did : B → BankItem → Answer → B → Type 0) (state 
 
 -- ---- later
 
--- a frame reads the same through other pieces that lay the same bytes and touch the same words
+-- a frame reads the same with other pieces that write the same bytes and touch the same words
 same_seen : (f : Frame) (ps qs : List (ℕ × List ℕ)) → laid_pieces f.fixed ps ≡ laid_pieces f.fixed qs → touched ps ≡ touched qs → no_pieces ps ≡ no_pieces qs → seen (record f { pieces = ps }) ≡ seen (record f { pieces = qs })
 same_seen f ps qs laid words none =
     ap (λ (t : List ℕ). record (seen (record f { pieces = ps })) { read = t }) laid
     ∙ ap (λ (t : List ℕ). record (seen (record f { pieces = qs })) { pending = t; none = no_pieces ps }) words
     ∙ ap (λ (t : Bool). record (seen (record f { pieces = qs })) { none = t }) none
 
--- there are words after bytes were put into some
+-- at least one word is pending after bytes are put
 some_put : (begin ws : List (ℕ × List ℕ)) (n count : ℕ) → length ws ≡ length begin + not_pending n count begin → 1 ≤ count → 1 ≤ length ws
 some_put [] ws n count is some = omega (arith, is, none_there n count)
 some_put (w ∷ begin) ws n count is some = omega (arith, is)
@@ -147,11 +147,11 @@ pub no_pieces-append : (ps : List (ℕ × List ℕ)) (p : ℕ × List ℕ) → n
 no_pieces-append [] p = refl
 no_pieces-append (q ∷ ps) p = refl
 
--- words that hold the same pieces
+-- pieces that the same words hold write the same bytes and touch the same words
 pieces_same : (l : List ℕ) (ps qs ws : List (ℕ × List ℕ)) → LieIn (length l) ps → LieIn (length l) qs → HoldPieces l ps ws → HoldPieces l qs ws → (laid_pieces l ps ≡ laid_pieces l qs) × (touched ps ≡ touched qs)
 pieces_same l ps qs ws lie lie' held held' = (sym (words_laid l ps ws lie held) ∙ words_laid l qs ws lie' held', sym held.touched_words ∙ held'.touched_words)
 
--- the limit of pending words
+-- a write passes the limit exactly if more than 64 words would be pending
 limit_is : (m : Frame) (l : List ℕ) (ws : List (ℕ × List ℕ)) (at n : ℕ) → m.pieces ≡ pieces_of (length l) ws → ArePendingIn (length l) ws → 0 < n → passes_limit true m (Some (Static at)) n ≡ nat_lt 64 (length ws + not_pending (at / 8) (words_under at n) ws)
 limit_is m l ws at n pieces are some =
     let len = length-replicate n 0 in
@@ -189,7 +189,7 @@ module _ {B : Type 0} (did : B → BankItem → Answer → B → Type 0) (state 
 missing_under : (at len : ℕ) (ws : List (ℕ × List ℕ)) (more : ℕ) → 1 ≤ len → more ≡ not_pending (at / 8) ((at % 8 + len - 1) / 8 + 1) ws → more ≡ not_pending (at / 8) (words_under at len) ws
 missing_under at len ws more some is = is ∙ ap (λ (k : ℕ). not_pending (at / 8) k ws) (omega arith)
 
--- the limit by what the call counts
+-- the limit by the numbers that the call counts
 pub limit_by : (m : Frame) (l : List ℕ) (ws list : List (ℕ × List ℕ)) (at n more : ℕ) → m.pieces ≡ pieces_of (length l) ws → ArePendingIn (length l) ws → 1 ≤ n → list ≡ ws → more ≡ not_pending (at / 8) ((at % 8 + n - 1) / 8 + 1) ws → passes_limit true m (Some (Static at)) n ≡ nat_lt 64 (length list + more)
 limit_by m l ws list at n more pieces are some same is =
     limit_is m l ws at n pieces are (omega arith)
@@ -231,7 +231,7 @@ pub some_words : (ws : List (ℕ × List ℕ)) → nat_eq (length ws) 0 ≡ fals
 some_words [] none = absurd (cc none)
 some_words (w ∷ ws) none = omega arith
 
--- what holds of the applications after a change that was done
+-- a statement about the applications after a successful change
 pub on_ok : (b e : BankState) (apps : List (List ℕ × App)) (a : Answer) (P : Type 0) → Changes b apps a e → (e.apps ≡ apps → P) → OnOk a P
 on_ok b e apps (Ok u) P changed holds = holds changed.apps
 on_ok b e apps (Err s) P changed holds = tt

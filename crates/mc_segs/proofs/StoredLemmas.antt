@@ -19,7 +19,7 @@ use Rattle.mc_segs.proofs.AccessLemmas.{where_shown}
 
 -- ---- when bytes can be written
 
--- an access of at least one byte is outside where it lies in no place
+-- an access of at least one byte is outside exactly if it lies in no segment
 outside_is : (f : Frame) (a n : ℕ) (p : Option Place) → 1 ≤ n → where_is f a n ≡ p → is_outside f a n ≡ is_none p
 outside_is f a n p some is = ap (λ (t : Bool). not t && is_none (where_is f a n)) (ne_eqb n 0 (λ none. omega arith)) ∙ ap (λ (o : Option Place). is_none o) is
 
@@ -48,7 +48,7 @@ static_is : (f : Frame) (public : List ℕ) (a i : ℕ) (b : List ℕ) (on : Boo
 static_is f public a i b on protected is = ap (λ (t : Bool). static_written t f public i b) (sym protected) ∙ written_is f public a b (Some (Static i)) is
 
 module _ {B : Type 0} (did : B → BankItem → Answer → B → Type 0) (state : B → BankState) (named : B → ℕ → Option (List ℕ)) where
-  -- a public segment beside a call that does not touch it
+  -- a call that does not touch the public segment leaves it as it is
   with_public : (b e : B) (h h' : Held) (f : Effect) (public : List ℕ) → EffectDone did state named (scene b e h h' [] []) f → EffectDone did state named (scene b e h h' public public) (record f { public = public })
   with_public b e h h' f public left = record { commits = left.commits; bytes = left.bytes; frame = left.frame; public = refl; slot = left.slot; fits = left.fits; going = left.going }
 

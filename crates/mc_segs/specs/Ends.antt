@@ -1,4 +1,4 @@
--- How calls on frames end, and what they leave.
+-- How calls on frames end, and the state after them.
 use Rattle.std.specs.Prelude.{◌≡◌, ◌⊎◌, ℕ, ◌≤◌, Bool, true, false, List, [], ◌∷◌, length, Option, Some, None, Result, Ok, Err}
 use Rattle.mc_model_machine.specs.declared.instruction.Ins.{Ins}
 use Rattle.mc_model_machine.specs.declared.machine.Abend.{Abend}
@@ -17,24 +17,24 @@ use Rattle.mc_segs.specs.declared.ends.Halt.TheVariants as halt
 use Rattle.mc_segs.specs.declared.ends.Next.{Next}
 use Rattle.mc_segs.specs.declared.ends.Next.TheVariants.{Go, Exit, Delegate}
 
--- an abend exactly where it is due
+-- the abend `a` exactly if it is due
 abbrev pub IfDue : Result (Unit {0}) Abend → Bool → Abend → Type 0
 IfDue (Ok u) due a = due ≡ false
 IfDue (Err b) due a = (due ≡ true) × (b ≡ a)
 
--- a value, or this abend exactly where it is due
+-- the abend `a` exactly if it is due, and else the value w
 abbrev pub GivesOrAbends : Result ℕ Abend → Bool → Abend → ℕ → Type 0
 GivesOrAbends (Ok v) due a w = (due ≡ false) × (v ≡ w)
 GivesOrAbends (Err b) due a w = (due ≡ true) × (b ≡ a)
 
--- an address where there is one, else abend 03
+-- an address if there is one, else abend 03
 abbrev pub addressed : Option ℕ → Result ℕ Abend
 addressed (Some a) = Ok a
 addressed None = Err A03
 
 -- ---- static changes
 
--- A change of static bytes is one commit of at most 64 words that hold its pieces; without a change there is none. An abend is no stop.
+-- A change of static bytes is one commit of at most 64 words that hold its pieces; without a change there is no commit.
 abbrev pub IsOneCommit : {B : Type 0} → (B → BankItem → Answer → B → Type 0) → List ℕ → List ℕ → Option (List (ℕ × List ℕ)) → B → Answer → B → Type 0
 IsOneCommit did name fixed None b a e = InOrder did b [] a e
 IsOneCommit did name fixed (Some ps) b a e = (ws : List (ℕ × List ℕ)) × HoldPieces fixed ps ws × InOrder did b (Commit name ws ∷ []) a e × (length ws ≤ 64)
@@ -46,7 +46,7 @@ changed_bytes l (Some ps) = laid_pieces l ps
 
 -- ---- calls on a frame, a public segment and a bank
 
--- what a call was lent, before and after it
+-- the bank, the frame and the public segment that a call borrows, before and after it
 pub record Scene (B : Type 0) : Type 0 where
   pub bank : B
   pub bank_after : B
@@ -55,9 +55,9 @@ pub record Scene (B : Type 0) : Type 0 where
   pub public : List ℕ
   pub public_after : List ℕ
 
--- The relation of a bank's items, its meaning and its names come first in what follows.
+-- In what follows the first parameters are the bank's relation of items, its state and the names of its slots.
 
--- the frame on the bank, before and after
+-- the frame on the bank before a call
 abbrev pub before : {B : Type 0} → (B → BankState) → (B → ℕ → Option (List ℕ)) → Scene B → Frame
 before state named s = shown (state s.bank) (named s.bank) s.held
 
@@ -65,11 +65,11 @@ before state named s = shown (state s.bank) (named s.bank) s.held
 abbrev pub after : {B : Type 0} → (B → BankState) → (B → ℕ → Option (List ℕ)) → Scene B → Frame
 after state named s = shown (state s.bank_after) (named s.bank_after) s.held_after
 
--- the static change of an effect, by the answer of the bank
+-- the static change of an effect, as a commit of the bank with this result
 abbrev pub Commits : {B : Type 0} → (B → BankItem → Answer → B → Type 0) → (B → BankState) → (B → ℕ → Option (List ℕ)) → Scene B → Effect → Answer → Type 0
 Commits did state named s e a = IsOneCommit did (before state named s).name (before state named s).fixed e.changes s.bank a s.bank_after
 
--- an effect that was done: the frame fits the bank, which goes on
+-- an effect that was done: the state after it is the effect's, the frame fits the bank, and the bank has not stopped
 pub record EffectDone {B : Type 0} (did : B → BankItem → Answer → B → Type 0) (state : B → BankState) (named : B → ℕ → Option (List ℕ)) (s : Scene B) (e : Effect) : Type 0 where
   pub commits : Commits did state named s e (Ok tt)
   pub bytes : (after state named s).fixed ≡ changed_bytes (before state named s).fixed e.changes
@@ -79,24 +79,24 @@ pub record EffectDone {B : Type 0} (did : B → BankItem → Answer → B → Ty
   pub fits : FitsBank (state s.bank_after) (named s.bank_after) s.held_after
   pub going : (state s.bank_after).stopped ≡ false
 
--- an abend wrote no byte: the registers may have moved
+-- after an abend no byte of a segment has changed; the registers may have
 pub record WroteNoByte {B : Type 0} (s : Scene B) : Type 0 where
   pub bank : s.bank_after ≡ s.bank
   pub public : s.public_after ≡ s.public
   pub dyn : s.held_after.frame.dyn ≡ s.held.frame.dyn
   pub session : s.held_after.frame.session ≡ s.held.frame.session
 
--- what comes after an instruction, in the definition's words
+-- the continuation after an instruction, as the definition's type
 abbrev pub then_of : Next → Then
 then_of Go = Goes
 then_of Exit = Exits
 then_of (Delegate name) = Delegates name
 
--- a call from a bank, a frame and public bytes to others
+-- the scene of a call, from its bank, frame and public bytes before and after it
 abbrev pub scene : {B : Type 0} → B → B → Held → Held → List ℕ → List ℕ → Scene B
 scene b c h k p q = record { bank = b; bank_after = c; held = h; held_after = k; public = p; public_after = q }
 
--- the end of a row, by the result of the call
+-- the end of a row agrees with the result of the call
 abbrev pub EndActs : {B : Type 0} → (B → BankItem → Answer → B → Type 0) → (B → BankState) → (B → ℕ → Option (List ℕ)) → Scene B → RowEnd → Result Next Halt → Type 0
 EndActs did state named s (Abends a) (Ok next) = ⊥
 EndActs did state named s (Abends a) (Err (halt.Abend b)) = (b ≡ a) × WroteNoByte s
@@ -105,25 +105,25 @@ EndActs did state named s (Does d) (Ok next) = (then_of next ≡ d.next) × Effe
 EndActs did state named s (Does d) (Err (halt.Abend b)) = ⊥
 EndActs did state named s (Does d) (Err (halt.Stop stop)) = Commits did state named s d.effect (Err stop)
 
--- the row of an instruction, by the result of the call
+-- the result and the state after the call are those of the row of the instruction
 abbrev pub RowActs : {B : Type 0} → (B → BankItem → Answer → B → Type 0) → (B → BankState) → (B → ℕ → Option (List ℕ)) → Scene B → Ins → Around → Result Next Halt → Type 0
 RowActs did state named s i x r = EndActs did state named s (row i (before state named s) s.public x) r
 
--- a write was refused: 03 where its n bytes lie in no segment, 08 where too many words would be pending
+-- why a write of n bytes abends: 03 if they lie in no segment, else 08 if too many words would be pending
 abbrev pub WriteAbends : Frame → ℕ → ℕ → Abend → Type 0
 WriteAbends f a n b = ((is_outside f a n ≡ true) × (b ≡ A03)) ⊎ ((is_outside f a n ≡ false) × (too_many f a n ≡ true) × (b ≡ A08))
 
--- neither holds
+-- a write of n bytes does not abend
 abbrev pub CanWrite : Frame → ℕ → ℕ → Type 0
 CanWrite f a n = (is_outside f a n ≡ false) × (too_many f a n ≡ false)
 
--- a write of n bytes at an address, by its effect and by the result of the call
+-- a write of n bytes at an address: how its effect and the result of the call agree
 abbrev pub Stores : {B : Type 0} → (B → BankItem → Answer → B → Type 0) → (B → BankState) → (B → ℕ → Option (List ℕ)) → Scene B → ℕ → ℕ → Effect → Result (Unit {0}) Halt → Type 0
 Stores did state named s a n e (Ok u) = CanWrite (before state named s) a n × EffectDone did state named s e
 Stores did state named s a n e (Err (halt.Abend b)) = WriteAbends (before state named s) a n b × (s.bank_after ≡ s.bank) × (s.held_after ≡ s.held) × (s.public_after ≡ s.public)
 Stores did state named s a n e (Err (halt.Stop stop)) = CanWrite (before state named s) a n × Commits did state named s e (Err stop)
 
--- a change of protection, by the result of the call
+-- a change of protection: how its effect and the result of the call agree
 abbrev pub Protects : {B : Type 0} → (B → BankItem → Answer → B → Type 0) → (B → BankState) → (B → ℕ → Option (List ℕ)) → Scene B → Effect → Result (Unit {0}) Stop → Type 0
 Protects did state named s e (Ok u) = EffectDone did state named s e
 Protects did state named s e (Err stop) = Commits did state named s e (Err stop)

@@ -1,4 +1,4 @@
--- A frame as the code holds it, the frame that it is on a bank, and when it fits that bank.
+-- A frame as the code holds it, the machine's frame that it makes with a bank, and when it fits that bank.
 use Rattle.std.specs.Prelude.{◌≡◌, ℕ, ◌-◌, ◌*◌, ◌<◌, ◌≤◌, Bool, true, false, List, [], ◌∷◌, length, take, map, Option, IsSome}
 use Rattle.std.specs.List.{AllByRecursion}
 use Rattle.mc_model_card.specs.declared.card.Sizes.{Sizes}
@@ -8,13 +8,13 @@ use Rattle.mc_model_device.specs.Pieces.{touched, ArePending}
 use Rattle.mc_model_machine.specs.Frame.{Frame, static_bytes, floor, dynamic_end, new_frame}
 use Rattle.mc_bank.specs.Bank.{BankState, app_of, name_or}
 
--- A frame without what stands on the bank: the slot of its application, and a frame without a name, whose static segment has its length
--- and no bytes, and whose pieces are its pending words.
+-- A frame without what the bank stores: the slot of its application, and a frame without a name, whose static segment has its length but
+-- zeros for bytes, and whose pieces are its pending words.
 pub record Held : Type 0 where
   pub slot : ℕ
   pub frame : Frame
 
--- pending words as pieces of a segment of n bytes: what a word has behind the segment's end is no part of it
+-- pending words as pieces of a segment of n bytes: the bytes of a word after the segment's end are dropped
 abbrev pub pieces_of : ℕ → List (ℕ × List ℕ) → List (ℕ × List ℕ)
 pieces_of n ws = map (λ w. (8 * w.0, take (n - 8 * w.0) w.1)) ws
 
@@ -24,22 +24,22 @@ pub record ArePendingIn (n : ℕ) (ws : List (ℕ × List ℕ)) : Type 0 where
   pub pending : ArePending ws
   pub within : AllByRecursion (λ w. 8 * w.0 < n) ws
 
--- what every frame keeps
+-- the invariant of a frame: 512 dynamic bytes, DT between the floor and the end of the dynamic segment, at most 256 session bytes
 pub record KeepsFrame (f : Frame) : Type 0 where
   pub dyn : length f.dyn ≡ 512
   pub low : floor f ≤ f.dt
   pub high : f.dt ≤ dynamic_end
   pub session : f.session ≤ 256
 
--- the application of a frame
+-- the application of a frame on a bank
 abbrev pub app_under : BankState → (ℕ → Option (List ℕ)) → Held → App
 app_under s named h = app_of s.apps (named h.slot)
 
--- the frame that it is on a bank, which has its name and its static bytes
+-- the machine's frame: the held one with the name and the static bytes of its application on the bank
 abbrev pub shown : BankState → (ℕ → Option (List ℕ)) → Held → Frame
 shown s named h = record h.frame { name = name_or (named h.slot); fixed = (app_under s named h).fixed }
 
--- its application is on the bank, with the facts that the frame was made with
+-- a frame fits a bank: its application is there, with the sizes and the access list that the frame was made with
 pub record FitsBank (s : BankState) (named : ℕ → Option (List ℕ)) (h : Held) : Type 0 where
   pub there : IsSome (named h.slot)
   pub app : IsSome (lookup s.apps (name_or (named h.slot)))
@@ -57,14 +57,15 @@ pub record CanRun (s : BankState) (named : ℕ → Option (List ℕ)) (h : Held)
 abbrev pub new_held : ℕ → Sizes → List ℕ → Held
 new_held slot sizes session = record { slot = slot; frame = new_frame [] sizes.code sizes.deny (zeros sizes.fixed) session }
 
--- ---- frames whose pending bytes are the same
+-- ---- frames up to the pieces that their pending words come from
 
 -- whether there are no pieces
 abbrev pub no_pieces : List (ℕ × List ℕ) → Bool
 no_pieces [] = true
 no_pieces (p ∷ ps) = false
 
--- a frame, whichever pieces its pending bytes come from: the static bytes as they read, the words that are pending, and whether none are
+-- what a frame has whichever pieces its pending words come from: the static bytes as they read, the words that are pending, and whether
+-- none are
 pub record Seen : Type 0 where
   pub name : List ℕ
   pub code_len : ℕ
@@ -82,7 +83,7 @@ pub record Seen : Type 0 where
   pub z : Bool
   pub protected : Bool
 
--- what a frame reads like
+-- the observation of a frame
 abbrev pub seen : Frame → Seen
 seen f =
     record {

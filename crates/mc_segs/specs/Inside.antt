@@ -1,4 +1,4 @@
--- What the fields of a frame stand for.
+-- The meaning of the fields of a frame.
 use Rattle.std.specs.Prelude.{[]}
 use Rattle.mc_model_device.specs.Bytes.{zeros}
 use Rattle.mc_segs.specs.HeldFrames.{Held, pieces_of, ArePendingIn, KeepsFrame}
@@ -26,7 +26,7 @@ frame_value f =
       };
     }
 
--- what the fields keep
+-- the invariant of the fields
 pub record KeepsInside (f : Inside) : Type 0 where
   pub frame : KeepsFrame (frame_value f).frame
   pub pending : ArePendingIn f.fixed_len f.pending

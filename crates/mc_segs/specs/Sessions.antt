@@ -1,12 +1,12 @@
--- What session bytes are.
+-- The bytes of a session.
 use Rattle.std.specs.Prelude.{◌≡◌, ℕ, ◌-◌, ◌≤◌, List, ◌++◌, length, take, replicate}
 use Rattle.mc_segs.specs.declared.session.Session.TheInside.{Inside}
 
--- the bytes of the field that count
+-- the session bytes: the first `len` of the array
 abbrev pub session_bytes : Inside → List ℕ
 session_bytes s = take s.len s.bytes
 
--- at most 256 bytes count, and zeros stand behind them
+-- the invariant of session bytes: an array of 256 bytes, of which at most 256 count and the others are zero
 pub record KeepsSession (s : Inside) : Type 0 where
   pub room : length s.bytes ≡ 256
   pub high : s.len ≤ 256

@@ -17,7 +17,7 @@ use mc_model_machine::Abend;
 /// PB, the address of the first public byte.
 const PUBLIC: u16 = 0xC000;
 
-/// PT, the address behind the last public byte.
+/// PT, the address after the last public byte.
 const PUBLIC_END: u16 = 0xC411;
 
 // A segment, and a place in it.
@@ -28,8 +28,11 @@ pub enum Place {
     Public(usize),
 }
 
-/// Register plus offset, as the registers stand: tags 1 to 7 are SB, ST, DB, LB, DT, PB and PT. Abend 03 where that is
-/// no address from 0000 to FFFF.
+/// Returns the address of a register plus `off`. Tags 1 to 7 are SB, ST, DB, LB, DT, PB and PT.
+///
+/// # Errors
+///
+/// Returns abend 03 if the sum is no address from 0000 to FFFF.
 #[inline]
 pub fn resolve(frame: &Frame, tag: u8, off: i16) -> Result<u16, Abend>
     requires low { 1 ≤ tag }
@@ -41,7 +44,7 @@ pub fn resolve(frame: &Frame, tag: u8, off: i16) -> Result<u16, Abend>
         .ok_or(Abend::A03)
 }
 
-// The register with a number from 1 to 7.
+// The value of the register with a tag from 1 to 7.
 #[inline]
 fn register(frame: &Frame, tag: u8) -> u16
     requires low { 1 ≤ tag }
@@ -59,7 +62,7 @@ fn register(frame: &Frame, tag: u8) -> u16
     }
 }
 
-// Where so many bytes at an address lie whole, if they do.
+// The place of `len` bytes at an address, if they lie whole in a segment.
 #[inline]
 pub fn place_of(frame: &Frame, at: u16, len: usize) -> Option<Place>
     requires { len < 2 ^ 63 }
@@ -78,8 +81,13 @@ pub fn place_of(frame: &Frame, at: u16, len: usize) -> Option<Place>
     None
 }
 
-/// Reads the bytes at an address, which lie whole in a segment; static bytes as protection shows them. Abend 03 where they
-/// do not, and then nothing changes. An access of no bytes never abends.
+/// Reads the bytes at the address `at` into the slice. Static bytes are read with the pending words over
+/// them.
+///
+/// # Errors
+///
+/// Returns abend 03, and changes nothing, if the bytes do not lie whole in a segment. An access of no bytes
+/// never abends.
 #[inline(always)]
 pub fn load<B: Bank>(
     bank: &B,
@@ -107,8 +115,8 @@ pub fn load<B: Bank>(
     Ok(())
 }
 
-// Reads static bytes: those of the bank, and over them the pending words. Apart from the other segments, whose bytes a row
-// copies in place.
+// Reads static bytes: those of the bank, and over them the pending words. Separate from the other segments,
+// whose bytes are copied in place.
 #[inline(never)]
 fn read_static<B: Bank>(bank: &B, frame: &Frame, at: u16, into: &mut [u8])
     requires runs { CanRun (B.state bank.now) (B.named bank.now) frame.now }
@@ -122,7 +130,7 @@ fn read_static<B: Bank>(bank: &B, frame: &Frame, at: u16, into: &mut [u8])
     }
 }
 
-// Lays a word that stands at a place of the segment over bytes that stand at another, as far as they meet.
+// Writes the word at `place` of the segment over the bytes at `at` of it, as far as they overlap.
 fn overlay(bytes: &mut [u8], at: usize, place: usize, word: &[u8; 8])
     requires at { at ≤ 65535 }
     requires place { place ≤ 65535 * 8 }
@@ -135,9 +143,13 @@ fn overlay(bytes: &mut [u8], at: usize, place: usize, word: &[u8; 8])
     }
 }
 
-/// Writes 1 to 255 bytes at an address, where they lie whole in a segment. A static write is one commit of the words that
-/// it touches; while protection is on they go to the frame's pending words instead. Abend 03 where the bytes lie in no
-/// segment, 08 where more than 64 words would be pending, and then nothing changes.
+/// Writes 1 to 255 bytes at the address `at`. A static write is one commit of the words that it touches;
+/// while protection is on they go to the frame's pending words instead.
+///
+/// # Errors
+///
+/// Returns abend 03 if the bytes do not lie whole in a segment, and abend 08 if more than 64 words would be
+/// pending; nothing changes then. Returns the `Stop` of the bank if the commit stopped.
 #[inline(always)]
 pub fn store<B: Bank>(
     bank: &mut B,

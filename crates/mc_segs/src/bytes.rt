@@ -1,8 +1,8 @@
-// Pieces of bytes in arrays.
+// Reads and writes within byte arrays.
 ghost use Rattle.std.specs.Prelude.{◌≡◌, ◌+◌, ◌≤◌, ◌<◌, length, take, drop, ◌++◌};
 ghost use Rattle.mc_model_device.specs.Bytes.{be2, bytes2, splice};
 
-/// Copies bytes from a place on.
+/// Copies the bytes of `bytes` from `at` on into `into`.
 #[inline(always)]
 pub fn read(bytes: &[u8], at: usize, into: &mut [u8])
     requires { at + length into.old ≤ length bytes.now }
@@ -11,7 +11,7 @@ pub fn read(bytes: &[u8], at: usize, into: &mut [u8])
     into.copy_from_slice(&bytes[at..at + into.len()]);
 }
 
-/// Sets bytes from a place on.
+/// Writes `piece` into `into` from `at` on.
 #[inline(always)]
 pub fn write(into: &mut [u8], at: usize, piece: &[u8])
     requires { at + length piece.now ≤ length into.old }
@@ -20,7 +20,7 @@ pub fn write(into: &mut [u8], at: usize, piece: &[u8])
     into[at..at + piece.len()].copy_from_slice(piece);
 }
 
-/// Moves bytes from one place to another, which may meet it.
+/// Moves `len` bytes from `from` to `to`; the two ranges may overlap.
 pub fn move_bytes(bytes: &mut [u8], from: usize, len: usize, to: usize)
     requires from { from + len ≤ length bytes.old }
     requires to { to + len ≤ length bytes.old }
@@ -29,7 +29,7 @@ pub fn move_bytes(bytes: &mut [u8], from: usize, len: usize, to: usize)
     bytes.copy_within(from..from + len, to);
 }
 
-/// The four bytes of two words.
+/// Returns the four bytes of two words, high bytes first.
 pub fn words(first: u16, second: u16) -> [u8; 4]
     ensures { result ≡ bytes2 first ++ bytes2 second }
 {
@@ -41,7 +41,7 @@ pub fn words(first: u16, second: u16) -> [u8; 4]
     ]
 }
 
-/// The word at a place.
+/// Returns the word in the two bytes at `at`, high byte first.
 pub fn word_at(bytes: &[u8], at: usize) -> u16
     requires { at + 1 < length bytes.now }
     ensures { result ≡ be2 bytes.now at }

@@ -1,7 +1,8 @@
 use mc_base::{Aid, Stop};
 use mc_model_machine::Abend;
 
-/// What comes after an instruction that was done: the next one, the frame's exit, or another application by its name.
+/// The continuation after an instruction that was done: the next one, the frame's exit, or the application
+/// with this name.
 #[derive(Clone, Copy, Debug, PartialEq, Eq)]
 pub enum Next {
     Go,
@@ -9,7 +10,7 @@ pub enum Next {
     Delegate(Aid),
 }
 
-/// Why an instruction was not done: it abends, or the bank stopped in its change.
+/// Why an instruction was not done: it abends, or the bank stopped during its change of static bytes.
 #[derive(Clone, Copy, Debug, PartialEq, Eq)]
 pub enum Halt {
     Abend(Abend),

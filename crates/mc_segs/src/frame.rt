@@ -11,8 +11,9 @@ use std::marker::Model;
 /// The address of the first dynamic byte.
 pub const DYNAMIC: u16 = 0x8000;
 
-/// A running application: its slot on the bank with what its facts say, 512 dynamic bytes, the registers DT and LB as
-/// addresses, the code address, the flags C and Z, and the words that wait for a commit while protection is on.
+/// A running application: its slot on the bank, its sizes and access list, 512 dynamic bytes, the registers
+/// DT and LB as addresses, the code address (the program counter), the flags C and Z, and the words that wait
+/// for a commit while protection is on.
 #[derive(Debug, Drop)]
 pub struct Frame {
     pub(crate) slot: Slot,
@@ -42,8 +43,8 @@ impl Model for Frame {
 }
 
 impl Frame {
-    /// A frame of the application of a slot before its first instruction, with these session bytes. They are as many as
-    /// the facts say.
+    /// Returns a frame of the application in `slot` before its first instruction, with these session bytes,
+    /// whose number is that of `facts`.
     pub fn new(slot: Slot, facts: &Facts, session: &Session) -> Frame
         requires { length session.now ≡ facts.now.sizes.session }
         ensures { result ≡ new_held slot facts.now.sizes session.now }
@@ -69,28 +70,28 @@ impl Frame {
         }
     }
 
-    /// The slot of its application.
+    /// Returns the slot of its application.
     pub fn slot(&self) -> Slot
         ensures { result ≡ self.now.slot }
     {
         self.slot
     }
 
-    /// The code address.
+    /// Returns the code address.
     pub fn at(&self) -> u16
         ensures { result ≡ self.now.frame.at }
     {
         self.at
     }
 
-    /// The length of its application's code.
+    /// Returns the length of its application's code in bytes.
     pub fn code_len(&self) -> u16
         ensures { result ≡ self.now.frame.code_len }
     {
         self.code_len
     }
 
-    /// DT, the address of the first free byte of the stack.
+    /// Returns DT, the address of the first free byte of the stack.
     pub fn dt(&self) -> u16
         ensures value { result ≡ self.now.frame.dt }
         ensures low { 0x8000 ≤ result }
@@ -99,7 +100,7 @@ impl Frame {
         self.dt
     }
 
-    /// The lowest address that DT may have.
+    /// Returns the floor of the stack, the lowest address that DT may have.
     pub fn floor(&self) -> u16
         ensures value { result ≡ floor self.now.frame }
         ensures dt { result ≤ self.now.frame.dt }
@@ -115,21 +116,21 @@ impl Frame {
         self.c
     }
 
-    /// The flag Z.
+    /// Returns the flag Z.
     pub fn z(&self) -> bool
         ensures { result ≡ self.now.frame.z }
     {
         self.z
     }
 
-    /// The session bytes.
+    /// Returns the session bytes.
     pub fn session(&self) -> Session
         ensures { result ≡ session_of self.now.frame }
     {
         Session::of(&self.dynamic[..self.session_len as usize])
     }
 
-    /// Keeps the session bytes in place of others.
+    /// Writes the frame's session bytes to `session`.
     #[inline(always)]
     pub fn keep_session(&self, session: &mut Session)
         ensures { session.new ≡ session_of self.now.frame }

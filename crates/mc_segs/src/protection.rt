@@ -1,4 +1,4 @@
-// Static writes: at once, or kept as pending words until a commit.
+// Static writes: committed at once, or kept as pending words until a commit.
 ghost use Rattle.std.specs.Prelude.{◌≡◌, ℕ, ◌+◌, ◌*◌, ◌/◌, ◌≤◌, ◌<◌, length, slice_index, true, false, [], Some, None, IsSome, OnOk, OnErr, ◌==◌, ◌||◌};
 ghost use Rattle.mc_model_machine.specs.Frame as model;
 ghost use Rattle.mc_model_device.specs.Pieces.{not_pending, pending_at, put_word};
@@ -15,8 +15,13 @@ use mc_base::{Stop, Word};
 use mc_model_machine::Abend;
 use mc_trans::Pending;
 
-/// Sets the protection of static writes: mode 0 drops the pending words and ends it, 1 commits them and ends it, 2 drops
-/// them and begins it, 3 commits them and begins it. A commit is one commit of the bank; with no words there is none.
+/// Sets the protection of static writes: mode 0 drops the pending words and ends it, 1 commits them and ends
+/// it, 2 drops them and begins it, 3 commits them and begins it. A commit is one commit of the bank; without
+/// pending words there is none.
+///
+/// # Errors
+///
+/// Returns the `Stop` of the bank if the commit stopped.
 pub fn protect<B: Bank>(bank: &mut B, frame: &mut Frame, mode: u8) -> Result<(), Stop>
     requires runs { CanRun (B.state bank.old) (B.named bank.old) frame.old }
     requires mode { mode ≤ 3 }
@@ -63,7 +68,11 @@ fn commit_pending<B: Bank>(bank: &mut B, frame: &Frame) -> Result<(), Stop>
     bank.commit(frame.slot, words)
 }
 
-/// Writes static bytes at once: one commit of the words that they touch.
+/// Writes static bytes at once, in one commit of the words that they touch.
+///
+/// # Errors
+///
+/// Returns the `Stop` of the bank if the commit stopped.
 pub fn commit_static<B: Bank>(bank: &mut B, frame: &Frame, at: u16, from: &[u8]) -> Result<(), Stop>
     requires runs { CanRun (B.state bank.old) (B.named bank.old) frame.now }
     requires low { 1 ≤ length from.now }
@@ -79,7 +88,11 @@ pub fn commit_static<B: Bank>(bank: &mut B, frame: &Frame, at: u16, from: &[u8])
     bank.commit(frame.slot, words.list())
 }
 
-/// Keeps static bytes as pending words. Abend 08 where more than 64 words would be pending, and then nothing changes.
+/// Keeps static bytes as pending words.
+///
+/// # Errors
+///
+/// Returns abend 08, and changes nothing, if more than 64 words would be pending.
 pub fn keep_static<B: Bank>(bank: &B, frame: &mut Frame, at: u16, from: &[u8]) -> Result<(), Abend>
     requires runs { CanRun (B.state bank.now) (B.named bank.now) frame.old }
     requires low { 1 ≤ length from.now }
@@ -107,7 +120,7 @@ pub fn keep_static<B: Bank>(bank: &B, frame: &mut Frame, at: u16, from: &[u8]) -
     Ok(())
 }
 
-// How many of so many words from this one on are not pending.
+// The number of words in `first..first + count` that are not pending.
 fn missing(pending: &Pending, first: u16, count: u16) -> u16
     requires { first + count < 65536 }
     ensures value { result ≡ not_pending first count pending.now }
@@ -122,8 +135,8 @@ fn missing(pending: &Pending, first: u16, count: u16) -> u16
     missing
 }
 
-// Puts bytes into words of the static segment of `len` bytes, word by word; a word that is not there yet begins with the
-// bank's bytes.
+// Puts bytes into the pending words of the static segment of `len` bytes, word by word; a word that is not
+// yet pending begins with the bank's bytes.
 fn put_bytes<B: Bank>(bank: &B, slot: Slot, len: u16, words: &mut Pending, at: u16, from: &[u8])
     requires going { (B.state bank.now).stopped ≡ false }
     requires there { IsSome (B.named bank.now slot) }
@@ -177,7 +190,7 @@ fn put_piece<B: Bank>(
     put(words, number, word);
 }
 
-// Makes a word pending, for which there is room.
+// Makes a word pending; there is room for it.
 fn put(words: &mut Pending, number: u16, word: Word)
     requires { pending_at words.old number ≡ None → length words.old < 64 }
     ensures { words.new ≡ put_word number word words.old }
@@ -185,7 +198,7 @@ fn put(words: &mut Pending, number: u16, word: Word)
     let _ = words.put(number, word);
 }
 
-// A word of the static segment: the one that is there, or the bank's bytes with zeros behind the segment's end.
+// A word of the static segment: the pending one, or else the bank's bytes with zeros after the segment's end.
 fn word_of<B: Bank>(bank: &B, slot: Slot, len: u16, words: &Pending, number: u16) -> Word
     requires going { (B.state bank.now).stopped ≡ false }
     requires there { IsSome (B.named bank.now slot) }
@@ -199,7 +212,7 @@ fn word_of<B: Bank>(bank: &B, slot: Slot, len: u16, words: &Pending, number: u16
     }
 }
 
-// A word of the static segment as the bank has it, with zeros behind the segment's end.
+// A word of the static segment as the bank has it, with zeros after the segment's end.
 fn fresh_word<B: Bank>(bank: &B, slot: Slot, len: u16, number: u16) -> Word
     requires going { (B.state bank.now).stopped ≡ false }
     requires there { IsSome (B.named bank.now slot) }

@@ -26,14 +26,15 @@ impl Model for Public {
 }
 
 impl Public {
-    /// A public segment of zeros, before a command.
+    /// Returns a public segment of zeros.
     pub fn blank() -> Public
         ensures { result ≡ zeros 1041 }
     {
         Public { bytes: [0; 1041] }
     }
 
-    /// Makes a blank one the public segment of a command of ISO/IEC 7816-4 with at most 1,024 bytes of data, before its first instruction.
+    /// Makes a blank segment the public segment of a command of ISO/IEC 7816-4 with at most 1,024 bytes of
+    /// data, before the first instruction.
     #[inline(always)]
     pub fn open(&mut self, apdu: &Apdu)
         requires blank { self.old ≡ zeros 1041 }
@@ -51,7 +52,8 @@ impl Public {
         write(&mut self.bytes, 1039, &bytes_of(0x9000));
     }
 
-    /// The public segment of a command of ISO/IEC 7816-4 with at most 1,024 bytes of data, before its first instruction.
+    /// Returns the public segment of a command of ISO/IEC 7816-4 with at most 1,024 bytes of data, before the
+    /// first instruction.
     pub fn new(apdu: &Apdu) -> Public
         requires { length apdu.now.body.now ≤ 1024 }
         ensures { result ≡ new_public (parts_of apdu.now) }
@@ -61,7 +63,7 @@ impl Public {
         public
     }
 
-    /// The whole segment, 1,041 bytes.
+    /// Returns the whole segment, 1,041 bytes.
     pub fn bytes(&self) -> &[u8]
         ensures value { result.now ≡ self.now }
         ensures length { length result.now ≡ 1041 }

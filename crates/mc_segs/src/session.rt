@@ -26,7 +26,7 @@ impl Model for Session {
 }
 
 impl Session {
-    /// So many session bytes, at most 256, all zero, as a selection makes them.
+    /// Returns `len` zero bytes, at most 256, the session bytes after a selection.
     pub fn new(len: u16) -> Session
         requires { len ≤ 256 }
         ensures { result ≡ zeros len }
@@ -37,7 +37,7 @@ impl Session {
         }
     }
 
-    /// Session bytes with these contents, at most 256.
+    /// Returns these session bytes, at most 256.
     pub fn of(bytes: &[u8]) -> Session
         requires { length bytes.now ≤ 256 }
         ensures { result ≡ bytes.now }
@@ -50,7 +50,7 @@ impl Session {
         }
     }
 
-    /// Makes the session bytes these, at most 256.
+    /// Replaces the session bytes by these, at most 256.
     #[inline(always)]
     pub fn set(&mut self, bytes: &[u8])
         requires { length bytes.now ≤ 256 }
@@ -61,7 +61,7 @@ impl Session {
         self.len = bytes.len();
     }
 
-    /// The session bytes.
+    /// Returns the session bytes.
     pub fn bytes(&self) -> &[u8]
         ensures value { result.now ≡ self.now }
         ensures bound { length result.now ≤ 256 }

@@ -7,7 +7,11 @@ use crate::bytes::{move_bytes, read, word_at, words, write};
 use crate::frame::{DYNAMIC, Frame};
 use mc_model_machine::Abend;
 
-/// Puts bytes on top of the stack. Abend 05 where they would pass its end, and then nothing changes.
+/// Pushes bytes on the stack.
+///
+/// # Errors
+///
+/// Returns abend 05, and changes nothing, if they would pass the end of the stack.
 #[inline]
 pub fn push(frame: &mut Frame, bytes: &[u8]) -> Result<(), Abend>
     ensures abend { IfDue result (model.is_over frame.old.frame (length bytes.now)) Abend.A05 }
@@ -23,7 +27,7 @@ pub fn push(frame: &mut Frame, bytes: &[u8]) -> Result<(), Abend>
     Ok(())
 }
 
-/// The bytes on top of the stack, so many, which are above the floor.
+/// Returns the top `count` bytes of the stack, all of which are above the floor.
 #[inline]
 pub fn top(frame: &Frame, count: u8) -> &[u8]
     requires { model.is_under frame.now.frame count ≡ false }
@@ -34,7 +38,11 @@ pub fn top(frame: &Frame, count: u8) -> &[u8]
     &frame.dynamic[to - count as usize..to]
 }
 
-/// Takes so many bytes from the top of the stack, unread. Abend 04 where fewer are above the floor, and then nothing changes.
+/// Drops the top `count` bytes of the stack.
+///
+/// # Errors
+///
+/// Returns abend 04, and changes nothing, if fewer are above the floor.
 #[inline]
 pub fn discard(frame: &mut Frame, count: u8) -> Result<(), Abend>
     ensures abend { IfDue result (model.is_under frame.old.frame count) Abend.A04 }
@@ -49,7 +57,11 @@ pub fn discard(frame: &mut Frame, count: u8) -> Result<(), Abend>
     Ok(())
 }
 
-/// Takes bytes from the top of the stack. Abend 04 where fewer are above the floor, and then nothing changes.
+/// Pops bytes from the stack into the slice.
+///
+/// # Errors
+///
+/// Returns abend 04, and changes nothing, if fewer are above the floor.
 #[inline]
 pub fn pop(frame: &mut Frame, into: &mut [u8]) -> Result<(), Abend>
     ensures abend { IfDue result (model.is_under frame.old.frame (length into.old)) Abend.A04 }
@@ -67,8 +79,12 @@ pub fn pop(frame: &mut Frame, into: &mut [u8]) -> Result<(), Abend>
     Ok(())
 }
 
-/// Enters a routine: pushes LB and the code address, LB becomes DT, and the code goes on at `to`, which is not tested.
-/// Abend 05 where the four bytes would pass the end of the stack, and then nothing changes.
+/// Enters a routine: pushes LB and the code address, sets LB to DT and the code address to `to`, which is not
+/// tested.
+///
+/// # Errors
+///
+/// Returns abend 05, and changes nothing, if the four bytes would pass the end of the stack.
 pub fn enter(frame: &mut Frame, to: u16) -> Result<(), Abend>
     ensures abend { IfDue result (model.is_over frame.old.frame 4) Abend.A05 }
     ensures entered { OnOk result (frame.new ≡ record frame.old { frame = model.entered frame.old.frame to }) }
@@ -81,8 +97,11 @@ pub fn enter(frame: &mut Frame, to: u16) -> Result<(), Abend>
     Ok(())
 }
 
-/// The code address to which a call with `i` bytes below it returns, with `o` bytes above LB. Abend 04 where no such call
-/// lies on the stack.
+/// Returns the code address to which a call with `i` bytes below it returns, with `o` bytes above LB.
+///
+/// # Errors
+///
+/// Returns abend 04 if no such call lies on the stack.
 pub fn return_address(frame: &Frame, i: u8, o: u8) -> Result<u16, Abend>
     ensures { GivesOrAbends result (model.no_return frame.now.frame i o) Abend.A04 (model.saved frame.now.frame 2) }
 {
@@ -92,9 +111,13 @@ pub fn return_address(frame: &Frame, i: u8, o: u8) -> Result<u16, Abend>
     Ok(word_at(&frame.dynamic, (frame.lb - DYNAMIC) as usize - 2))
 }
 
-/// Returns from a routine: the top `o` bytes move over the saved registers and the `i` bytes below them, LB and the code
-/// address are those that were saved. The place is not tested. Abend 04 where no call with `i` bytes lies below, or fewer
-/// than `o` bytes above LB, and then nothing changes.
+/// Returns from a routine: moves the top `o` bytes over the saved registers and the `i` bytes below them, and
+/// restores LB and the code address, which is not tested.
+///
+/// # Errors
+///
+/// Returns abend 04, and changes nothing, if no call with `i` bytes lies below LB, or fewer than `o` bytes
+/// above it.
 pub fn come_back(frame: &mut Frame, i: u8, o: u8) -> Result<(), Abend>
     ensures abend { IfDue result (model.no_return frame.old.frame i o) Abend.A04 }
     ensures back { OnOk result (frame.new ≡ record frame.old { frame = model.come_back frame.old.frame i o }) }

@@ -30,7 +30,7 @@ running d c h = by_test (is_going d c) h
 
 module _ {N : Type 0} (state : N → DeviceState) (wrote : N → ℕ → List ℕ → Answer → N → Type 0)
     (obeys : (d : N) (at : ℕ) (w : List ℕ) (a : Answer) (e : N) → (state d).on ≡ true → wrote d at w a e → Wrote (state d) at w a (state e)) where
-  -- the applications after an item are the old ones or those that it makes
+  -- the applications after an item are the old ones or the new ones
   map_either : (s e : Store N) (i : BankItem) (a : Answer) → store_did state wrote s i a e
       → (apps_in (state e.device).words ≡ apps_in (state s.device).words) ⊎ (apps_in (state e.device).words ≡ item_done (store_standing (state s.device)) i (apps_in (state s.device).words))
   map_either s e i (Ok tt) did = inr (store_obeys state wrote obeys s.device e.device s.count e.count i (Ok tt) did).apps

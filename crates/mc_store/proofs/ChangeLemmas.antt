@@ -1,4 +1,4 @@
--- A commit and a deletion as items of a store: what their calls ask, and what they made.
+-- A commit and a deletion as items of a store: what their calls require, and what they made.
 use Rattle.std.proofs.Common.{◌≡◌, ℕ, suc, ◌+◌, ◌*◌, ◌<◌, ◌≤◌, true, false, not, List, [], ◌∷◌, length, get_or, Option, Some, refl, sym, ◌∙◌, ap, subst, arith}
 use Rattle.std.specs.Prelude.{IsSome, is_some, unwrap_or}
 use Rattle.std.specs.List.{AllByRecursion}
@@ -158,7 +158,7 @@ one-placed q [] h = absurd (omega (arith, h))
 one-placed q (w ∷ []) h = refl
 one-placed q (w ∷ x ∷ ws) h = absurd (omega (arith, h))
 
--- ---- the same for slots
+-- ---- slots
 
 first-small : (q : ℕ) (ws : List (ℕ × List ℕ)) → 1 ≤ length ws → AllByRecursion (λ w. q + w.0 ≤ 65535) ws → q ≤ 65535
 first-small q [] some a = absurd (omega arith)

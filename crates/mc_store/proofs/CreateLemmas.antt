@@ -1,4 +1,4 @@
--- A creation as items of a store: the words of its record, and what its calls ask.
+-- A creation as items of a store: the words of its record, and what its calls require.
 use Rattle.std.proofs.Common.{◌≡◌, ◌⊎◌, ℕ, zero, suc, ◌+◌, ◌-◌, ◌%◌, ◌/◌, ◌<◌, ◌≤◌, true, false, List, [], ◌∷◌, ◌++◌, length, take, drop, map, Ok, Err, refl, sym, ◌∙◌, ap, subst, inl, inr, arith, length-append}
 use Rattle.std.specs.Prelude.{OnOk, slice_index_or}
 use Rattle.std.proofs.lemmas.List.{drop_more, length-replicate, get_or_append_left}
@@ -171,7 +171,7 @@ module _ {D : Type 0} (state : D → DeviceState) (wrote : D → ℕ → List �
   note-good d e c s n i (Ok tt) good did = good-on (state d) (state e) c s (note-on state wrote obeys d e c s n i did) good
   note-good d e c s n i (Err t) good did = tt
 
--- ---- zeros behind the data
+-- ---- zeros after the data
 
 zeros-drop : (j k : ℕ) → j ≤ k → drop j (zeros k) ≡ zeros (k - j)
 zeros-drop zero k h = ap zeros (let e : k ≡ k - 0 = omega arith in e)

@@ -1,4 +1,4 @@
--- Bytes of a section set word by word: the parts of a piece, and what each write asks and leaves.
+-- Bytes of a section set word by word: the parts of a piece, and what each write requires and leaves.
 use Rattle.std.proofs.Common.{◌≡◌, ◌⊎◌, ℕ, zero, suc, ◌+◌, ◌-◌, ◌%◌, ◌/◌, ◌<◌, ◌≤◌, true, List, [], ◌∷◌, length, take, drop, map, Ok, Err, refl, sym, ◌∙◌, ap, subst, inl, inr, arith}
 use Rattle.std.specs.Prelude.{OnOk}
 use Rattle.std.proofs.lemmas.List.{length-drop, drop-drop, take_all, drop_all}
@@ -30,7 +30,7 @@ words-fuel (suc n) (suc k) at (y ∷ b) hn hk =
     let left = length-drop j (y ∷ b) in
     ap (λ (l : List (ℕ × List ℕ)). (at, take j (y ∷ b)) ∷ l) (words-fuel n k (at + j) (drop j (y ∷ b)) (omega (arith, left)) (omega (arith, left)))
 
--- the first part of some bytes, and those behind it
+-- the first part of some bytes, and those after it
 pub parts-step : (at j : ℕ) (b : List ℕ) → 1 ≤ j → j ≤ length b → at % 8 + j ≤ 8 → (j ≡ length b) ⊎ (at % 8 + j ≡ 8) → word_parts at b ≡ (at, take j b) ∷ word_parts (at + j) (drop j b)
 parts-step at j [] some few fits least = absurd (omega arith)
 parts-step at j (y ∷ ys) some few fits least =

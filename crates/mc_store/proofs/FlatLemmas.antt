@@ -19,7 +19,7 @@ take_sum a b l =
     ∙ ap (λ (x : List ℕ). take a l ++ x) (drop-take a b l)
 
 module _ (m : List (List ℕ)) (image : IsSized m) where
-  -- a word before the words behind it
+  -- a word before the words after it
   behind : (q : ℕ) → q < length m → concat (drop q m) ≡ word m q ++ concat (drop (q + 1) m)
   behind q h = ap concat (drop_more m q [] h)
 
@@ -46,7 +46,7 @@ module _ (m : List (List ℕ)) (image : IsSized m) where
       ∙ take-append-le count (drop skip (word m q)) (concat (drop (q + 1) m)) (omega (arith, eight, left))
       )
 
-  -- bytes of one word, put behind those that were copied before
+  -- bytes of one word, put after those that were copied before
   pub word_put : (base a q skip count : ℕ) (into ys : List ℕ) → a ≤ length into → 8 * q + skip ≡ base + a → skip + count ≤ 8 → q < length m → ys ≡ take count (drop skip (word m q)) → length ys ≡ count
       → take a into ≡ take a (drop base (flat m)) → take (a + count) (put_mid a count into ys) ≡ take (a + count) (drop base (flat m))
   word_put base a q skip count into ys low at few lt is size before =
@@ -55,7 +55,7 @@ module _ (m : List (List ℕ)) (image : IsSized m) where
       ∙ ap (λ (l : List ℕ). l ++ take count (drop a (drop base (flat m)))) before
       ∙ sym (take_sum a count (drop base (flat m)))
 
-  -- the same as the loop has it
+  -- that, in the form of the loop
   pub record WordPut (base a count : ℕ) (into new : List ℕ) : Type 0 where
     pub size : length new ≡ length into
     pub bytes : take (a + count) new ≡ take (a + count) (drop base (flat m))
@@ -78,7 +78,7 @@ module _ (m : List (List ℕ)) (image : IsSized m) where
       subst (λ (n : ℕ). WordPut base a count into (put_mid a n into ys)) (sym k)
       (record { size = long; bytes = word_put base a q skip count into ys (omega (arith, low)) at few lt piece size before })
 
-  -- the bytes that two words begin with, of which the second is the device's where they reach it
+  -- the bytes that two words begin with, of which the second is the device's if they reach it
   pub in_pair : (q skip count : ℕ) (second : List ℕ) → q < length m → skip < 8 → count < 8 → 8 * q + skip + count ≤ 8 * length m → (8 < skip + count → second ≡ word m (q + 1))
       → take count (drop skip (word m q ++ (second ++ []))) ≡ take count (drop (8 * q + skip) (flat m))
   in_pair q skip count second lt low few room is =

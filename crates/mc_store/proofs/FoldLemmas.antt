@@ -57,7 +57,7 @@ plain_done standing (Commit n ws) apps h = absurd h
 plain_done standing (Enter s n) apps h = absurd h
 plain_done standing (Remove n) apps h = absurd h
 
--- an item before a creation at a site: zeros behind the data, or a word of the record
+-- an item before a creation at a site: zeros after the data, or a word of the record
 abbrev pub IsQuiet : Site → BankItem → Type 0
 IsQuiet t (Piece s p at b) = ⊥
 IsQuiet t (Blank s at n) = (s ≡ t) × (t.sizes.init ≤ at)
@@ -89,7 +89,7 @@ module _ {N : Type 0} (state : N → DeviceState) (wrote : N → ℕ → List �
 
   -- ---- one item
 
-  -- the card and the applications are the same
+  -- the card and the applications are unchanged
   pub record CardKept (s e : Store N) : Type 0 where
     pub card : means (state e.device).words ≡ means (state s.device).words
     pub apps : apps_in (state e.device).words ≡ apps_in (state s.device).words
@@ -172,7 +172,7 @@ module _ {N : Type 0} (state : N → DeviceState) (wrote : N → ℕ → List �
       obeys s.device w.0 w.1 (Ok tt) m.device (going_is (state s.device) s.count did.going).on (just-one wrote s.device m.device w.0 w.1 (Ok tt) made) in
       one.words
 
-  -- what stands at a site of a store that runs stands in its words
+  -- the bytes at a site of a store that runs are in its words
   pub stands_now : (s : Store N) (t : Site) (p : Part) → is_going (state s.device) s.count ≡ true → store_standing (state s.device) t p ≡ part_in (state s.device).words t p
   stands_now s t p h = ap (λ (x : List (List ℕ)). part_in x t p) (closed_settled (state s.device).words (going_is (state s.device) s.count h).closed)
 
@@ -254,7 +254,7 @@ module _ {N : Type 0} (state : N → DeviceState) (wrote : N → ℕ → List �
   quiet_stands s m (Enter u n) t o h did = absurd h
   quiet_stands s m (Remove n) t o h did = absurd h
 
-  -- what stands at a site after items before its creation
+  -- the bytes at a site after items before its creation
   pub all_stand : (is : List BankItem) (s m : Store N) (t : Site) (o : Part) → AllByRecursion (IsQuiet t) is → InOrder (store_did state wrote) s is (Ok tt) m → store_standing (state m.device) t o ≡ store_standing (state s.device) t o
   all_stand [] s m t o quiet h = ap (λ (x : Store N). store_standing (state x.device) t o) h
   all_stand (i ∷ is) s m t o quiet h =

@@ -15,13 +15,13 @@ root_test x n =
     let v = slice_index x 3 in
     cond ((v == 1 || v == 2) && bytes_eq (take 6 x) (take 6 (root v n 0))) None (Some 0)
 
--- two images with the same heap
+-- two images with equal heaps
 pub record SameHeap (a b : List (List ℕ)) : Type 0 where
   pub size : length a ≡ length b
   pub low : 131 ≤ length a
   pub heap : drop 131 a ≡ drop 131 b
 
--- lists with the same words from a place on
+-- lists with equal words from a place on
 pub same_drop : (a b : List (List ℕ)) (p : ℕ) → length a ≡ length b → ((i : ℕ) → p ≤ i → word a i ≡ word b i) → drop p a ≡ drop p b
 same_drop a b p size h =
     same_lists (drop p a) (drop p b) (length-drop p a ∙ ap (λ (n : ℕ). n - p) size ∙ sym (length-drop p b))
@@ -162,7 +162,7 @@ module _ (a b : List (List ℕ)) (same : SameHeap a b) where
 
   -- ---- the root besides
 
-  -- with the same root they have the same fault and hold the same card
+  -- with equal roots they have one fault and hold one card
   pub same_fault : word a 0 ≡ word b 0 → words_fault a ≡ words_fault b
   same_fault root =
       let rest = or_else (by_cause BadBlock (bad_block (length a) a heap_start false)) (or_else (by_cause BadRecord (bad_record a (blocks a) [] 0)) (by_cause BadChain (bad_chain a (blocks a)))) in

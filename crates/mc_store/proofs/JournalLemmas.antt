@@ -37,7 +37,7 @@ open_alone Two m h o = ap (λ (b : Bool). which_of b (is_open One m)) o ∙ ap (
 pub closed_alone : (j : Journal) (m : List (List ℕ)) → is_open (other j) m ≡ false → is_open j m ≡ false → look m ≡ Closed
 closed_alone j m h o = look_alone j m h ∙ closed-look j m o
 
--- where an image has no journal open, neither gate is
+-- if an image has no open journal, neither gate is open
 pub record NoneOpen (m : List (List ℕ)) : Type 0 where
   pub one : is_open One m ≡ false
   pub two : is_open Two m ≡ false
@@ -123,7 +123,7 @@ owes_open : (j : Journal) (m : List (List ℕ)) (b : Bool) → is_open j m ≡ b
 owes_open j m true e h = e
 owes_open j m false e h = absurd (h (ap debt (closed-look j m e)))
 
--- an image that owes by one journal, and whose replay leaves words like others but inside it
+-- an image on which recovery still has to make writes of one journal, and whose replay leaves words like others but inside it
 pub stays : (j : Journal) (m a b : List (List ℕ)) (n : ℕ) → is_open (other j) m ≡ false → owed_j j m ≡ n → after_j j m ≡ Words a → raw a ≡ raw b → HoldsBase (raw b) n j m
 stays j m a b n h o is same =
     let alone : look m ≡ look_j j m = look_alone j m h in

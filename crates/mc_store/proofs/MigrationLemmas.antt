@@ -122,7 +122,7 @@ module _ (w : List (List ℕ)) (low : 256 ≤ length w) (high : length w ≤ 163
   stood_size true = size_upgrade w
   stood_size false = refl
 
-  -- stopped at write k, which left x, the card has the new root where the write stands, and else the old one
+  -- stopped at write k, which left x, the card has the new root if the write is durable, else the old one
   pub migration_halted : (k : ℕ) (x : List ℕ) → 1 ≤ k → k ≤ 6 → HoldsBase (raw (stood (stands One 1 k x) w (new_root w))) (owes One 1 k x) One (torn w (writes One (new_root w)) k x)
   migration_halted k x first last =
       let e = torn w (writes One (new_root w)) k x in

@@ -62,7 +62,7 @@ section-write m q len at b image h i =
 
 -- ---- a piece in two parts
 
--- in two parts, of which the first has k bytes where there are so many
+-- in two parts, of which the first has k bytes if there are as many
 pub splice-parts : (l : List ℕ) (at k : ℕ) (b : List ℕ) → at ≤ length l → splice (splice l at (take k b)) (at + k) (drop k b) ≡ splice l at b
 splice-parts l at k b le =
     elim (cases_lt (length b) k) [

@@ -21,7 +21,7 @@ use Rattle.mc_store.proofs.JournalLemmas.{IsPending, is_pending, NoneOpen, none_
 use Rattle.mc_store.proofs.MigrationLemmas.{version_is, upgrade, IsUpgraded, is_upgraded, migration_halted, migration_closed, migration_heap, migration_root}
 use Rattle.mc_model_device.proofs.LayoutLemmas.{closed_means}
 
--- ---- after the owed writes
+-- ---- after the writes of recovery
 
 -- words that are a card once they are settled
 pub record IsCardOnceSettled (m : List (List ℕ)) : Type 0 where
@@ -29,7 +29,7 @@ pub record IsCardOnceSettled (m : List (List ℕ)) : Type 0 where
   pub fault : words_fault (settled m) ≡ None
   pub card : means m ≡ card_of (settled m)
 
--- what the owed writes of an image leave
+-- what the writes of recovery on an image leave
 pub record OwedSettles (m : List (List ℕ)) : Type 0 where
   pub laid : laid m (owed_writes (look m)) ≡ settled m
   pub count : length (owed_writes (look m)) ≡ owed m
@@ -93,7 +93,7 @@ module _ (m : List (List ℕ)) (low : 256 ≤ length m) where
   pub settles : OwedSettles m
   settles = settles_by (look m) refl
 
-  -- a stop in the owed writes
+  -- a stop in the writes of recovery
   halted_by : (l : Look) → look m ≡ l → (k : ℕ) (x : List ℕ) → 1 ≤ k → k ≤ owed m
       → HoldsBase (found m) (remains (owing (which m)) (owed m - 1) k x) (owing (which m)) (torn m (owed_writes (look m)) k x)
   halted_by (Refused p) h k x first last = let none : owed m ≡ 0 = ap debt h in absurd (omega (arith, none))
@@ -177,7 +177,7 @@ module _ (m : List (List ℕ)) (low : 256 ≤ length m) (high : length m ≤ 163
       ∙ ap (λ (n : ℕ). n + length (migrating (found m) (settled m))) (settles m low).count
       ∙ ap (λ (n : ℕ). owed m + n) (length_migrating (found m) (settled m))
 
-  -- stopped at any write, whatever word that left, the image is as its definition says
+  -- stopped at any write, whatever word that left, the image is as in its definition
   pub power_halted : (k : ℕ) (x : List ℕ) → 1 ≤ k → k ≤ power_count m → IsHalted m k x (torn m (power_writes m) k x)
   unfolding power_writes
   power_halted k x first last =
@@ -259,7 +259,7 @@ module _ (m : List (List ℕ)) (low : 256 ≤ length m) (high : length m ≤ 163
 
 module _ {D : Type 0} (state : D → DeviceState) (wrote : D → ℕ → List ℕ → Answer → D → Type 0)
     (obeys : (d : D) (at : ℕ) (w : List ℕ) (a : Answer) (e : D) → (state d).on ≡ true → wrote d at w a e → Wrote (state d) at w a (state e)) where
-  -- a power-up that makes its writes ends as its definition says
+  -- a power-up that makes its writes ends as in its definition
   pub power_ends : (d e : D) (p : Powered) → IsSized (state d).words → (state d).on ≡ true → Makes wrote d (power_writes (state d).words) (power_answer p) e → PowerFollows (state d).words p → PowersUp (state d) p (state e)
   power_ends d e (Runs number count) image on made follows =
       let card = follows.0 in

@@ -1,4 +1,4 @@
--- What the calls of a store that read answer.
+-- The results of the calls of a store that read.
 use Rattle.std.proofs.Common.{◌≡◌, ℕ, suc, cond, ◌+◌, ◌*◌, ◌<◌, ◌≤◌, Bool, true, false, not, List, [], ◌∷◌, length, take, drop, Option, Some, None, Ok, Err, refl, sym, ◌∙◌, ap, subst, arith}
 use Rattle.std.specs.Prelude.{IsSome, IfSome, option_map, IfOk, Result, is_some, nat_le, slice_index}
 use Rattle.std.proofs.lemmas.Bool.{leb-false}
@@ -123,7 +123,7 @@ finds_slot d c n None image h is sizes = record { there = is_there d c n None im
 finds_slot d c n (Some k) image h is sizes =
     record { there = is_there d c n (Some (slot_place k)) image h is; slot = is_slot d c n k image h is sizes }
 
--- what is told of the application of a slot
+-- the facts of the application of a slot
 pub record SlotTold (d : DeviceState) (k : ℕ) (n : List ℕ) (z : Sizes) : Type 0 where
   pub name : store_named d k ≡ Some n
   pub app : IsSome (lookup (apps_in d.words) n)

@@ -32,7 +32,7 @@ zeros-of zero k = refl
 zeros-of (suc j) zero = refl
 zeros-of (suc j) (suc k) = ap (λ (l : List ℕ). 0 ∷ l) (zeros-of j k)
 
--- the static bytes with zeros behind the data
+-- the static bytes with zeros after the data
 pub cleared : (l : List ℕ) (i n : ℕ) → length l ≡ n → i ≤ n → drop i (splice l i (zeros (n - i))) ≡ zeros (n - i)
 cleared l i n long few =
     let z = zeros (n - i) in

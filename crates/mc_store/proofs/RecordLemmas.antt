@@ -1,4 +1,4 @@
--- What a good record says, and the block that it stands in.
+-- The fields of a valid record, and its block.
 use Rattle.std.proofs.Common.{◌≡◌, ℕ, ◌+◌, ◌≤◌, Bool, true, false, ◌&&◌, List, [], ◌++◌, refl, sym, ap, ◌∙◌, length, take, drop, arith, min, length-take}
 use Rattle.std.specs.Prelude.{nat_le, ◌==◌, slice_index, bytes_eq, ◌-◌}
 use Rattle.std.proofs.lemmas.Bool.{and_parts, leb-true, eqb-true, false_from_ne_true}
@@ -64,14 +64,14 @@ record_is r w h =
       words = eqb-true w (needed_of (be2 r 20) (be2 r 22) (slice_index r 17) (slice_index r 18)) p11.1;
     }
 
--- its header and its record end in time
+-- the header and the record of a block with a valid record end within the device
 pub block_fits : (m : List (List ℕ)) (p : ℕ) → IsUsedBlock m p → p + 5 ≤ length m
 block_fits m p b =
     let six : 6 ≤ b.words = long_enough (record_at m p) b.words b.good in
     let end : p + b.words ≤ length m = b.end in
     omega arith
 
--- its name has 5 to 16 bytes
+-- the name in a valid record has 5 to 16 bytes
 pub name_size : (r : List ℕ) (w : ℕ) → length r ≡ 32 → is_record r w ≡ true → (5 ≤ length (name_in r)) × (length (name_in r) ≤ 16)
 name_size r w size h =
     let k : RecordIs r w = record_is r w h in

@@ -63,7 +63,7 @@ finish_by m (Runs n c) low closed f =
 finish_by m (Halts s) low closed f = tt
 finish_by m (Fails cause place) low closed f = sym (same_fault_settled m closed) ∙ f
 
--- what comes behind the owed writes follows from the whole
+-- what comes after the writes of recovery follows from the whole
 pub finish_follows : (m w : List (List ℕ)) (n : ℕ) (p : Powered) → 256 ≤ length m → w ≡ settled m → look w ≡ Closed → n ≡ owed m → FinishFollows w n p → PowerFollows m p
 finish_follows m w n p low is closed same f =
     finish_by m p low (ap look (sym is) ∙ closed)
@@ -71,7 +71,7 @@ finish_follows m w n p low is closed same f =
 
 -- ---- the writes
 
--- those of the migration of a card
+-- the writes of the migration of a card
 pub upgrade_writes : (m : List (List ℕ)) (v : ℕ) → fault m ≡ None → v ≡ (means m).layout → cond (v == 1) (writes One (new_root m)) [] ≡ migrating (found m) m
 upgrade_writes m v h e =
     ap (λ (n : ℕ). cond (n == 1) (writes One (new_root m)) []) e ∙ sym (ap (λ (o : Option (Cause × ℕ)). migrating (base_of o m) m) h)
@@ -107,7 +107,7 @@ module _ {D : Type 0} (state : D → DeviceState) (wrote : D → ℕ → List �
   pub recovered_shut : (d e : D) (r : Result ℕ Up) → 256 ≤ length (state d).words → (state d).on ≡ true → Makes wrote d (owed_writes (look (state d).words)) (power_answer (recovered r)) e → RecoverFollows (state d).words (recovered r) → IfOk r (λ n. look (state e).words ≡ Closed)
   recovered_shut d e r low on made f = ok_closed d e r (recovered_words d e r low on made) f
 
-  -- the owed writes, and those behind them
+  -- the writes of recovery, and those after them
   pub whole_makes : (d e f : D) (p : Powered) → 256 ≤ length (state d).words → (state e).words ≡ settled (state d).words → Makes wrote d (owed_writes (look (state d).words)) (Ok tt) e
       → Makes wrote e (migrating (found (state e).words) (state e).words) (power_answer p) f → Makes wrote d (power_writes (state d).words) (power_answer p) f
   unfolding power_writes
@@ -119,7 +119,7 @@ module _ {D : Type 0} (state : D → DeviceState) (wrote : D → ℕ → List �
       InOrder-append (λ x q a y. wrote x q.0 q.1 a y) (owed_writes (look m)) (migrating (found m) (settled m)) d e f (power_answer p) first
       (subst (λ (l : List (ℕ × List ℕ)). Makes wrote e l (power_answer p) f) same second)
 
-  -- the owed writes alone, where they stopped or there is no more to do
+  -- the writes of recovery alone, if they stopped or there is no more to do
   pub failed_makes : (d e : D) (u : Up) → Makes wrote d (owed_writes (look (state d).words)) (power_answer (failed u)) e → RecoverFollows (state d).words (failed u) → Makes wrote d (power_writes (state d).words) (power_answer (failed u)) e
   unfolding power_writes
   failed_makes d e (up.Stop s) made follows =

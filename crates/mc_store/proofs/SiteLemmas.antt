@@ -44,7 +44,7 @@ module _ (m : List (List ℕ)) (image : IsSized m) where
       same-section m (slice_set m k x) q n (length-set m k x) h (λ i low high. get_or-set_other m k i x [] (λ e.
       elim apart [ inl before ↦ absurd (omega (arith, e, before, low)) | inr behind ↦ absurd (omega (arith, e, behind, high)) ]))
 
-  -- bytes behind the front of a section
+  -- bytes after the front of a section
   section_behind : (q i n at : ℕ) (b : List ℕ) → q + up n 8 ≤ length m → i ≤ at → IsInWord n at (length b)
       → section (slice_set m (q + down at 8) (splice (word m (q + down at 8)) (at % 8) b)) q i ≡ section m q i
   section_behind q i n at b h low inside =
@@ -116,7 +116,7 @@ module _ (m : List (List ℕ)) (image : IsSized m) (s : Site) (limits : FitsLimi
   piece_other p o at b inside ne =
       section_apart m image (part_from p s.sizes s.place + down at 8) (part_from o s.sizes s.place) (part_len o s.sizes) _ (within o) (parts_apart p o s.sizes s.place at (length b) limits inside ne)
 
-  -- bytes behind the data
+  -- bytes after the data
   pub blank_part : (p : Part) (at : ℕ) (b : List ℕ) → s.sizes.init ≤ at → IsInWord s.sizes.fixed at (length b)
       → part_in (slice_set m (piece_write m (part_from Data s.sizes s.place) at b).0 (piece_write m (part_from Data s.sizes s.place) at b).1) s p ≡ part_in m s p
   unfolding part_in

@@ -29,7 +29,7 @@ use Rattle.mc_model_device.proofs.BoolLemmas.{some-is}
 
 -- ---- the entries of the map
 
--- an entry is what stands in the block at its place
+-- an entry is what the block at its place holds
 pub record IsOf (m : List (List ℕ)) (e : List ℕ × App) : Type 0 where
   pub name : e.0 ≡ name_at m (e.1).place
   pub app : e.1 ≡ app_at m (e.1).place

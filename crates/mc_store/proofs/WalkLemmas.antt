@@ -29,7 +29,7 @@ all-records m (b ∷ bs) names n =
     let s = has-step m names b bs b.used refl n in
     (s.0, all-records m bs s.1.0 s.1.1)
 
--- what is left of the walk from place p on
+-- the rest of the walk from place p on
 pub record Walk (m : List (List ℕ)) (p : ℕ) (bs : List Block) : Type 0 where
   pub after : Bool
   pub tiled : Tiled p after bs (length m)
@@ -42,7 +42,7 @@ walk_begins m image h =
     subst (λ (bs : List Block). Walk m 131 bs) (blocks_all m)
     (record { after = false; tiled = l.tiled; read = l.read; records = all-records m (blocks m) [] (named m (blocks m) [] 0 (faultless m h).records) })
 
--- the block at place p: what its header says, and the walk behind it
+-- the block at place p: its header, and the walk after it
 pub record BlockStands (m : List (List ℕ)) (p : ℕ) (used : Bool) (words : ℕ) : Type 0 where
   pub low : 1 ≤ words
   pub high : p + words ≤ length m
@@ -88,7 +88,7 @@ module _ (m : List (List ℕ)) where
   block_stands : (p : ℕ) → p < length m → Walk m p (blocks_at m p) → BlockStands m p (slice_index (word m p) 0 == used_tag) (be2 (word m p) 2)
   block_stands p lt w = stands-by p (blocks_at m p) lt refl w
 
-  -- the same of the header that was read
+  -- that, of the header that was read
   pub header_stands : (p : ℕ) (used : Bool) (words : ℕ) → p < length m → Walk m p (blocks_at m p) → used ≡ (slice_index (word m p) 0 == used_tag) → words ≡ be2 (word m p) 2 → BlockStands m p used words
   header_stands p used words lt w u k =
       subst (λ (t : Bool). BlockStands m p t words) (sym u) (subst (λ (n : ℕ). BlockStands m p (slice_index (word m p) 0 == used_tag) n) (sym k) (block_stands p lt w))

@@ -1,4 +1,4 @@
--- Words that are the same in word 0 and in the heap hold the same card, whatever stands in their journals.
+-- Words that are equal in word 0 and in the heap hold one card, whatever their journals hold.
 use Rattle.std.proofs.Common.{◌≡◌, ℕ, ◌+◌, ◌≤◌, Bool, true, false, List, [], ◌∷◌, length, Option, Some, None, Result, Ok, Err, refl, sym, ◌∙◌, ap, arith}
 use Rattle.mc_model_device.specs.Device.{IsSized}
 use Rattle.mc_model_device.specs.Image.{Journal, One, Two, is_open, count, targets, Look, Refused, Closed, Pending, which_of, look, look_at, look_j, headed, aimed, opened, After, Words, after, replayed}
@@ -11,9 +11,9 @@ use Rattle.mc_blocks.proofs.Bridge.{WellLaid, laid}
 use Rattle.mc_blocks.proofs.Built.{SameCard, same-card}
 use Rattle.mc_store.specs.Store.{settled}
 
--- ---- the same root and heap
+-- ---- equal root and heap
 
--- the same words in word 0 and from word 131 on
+-- two images with equal words in word 0 and from word 131 on
 pub record HeapsAlike (n m : List (List ℕ)) : Type 0 where
   pub size : length n ≡ length m
   pub root : word n 0 ≡ word m 0
@@ -77,7 +77,7 @@ shut-look m two one = ap (λ (b : Bool). look_at m (which_of b (is_open One m)))
 
 -- ---- words once their journal is replayed
 
--- they are like these
+-- an image whose words after the replay are like these
 pub record SettlesAlike (t n : List (List ℕ)) : Type 0 where
   pub left : List (List ℕ)
   pub is : after n ≡ Words left
@@ -88,7 +88,7 @@ fault-by n w (Refused p) e h = absurd (cc h)
 fault-by n w Closed e h = let same : n ≡ w = cc in ap words_fault same
 fault-by n w (Pending j ps) e h = ap (λ (a : After). words_fault (words_after a n)) (ap (λ (l : Look). replayed n l) e ∙ h)
 
--- what words mean whose words after the replay are known
+-- the card and the fault of an image whose words after the replay are known
 pub record Means (n w : List (List ℕ)) : Type 0 where
   pub fault : fault n ≡ words_fault w
   pub card : means n ≡ card_of w

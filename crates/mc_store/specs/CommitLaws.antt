@@ -24,7 +24,7 @@ use Rattle.mc_blocks.proofs.Statics.{static_from, Restated, Restates, restates, 
 abbrev pub placed_words : ℕ → List (ℕ × List ℕ) → List (ℕ × List ℕ)
 placed_words q ws = map (λ w. (q + w.0, w.1)) ws
 
--- no word of the list is at a place before or behind its range
+-- no word of the list is at a place before or after its range
 apart-words : (q n i : ℕ) (ws : List (ℕ × List ℕ)) → AllByRecursion (λ w. w.0 < n) ws → (i < q) ⊎ (q + n ≤ i) → AllByRecursion (λ p. p.0 ≢ i) (placed_words q ws)
 apart-words q n i [] a out = tt
 apart-words q n i (w ∷ ws) a out = let lt : w.0 < n = a.0 in ((λ e. absurd (omega (arith, e, out))), apart-words q n i ws a.1 out)

@@ -1,4 +1,4 @@
--- What the atomic write of a creation makes of a card: the application that stands at the site is there.
+-- What the atomic write of a creation makes of a card: the application at the site is there.
 use Rattle.std.proofs.Common.{◌≡◌, ◌≢◌, ℕ, ◌+◌, ◌-◌, ◌<◌, ◌≤◌, Bool, true, false, ◌||◌, List, [], ◌∷◌, ◌++◌, length, map, None, cond, refl, sym, ◌∙◌, ap, subst, inl, inr, arith}
 use Rattle.std.specs.Prelude.{◌==◌, nat_le, nat_lt, slice_index}
 use Rattle.std.specs.List.{AllByRecursion}
@@ -84,7 +84,7 @@ at-site m s image closed h good =
           ∙ no-span p need 131 false (blocks m) (length m) l.tiled (subst (λ (x : List (ℕ × ℕ)). has_room p need x ≡ true) (gaps-are m image closed h) room);
     }
 
--- its sections have their lengths
+-- the sections of a site have their lengths
 pub entered-needs : (m : List (List ℕ)) (s : Site) → IsSized m → FitsLimits s.sizes → s.place + needed_by s.sizes ≤ length m → needed (entered s (part_in m s)) ≡ needed_by s.sizes
 unfolding part_in
 entered-needs m s image limits ends =
@@ -129,7 +129,7 @@ take-keeps m p need i t low high =
 created_app : ℕ → ℕ → ℕ → List ℕ → List ℕ → List ℕ → List ℕ → App
 created_app p session deny code fixed dir fci = record { code = code; fixed = fixed; session = session; deny = deny; dir = dir; fci = fci; place = p }
 
--- an application whose record says these sizes
+-- an application whose record has these sizes
 by-fields : (w : List (List ℕ)) (p : ℕ) (z : Sizes) (n r : List ℕ) → Fields z n r
     → app_of w p r ≡ created_app p z.session z.deny (section w (p + 5) z.code) (section w (p + 5 + up z.code 8) z.fixed) (section w (p + 5 + up z.code 8 + up z.fixed 8) z.dir) (section w (p + 5 + up z.code 8 + up z.fixed 8 + up z.dir 8) z.fci)
 unfolding created_app

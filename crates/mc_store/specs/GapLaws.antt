@@ -1,4 +1,4 @@
--- A word inside a hole, behind its header, may hold anything: the card stays, done or stopped.
+-- A word inside a hole, after its header, may hold anything: the card stays, done or stopped.
 use Rattle.std.proofs.Common.{◌≡◌, ◌≢◌, ℕ, ◌+◌, ◌<◌, ◌≤◌, Bool, true, false, not, List, [], ◌∷◌, length, None, Ok, Err, sym, ◌∙◌, ap, subst, inl, inr, arith}
 use Rattle.std.specs.Prelude.{bytes_eq, slice_set}
 use Rattle.std.proofs.lemmas.List.{get_or-set_other, length-set}
@@ -17,7 +17,7 @@ use Rattle.mc_blocks.proofs.Search.{holes-above}
 use Rattle.mc_blocks.proofs.Built.{SameCard, same-card}
 use Rattle.mc_store.specs.AlikeLaws.{Gates, gates, shut-look}
 
--- the same words but for one
+-- two images with equal words but for one
 pub record Besides (at : ℕ) (n m : List (List ℕ)) : Type 0 where
   pub size : length n ≡ length m
   pub words : (i : ℕ) → i ≢ at → word n i ≡ word m i
@@ -25,7 +25,7 @@ pub record Besides (at : ℕ) (n m : List (List ℕ)) : Type 0 where
 pub besides-set : (m : List (List ℕ)) (at : ℕ) (w : List ℕ) → Besides at (slice_set m at w) m
 besides-set m at w = record { size = length-set m at w; words = λ i ne. get_or-set_other m at i w [] ne }
 
--- a word before all these blocks, or behind the header of a hole among them, is none of theirs
+-- a word before all these blocks, or after the header of a hole among them, is none of theirs
 agree-past : (m n : List (List ℕ)) (at q : ℕ) (a : Bool) (bs : List Block) (end : ℕ) → Besides at n m → at < q → Tiled q a bs end → WordsAgree m n bs
 agree-past m n at q a [] end s lt t = tt
 agree-past m n at q a (b ∷ bs) end s lt t =
@@ -62,7 +62,7 @@ agree-in m n p need at q a (b ∷ bs) end s t room low high =
 
 -- ---- the card stays
 
--- other words of the same card, without a fault
+-- other words of one card, without a fault
 pub record KeepsCard (m n : List (List ℕ)) : Type 0 where
   pub size : length n ≡ length m
   pub closed : look n ≡ Closed
@@ -73,7 +73,7 @@ pub record KeepsCard (m n : List (List ℕ)) : Type 0 where
 room-low : (m : List (List ℕ)) (p need : ℕ) → WellLaid m → has_room p need (hole_spans (blocks m)) ≡ true → 131 ≤ p
 room-low m p need l room = room-from 131 p need (hole_spans (blocks m)) (holes-above 131 false (blocks m) (length m) l.tiled) room
 
--- whatever stands in a word of a hole behind its header
+-- the card stays, whatever a word of a hole after its header holds
 pub keeps-gap : (m n : List (List ℕ)) (p need at : ℕ) → IsSized m → look m ≡ Closed → words_fault m ≡ None → has_room p need (gaps (card_of m)) ≡ true → p < at → at < p + need → Besides at n m → KeepsCard m n
 keeps-gap m n p need at image closed good room low high s =
     let l : WellLaid m = laid m image good in
@@ -91,7 +91,7 @@ keeps-gap m n p need at image closed good room low high s =
 
 -- ---- one write of it
 
--- whatever came of one write, no other word changed; done, its own is the word that was written
+-- one write, however it ended: no other word changed, and if it was done its own is the word that was written
 pub record OneWrite (d : DeviceState) (at : ℕ) (w : List ℕ) (a : Answer) (e : DeviceState) : Type 0 where
   pub besides : Besides at e.words d.words
   pub ended : Ended a d e

@@ -10,7 +10,7 @@ use Rattle.mc_model_device.specs.Layout.{words_fault, fault}
 use Rattle.mc_store.specs.Store.{is_closed, settled, apps_in, is_going}
 use Rattle.mc_model_device.proofs.LayoutLemmas.{closed_fault, closed_means}
 
--- power is on, no journal is open, the words are a card of layout 2 with so many applications
+-- power is on, no journal is open, the words are a card of layout 2 with c applications
 pub record Going (d : DeviceState) (c : ℕ) : Type 0 where
   pub on : d.on ≡ true
   pub closed : look d.words ≡ Closed
@@ -27,7 +27,7 @@ pub none_is : {A : Type 0} → (o : Option A) → is_none o ≡ true → o ≡ N
 none_is None h = refl
 none_is (Some x) h = absurd (cc h)
 
--- words with no open journal are their own words after it, mean the card that they hold, and have the faults of words
+-- words with no open journal stay as they are in a replay, hold their own card, and have the faults of words
 pub closed_settled : (m : List (List ℕ)) → look m ≡ Closed → settled m ≡ m
 closed_settled m h = ap (λ (l : Look). words_after (replayed m l) m) h
 

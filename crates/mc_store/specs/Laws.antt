@@ -72,7 +72,7 @@ map-of d e c k apps (Err s) g t = (changes-of d e c k apps (Err s) g t).apps
 
 -- ---- sites
 
--- the bytes of a site stay where its words do
+-- the bytes of a site stay if its words do
 pub site-stays : (m w : List (List ℕ)) (s : Site) (p : Part) → FitsLimits s.sizes → s.place + needed_by s.sizes ≤ length m → length w ≡ length m → ((i : ℕ) → s.place ≤ i → i < s.place + needed_by s.sizes → word w i ≡ word m i) → part_in w s p ≡ part_in m s p
 unfolding part_in
 site-stays m w s Code limits ends size same = same-section m w (part_from Code s.sizes s.place) (part_len Code s.sizes) size (omega arith) (λ i low high. same i (omega arith) (omega arith))
@@ -114,7 +114,7 @@ module _ {D : Type 0} (state : D → DeviceState) (wrote : D → ℕ → List �
         | inr later ↦ ap (λ (es : List (List ℕ × App)). name_of_place es q) later ∙ new
       ]
 
-  -- and keeps the places of all applications but the one that it deletes
+  -- an item keeps the places of all applications but the one that it deletes
   places-keep : (d e : D) (c k : ℕ) (i : BankItem) (a : Answer) → StoreDid state wrote d c i a e k → (q : ℕ) (n : List ℕ) → place_named (state d) q ≡ Some n → Spares n i → place_named (state e) q ≡ Some n
   places-keep d e c k (Piece s p at b) a did q n is spares = slots-by d e c k (Piece s p at b) a q n did is is
   places-keep d e c k (Blank s at x) a did q n is spares = slots-by d e c k (Blank s at x) a q n did is is
@@ -171,7 +171,7 @@ module _ {D : Type 0} (state : D → DeviceState) (wrote : D → ℕ → List �
             ∙ item_sized (store_standing (state d)) i (apps_in (state d).words) n spares (enters-other d e c k i a did q n is)
       ]
 
-  -- and keeps the slots of all applications but the one that it deletes
+  -- an item keeps the slots of all applications but the one that it deletes
   pub store_keeps : (d e : D) (c k : ℕ) (i : BankItem) (a : Answer) → StoreDid state wrote d c i a e k → (q : ℕ) (n : List ℕ) → store_named (state d) q ≡ Some n → Spares n i → store_named (state e) q ≡ Some n
   store_keeps d e c k i a did q n is spares =
       let s : HasSizes (apps_in (state d).words) q (place_named (state d) (slot_place q)) n = has_sizes (apps_in (state d).words) q (place_named (state d) (slot_place q)) n is in
@@ -211,7 +211,7 @@ module _ {D : Type 0} (state : D → DeviceState) (wrote : D → ℕ → List �
         place = ap (λ (x : List (ℕ × ℕ)). first_fitting (needed_by s.sizes) x) h.0 ∙ good.place;
       }
 
-  -- and their bytes stay
+  -- the bytes of good sites stay
   pub store_leaves : (d e : D) (c k : ℕ) (n : List ℕ) (ws : List (ℕ × List ℕ)) (a : Answer) → StoreDid state wrote d c (Commit n ws) a e k → BytesStay (apps_in (state d).words) (store_room (state d)) (store_standing (state d)) (store_standing (state e))
   store_leaves d e c k n ws a did = λ s good p.
       let m = (state d).words in

@@ -11,7 +11,7 @@ use Rattle.mc_blocks.proofs.Applications.{free-one}
 
 -- ---- an insertion
 
--- what two tests give where they cannot both be true
+-- the result of two tests that cannot both be true
 two-tests : (s t : Bool) (x y : Option (List ℕ)) (z : Option (List ℕ)) → (s ≡ true → t ≡ true → x ≡ y) → cond s x (cond t y z) ≡ cond t y (cond s x z)
 two-tests true true x y z same = same refl refl
 two-tests true false x y z same = refl
@@ -35,7 +35,7 @@ place-kind n p k a e es false false at h one rest =
     ∙ two-tests ((e.1).place == k) (p == k) (Some e.0) (Some n) (name_of_place es k)
     (λ ek pk. absurd (cc (sym (sym one ∙ h) ∙ eq-eqb (e.1).place p (eqb-true (e.1).place k ek ∙ sym (eqb-true p k pk)))))
 
--- an application that is put into a map where it, and it alone, lies at its place
+-- an application that is put into a map in which it, and it alone, lies at its place
 pub place-inserted : (es : List (List ℕ × App)) (n : List ℕ) (p k : ℕ) (a : App) → a.place ≡ p → OneAt n p es → name_of_place (insert es n a) k ≡ cond (p == k) (Some n) (name_of_place es k)
 place-inserted [] n p k a at one = ap (λ (q : ℕ). cond (q == k) (Some n) None) at
 place-inserted (e ∷ es) n p k a at one = place-kind n p k a e es (bytes_eq e.0 n) (name_before n e.0) at refl one.0 (place-inserted es n p k a at one.1)

@@ -1,4 +1,4 @@
--- The header words of a plan, laid into words: they stand where they are due, and all else of the heap stays.
+-- The header words of a plan, laid into words: they are at their places, and all else of the heap stays.
 use Rattle.std.proofs.Common.{◌≡◌, ◌⊎◌, ℕ, ◌<◌, ◌≤◌, true, ◌&&◌, List, [], length, sym, ◌∙◌, subst, inl, inr}
 use Rattle.std.specs.Prelude.{◌==◌, nat_le, nat_lt}
 use Rattle.std.specs.List.{AllByRecursion}
@@ -29,7 +29,7 @@ alike-target w n size t a h =
       | inr heap ↦ a.heap t heap.0
     ]
 
--- the words of an atomic write stand in words that are like those with them
+-- the words of an atomic write are in words that are like those with them
 pub holds-alike : (m w : List (List ℕ)) (list : List (ℕ × List ℕ)) → 256 ≤ length m → IsAtomic (length m) list → HeapsAlike w (laid m list) → HoldsWords w list
 holds-alike m w list low atomic alike =
     let inside : AllByRecursion (λ p. within (length m) p.0 ≡ true) list = targets-within (length m) list atomic in

@@ -1,4 +1,4 @@
--- What a power-up does: the writes that it owes, then the migration of a card of layout 1, and what a stop leaves.
+-- What a power-up does: recovery (the replay of the open journal), then the migration of a card of layout 1; and what a stop leaves.
 use Rattle.std.specs.Prelude.{◌≡◌, ◌≢◌, ℕ, ◌+◌, ◌-◌, ◌<◌, ◌≤◌, true, cond, ◌==◌, List, [], ◌∷◌, ◌++◌, length, slice_set, Some, None, Result, Ok, Err}
 use Rattle.mc_model_device.specs.declared.cause.Cause.{Cause}
 use Rattle.mc_model_device.specs.declared.cause.Cause.TheVariants.{BadJournal}
@@ -22,26 +22,26 @@ use Rattle.mc_store.specs.declared.power.Up.TheVariants as up
 abbrev pub found : List (List ℕ) → Base
 found m = base_of (fault m) m
 
--- the one word of a migration: the same root with version 2
+-- the one word of a migration: the root with version 2
 abbrev pub new_root : List (List ℕ) → List (ℕ × List ℕ)
 new_root m = (0, slice_set (word m 0) 3 2) ∷ []
 
--- the writes of the migration of a card with these words, where it has layout 1
+-- the device writes of the migration of a card with these words, if it has layout 1
 abbrev pub migrating : Base → List (List ℕ) → List (ℕ × List ℕ)
 migrating (OnCard c) m = cond (c.layout == 1) (writes One (new_root m)) []
 migrating (AtFault cause p) m = []
 
--- the owed writes, and behind them those of a migration
+-- the device writes of a power-up: those that recovery still has to make, and after them those of a migration
 unfoldable pub power_writes : List (List ℕ) → List (ℕ × List ℕ)
 power_writes m = owed_writes (look m) ++ migrating (found m) (settled m)
 
--- their number
+-- the number of device writes of a power-up
 abbrev pub power_count : List (List ℕ) → ℕ
 power_count m = owed m + migration (found m)
 
 -- ---- how it ends
 
--- words that are a base and owe so many writes, by this journal where they owe any
+-- words that hold a base, and on which recovery still has to make n writes, of this journal if there are any
 pub record HoldsBase (b : Base) (n : ℕ) (j : Journal) (m : List (List ℕ)) : Type 0 where
   pub base : found m ≡ b
   pub owed : owed m ≡ n
@@ -57,7 +57,7 @@ pub record IsPowered (d : DeviceState) (n c : ℕ) (e : DeviceState) : Type 0 wh
   pub ended : Ended (Ok tt) d e
   pub tape : GrowsBy d.tape (done_entries (power_writes d.words)) e.tape
 
--- the words are no card; what they owed is done, and nothing else
+-- the words hold no card; recovery has made its writes, and nothing else was written
 pub record IsUnusable (d : DeviceState) (c : Cause) (p : ℕ) (e : DeviceState) : Type 0 where
   pub fault : fault d.words ≡ Some (c, p)
   pub words : e.words ≡ settled d.words
@@ -65,13 +65,14 @@ pub record IsUnusable (d : DeviceState) (c : Cause) (p : ℕ) (e : DeviceState) 
   pub ended : Ended (Ok tt) d e
   pub tape : GrowsBy d.tape (done_entries (power_writes d.words)) e.tape
 
--- what words are that a stop at write k, which left x, made of words m: as before while writes are owed, and in the migration by journal 1
+-- what a stop at write k, which left x, makes of words m: in recovery the base is as before, in the migration it has the old or the new
+-- root, and the writes that recovery still has to make are in journal 1
 abbrev pub IsHalted : List (List ℕ) → ℕ → List ℕ → List (List ℕ) → Type 0
 IsHalted m k x n =
     (k ≤ owed m → HoldsBase (found m) (remains (owing (which m)) (owed m - 1) k x) (owing (which m)) n)
     × (owed m < k → HoldsBase (cond (stands One 1 (k - owed m) x) (migrated (found m)) (found m)) (owes One 1 (k - owed m) x) One n)
 
--- it was stopped at write k, which left x
+-- a power-up that was stopped at write k, which left x
 pub record IsTorn (d : DeviceState) (s : Stop) (e : DeviceState) : Type 0 where
   pub k : ℕ
   pub x : List ℕ
@@ -89,13 +90,13 @@ pub data Powered : Type 0 where
   Halts : Stop → Powered
   Fails : Cause → ℕ → Powered
 
--- what each end says
+-- a power-up ended so
 abbrev pub PowersUp : DeviceState → Powered → DeviceState → Type 0
 PowersUp d (Runs number count) e = IsPowered d number count e
 PowersUp d (Halts s) e = IsTorn d s e
 PowersUp d (Fails cause place) e = IsUnusable d cause place e
 
--- the answer of its device writes
+-- how the device writes of a power-up ended
 abbrev pub power_answer : Powered → Answer
 power_answer (Runs number count) = Ok tt
 power_answer (Halts s) = Err s
@@ -107,19 +108,19 @@ PowerFollows m (Runs number count) = (fault m ≡ None) × (number ≡ power_cou
 PowerFollows m (Halts s) = Unit {0}
 PowerFollows m (Fails cause place) = fault m ≡ Some (cause, place)
 
--- the ends of a recovery alone: the writes that were owed, or a bad journal
+-- the ends of a recovery alone: with the number of its writes, or at a bad journal
 abbrev pub RecoverFollows : List (List ℕ) → Powered → Type 0
 RecoverFollows m (Runs number count) = (number ≡ owed m) × (look (settled m) ≡ Closed)
 RecoverFollows m (Halts s) = Unit {0}
 RecoverFollows m (Fails cause place) = (cause ≡ BadJournal) × (look m ≡ Refused place)
 
--- the ends of what comes behind so many owed writes, on words with no open journal
+-- the ends of what follows a recovery of n writes, on words with no open journal
 abbrev pub FinishFollows : List (List ℕ) → ℕ → Powered → Type 0
 FinishFollows m n (Runs number count) = (fault m ≡ None) × (number ≡ n + migration (found m)) × (count ≡ length (means m).apps)
 FinishFollows m n (Halts s) = Unit {0}
 FinishFollows m n (Fails cause place) = fault m ≡ Some (cause, place)
 
--- ---- the answer of the call
+-- ---- the result of the call
 
 -- the device of a store, and the number of applications that it counts
 abbrev pub device_of : {N : Type 0} → Store N → N

@@ -1,4 +1,4 @@
--- What the record of an application of some sizes says, once it is written.
+-- The fields of the record of an application of some sizes, once it is written.
 use Rattle.std.proofs.Common.{◌≡◌, ℕ, ◌+◌, ◌-◌, ◌*◌, ◌/◌, ◌%◌, ◌<◌, ◌≤◌, Bool, true, ◌&&◌, List, ◌∷◌, ◌++◌, length, take, drop, refl, sym, ◌∙◌, ap, subst, arith, length-append, append_assoc}
 use Rattle.std.specs.Prelude.{bytes_eq, slice_index}
 use Rattle.std.proofs.lemmas.List.{length-replicate, get_or-append_right, take_at, drop_at}
@@ -15,7 +15,7 @@ use Rattle.mc_bank.specs.Bank.{FitsLimits}
 use Rattle.mc_model_device.proofs.ListLemmas.{two-bytes}
 use Rattle.mc_store.specs.Store.{record_bytes, needed_by}
 
--- the bytes behind the name and its zeros
+-- the bytes after the name and its zeros
 abbrev behind : Sizes → List ℕ → List ℕ
 behind s n = length n ∷ s.dir ∷ s.fci ∷ 0 ∷ (bytes2 s.code ++ bytes2 s.fixed ++ bytes2 s.session ++ bytes2 s.deny ++ zeros 4)
 
@@ -81,7 +81,7 @@ all-parts a b c d e f g h i j k l m pa pb pc pd pe pf pg ph pi pj pk pl pm = rw 
 same-test : (a b : List ℕ) → a ≡ b → bytes_eq a b ≡ true
 same-test a b e = (bytes_eq-Decides a b).1 e
 
--- it is a good record of the words that the sizes need
+-- that record is valid for a block of the words that the sizes need
 pub is-record : (s : Sizes) (n r : List ℕ) → FitsLimits s → IsName n → r ≡ record_bytes s n → is_record r (needed_by s) ≡ true
 is-record s n r limits is same =
     let f : Fields s n r = subst (λ (x : List ℕ). Fields s n x) (sym same) (fields s n limits is) in

@@ -1,4 +1,4 @@
--- The used blocks of a card by their names, and what their records say.
+-- The used blocks of a card by their names, and the fields of their records.
 use Rattle.std.specs.Prelude.{◌≡◌, ℕ, ◌+◌, ◌≤◌, true, cond, ◌&&◌, List, [], ◌∷◌, length, slice_index, bytes_eq, Option, Some, None}
 use Rattle.std.specs.List.{concat}
 use Rattle.mc_model_card.specs.declared.card.Part.{Part}
@@ -26,7 +26,7 @@ record_sizes r =
       deny = be2 r 26;
     }
 
--- a used block with a good record that ends in time
+-- a used block with a valid record that ends within the device
 pub record IsUsedBlock (m : List (List ℕ)) (p : ℕ) : Type 0 where
   pub words : ℕ
   pub good : is_record (record_at m p) words ≡ true

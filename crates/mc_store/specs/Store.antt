@@ -18,7 +18,7 @@ use Rattle.mc_blocks.specs.Chains.{looked_at}
 
 -- ---- what the words hold
 
--- no journal is open
+-- whether no journal is open
 abbrev pub is_closed : Look → Bool
 is_closed (Refused p) = false
 is_closed Closed = true
@@ -28,11 +28,11 @@ is_closed (Pending j ps) = false
 abbrev pub settled : List (List ℕ) → List (List ℕ)
 settled m = words_after (after m) m
 
--- the applications of words that are a card, and none where they are not
+-- the applications of words that are a card, and none if they are not
 unfoldable pub apps_in : List (List ℕ) → List (List ℕ × App)
 apps_in m = cond (is_none (fault m)) (means m).apps []
 
--- power is on, no journal is open, the words are a card of layout 2, and it has so many applications
+-- whether power is on, no journal is open, and the words are a card of layout 2 with `count` applications
 unfoldable pub is_going : DeviceState → ℕ → Bool
 is_going d count =
     d.on && is_closed (look d.words) && is_none (words_fault d.words) && (means d.words).layout == 2 && count == length (means d.words).apps
@@ -59,7 +59,7 @@ store_named d k = name_of_slot (apps_in d.words) k (place_named d (slot_place k)
 
 -- ---- sites: a load is known by the place of its hole
 
--- how many words a load of these sizes takes
+-- the number of words of the block of a load of these sizes
 abbrev pub needed_by : Sizes → ℕ
 needed_by s = needed_of s.code s.fixed s.dir s.fci
 
@@ -67,7 +67,7 @@ needed_by s = needed_of s.code s.fixed s.dir s.fci
 abbrev pub store_room : DeviceState → Sizes → Option ℕ
 store_room d s = first_fitting (needed_by s) (gaps (means d.words))
 
--- the steps of a search for n words on a card with so many applications and these holes
+-- the number of steps of a search for n words on a card with `count` applications and these holes
 abbrev pub search_steps : ℕ → ℕ → List (ℕ × ℕ) → ℕ
 search_steps count n gs = cond (nat_le 32 count) 0 (1 + looked_at n gs)
 
@@ -78,11 +78,11 @@ part_from Data s p = p + 5 + up s.code 8
 part_from Dir s p = p + 5 + up s.code 8 + up s.fixed 8
 part_from Fci s p = p + 5 + up s.code 8 + up s.fixed 8 + up s.dir 8
 
--- the bytes that stand in a section of a site
+-- the bytes in a section of a site
 unfoldable pub part_in : List (List ℕ) → Site → Part → List ℕ
 part_in m s p = section m (part_from p s.sizes s.place) (part_len p s.sizes)
 
--- the bytes that stand at a site
+-- the bytes at a site, once the open journal is replayed
 abbrev pub store_standing : DeviceState → Site → Part → List ℕ
 store_standing d s p = part_in (settled d.words) s p
 
@@ -93,7 +93,7 @@ abbrev pub record_bytes : Sizes → List ℕ → List ℕ
 record_bytes s n =
     n ++ zeros (16 - length n) ++ length n ∷ s.dir ∷ s.fci ∷ 0 ∷ (bytes2 s.code ++ bytes2 s.fixed ++ bytes2 s.session ++ bytes2 s.deny ++ zeros 4)
 
--- one of its four words
+-- one of the four words of a record
 abbrev pub record_word : Sizes → List ℕ → ℕ → List ℕ
 record_word s n i = take 8 (drop (8 * i) (record_bytes s n))
 
@@ -107,7 +107,7 @@ piece_write m p at b = (p + down at 8, splice (word m (p + down at 8)) (at % 8) 
 abbrev pub static_writes : App → List (ℕ × List ℕ) → List (ℕ × List ℕ)
 static_writes a ws = map (λ w. (a.place + 5 + up (length a.code) 8 + w.0, w.1)) ws
 
--- a card with what stands at a site as an application
+-- a card with the bytes at a site as an application
 abbrev pub card_with : List (List ℕ) → Site → List ℕ → Card
 card_with m s n = record (means m) { apps = insert (means m).apps n (entered s (part_in m s)) }
 
@@ -126,17 +126,17 @@ item_writes m (Remove n) = writes Two (step_of (means m) (card_without m n))
 
 -- ---- which items there are
 
--- a site that a search for room on these words could answer
+-- a site that a search for room on these words could return
 abbrev pub IsGoodIn : List (List ℕ) → Site → Type 0
 IsGoodIn m s = IsGoodSite (means m).apps (λ z. first_fitting (needed_by z) (gaps (means m))) s
 
--- bytes in one word of a section of so many bytes
+-- bytes in one word of a section of `len` bytes
 pub record IsInWord (len at count : ℕ) : Type 0 where
   pub some : 1 ≤ count
   pub section : at + count ≤ len
   pub word : at % 8 + count ≤ 8
 
--- A site is ready to be an application under a name: its record stands there, and zeros behind its data.
+-- a site is ready to be an application under a name: its record is there, and zeros follow its data
 pub record IsReadySite (m : List (List ℕ)) (s : Site) (n : List ℕ) : Type 0 where
   pub good : IsGoodIn m s
   pub name : IsName n
@@ -159,7 +159,7 @@ count_after (Enter s n) (Ok u) c = c + 1
 count_after (Remove n) (Ok u) c = c - 1
 count_after _ a c = c
 
--- One item: on a device with so many applications, by the relation of one write. What stands after a stop follows from the writes.
+-- one item on a device with c applications, by the relation of one write: what is durable after a stop follows from the writes
 pub record StoreDid {D : Type 0} (state : D → DeviceState) (wrote : D → ℕ → List ℕ → Answer → D → Type 0) (d : D) (c : ℕ) (i : BankItem) (a : Answer) (e : D) (c' : ℕ) : Type 0 where
   pub going : is_going (state d) c ≡ true
   pub image : IsSized (state d).words

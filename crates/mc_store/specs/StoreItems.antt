@@ -17,7 +17,7 @@ use Rattle.mc_store.specs.TurnLaws.{Standing, standing-of}
 use Rattle.mc_model_device.proofs.MapLemmas.{name_is_itself}
 use Rattle.mc_model_device.proofs.BoolLemmas.{some-is}
 
--- one item of a store
+-- one item of a store as a value
 abbrev pub store_did : {N : Type 0} → (N → DeviceState) → (N → ℕ → List ℕ → Answer → N → Type 0) → Store N → BankItem → Answer → Store N → Type 0
 store_did state wrote s i a e = StoreDid state wrote s.device s.count i a e.device e.count
 
@@ -26,7 +26,7 @@ pub one_item : {D I : Type 0} → (one : D → I → Answer → D → Type 0) �
 one_item one d e i (Ok u) h = inl (e, h, refl)
 one_item one d e i (Err s) h = inr (s, h, refl)
 
--- the items of zeros behind data, from so many bytes of a section on
+-- the items of the zeros after the data, from byte `at` of a section on
 abbrev pub blank_items : Site → ℕ → List ℕ → List BankItem
 blank_items s at b = map (λ c. Blank s c.0 (length c.1)) (word_parts at b)
 

@@ -40,7 +40,7 @@ pub record CardChanged (d : DeviceState) (apps : List (List ℕ × App)) (e : De
   pub count : c ≡ length apps
   pub ended : Ended (Ok tt) d e
 
--- stopped, they mean the old card or the new one
+-- stopped, they hold the old card or the new one
 pub record CardChangeStopped (d : DeviceState) (apps : List (List ℕ × App)) (s : Stop) (e : DeviceState) : Type 0 where
   pub good : fault e.words ≡ None
   pub card : (means e.words ≡ card_of d.words) ⊎ (means e.words ≡ record (card_of d.words) { apps = apps })
@@ -56,7 +56,7 @@ pub record New (m w : List (List ℕ)) (apps : List (List ℕ × App)) : Type 0 
   pub good : words_fault w ≡ None
   pub card : card_of w ≡ record (card_of m) { apps = apps }
 
--- ---- where a piece lies
+-- ---- the place of a piece
 
 pub parted : (p : Part) (z : Sizes) (q at n : ℕ) → FitsLimits z → IsInWord (part_len p z) at n → (q < part_from p z q + down at 8) × (part_from p z q + down at 8 < q + needed_by z)
 parted Code z q at n limits i = let some = i.some in let ends = i.section in (omega arith, omega arith)
@@ -67,7 +67,7 @@ parted Fci z q at n limits i = let some = i.some in let ends = i.section in (ome
 pub blanked : (z : Sizes) (q at n : ℕ) → IsInWord z.fixed at n → (q < part_from Data z q + down at 8) × (part_from Data z q + down at 8 < q + needed_by z)
 blanked z q at n i = let some = i.some in let ends = i.section in (omega arith, omega arith)
 
--- what the words of a going store are
+-- the words of a store that runs
 pub record Standing (m : List (List ℕ)) : Type 0 where
   pub well : IsWellLaid m
   pub apps : (means m).apps ≡ (card_of m).apps

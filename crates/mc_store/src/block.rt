@@ -20,14 +20,14 @@ const USED: u8 = 0x55;
 /// The 32 bytes of a record.
 pub type Record = [u8; 32];
 
-/// What the header of a block says: whether the block is used, and its words with the header.
+/// The header of a block: whether the block is used, and its number of words with the header.
 #[derive(Clone, Copy, Debug, PartialEq, Eq)]
 pub struct Header {
     pub used: bool,
     pub words: u16,
 }
 
-/// The slot of the used block that has this name, on words without a fault.
+/// Returns the slot of the used block that has this name, or `None` if there is none, on words without a fault.
 pub fn find_block<N: Nvm>(device: &N, aid: &Aid) -> Option<Slot>
     requires laid { words_fault (N.state device.now).words ≡ None }
     ensures place { option_map slot_place result
@@ -48,7 +48,7 @@ pub fn find_block<N: Nvm>(device: &N, aid: &Aid) -> Option<Slot>
     None
 }
 
-// The header at a place.
+// Returns the header at a place.
 fn read_header<N: Nvm>(device: &N, place: u32) -> Header
     requires { place < length (N.state device.now).words }
     ensures used { result.used ≡ (slice_index (word (N.state device.now).words place) 0 == used_tag) }
@@ -61,7 +61,7 @@ fn read_header<N: Nvm>(device: &N, place: u32) -> Header
     }
 }
 
-// The sizes of a block that is used and has this name.
+// Returns the sizes of a block if it is used and has this name.
 fn sizes_of_name<N: Nvm>(device: &N, place: u32, header: &Header, aid: &Aid) -> Option<Sizes>
     requires { header.now.used ≡ true → place + 5 ≤ length (N.state device.now).words }
     ensures name { is_some result ≡ (header.now.used && bytes_eq (name_at (N.state device.now).words place) aid.now) }
@@ -83,7 +83,7 @@ fn sizes_of_name<N: Nvm>(device: &N, place: u32, header: &Header, aid: &Aid) -> 
     }
 }
 
-// Whether a name, which has five bytes or more, has the first five of this word.
+// Returns whether a name, which has five bytes or more, has the first five of this word.
 fn begins(aid: &Aid, first: &Word) -> bool
     ensures same { result ≡ bytes_eq (take 5 first.now) (take 5 aid.now) }
     ensures name { 5 ≤ length aid.now }
@@ -99,7 +99,7 @@ fn begins(aid: &Aid, first: &Word) -> bool
     }
 }
 
-/// The name in the record of the used block at a place.
+/// Returns the name in the record of the used block at a place.
 pub fn name_of_block<N: Nvm>(device: &N, place: u16) -> Aid
     requires { IsUsedBlock (N.state device.now).words place }
     ensures { result ≡ name_at (N.state device.now).words place }
@@ -110,7 +110,7 @@ pub fn name_of_block<N: Nvm>(device: &N, place: u16) -> Aid
     Aid::new(name_of(&entry)).unwrap()
 }
 
-// The record of the block at a place, whose first word was read: the four words behind its header.
+// Returns the record of the block at a place, whose first word was read: the four words after its header.
 #[tactic(auto, using(mc_blocks::proofs::Records::record_words))]
 fn read_record<N: Nvm>(device: &N, place: u32, first: Word) -> Record
     requires place { place + 5 ≤ length (N.state device.now).words }
@@ -129,7 +129,7 @@ fn read_record<N: Nvm>(device: &N, place: u32, first: Word) -> Record
     bytes
 }
 
-// The sizes in a record; its data are its whole static segment.
+// Returns the sizes in a record; its data are its whole static segment.
 fn sizes_of(entry: &Record) -> Sizes
     ensures { result ≡ record_sizes entry.now }
 {
@@ -145,7 +145,7 @@ fn sizes_of(entry: &Record) -> Sizes
     }
 }
 
-// The name in a record.
+// Returns the name in a record.
 #[tactic(auto, using(std::proofs::lemmas::List::take_min))]
 fn name_of(entry: &Record) -> &[u8]
     ensures { result.now ≡ name_in entry.now }

@@ -19,7 +19,11 @@ use mc_blocks::free_plan;
 use mc_nvm::Nvm;
 use mc_packed::write_words;
 
-/// Sets words of the static bytes of the application of a slot.
+/// Sets 1 to 64 words of the static bytes of the application of a slot by one atomic write.
+///
+/// # Errors
+///
+/// Returns the stop of a write; the static bytes are the old or the new ones then.
 pub fn commit<N: Nvm>(store: &mut Store<N>, slot: Slot, list: &[(u16, Word)]) -> Result<(), Stop>
     requires going { is_going (N.state store.old.device) store.old.count ≡ true }
     requires there { IsSome (store_named (N.state store.old.device) slot) }
@@ -33,7 +37,7 @@ pub fn commit<N: Nvm>(store: &mut Store<N>, slot: Slot, list: &[(u16, Word)]) ->
     write_shifted(&mut store.device, first as u16, list)
 }
 
-// Writes words at once, with so much added to each number. One word, which is the most common, pays for no room of 64.
+// Writes words at once, with `first` added to each number. One word, the most common case, needs no array of 64.
 fn write_shifted<N: Nvm>(device: &mut N, first: u16, list: &[(u16, Word)]) -> Result<(), Stop>
     requires power { (N.state device.old).on ≡ true }
     requires few { length list.now ≤ 64 }
@@ -49,7 +53,7 @@ fn write_shifted<N: Nvm>(device: &mut N, first: u16, list: &[(u16, Word)]) -> Re
     write_list(device, first, list)
 }
 
-// The same by a list of their places.
+// Writes words as `write_shifted` does, by an array of their places.
 fn write_list<N: Nvm>(device: &mut N, first: u16, list: &[(u16, Word)]) -> Result<(), Stop>
     requires power { (N.state device.old).on ≡ true }
     requires few { length list.now ≤ 64 }
@@ -62,7 +66,7 @@ fn write_list<N: Nvm>(device: &mut N, first: u16, list: &[(u16, Word)]) -> Resul
     write_words(device, targets.as_slice())
 }
 
-// The words with so much added to each number.
+// Returns the words with `first` added to each number.
 fn shifted(first: u16, list: &[(u16, Word)]) -> ArrayVec<(u16, Word), 64>
     requires few { length list.now ≤ 64 }
     requires within { AllByRecursion (λ w. first + w.0 ≤ 65535) list.now }
@@ -75,7 +79,11 @@ fn shifted(first: u16, list: &[(u16, Word)]) -> ArrayVec<(u16, Word), 64>
     targets
 }
 
-/// Takes out the application of a slot.
+/// Removes the application of a slot by one atomic write.
+///
+/// # Errors
+///
+/// Returns the stop of a write; the application is there or not then.
 pub fn delete<N: Nvm>(store: &mut Store<N>, slot: Slot) -> Result<(), Stop>
     requires going { is_going (N.state store.old.device) store.old.count ≡ true }
     requires there { IsSome (store_named (N.state store.old.device) slot) }

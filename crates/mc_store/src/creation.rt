@@ -1,4 +1,5 @@
-// An application made of what a load left in a hole: zeros behind its data, its record, and the atomic write of its block.
+// An application made of what a load left in a hole: zeros after its data, its record, and the atomic write of its
+// block.
 ghost use Rattle.std.specs.Prelude.{◌≡◌, ◌+◌, ◌-◌, ◌*◌, ◌<◌, ◌≤◌, ◌⊎◌, ◌++◌, true, None, [], ◌∷◌, length, take, drop, OnOk};
 ghost use Rattle.mc_model_device.specs.Bytes.{zeros, bytes2, lookup};
 ghost use Rattle.mc_model_device.specs.Orders.{InOrder};
@@ -19,7 +20,11 @@ use mc_blocks::take_plan;
 use mc_nvm::Nvm;
 use mc_packed::write_words;
 
-/// Makes an application of what stands at a site that has room, under a name that is not there.
+/// Makes an application of the bytes at a site that has room, under a name that is not there.
+///
+/// # Errors
+///
+/// Returns the stop of a write; the application is there or not then.
 pub fn create<N: Nvm>(store: &mut Store<N>, site: &Site, aid: &Aid) -> Result<(), Stop>
     requires going { is_going (N.state store.old.device) store.old.count ≡ true }
     requires good { IsGoodIn (N.state store.old.device).words site.now }
@@ -33,7 +38,7 @@ pub fn create<N: Nvm>(store: &mut Store<N>, site: &Site, aid: &Aid) -> Result<()
     enter(store, site, aid)
 }
 
-// Zeros behind the data, as far as the static bytes go.
+// Writes zeros after the data, as far as the static bytes go.
 fn clear<N: Nvm>(store: &mut Store<N>, site: &Site) -> Result<(), Stop>
     requires going { is_going (N.state store.old.device) store.old.count ≡ true }
     requires good { IsGoodIn (N.state store.old.device).words site.now }
@@ -53,7 +58,7 @@ fn clear<N: Nvm>(store: &mut Store<N>, site: &Site) -> Result<(), Stop>
     Ok(())
 }
 
-// Zeros in one word of the static bytes.
+// Writes zeros in one word of the static bytes.
 fn put_zeros<N: Nvm>(store: &mut Store<N>, site: &Site, at: u16, count: usize) -> Result<(), Stop>
     requires going { is_going (N.state store.old.device) store.old.count ≡ true }
     requires good { IsGoodIn (N.state store.old.device).words site.now }
@@ -67,7 +72,7 @@ fn put_zeros<N: Nvm>(store: &mut Store<N>, site: &Site, at: u16, count: usize) -
     write_part(&mut store.device, place, at, &[0; 8][..count])
 }
 
-// The four words of the record.
+// Writes the four words of the record.
 fn note<N: Nvm>(store: &mut Store<N>, site: &Site, aid: &Aid) -> Result<(), Stop>
     requires going { is_going (N.state store.old.device) store.old.count ≡ true }
     requires good { IsGoodIn (N.state store.old.device).words site.now }
@@ -83,7 +88,7 @@ fn note<N: Nvm>(store: &mut Store<N>, site: &Site, aid: &Aid) -> Result<(), Stop
     put_note(store, site, aid, 3)
 }
 
-// One word of the record.
+// Writes one word of the record.
 fn put_note<N: Nvm>(store: &mut Store<N>, site: &Site, aid: &Aid, number: u16) -> Result<(), Stop>
     requires going { is_going (N.state store.old.device) store.old.count ≡ true }
     requires good { IsGoodIn (N.state store.old.device).words site.now }
@@ -99,7 +104,7 @@ fn put_note<N: Nvm>(store: &mut Store<N>, site: &Site, aid: &Aid, number: u16) -
     store.device.write(place, word)
 }
 
-// A word of the record.
+// Returns a word of the record.
 fn entry_word(sizes: &Sizes, aid: &Aid, number: u16) -> Word
     requires limits { FitsLimits sizes.now }
     requires name { IsName aid.now }
@@ -119,7 +124,7 @@ fn entry_word(sizes: &Sizes, aid: &Aid, number: u16) -> Word
     }
 }
 
-// The name with zeros behind it.
+// Returns the name followed by zeros.
 fn padded(aid: &Aid) -> [u8; 16]
     ensures { result ≡ aid.now ++ zeros (16 - length aid.now) }
 {
@@ -129,7 +134,7 @@ fn padded(aid: &Aid) -> [u8; 16]
     bytes
 }
 
-// The lengths of the name, DIR, FCI, code and static bytes.
+// Returns the word with the lengths of the name, DIR, FCI, code and static bytes.
 fn lengths_word(sizes: &Sizes, aid: &Aid) -> Word
     requires { FitsLimits sizes.now }
     ensures { result ≡ length aid.now ∷ sizes.now.dir ∷ sizes.now.fci ∷ 0
@@ -148,7 +153,7 @@ fn lengths_word(sizes: &Sizes, aid: &Aid) -> Word
     ]
 }
 
-// The session size and the access list.
+// Returns the word with the session size and the access list.
 fn access_word(sizes: &Sizes) -> Word
     requires { FitsLimits sizes.now }
     ensures { result ≡ bytes2 sizes.now.session ++ bytes2 sizes.now.deny ++ zeros 4 }
@@ -165,7 +170,7 @@ fn access_word(sizes: &Sizes) -> Word
     ]
 }
 
-// Makes the application, whose record and sections stand there.
+// Makes the application, whose record and sections are there.
 fn enter<N: Nvm>(store: &mut Store<N>, site: &Site, aid: &Aid) -> Result<(), Stop>
     requires going { is_going (N.state store.old.device) store.old.count ≡ true }
     requires ready { IsReadySite (N.state store.old.device).words site.now aid.now }

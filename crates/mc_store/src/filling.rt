@@ -1,4 +1,4 @@
-// What a load makes of a hole: bytes of its sections, each word of them in one write.
+// What a load writes into a hole: bytes of its sections, each word of them in one write.
 ghost use Rattle.std.specs.Prelude.{◌≡◌, ◌+◌, ◌*◌, ◌/◌, ◌%◌, ◌<◌, ◌≤◌, ◌⊎◌, true, length, map, OnOk};
 ghost use Rattle.mc_model_device.specs.Bytes.{splice};
 ghost use Rattle.mc_model_device.specs.Orders.{InOrder};
@@ -16,6 +16,10 @@ use mc_base::{Stop, Word};
 use mc_nvm::Nvm;
 
 /// Sets bytes of a section of a site that has room.
+///
+/// # Errors
+///
+/// Returns the stop of a write; the applications are as before then.
 pub fn fill<N: Nvm>(
     store: &mut Store<N>,
     site: &Site,
@@ -39,7 +43,7 @@ pub fn fill<N: Nvm>(
     Ok(())
 }
 
-/// How many of so many bytes lie in the word in which the first of them lies.
+/// Returns the number of bytes, of `count` from `at` on, that lie in the word of the first of them.
 pub fn room_in_word(at: u16, count: usize) -> usize
     requires { 1 ≤ count }
     ensures low { 1 ≤ result }
@@ -70,7 +74,12 @@ fn put_part<N: Nvm>(
     write_part(&mut store.device, place, at, bytes)
 }
 
-/// Writes bytes into one word of those from a place on; its other bytes stay. A whole word is not read first.
+/// Writes bytes into one word of those from a place on; its other bytes stay. A word that is written whole is not
+/// read first.
+///
+/// # Errors
+///
+/// Returns the stop of the write; the word may hold anything then.
 pub fn write_part<N: Nvm>(device: &mut N, from: u32, at: u16, bytes: &[u8]) -> Result<(), Stop>
     requires power { (N.state device.old).on ≡ true }
     requires place { from + at / 8 < length (N.state device.old).words }
@@ -87,7 +96,7 @@ pub fn write_part<N: Nvm>(device: &mut N, from: u32, at: u16, bytes: &[u8]) -> R
     device.write(place, word)
 }
 
-// Eight bytes as a word.
+// Returns eight bytes as a word.
 fn whole_word(bytes: &[u8]) -> Word
     requires { length bytes.now ≡ 8 }
     ensures { result ≡ bytes.now }
@@ -97,7 +106,7 @@ fn whole_word(bytes: &[u8]) -> Word
     word
 }
 
-// A word with bytes in the place of what stood there.
+// Returns a word with bytes written over it from `at` on.
 fn with_bytes(word: Word, at: usize, bytes: &[u8]) -> Word
     requires { at + length bytes.now ≤ 8 }
     ensures { result ≡ splice word at bytes.now }

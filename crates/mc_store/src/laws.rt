@@ -10,8 +10,8 @@ ghost use Rattle.mc_store.specs.Store.{settled, item_writes, Allows};
 ghost use Rattle.mc_store.specs.Power.{found, power_writes, power_count, HoldsBase, IsHalted};
 ghost use Rattle.mc_store.specs.Stops.{IsStoppedAt};
 
-/// The writes of a power-up on every image: at each of them, whatever word a stop leaves, the image is what it was
-/// while writes are owed, and in the migration a card of layout 1 or 2 with the same applications.
+/// The writes of a power-up on every image: whatever word a stop leaves at any of them, a stop in recovery leaves an
+/// image that holds what it held, and a stop in the migration a card of layout 1 or 2 with the same applications.
 pub fn power_stops()
     ensures count { (m : List (List ℕ)) → IsSized m → length (power_writes m) ≡ power_count m }
     ensures halted { (m : List (List ℕ)) (k : ℕ) (x : List ℕ) → IsSized m → 1 ≤ k → k ≤ power_count m
@@ -19,16 +19,16 @@ pub fn power_stops()
 {}
 
 /// The device writes of an item on words with no open journal and no fault: at each of them, whatever word a stop
-/// leaves, the image is the card before the item, or the one after it where its atomic write stands, and it owes what
-/// that write owes.
+/// leaves, the image is the card before the item, or the one after it if its atomic write is durable, and recovery
+/// still has to make what that atomic write leaves to it.
 pub fn item_stops()
     ensures { (m : List (List ℕ)) (i : BankItem) (k : ℕ) (x : List ℕ) → IsSized m → look m ≡ Closed
         → words_fault m ≡ None → Allows m i → 1 ≤ k → k ≤ length (item_writes m i)
         → IsStoppedAt m i k x (torn m (item_writes m i) k x) }
 {}
 
-/// All writes of a power-up made, a card has layout 2 and the same applications, and an image that is no card has its
-/// owed writes and no other.
+/// After all writes of a power-up, a card has layout 2 and the same applications, and on an image that is no card
+/// recovery has made its writes and no other was made.
 pub fn power_ends()
     ensures card { (m : List (List ℕ)) → IsSized m → fault m ≡ None
         → HoldsBase (migrated (found m)) 0 One (laid m (power_writes m)) }

@@ -1,4 +1,4 @@
-// Where the sections of a block lie, and how many words it takes.
+// The places of the sections of a block, and its number of words.
 ghost use Rattle.std.specs.Prelude.{◌≡◌, ◌≤◌, ◌+◌};
 ghost use Rattle.mc_model_device.specs.Bytes.{up};
 ghost use Rattle.mc_bank.specs.Bank.{FitsLimits};
@@ -6,14 +6,14 @@ ghost use Rattle.mc_store.specs.Store.{needed_by, part_from};
 
 use mc_bank::{Part, Sizes};
 
-/// How many words so many bytes take.
+/// Returns the number of words that `bytes` bytes take.
 pub fn words_of(bytes: u16) -> u16
     ensures { result ≡ up bytes 8 }
 {
     ((bytes as u32 + 7) / 8) as u16
 }
 
-/// How many words a block takes with sections of these sizes.
+/// Returns the number of words of a block with sections of these sizes.
 pub fn needed_words(sizes: &Sizes) -> u16
     requires { FitsLimits sizes.now }
     ensures { result ≡ needed_by sizes.now }
@@ -21,7 +21,7 @@ pub fn needed_words(sizes: &Sizes) -> u16
     5 + words_of(sizes.code) + words_of(sizes.fixed) + words_of(sizes.dir) + words_of(sizes.fci)
 }
 
-/// The word in which a section begins, of a block at a place with sections of these sizes.
+/// Returns the number of the word in which a section begins, of a block at a place with sections of these sizes.
 pub fn part_place(part: Part, sizes: &Sizes, place: u16) -> u32
     ensures { result ≡ part_from part sizes.now place }
 {

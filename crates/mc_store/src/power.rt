@@ -19,21 +19,27 @@ use mc_nvm::Nvm;
 /// The byte of the root that holds the version of the layout.
 const VERSION: usize = 3;
 
-/// Why a power-up gives no store: a write of it stopped, or the words are no card.
+/// Why a power-up returns no store: a write of it stopped, or the words are no card.
 #[derive(Clone, Copy, Debug, PartialEq, Eq)]
 pub enum Up {
     Stop(Stop),
     Unusable(Unusable),
 }
 
-/// A device that holds a card of layout 2: the writes that it took to get there, and the number of applications.
+/// A device that holds a card of layout 2: the number of writes of the power-up, and the number of applications.
 #[derive(Clone, Copy, Debug, PartialEq, Eq)]
 pub struct Ready {
     pub writes: u16,
     pub count: u16,
 }
 
-/// Makes the owed writes, checks the words, and migrates a card of layout 1.
+/// Makes the writes of recovery, checks the words, and migrates a card of layout 1. Returns the numbers of writes and
+/// of applications.
+///
+/// # Errors
+///
+/// Returns `Up::Stop` if a write stopped, and `Up::Unusable` with the first fault and its place if the words are no
+/// card.
 pub fn prepare<N: Nvm>(device: &mut N) -> Result<Ready, Up>
     requires power { (N.state device.old).on ≡ true }
     ensures makes { Makes N.wrote device.old (power_writes (N.state device.old).words)
@@ -45,7 +51,7 @@ pub fn prepare<N: Nvm>(device: &mut N) -> Result<Ready, Up>
     recover_and_finish(device)
 }
 
-// The same, by its writes.
+// Does the work of `prepare`; its contract is by the list of writes.
 fn recover_and_finish<N: Nvm>(device: &mut N) -> Result<Ready, Up>
     requires power { (N.state device.old).on ≡ true }
     ensures makes { Makes N.wrote device.old (power_writes (N.state device.old).words)
@@ -59,7 +65,8 @@ fn recover_and_finish<N: Nvm>(device: &mut N) -> Result<Ready, Up>
     }
 }
 
-// Replays the journal that is open, if one is, and answers the number of writes. The gate of layout 2 is looked at first.
+// Replays the journal that is open, if one is, and returns the number of writes. The gate of layout 2 is looked at
+// first.
 fn recover<N: Nvm>(device: &mut N) -> Result<u16, Up>
     requires power { (N.state device.old).on ≡ true }
     ensures makes { Makes N.wrote device.old (owed_writes (look (N.state device.old).words))
@@ -76,7 +83,7 @@ fn recover<N: Nvm>(device: &mut N) -> Result<u16, Up>
     replay_open(device)
 }
 
-// The same, by its writes.
+// Does the work of `recover`; its contract is by the list of writes.
 fn replay_open<N: Nvm>(device: &mut N) -> Result<u16, Up>
     requires power { (N.state device.old).on ≡ true }
     ensures makes { Makes N.wrote device.old (owed_writes (look (N.state device.old).words))
@@ -128,7 +135,7 @@ fn replay<N: Nvm>(device: &mut N, layout: Layout) -> Result<u16, Recover>
     }
 }
 
-// A journal that is bad at a place.
+// Returns the refusal of a journal that is bad at a place.
 fn bad_journal(place: u16) -> Up
     ensures { result ≡ Up.Unusable (record { cause = Cause.BadJournal; place = place }) }
 {
@@ -138,7 +145,7 @@ fn bad_journal(place: u16) -> Up
     })
 }
 
-// Checks words with no open journal, and migrates a card of layout 1, behind so many owed writes.
+// Checks words with no open journal, and migrates a card of layout 1, after `owed` writes of recovery.
 fn finish<N: Nvm>(device: &mut N, owed: u16) -> Result<Ready, Up>
     requires power { (N.state device.old).on ≡ true }
     requires closed { look (N.state device.old).words ≡ Closed }
@@ -154,7 +161,7 @@ fn finish<N: Nvm>(device: &mut N, owed: u16) -> Result<Ready, Up>
     }
 }
 
-// Migrates a card of layout 1, and lets one of layout 2 be.
+// Migrates a card of layout 1, and leaves one of layout 2 as it is.
 fn upgrade<N: Nvm>(device: &mut N, owed: u16, shape: &Shape) -> Result<Ready, Up>
     requires power { (N.state device.old).on ≡ true }
     requires closed { look (N.state device.old).words ≡ Closed }
@@ -176,7 +183,7 @@ fn upgrade<N: Nvm>(device: &mut N, owed: u16, shape: &Shape) -> Result<Ready, Up
     }
 }
 
-// Gives a root of layout 1 the version 2 by one atomic write of the journal of layout 1, and answers the number of
+// Writes version 2 into a root of layout 1 by one atomic write of the journal of layout 1, and returns the number of
 // device writes.
 fn migrate<N: Nvm>(device: &mut N, layout: u8) -> Result<u16, Stop>
     requires power { (N.state device.old).on ≡ true }
@@ -193,7 +200,7 @@ fn migrate<N: Nvm>(device: &mut N, layout: u8) -> Result<u16, Stop>
     write_root(device, root)
 }
 
-// The root with version 2.
+// Returns the root with version 2.
 fn upgraded_root<N: Nvm>(device: &N) -> Word
     ensures { result ≡ slice_set (word (N.state device.now).words 0) 3 2 }
 {
@@ -203,7 +210,7 @@ fn upgraded_root<N: Nvm>(device: &N) -> Word
     root
 }
 
-// Sets the root by an atomic write.
+// Writes the root by an atomic write.
 fn write_root<N: Nvm>(device: &mut N, root: Word) -> Result<u16, Stop>
     requires power { (N.state device.old).on ≡ true }
     requires gate { is_open One (N.state device.old).words ≡ false }

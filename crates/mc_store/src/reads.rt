@@ -28,7 +28,8 @@ pub fn read_section<N: Nvm>(store: &Store<N>, slot: Slot, part: Part, at: u16, i
     read_bytes(&store.device, from, at, into);
 }
 
-/// Copies bytes of the code of the application of a slot, from a byte of it on. They lie in the code. An instruction is fetched so.
+/// Copies bytes of the code of the application of a slot, from a byte of it on. They lie in the code. This fetches
+/// instructions.
 #[inline(always)]
 pub fn read_code<N: Nvm>(store: &Store<N>, slot: Slot, at: u16, into: &mut [u8])
     requires going { (store_state (N.state store.now.device) store.now.count).stopped ≡ false }

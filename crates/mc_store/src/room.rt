@@ -15,11 +15,15 @@ use mc_blocks::first_fit;
 use mc_nvm::{Nvm, Probe};
 use std::sync::ledger::Ledger;
 
-/// How many applications a card may have.
+/// The greatest number of applications of a card.
 const APPS: u16 = 32;
 
-/// Looks for a hole with the words that a load of these sizes takes, on a card with so many applications. It reads the
-/// root and the holes up to the one that it finds, and nothing where 32 applications are there.
+/// Looks for a hole with the words that a load of these sizes takes, on a card with `count` applications. It reads the
+/// root and the holes up to the one that it finds, and nothing if 32 applications are there.
+///
+/// # Errors
+///
+/// Returns `Apps` if 32 applications are there, else `NoRoom` if no hole is long enough.
 pub fn find_room<N: Nvm, L: Ledger>(
     device: &N,
     count: u16,
@@ -40,7 +44,7 @@ pub fn find_room<N: Nvm, L: Ledger>(
     first_room(device, sizes, steps)
 }
 
-// The same where fewer than 32 applications are there.
+// Looks for a hole if fewer than 32 applications are there.
 fn first_room<N: Nvm, L: Ledger>(
     device: &N,
     sizes: &Sizes,

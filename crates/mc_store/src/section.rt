@@ -6,8 +6,8 @@ ghost use Rattle.mc_store.specs.Slots.{flat};
 use mc_base::Word;
 use mc_nvm::Nvm;
 
-// Copies at most seven bytes of the words of a device, from so many bytes behind the start of the word at a place on. They lie in two
-// words at the most.
+// Copies at most seven bytes of the words of a device, from `skip` bytes after the start of the word at a place on.
+// They lie in two words at the most.
 #[inline(always)]
 fn read_few<N: Nvm>(device: &N, place: u32, skip: usize, into: &mut [u8])
     requires skip { skip < 8 }
@@ -24,7 +24,7 @@ fn read_few<N: Nvm>(device: &N, place: u32, skip: usize, into: &mut [u8])
     into.copy_from_slice(&words.as_flattened()[skip..end]);
 }
 
-// The word at a place, where it is asked for.
+// Returns the word at a place if it is asked for.
 #[inline(always)]
 fn word_where<N: Nvm>(device: &N, place: u32, asked: bool) -> Word
     requires { asked ≡ true → place < length (N.state device.now).words }
@@ -33,7 +33,8 @@ fn word_where<N: Nvm>(device: &N, place: u32, asked: bool) -> Word
     if asked { device.read(place) } else { [0; 8] }
 }
 
-/// Copies bytes of the words of a device, from so many bytes behind the start of the word at a place on.
+/// Copies bytes of the words of a device into the whole of `into`, from `at` bytes after the start of the word `from`
+/// on.
 pub fn read_bytes<N: Nvm>(device: &N, from: u32, at: u16, into: &mut [u8])
     requires { 8 * from + at + length into.old ≤ 8 * length (N.state device.now).words }
     ensures { into.new ≡ take (length into.old) (drop (8 * from + at) (flat (N.state device.now).words)) }
@@ -52,7 +53,7 @@ pub fn read_bytes<N: Nvm>(device: &N, from: u32, at: u16, into: &mut [u8])
     }
 }
 
-/// The same without a loop where there are few.
+/// Copies bytes as `read_bytes` does, without a loop if there are few.
 #[inline(always)]
 pub fn read_window<N: Nvm>(device: &N, from: u32, at: u16, into: &mut [u8])
     requires { 8 * from + at + length into.old ≤ 8 * length (N.state device.now).words }

@@ -30,14 +30,16 @@ impl<N: Nvm> Store<N> {
     ///
     /// # Errors
     ///
-    /// Returns the device with `Up::Stop` if it cut or refused a write, and with `Up::Unusable`, the first fault and its place, if the
+    /// Returns the device with `Up::Stop` if a write was cut or failed, and with `Up::Unusable`, the first fault and
+    /// its place, if the
     /// words are no card.
     pub fn power_up(dev: N) -> Result<(Store<N>, u16), (N, Up)>
         requires power { (N.state dev).on ≡ true }
         // Up to the first one that stops it makes the writes that recovery still has to make and then those of the migration.
         ensures makes { Makes N.wrote dev (power_writes (N.state dev).words) (power_answer (powered result))
             (device_after result) }
-        // The applications are those that the words meant; after a fault or a stop the words are what the rule of stops says.
+        // The applications are those that the words held; after a fault or a stop the words are as in `IsUnusable` or
+        // `IsTorn`.
         ensures ends { PowersUp (N.state dev) (powered result) (N.state (device_after result)) }
         // The device is the one that came in.
         ensures lent { N.same dev (device_after result) }
@@ -67,14 +69,16 @@ impl<N: Nvm> Store<N> {
     ///
     /// # Errors
     ///
-    /// Returns `Up::Stop` if the device cut or refused a write, and `Up::Unusable`, the first fault and its place, if the words are no
+    /// Returns `Up::Stop` if a write was cut or failed, and `Up::Unusable`, the first fault and its place, if the
+    /// words are no
     /// card. After either only `into_dev` and `restart` may be called.
     pub fn restart(&mut self) -> Result<u16, Up>
         requires power { (N.state (device_of self.old)).on ≡ true }
         // Up to the first one that stops it makes the writes that recovery still has to make and then those of the migration.
         ensures makes { Makes N.wrote (device_of self.old) (power_writes (N.state (device_of self.old)).words)
             (power_answer (restarted self.new result)) (device_of self.new) }
-        // The applications are those that the words meant; after a fault or a stop the words are what the rule of stops says.
+        // The applications are those that the words held; after a fault or a stop the words are as in `IsUnusable` or
+        // `IsTorn`.
         ensures ends { PowersUp (N.state (device_of self.old)) (restarted self.new result)
             (N.state (device_of self.new)) }
         // The device is the one that was there.
@@ -85,7 +89,7 @@ impl<N: Nvm> Store<N> {
         Ok(writes)
     }
 
-    /// The number of words of the device, which never changes.
+    /// Returns the number of words of the device, which never changes.
     pub fn device_len(&self) -> u32
         ensures len { result ≡ length (N.state (device_of self.now)).words }
         ensures image { IsImage (N.state (device_of self.now)).words }
@@ -93,7 +97,8 @@ impl<N: Nvm> Store<N> {
         self.device.len()
     }
 
-    /// The device as a bench sees it, for its fuses alone: what changes its words or its power leaves no card that the store knows.
+    /// Returns the device as a bench sees it, for its fuses alone: what changes its words or its power leaves no card
+    /// that the store knows.
     pub fn device_mut(&mut self) -> &mut N
         ensures value { result.now ≡ device_of self.old }
         ensures* writes_back { sem 𝓛 (Lends (the_row N.row) N.row self.entry result (λ w. over self.old w)) }
@@ -101,7 +106,7 @@ impl<N: Nvm> Store<N> {
         &mut self.device
     }
 
-    /// The device, whose words are the card.
+    /// Returns the device, whose words are the card.
     pub fn into_dev(self) -> N
         ensures { result ≡ device_of self }
     {

@@ -7,12 +7,12 @@ use Rattle.mc_text.specs.Texts.{Sunk, Writes, Fails}
 use Rattle.mc_text.specs.Logs.{Log, LoggedAs, LoggedBy, Logged}
 use Rattle.mc_text.proofs.TextLemmas.{writes_then, writes_none, fails_then, fails_before}
 
--- the lines of turns behind turns
+-- the lines of turns followed by others
 pub lines_append : (ts us : List Turn) → turn_lines (ts ++ us) ≡ turn_lines ts ++ turn_lines us
 lines_append [] us = refl
 lines_append (t ∷ ts) us = ap (λ (l : List ℕ). turn_line t ++ l) (lines_append ts us) ∙ sym (append_assoc (turn_line t) (turn_lines ts) (turn_lines us))
 
--- no turns
+-- no turns are logged
 none_by : (f : Option WriteFault) (a : Sunk) → LoggedBy f a [] (record { out = a; fault = f })
 none_by None a = writes_none a
 none_by (Some f) a = (refl, refl)
@@ -20,7 +20,7 @@ none_by (Some f) a = (refl, refl)
 pub logged_none : (l : Log) → Logged l [] l
 logged_none l = none_by l.fault l.out
 
--- turns behind turns, in a log that had no fault before
+-- turns followed by others, in a log that had no fault before
 as_on : (f : Option WriteFault) (a b : Sunk) (n : Log) (ts us : List Turn) → LoggedAs f a ts b → LoggedBy f b us n → LoggedAs n.fault a (ts ++ us) n.out
 as_on (Some f) a b n ts us first rest =
     subst (λ (g : Option WriteFault). LoggedAs g a (ts ++ us) n.out) (sym rest.0)
@@ -31,7 +31,7 @@ as_on None a b n ts us first rest = more n.fault rest
     more None rest = subst (λ (l : List ℕ). Writes a l n.out) (sym (lines_append ts us)) (writes_then first rest)
     more (Some g) rest = subst (λ (l : List ℕ). Fails a l n.out) (sym (lines_append ts us)) (fails_then first rest)
 
--- turns behind turns
+-- turns followed by others
 by_on : (f : Option WriteFault) (a : Sunk) (m n : Log) (ts us : List Turn) → LoggedBy f a ts m → LoggedBy m.fault m.out us n → LoggedBy f a (ts ++ us) n
 by_on None a m n ts us first rest = as_on m.fault a m.out n ts us first rest
 by_on (Some f) a m n ts us first rest =

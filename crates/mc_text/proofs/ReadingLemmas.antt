@@ -27,7 +27,7 @@ capped_again_by n d false e =
 capped_again : (n d : ℕ) → capped (capped n * 10 + d) ≡ capped (n * 10 + d)
 capped_again n d = capped_again_by n d (nat_le n 4294967296) refl
 
--- digits behind a number that is capped or not
+-- appending digits to a number, capped or not, yields the same capped number
 capped_digits : (ds : List ℕ) (m n : ℕ) → capped m ≡ capped n → capped (digits_onto 10 m ds) ≡ capped (digits_onto 10 n ds)
 capped_digits [] m n h = h
 capped_digits (d ∷ ds) m n h = capped_digits ds (m * 10 + d) (n * 10 + d) (sym (capped_again m d) ∙ ap (λ k. capped (k * 10 + d)) h ∙ capped_again n d)
@@ -42,7 +42,7 @@ decimal_step n d t h = decimal_step_by (every is_digit t) n d t refl h
 
 -- ---- the first cut
 
--- the cut at a place that lies in the text, and none otherwise
+-- the cut at the index n if b, and else no cut
 abbrev cut_before : List ℕ → ℕ → Bool → List ℕ × Option (List ℕ)
 cut_before t n b = cut_at t (cond b (Some n) None)
 
@@ -66,17 +66,17 @@ first_cut_from f c t false e h =
     let m = position_or_len f t in
     rw (e, one_plus m) (ap (cut_or_kept false c t) h ∙ one_later c t m (nat_lt m (length t)) ∙ ap (cut_before (c ∷ t) (suc m)) (sym (below_suc m t (nat_lt m (length t)) refl)))
 
--- the first cut is at the first character that cuts
+-- the first cut is at the first character that satisfies the test
 pub first_cut_at : (f : ℕ → Bool) (t : List ℕ) → first_cut f t ≡ cut_at t (position f t)
 first_cut_at f [] = refl
 first_cut_at f (c ∷ t) = first_cut_from f c t (f c) refl (first_cut_at f t)
 
--- ---- blanks at the end
+-- ---- trailing blanks
 
 front_kept : (f : List ℕ) (c d : ℕ) (t : List ℕ) → trim_end f ≡ d ∷ t → trim_end (c ∷ f) ≡ c ∷ d ∷ t
 front_kept f c d t e = rw e refl
 
--- a blank at the end falls
+-- a trailing blank is trimmed
 pub end_falls : (f : List ℕ) (l : ℕ) → is_blank l ≡ true → trim_end (f ++ l ∷ []) ≡ trim_end f
 end_falls [] l e = rw e refl
 end_falls (c ∷ f) l e = ap (before_trimmed c) (end_falls f l e)
@@ -85,7 +85,7 @@ kept_before : (c : ℕ) (f : List ℕ) (l : ℕ) → before_trimmed c (f ++ l �
 kept_before c [] l = refl
 kept_before c (d ∷ f) l = refl
 
--- another character at the end stays
+-- any other character at the end is kept
 pub end_stays : (f : List ℕ) (l : ℕ) → is_blank l ≡ false → trim_end (f ++ l ∷ []) ≡ f ++ l ∷ []
 end_stays [] l e = rw e refl
 end_stays (c ∷ f) l e = ap (before_trimmed c) (end_stays f l e) ∙ kept_before c f l
@@ -97,7 +97,7 @@ last_of (c ∷ d ∷ l) h =
     let e : length (c ∷ d ∷ l) - 1 ≡ suc (length (d ∷ l) - 1) = omega arith in
     rw e (ap (λ t. c ∷ t) (last_of (d ∷ l) (omega arith)))
 
--- by the character before the end
+-- trimming, if the last character is a blank
 pub trim_end_falls : (l : List ℕ) → 0 < length l → is_blank (slice_index l (length l - 1)) ≡ true → trim_end (take (length l - 1) l) ≡ trim_end l
 trim_end_falls l h e = sym (end_falls (take (length l - 1) l) (slice_index l (length l - 1)) e) ∙ ap trim_end (last_of l h)
 
@@ -106,7 +106,7 @@ trim_end_stays l h e = ap trim_end (sym (last_of l h)) ∙ end_stays (take (leng
 
 -- ---- pieces
 
--- the pieces of a text that was cut at its first cut
+-- the pieces of a text, from its first cut
 abbrev pub pieces_cut : (ℕ → Bool) → List ℕ × Option (List ℕ) → List (List ℕ)
 pieces_cut f (a, None) = a ∷ []
 pieces_cut f (a, Some rest) = a ∷ pieces f rest
@@ -125,7 +125,7 @@ pieces_at f (c ∷ t) = pieces_from f c t (f c) (pieces_at f t)
 
 -- ---- lines
 
--- the pieces of a text at its line feeds, without the carriage returns before them, where it was cut at the first one
+-- the pieces of a text at its line feeds, without the carriage returns before them, from the cut at its first line feed
 abbrev pub returned : List ℕ × Option (List ℕ) → List (List ℕ)
 returned (l, None) = l ∷ []
 returned (l, Some rest) = without_return l ∷ pieces (λ c. c == 10) (without_returns rest)
@@ -146,7 +146,7 @@ one_less n = omega arith
 return_kept : (c d : ℕ) (l : List ℕ) → without_return (c ∷ d ∷ l) ≡ c ∷ without_return (d ∷ l)
 return_kept c d l = rw (one_less (suc (length l)), one_less (length l)) (cons_cond (slice_index (d ∷ l) (length l) == 13) c (take (length l) (d ∷ l)) (d ∷ l))
 
--- a character before a line that is not empty, or before a line and not a carriage return
+-- a character is part of the line after it if that line is not empty, or if the character is no carriage return
 kept_behind : (c d : ℕ) (p : List ℕ × Option (List ℕ)) → cut_or_joined false c (returned (d ∷ p.0, p.1)) ≡ returned (c ∷ d ∷ p.0, p.1)
 kept_behind c d (l, None) = refl
 kept_behind c d (l, Some rest) = ap (λ x. x ∷ line_pieces rest) (sym (return_kept c d l))
@@ -179,7 +179,7 @@ line_pieces_at : (t : List ℕ) → line_pieces t ≡ returned (feed_cut t)
 line_pieces_at [] = refl
 line_pieces_at (c ∷ t) = line_from c t (c == 10) refl (line_pieces_at t)
 
--- a first line and the lines behind it
+-- a first line and the lines after it
 abbrev pub lines_from : Option (List ℕ × List ℕ) → List (List ℕ)
 lines_from None = []
 lines_from (Some p) = p.0 ∷ lines p.1
@@ -197,6 +197,6 @@ no_last (l, Some rest) =
     let e = pieces_at (λ c. c == 10) (without_returns rest) in
     rw e (more_pieces (without_return l) (λ c. c == 10) (feed_cut (without_returns rest)))
 
--- the lines of a text by its first one
+-- the lines of a text are its first line and the lines of the text after it
 pub lines_at : (t : List ℕ) → lines t ≡ lines_from (next_line t)
 lines_at t = ap no_last_empty (line_pieces_at t) ∙ no_last (feed_cut t)

@@ -6,12 +6,12 @@ use Rattle.mc_base.proofs.StreamsLemmas.{Grew-append, Grew-none, Rose-later}
 use Rattle.mc_base.specs.declared.refusals.WriteFault.{WriteFault}
 use Rattle.mc_text.specs.Texts.{Sunk, Writes, Fails, Puts}
 
--- a text behind a text that was written
+-- a text that was written after one that was written
 pub writes_then : {a b c : Sunk} {x y : List ℕ} → Writes a x b → Writes b y c → Writes a (x ++ y) c
 writes_then {a} {b} {c} {x} {y} first second =
     record { whole = Grew-append a.taken b.taken c.taken x y first.whole second.whole; counted = omega (arith, first.counted, second.counted) }
 
--- a text that failed behind a text that was written
+-- a text that failed after one that was written
 pub fails_then : {a b c : Sunk} {x y : List ℕ} → Writes a x b → Fails b y c → Fails a (x ++ y) c
 fails_then {a} {b} {c} {x} {y} first second =
     record {
@@ -26,12 +26,12 @@ fails_then {a} {b} {c} {x} {y} first second =
       cause = Rose-later a.faults b.faults c.faults first.counted second.cause;
     }
 
--- a text behind a text that was written, by the result
+-- a text that was written or failed after one that was written
 pub puts_then : {a b : Sunk} {x : List ℕ} (c : Sunk) (y : List ℕ) (r : Result (Unit {0}) WriteFault) → Writes a x b → Puts b y r c → Puts a (x ++ y) r c
 puts_then c y (Ok u) first second = writes_then first second
 puts_then c y (Err e) first second = fails_then first second
 
--- a text that failed fails with whatever is behind it
+-- a text that failed fails with every text appended to it
 pub fails_before : {a b : Sunk} {x : List ℕ} (y : List ℕ) → Fails a x b → Fails a (x ++ y) b
 fails_before {a} {b} {x} y f =
     record {
@@ -46,24 +46,24 @@ fails_before {a} {b} {x} y f =
       cause = f.cause;
     }
 
--- a text that failed, by the result of a `?`
+-- a text that failed, with the `Err` that a `?` returns
 pub puts_failed : {a b : Sunk} {t : List ℕ} (r : Result (Unit {0}) WriteFault) → IsErr r → Fails a t b → Puts a t r b
 puts_failed (Ok u) is f = absurd (cc is)
 puts_failed (Err w) is f = f
 
--- nothing was written
+-- the empty text is written without a call
 pub writes_none : (a : Sunk) → Writes a [] a
 writes_none a = record { whole = Grew-none a.taken; counted = omega arith }
 
--- the same text, said in another way
+-- an equal text is put with the same result
 pub puts_as : (a b : Sunk) {t u : List ℕ} (r : Result (Unit {0}) WriteFault) → t ≡ u → Puts a t r b → Puts a u r b
 puts_as a b r e p = subst (λ (t : List ℕ). Puts a t r b) e p
 
--- bytes behind bytes
+-- the hexadecimal text of bytes followed by others
 pub hex_text_append : (xs ys : List ℕ) → hex_text (xs ++ ys) ≡ hex_text xs ++ hex_text ys
 hex_text_append [] ys = refl
 hex_text_append (x ∷ xs) ys = grind (arith, hex_text_append xs ys)
 
--- bytes in two parts
+-- the hexadecimal text of bytes in two parts
 pub hex_text_split : (n : ℕ) (xs : List ℕ) → hex_text (take n xs) ++ hex_text (drop n xs) ≡ hex_text xs
 hex_text_split n xs = sym (hex_text_append (take n xs) (drop n xs)) ∙ ap hex_text (take-append-drop n xs)

@@ -1,4 +1,4 @@
-// Words, numbers and bytes behind what a text has, without memory.
+// Appends words, numbers and bytes to a text without allocation.
 ghost use Rattle.std.specs.Prelude.{◌≡◌, ◌+◌, ◌*◌, ◌≤◌, ◌++◌, length, decimal};
 ghost use Rattle.arrayvec.specs.ArrayVec.{array_vec_len};
 ghost use Rattle.mc_model_machine.specs.Listing.{hex_text};
@@ -7,7 +7,7 @@ use crate::pieces::digit;
 use arrayvec::ArrayVec;
 use itoa::Buffer;
 
-/// Adds a piece.
+/// Appends `piece`.
 pub fn add<const N: usize>(text: &mut ArrayVec<u8, N>, piece: &[u8])
     requires { array_vec_len text.old + length piece.now ≤ N }
     ensures text { text.new.items ≡ text.old.items ++ piece.now }
@@ -16,7 +16,7 @@ pub fn add<const N: usize>(text: &mut ArrayVec<u8, N>, piece: &[u8])
     text.try_extend_from_slice(piece).unwrap()
 }
 
-/// Adds a number in decimal, at most ten digits.
+/// Appends a number in decimal, at most ten digits.
 pub fn add_decimal<const N: usize>(text: &mut ArrayVec<u8, N>, number: u32)
     requires { array_vec_len text.old + 10 ≤ N }
     ensures text { text.new.items ≡ text.old.items ++ decimal number }
@@ -26,7 +26,7 @@ pub fn add_decimal<const N: usize>(text: &mut ArrayVec<u8, N>, number: u32)
     add(text, buffer.format(number).as_bytes());
 }
 
-/// Adds bytes in upper case hexadecimal.
+/// Appends bytes in upper case hexadecimal.
 pub fn add_hex<const N: usize>(text: &mut ArrayVec<u8, N>, bytes: &[u8])
     requires { array_vec_len text.old + 2 * length bytes.now ≤ N }
     ensures text { text.new.items ≡ text.old.items ++ hex_text bytes.now }

@@ -1,7 +1,7 @@
 #![tactic(auto)]
 
-//! Small texts: words, decimal numbers and bytes in hexadecimal, written to a sink one behind the other; and characters, numbers, fields and
-//! lines of texts that are read.
+//! Small texts: words, decimal numbers and bytes in hexadecimal, written to a sink one after another; and
+//! characters, numbers, fields and lines, read from a text.
 
 mod gather;
 mod pieces;

@@ -17,6 +17,10 @@ pub fn put<T: Sink>(out: &mut T, text: &[u8]) -> Result<(), WriteFault>
 }
 
 /// Writes a number in decimal.
+///
+/// # Errors
+///
+/// Returns the fault of the sink if it failed; a proper prefix of the text was written then.
 pub fn put_decimal<T: Sink>(out: &mut T, number: u32) -> Result<(), WriteFault>
     ensures { Puts (sunk_in T.taken T.faults out.old) (decimal number) result (sunk_in T.taken T.faults out.new) }
 {
@@ -24,7 +28,11 @@ pub fn put_decimal<T: Sink>(out: &mut T, number: u32) -> Result<(), WriteFault>
     put(out, buffer.format(number).as_bytes())
 }
 
-/// Writes a number in decimal behind a word.
+/// Writes a word and after it a number in decimal.
+///
+/// # Errors
+///
+/// Returns the fault of the sink if it failed; a proper prefix of the text was written then.
 pub fn put_number<T: Sink>(out: &mut T, word: &[u8], number: u32) -> Result<(), WriteFault>
     ensures { Puts (sunk_in T.taken T.faults out.old) (word.now
         ++ decimal number) result (sunk_in T.taken T.faults out.new) }
@@ -33,7 +41,7 @@ pub fn put_number<T: Sink>(out: &mut T, word: &[u8], number: u32) -> Result<(), 
     put_decimal(out, number)
 }
 
-/// The upper case hexadecimal digit of a number below 16.
+/// Returns the upper case hexadecimal digit of a number below 16.
 pub fn digit(value: u8) -> u8
     requires { value < 16 }
     ensures { result ≡ hex_digit value }

@@ -1,30 +1,30 @@
-// Texts that are read: characters, numbers, cuts, lines, and blanks that fall.
+// Reading texts: characters, numbers, cuts, lines, and trimmed blanks.
 ghost use Rattle.std.specs.Prelude.{◌≡◌, ◌+◌, ◌*◌, ◌<◌, ◌≤◌, ◌==◌, length, position, option_map, IfSome};
 ghost use Rattle.mc_model_machine.specs.Text.{decimal_number, every, first_cut, hex_value, is_blank, is_digit, is_name_character, trim, trim_front, trim_end};
 ghost use Rattle.mc_text.specs.Reading.{capped, cut_at, next_line, without_return};
 
-/// Whether a character is a space or a tab.
+/// Returns whether a character is a space or a tab.
 pub fn is_blank(character: u8) -> bool
     ensures { result ≡ is_blank character }
 {
     character == b' ' || character == b'\t'
 }
 
-/// Whether a character is a decimal digit.
+/// Returns whether a character is a decimal digit.
 pub fn is_digit(character: u8) -> bool
     ensures { result ≡ is_digit character }
 {
     character.is_ascii_digit()
 }
 
-// Letters, digits and the underscore.
+// Whether a character is a letter, a digit or the underscore.
 fn is_name_character(character: u8) -> bool
     ensures { result ≡ is_name_character character }
 {
     character.is_ascii_alphanumeric() || character == b'_'
 }
 
-/// Whether a text has letters, digits and underscores alone.
+/// Returns whether each character of a text is a letter, a digit or the underscore.
 pub fn has_name_characters(text: &[u8]) -> bool
     ensures { result ≡ every is_name_character text.now }
 {
@@ -36,7 +36,7 @@ pub fn has_name_characters(text: &[u8]) -> bool
     true
 }
 
-/// The value of a hexadecimal digit in either case; none where the character is no digit.
+/// Returns the value of a hexadecimal digit in either case, or `None` if the character is no digit.
 pub fn hex_value(digit: u8) -> Option<u8>
     ensures value { result ≡ hex_value digit }
     ensures bound { IfSome result (λ v. v < 16) }
@@ -49,10 +49,10 @@ pub fn hex_value(digit: u8) -> Option<u8>
     }
 }
 
-// A number that is greater than every number of a deck, an operand or a word may be.
+// A bound above each number that a deck, an operand or a word may have.
 const LIMIT: u64 = 4294967296;
 
-// The number that decimal digits spell behind others.
+// The number after one more decimal digit, at most `LIMIT`.
 fn with_digit(number: u64, digit: u8) -> u64
     requires number { number ≤ 4294967296 }
     requires digit { digit < 10 }
@@ -61,8 +61,8 @@ fn with_digit(number: u64, digit: u8) -> u64
     LIMIT.min(number * 10 + digit as u64)
 }
 
-/// The number that decimal digits spell, and 4,294,967,296 where it is greater; leading zeros are good. None where there is no
-/// character, or one that is no digit.
+/// Returns the number of decimal digits, or 4,294,967,296 if it is greater; leading zeros are allowed.
+/// Returns `None` if there is no character, or one that is no digit.
 pub fn decimal_number(digits: &[u8]) -> Option<u64>
     ensures { result ≡ option_map capped (decimal_number digits.now) }
 {
@@ -79,7 +79,7 @@ pub fn decimal_number(digits: &[u8]) -> Option<u64>
     Some(number)
 }
 
-// A text before and behind a place, the whole where there is none.
+// The text before an index and the text after it, or the whole text if there is no index.
 fn cut_at(text: &[u8], place: Option<usize>) -> (&[u8], Option<&[u8]>)
     requires { IfSome place (λ i. i < length text.now) }
     ensures parts { (result.0.now, option_map (λ rest. rest.now) result.1) ≡ cut_at text.now place }
@@ -91,7 +91,7 @@ fn cut_at(text: &[u8], place: Option<usize>) -> (&[u8], Option<&[u8]>)
     }
 }
 
-// The place of the first of these characters.
+// The index of the first `character`.
 fn place(text: &[u8], character: u8) -> Option<usize>
     ensures value { result ≡ position (λ c. c == character) text.now }
     ensures inside { IfSome result (λ i. i < length text.now) }
@@ -99,7 +99,7 @@ fn place(text: &[u8], character: u8) -> Option<usize>
     text.iter().position(|c| *c == character)
 }
 
-// The place of the first blank.
+// The index of the first blank.
 fn blank_place(text: &[u8]) -> Option<usize>
     ensures value { result ≡ position is_blank text.now }
     ensures inside { IfSome result (λ i. i < length text.now) }
@@ -107,7 +107,8 @@ fn blank_place(text: &[u8]) -> Option<usize>
     text.iter().position(|c| is_blank(*c))
 }
 
-/// What stands before the first of these characters, and what behind it, where there is one.
+/// Returns the text before the first `character` and the text after it, or the whole text and `None` if there
+/// is none.
 #[tactic(auto, using(crate::proofs::ReadingLemmas::first_cut_at))]
 pub fn cut(text: &[u8], character: u8) -> (&[u8], Option<&[u8]>)
     ensures front { result.0.now ≡ (first_cut (λ c. c == character) text.now).0 }
@@ -117,7 +118,8 @@ pub fn cut(text: &[u8], character: u8) -> (&[u8], Option<&[u8]>)
     cut_at(text, place(text, character))
 }
 
-/// What stands before the first blank, and what behind it, where there is one.
+/// Returns the text before the first blank and the text after it, or the whole text and `None` if there is
+/// none.
 #[tactic(auto, using(crate::proofs::ReadingLemmas::first_cut_at))]
 pub fn cut_blank(text: &[u8]) -> (&[u8], Option<&[u8]>)
     ensures front { result.0.now ≡ (first_cut is_blank text.now).0 }
@@ -127,7 +129,7 @@ pub fn cut_blank(text: &[u8]) -> (&[u8], Option<&[u8]>)
     cut_at(text, blank_place(text))
 }
 
-// A line without a carriage return at its end.
+// A line without a trailing carriage return.
 fn without_return(line: &[u8]) -> &[u8]
     ensures { result.now ≡ without_return line.now }
 {
@@ -137,8 +139,8 @@ fn without_return(line: &[u8]) -> &[u8]
     }
 }
 
-/// The first line of a text, and the text behind it. A line ends with a line feed, which the last line may lack;
-/// a carriage return right before the line feed is not part of it. A text without a character has no line.
+/// Returns the first line of a text, and the text after it, or `None` if the text is empty. A line ends with
+/// a line feed, which the last line may lack; a carriage return right before the line feed is not part of it.
 pub fn next_line(text: &[u8]) -> Option<(&[u8], &[u8])>
     ensures line { option_map (λ l. (l.0.now, l.1.now)) result ≡ next_line text.now }
     ensures shorter { IfSome result (λ l. length l.1.now < length text.now) }
@@ -150,7 +152,7 @@ pub fn next_line(text: &[u8]) -> Option<(&[u8], &[u8])>
     }
 }
 
-/// A text without the blanks before it.
+/// Returns a text without leading blanks.
 pub fn trim_front(text: &[u8]) -> &[u8]
     ensures { result.now ≡ trim_front text.now }
 {
@@ -164,7 +166,7 @@ pub fn trim_front(text: &[u8]) -> &[u8]
     rest
 }
 
-// A text without the blanks behind it.
+// A text without trailing blanks.
 fn trim_end(text: &[u8]) -> &[u8]
     ensures { result.now ≡ trim_end text.now }
 {
@@ -178,7 +180,7 @@ fn trim_end(text: &[u8]) -> &[u8]
     rest
 }
 
-/// A text without the blanks around it.
+/// Returns a text without leading and trailing blanks.
 pub fn trim(text: &[u8]) -> &[u8]
     ensures { result.now ≡ trim text.now }
 {

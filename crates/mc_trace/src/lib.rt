@@ -1,6 +1,6 @@
 #![tactic(auto)]
 
-//! The lines of a trace: one for each executed instruction.
+//! The lines of a trace: one for each executed instruction, and for a fetch that found none.
 
 mod line;
 mod worked;

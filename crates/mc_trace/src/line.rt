@@ -1,4 +1,4 @@
-// The line of one turn.
+// The line of one turn: an executed instruction, or a fetch that found none.
 ghost use Rattle.std.specs.Prelude.{◌≡◌, ◌+◌, ◌≤◌, ◌++◌, ◌∷◌, [], ℕ, length, codes, Option, IfSome};
 ghost use Rattle.arrayvec.specs.ArrayVec.{array_vec_len};
 ghost use Rattle.mc_model_device.specs.Bytes.{bytes2};
@@ -14,7 +14,7 @@ use mc_text::digit;
 
 type Line = ArrayVec<u8, 96>;
 
-// Text behind what the line has.
+// Appends text to the line.
 fn put(line: &mut Line, text: &[u8])
     requires { array_vec_len line.old + length text.now ≤ 96 }
     ensures { line.new.items ≡ line.old.items ++ text.now }
@@ -22,7 +22,7 @@ fn put(line: &mut Line, text: &[u8])
     line.try_extend_from_slice(text).unwrap()
 }
 
-// A blank, and a field behind it.
+// Appends a blank and a field.
 fn put_field(line: &mut Line, text: &[u8])
     requires { array_vec_len line.old + length text.now ≤ 95 }
     ensures { line.new.items ≡ line.old.items ++ codes " " ++ text.now }
@@ -43,7 +43,7 @@ fn hexadecimal(word: u16) -> [u8; 4]
     ]
 }
 
-// The field of an instruction: as a listing has it, or `?` where there is none.
+// Appends the field of an instruction: its line of a listing, or `?` if there is none.
 fn put_instruction(line: &mut Line, ins: &Option<Ins>)
     requires room { array_vec_len line.old ≤ 50 }
     requires shaped { IfSome ins.now Shaped }
@@ -63,8 +63,9 @@ fn bit(flag: bool) -> u8
     if flag { b'1' } else { b'0' }
 }
 
-/// The line of a turn in a trace, with its line feed: the depth of its frame from 1 to 4, the place, the instruction as a listing has it
-/// or `?` where there is none, DT, and the flags C and Z. Place and DT have four hexadecimal digits.
+/// Returns the line of a turn in a trace, with its line feed: the depth of its frame from 1 to 4, the place,
+/// the instruction as in a listing or `?` if there is none, DT, and the flags C and Z. Place and DT have four
+/// hexadecimal digits.
 #[tactic(auto, unfolding(mc_model_machine::specs::TurnText::turn_line))]
 pub fn line_of(turn: &Turn) -> ArrayVec<u8, 96>
     requires shaped { IfSome turn.now.ins Shaped }

@@ -1,4 +1,4 @@
-// Lines of traces, tried against lines that were written by another program.
+// Lines of traces, tested against lines that were written by another program.
 ghost use Rattle.std.specs.Prelude.{◌≤◌};
 ghost use Rattle.mc_model_machine.specs.Code.{Shaped};
 

@@ -1,4 +1,4 @@
-// Worked lines, written down by hand.
+// Worked examples of lines, written by hand.
 ghost use Rattle.std.specs.Prelude.{◌≡◌, codes, false, true, negsuc, Some, None};
 ghost use Rattle.mc_model_machine.specs.declared.instruction.Ins.TheVariants.{Exit, Cmpb, Jump};
 ghost use Rattle.mc_model_machine.specs.declared.machine.Abend.TheVariants.{A01};

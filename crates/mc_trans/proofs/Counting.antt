@@ -1,4 +1,4 @@
--- How many words are pending with a piece more.
+-- The number of words that are pending after one piece more.
 use Rattle.std.proofs.Common.{◌≡◌, ℕ, zero, suc, ◌+◌, ◌-◌, ◌/◌, ◌≤◌, ◌<◌, ◌⊎◌, false, cond, List, [], ◌∷◌, ◌++◌, length, refl, sym, ap, ◌∙◌, inl, inr, arith}
 use Rattle.std.specs.Prelude.{nat_eq, is_none}
 use Rattle.std.proofs.lemmas.Bool.{cases_lt, ne_eqb}
@@ -7,12 +7,12 @@ use Rattle.mc_model_device.specs.Pieces.{touched, numbers, pending_at, not_pendi
 use Rattle.mc_trans.proofs.Touched.{mem, mem_number}
 use Rattle.mc_model_device.proofs.PieceLemmas.{touched-append, with_number_twice}
 
--- so many numbers from n on, beside those that are there
+-- a sorted set of numbers with `count` more, from n on
 with_numbers : ℕ → ℕ → List ℕ → List ℕ
 with_numbers n zero ns = ns
 with_numbers n (suc count) ns = with_numbers (n + 1) count (with_number n ns)
 
--- how many words a piece has a byte in
+-- the number of words in which a piece of len bytes at `at` has a byte
 abbrev words_in : ℕ → ℕ → ℕ
 words_in at len = (at + len - 1) / 8 + 1 - at / 8
 
@@ -45,7 +45,7 @@ numbers_are at x [] ns =
     ap (λ (c : ℕ). with_numbers (at / 8) c ns) (sym one)
 numbers_are at x (y ∷ b) ns = numbers_are (at + 1) y b (with_number (at / 8) ns) ∙ one_byte at (length b) ns (here_or_next at)
 
--- one number more
+-- numbers that ascend still ascend with one more
 ascends_number : (least n : ℕ) (ns : List ℕ) → least ≤ n → Ascend least ns → Ascend least (with_number n ns)
 ascends_number least n [] le asc = (le, tt)
 ascends_number least n (k ∷ ks) le asc = grind (arith, nat_tests, ascends_number (k + 1) n ks)
@@ -58,7 +58,7 @@ length-with_number : (least n : ℕ) (ns : List ℕ) → Ascend least ns → len
 length-with_number least n [] asc = refl
 length-with_number least n (k ∷ ks) asc = grind (arith, nat_tests, length-with_number (k + 1) n ks, none_below (k + 1) n ks)
 
--- how many numbers, of so many from n on, are not there
+-- the number of numbers in n..n + count that are not in the list
 abbrev missing : ℕ → ℕ → List ℕ → ℕ
 missing n zero ns = 0
 missing n (suc count) ns = cond (mem n ns) 0 1 + missing (n + 1) count ns
@@ -77,7 +77,7 @@ length-with_numbers n (suc count) ns asc =
     let later = missing_later n (n + 1) count ns (omega arith) in
     omega (arith, length-with_number 0 n ns asc, rest, later)
 
--- the same of pending words
+-- a number is missing from the numbers of pending words exactly if no word is pending under it
 one_missing : (n : ℕ) (ws : List (ℕ × List ℕ)) → ◌≡◌ {A = ℕ} (cond (mem n (numbers ws)) 0 1) (cond (is_none (pending_at ws n)) 1 0)
 one_missing n [] = refl
 one_missing n (w ∷ ws) = grind (arith, nat_tests, one_missing n ws)

@@ -20,7 +20,7 @@ byte_is l ps ws i (Some b) e lie held lt =
 pub word_byte : (l : List ℕ) (ps ws : List (ℕ × List ℕ)) (i : ℕ) → LieIn (length l) ps → HoldPieces l ps ws → i < length l → get_or (laid_pieces l ps) i 0 ≡ unwrap_or (option_map (λ b. get_or b (i % 8) 0) (pending_at ws (i / 8))) (get_or l i 0)
 word_byte l ps ws i = byte_is l ps ws i (pending_at ws (i / 8)) refl
 
--- words laid over a list, byte by byte
+-- pending words written over a list make what the pieces that they hold make
 pub words_laid : (l : List ℕ) (ps ws : List (ℕ × List ℕ)) → LieIn (length l) ps → HoldPieces l ps ws → laid_words l ws ≡ laid_pieces l ps
 words_laid l ps ws lie held =
     let begin = words_begin_in l ps ws lie held.touched_words in

@@ -1,4 +1,4 @@
--- Lists with pieces laid over them, byte by byte.
+-- Lists with pieces written over them, byte by byte.
 use Rattle.std.proofs.Common.{◌≡◌, ℕ, zero, suc, ◌+◌, ◌-◌, ◌≤◌, ◌<◌, true, false, cond, List, [], ◌∷◌, ◌++◌, length, take, drop, get_or, Option, Some, None, refl, sym, ap, subst, ◌∙◌, inl, inr, arith, append_assoc}
 use Rattle.std.specs.Prelude.{nat_le, slice_get, unwrap_or}
 use Rattle.std.specs.List.{AllByRecursion}
@@ -92,7 +92,7 @@ length-laid_low n l (p ∷ ps) begin fits =
 drop_both : (xs ys : List ℕ) (n k : ℕ) → length xs ≡ n → drop (n + k) (xs ++ ys) ≡ drop k ys
 drop_both xs ys n k len = subst (λ (m : ℕ). drop (m + k) (xs ++ ys) ≡ drop k ys) len (drop-append-add xs ys k)
 
--- a piece in two parts
+-- writing a piece is writing its two parts, one after the other
 pub splice-append : (l : List ℕ) (at : ℕ) (a b : List ℕ) → at + length a ≤ length l → splice (splice l at a) (at + length a) b ≡ splice l at (a ++ b)
 splice-append l at a b fits =
     let front = take at l ++ a in

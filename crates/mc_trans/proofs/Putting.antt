@@ -22,7 +22,7 @@ pending_at_put n m b (w ∷ ws) = grind (arith, nat_tests, pending_at_put n m b 
 
 -- ---- the bytes of the words
 
--- the word that is put
+-- the bytes of the word that is put
 put_byte : (l word b : List ℕ) (n j k : ℕ) → j + length b ≤ length word → 8 * n + j ≤ length l → get_or word k 0 ≡ get_or l (8 * n + k) 0 → get_or (splice word j b) k 0 ≡ get_or (splice l (8 * n + j) b) (8 * n + k) 0
 put_byte l word b n j k fits_word fits old =
     elim (cases_lt k j) [
@@ -36,7 +36,7 @@ put_byte l word b n j k fits_word fits old =
           ]
     ]
 
--- any other word
+-- the bytes of any other word are unchanged
 other_byte : (l b : List ℕ) (n m j k : ℕ) → n ≢ m → j + length b ≤ 8 → 8 * n + j ≤ length l → k < 8 → get_or (splice l (8 * n + j) b) (8 * m + k) 0 ≡ get_or l (8 * m + k) 0
 other_byte l b n m j k other small fits lt =
     elim (cases_lt m n) [

@@ -10,7 +10,7 @@ use Rattle.mc_model_device.proofs.ListLemmas.{length-splice}
 use Rattle.mc_trans.proofs.Overlay.{splice_before, splice_behind, BeginIn, get_some}
 use Rattle.std.proofs.lemmas.Option.{slice_get_past}
 
--- whether a number is among some
+-- whether a number is in a list of numbers
 abbrev pub mem : ℕ → List ℕ → Bool
 mem m [] = false
 mem m (k ∷ ks) = nat_eq k m || mem m ks
@@ -23,7 +23,7 @@ mem_number m n (k ∷ ks) = grind (arith, nat_tests, mem_number m n ks)
 other_word : (m at i : ℕ) → i ≡ at → nat_eq (at / 8) m ≡ false → i / 8 ≢ m
 other_word m at i e here same = eqb-false (at / 8) m here (ap (λ (k : ℕ). k / 8) (sym e) ∙ same)
 
--- what is not among more numbers is not among fewer, and none word of the piece
+-- a number that is not among the numbers with those of a piece's words is not among the numbers, and no word of the piece has it
 not_words : (m at : ℕ) (b ns : List ℕ) → mem m (with_words at b ns) ≡ false → (mem m ns ≡ false) × ((i : ℕ) → at ≤ i → i < at + length b → i / 8 ≢ m)
 not_words m at [] ns none = (none, λ i low high. absurd (omega arith))
 not_words m at (x ∷ b) ns none =
@@ -38,7 +38,7 @@ not_touched : (m : ℕ) (ns : List ℕ) (ps : List (ℕ × List ℕ)) → mem m 
 not_touched m ns [] none = none
 not_touched m ns (p ∷ ps) none = (not_words m p.0 p.1 ns (not_touched m (with_words p.0 p.1 ns) ps none)).0
 
--- a byte of a word that is not touched stays
+-- a byte of a word that no piece touches is unchanged
 stays : (l ns : List ℕ) (ps : List (ℕ × List ℕ)) (i : ℕ) → LieIn (length l) ps → mem (i / 8) (with_touched ns ps) ≡ false → get_or (laid_pieces l ps) i 0 ≡ get_or l i 0
 stays l ns [] i lie none = refl
 stays l ns (p ∷ ps) i lie none =
@@ -54,7 +54,7 @@ stays l ns (p ∷ ps) i lie none =
           | inr le ↦ elim (cases_lt i (p.0 + length p.1)) [ inl lt ↦ absurd (out le lt refl) | inr past ↦ splice_behind l p.0 p.1 i fits past ]
         ]
 
--- the numbers of the words that are pending
+-- a number under which no word is pending is not among the numbers
 pub no_number : (ws : List (ℕ × List ℕ)) (m : ℕ) → pending_at ws m ≡ None → mem m (numbers ws) ≡ false
 no_number [] m e = refl
 no_number (w ∷ ws) m e = grind (arith, nat_tests, no_number ws m)

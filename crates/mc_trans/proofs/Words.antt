@@ -37,7 +37,7 @@ place_none n ws e =
     let within = prefix_len-le-length (λ (w : NumberedWord). not (nat_le n w.0)) ws in
     omega (arith, place_is n ws)
 
--- a number above the last one stands behind all: it is above the first one too
+-- a number above the last one belongs after all words, and is above the first one too
 behind_all : (n least : ℕ) (w : NumberedWord) (ws : List NumberedWord) → Ascend least (numbers (w ∷ ws)) → (get_or (w ∷ ws) (length ws) nothing).0 < n → (w.0 < n) × (length (w ∷ ws) ≡ place n (w ∷ ws))
 behind_all n least w [] asc above = grind (arith, nat_tests)
 behind_all n least w (v ∷ vs) asc above = grind (arith, nat_tests, behind_all n (w.0 + 1) v vs)
@@ -46,12 +46,12 @@ pub place_behind : (n : ℕ) (ws : List NumberedWord) → ArePending ws → 0 < 
 place_behind n [] are some above = absurd (omega arith)
 place_behind n (w ∷ ws) are some above = (behind_all n 0 w ws are.ascending (subst (λ (k : ℕ). (get_or (w ∷ ws) k nothing).0 < n) (omega arith) above)).1
 
--- a word whose number is there is put in its place
+-- a word whose number is there replaces the word with that number
 pub put_there : (n : ℕ) (b : List ℕ) (ws : List NumberedWord) (i : ℕ) → i ≡ place n ws → i < length ws → (get_or ws i nothing).0 ≡ n → put_word n b ws ≡ set ws i (n, b)
 put_there n b [] i e lt at = absurd (omega arith)
 put_there n b (w ∷ ws) i e lt at = grind (arith, nat_tests, put_there n b ws (place n ws) refl)
 
--- any other is put between
+-- any other word is inserted at its place
 pub put_between : (n : ℕ) (b : List ℕ) (ws : List NumberedWord) (i : ℕ) → i ≡ place n ws → (i < length ws → (get_or ws i nothing).0 ≢ n) → put_word n b ws ≡ insert ws i (n, b)
 put_between n b [] i e other = grind (arith, nat_tests)
 put_between n b (w ∷ ws) i e other = grind (arith, nat_tests, put_between n b ws (place n ws) refl)
@@ -60,7 +60,7 @@ pub is_pending : (n : ℕ) (ws : List NumberedWord) (i : ℕ) → i ≡ place n 
 is_pending n [] i e lt at = absurd (omega arith)
 is_pending n (w ∷ ws) i e lt at = grind (arith, nat_tests, is_pending n ws (place n ws) refl)
 
--- no word has a number below all numbers, or another number than the one at its place
+-- no word is pending under a number below all numbers, nor under one that the word at its place does not have
 above_none : (n least : ℕ) (ws : List NumberedWord) → n < least → Ascend least (numbers ws) → pending_at ws n ≡ None
 above_none n least [] lt asc = refl
 above_none n least (w ∷ ws) lt asc = grind (arith, nat_tests, above_none n (w.0 + 1) ws)
@@ -72,7 +72,7 @@ not_pending_from n least (w ∷ ws) i asc e other = grind (arith, nat_tests, abo
 pub not_pending : (n : ℕ) (ws : List NumberedWord) (i : ℕ) → ArePending ws → i ≡ place n ws → (i < length ws → (get_or ws i nothing).0 ≢ n) → pending_at ws n ≡ None
 not_pending n ws i are e other = not_pending_from n 0 ws i are.ascending e other
 
--- one word more
+-- words that ascend still ascend after a put
 put_ascends : (n least : ℕ) (b : List ℕ) (ws : List NumberedWord) → least ≤ n → Ascend least (numbers ws) → Ascend least (numbers (put_word n b ws))
 put_ascends n least b [] le asc = (le, tt)
 put_ascends n least b (w ∷ ws) le asc = grind (arith, nat_tests, put_ascends n (w.0 + 1) b ws)

@@ -3,13 +3,15 @@ ghost use Rattle.mc_model_device.specs.Bytes.{splice, zeros};
 ghost use Rattle.mc_model_device.specs.Pieces.{covered, laid_pieces, laid_words, not_pending, pending_at, put_word, touched, HoldPieces, LieIn};
 ghost use Rattle.mc_trans.specs.Rows.{word_fronts};
 
-/// A byte of a list with pieces laid over it is that of the last piece that covers it, and else the list's.
+/// A byte of a list with pieces written over it is that of the last piece that covers it, and else the
+/// list's.
 pub fn reads_pieces()
     ensures { (l : List ℕ) (ps : List (ℕ × List ℕ)) (i : ℕ) → LieIn (length l) ps → i < length l
         → slice_index (laid_pieces l ps) i ≡ unwrap_or (covered ps i) (slice_index l i) }
 {}
 
-/// It is that of the pending word that holds it, and else the list's.
+/// A byte of a list with pieces written over it is that of the pending word that holds it, and else the
+/// list's.
 pub fn reads_words()
     ensures { (l : List ℕ) (ps ws : List (ℕ × List ℕ)) (i : ℕ) → LieIn (length l) ps → HoldPieces l ps ws
         → i < length l
@@ -17,7 +19,8 @@ pub fn reads_words()
         ≡ unwrap_or (option_map (λ b. slice_index b (i % 8)) (pending_at ws (i / 8))) (slice_index l i) }
 {}
 
-/// Pending words laid over a list give what the pieces that they hold give, laid over it in order.
+/// Writing pending words over a list makes the same bytes as writing the pieces that they hold over it, in
+/// order.
 pub fn lays_words()
     ensures { (l : List ℕ) (ps ws : List (ℕ × List ℕ)) → LieIn (length l) ps → HoldPieces l ps ws
         → laid_words l ws ≡ laid_pieces l ps }
@@ -28,7 +31,7 @@ pub fn holds_none()
     ensures { (l : List ℕ) → HoldPieces l [] [] }
 {}
 
-/// A piece within one word is held where that word, with the piece's bytes in it, is put.
+/// A piece within one word is held after that word, with the piece's bytes in it, is put.
 pub fn puts_piece()
     ensures { (l : List ℕ) (ps ws : List (ℕ × List ℕ)) (n j : ℕ) (word b : List ℕ) → LieIn (length l) ps
         → HoldPieces l ps ws → length word ≡ 8
@@ -37,14 +40,14 @@ pub fn puts_piece()
         → HoldPieces l (ps ++ (8 * n + j, b) ∷ []) (put_word n (splice word j b) ws) }
 {}
 
-/// Two pieces that are laid one behind the other are one.
+/// Words that hold two adjacent pieces hold the one piece that joins them.
 pub fn joins_pieces()
     ensures { (l : List ℕ) (ps ws : List (ℕ × List ℕ)) (at : ℕ) (a b : List ℕ) → LieIn (length l) ps
         → at + length a ≤ length l → HoldPieces l (ps ++ (at, a) ∷ (at + length a, b) ∷ []) ws
         → HoldPieces l (ps ++ (at, a ++ b) ∷ []) ws }
 {}
 
-/// With a piece more, so many more words are pending as it has words that are not pending.
+/// A piece adds as many pending words as it touches words that are not yet pending.
 pub fn counts_words()
     ensures { (l : List ℕ) (ps ws : List (ℕ × List ℕ)) (at : ℕ) (b : List ℕ) → HoldPieces l ps ws → 0 < length b
         → length (touched (ps ++ (at, b) ∷ []))

@@ -7,12 +7,12 @@ use arrayvec::ArrayVec;
 use mc_base::Word;
 use std::marker::Model;
 
-/// 64 other words are pending.
+/// The error of [`Pending::put`]: 64 other words are pending.
 #[derive(Clone, Copy, Debug, PartialEq, Eq)]
 pub struct Full;
 
-/// At most 64 words of a static segment that are written and not yet committed, each with its number:
-/// word n has the bytes from 8n on.
+/// At most 64 words of a static segment that are written and not yet committed, each with its number: word n
+/// has the bytes 8n to 8n + 7 of the segment.
 #[derive(Debug, Drop)]
 pub struct Pending {
     words: ArrayVec<(u16, Word), 64>,
@@ -30,7 +30,7 @@ impl Model for Pending {
 }
 
 impl Pending {
-    /// No words.
+    /// Returns the empty set of pending words.
     pub fn new() -> Self
         ensures { result ≡ [] }
     {
@@ -39,9 +39,11 @@ impl Pending {
         }
     }
 
-    /// Makes a word pending, in the place of the one that is pending under its number.
+    /// Makes the word with number `at` pending, in place of the one that is pending under that number.
     ///
-    /// `Full` where 64 other words are pending, and then nothing changes.
+    /// # Errors
+    ///
+    /// Returns `Full`, and changes nothing, if 64 other words are pending.
     #[tactic(auto, using(crate::proofs::Words::put_there, crate::proofs::Words::put_between, crate::proofs::Words::not_pending, crate::proofs::Words::is_pending))]
     pub fn put(&mut self, at: u16, word: Word) -> Result<(), Full>
         ensures ok { OnOk result (self.new ≡ put_word at word self.old) }
@@ -60,7 +62,7 @@ impl Pending {
         Ok(())
     }
 
-    /// The word that is pending under a number.
+    /// Returns the word that is pending under the number `at`, or `None` if there is none.
     #[tactic(auto, using(crate::proofs::Words::not_pending, crate::proofs::Words::is_pending))]
     pub fn get(&self, at: u16) -> Option<Word>
         ensures { result ≡ pending_at self.now at }
@@ -73,7 +75,7 @@ impl Pending {
         None
     }
 
-    /// The pending words with their numbers, ascending.
+    /// Returns the pending words with their numbers, in ascending order.
     pub fn list(&self) -> &[(u16, Word)]
         ensures words { result.now ≡ self.now }
         ensures bound { length result.now ≤ 64 }
@@ -90,8 +92,8 @@ impl Pending {
     }
 }
 
-// The place of the first word whose number is not below this one, or behind the last word. Words mostly come ascending, so the last one
-// is looked at first.
+// The index of the first word whose number is not below `at`, or the number of words if there is none. Words
+// mostly come in ascending order, so the last one is compared first.
 #[tactic(auto, using(crate::proofs::Words::place_some, crate::proofs::Words::place_none))]
 fn place_of(words: &[(u16, Word)], at: u16) -> usize
     requires { ArePending words.now }
@@ -107,7 +109,7 @@ fn place_of(words: &[(u16, Word)], at: u16) -> usize
     }
 }
 
-// Whether the last of some words has a number below this one: so have all.
+// Whether the last word, and so each, has a number below `at`.
 #[tactic(auto, using(crate::proofs::Words::place_behind))]
 fn are_below(words: &[(u16, Word)], at: u16) -> bool
     requires { ArePending words.now }
@@ -116,7 +118,7 @@ fn are_below(words: &[(u16, Word)], at: u16) -> bool
     !words.is_empty() && words[words.len() - 1].0 < at
 }
 
-// The place of the first word whose number is not below this one.
+// The index of the first word whose number is not below `at`, if there is one.
 fn first_from(words: &[(u16, Word)], at: u16) -> Option<usize>
     ensures value { result ≡ position (λ w. nat_le at w.0) words.now }
     ensures bound { IfSome result (λ i. i < length words.now) }
@@ -124,7 +126,7 @@ fn first_from(words: &[(u16, Word)], at: u16) -> Option<usize>
     words.iter().position(|word| word.0 >= at)
 }
 
-// Whether the word at a place has this number.
+// Whether the word at index `place` has the number `at`.
 fn is_at(words: &[(u16, Word)], place: usize, at: u16) -> bool
     ensures found { result ≡ true → (place < length words.now) × ((slice_index_or words.now place (0, [])).0 ≡ at) }
     ensures other { result ≡ false → place < length words.now → (slice_index_or words.now place (0, [])).0 ≢ at }
@@ -132,7 +134,7 @@ fn is_at(words: &[(u16, Word)], place: usize, at: u16) -> bool
     place < words.len() && words[place].0 == at
 }
 
-// Puts a word in the place of another.
+// Replaces the word at index `place`.
 fn replace(words: &mut ArrayVec<(u16, Word), 64>, place: usize, entry: (u16, Word))
     requires { place < array_vec_len words.old }
     ensures items { words.new.items ≡ slice_set words.old.items place entry }
@@ -141,7 +143,7 @@ fn replace(words: &mut ArrayVec<(u16, Word), 64>, place: usize, entry: (u16, Wor
     words.as_mut_slice()[place] = entry;
 }
 
-// Puts a word between others.
+// Inserts a word at index `place`.
 fn add(words: &mut ArrayVec<(u16, Word), 64>, place: usize, entry: (u16, Word))
     requires place { place ≤ array_vec_len words.old }
     requires room { array_vec_len words.old < 64 }

@@ -1,7 +1,7 @@
 use crate::{Full, Pending};
 use std::test::Fail;
 
-// 64 words are pending, a word more is refused, and one of the 64 is put anew.
+// With 64 words pending, one more is refused, and one of the 64 can be put again.
 #[test]
 fn pending_limit(rt: HostRuntime) -> Result<(), Fail> {
     let mut pending = Pending::new();

@@ -1,4 +1,4 @@
--- What is read of a unit is in the grammar, and what is in the grammar is read.
+-- Every unit that is read is in the grammar, and every unit in the grammar is read.
 use Rattle.std.proofs.Common.{◌≡◌, ℕ, zero, suc, ◌+◌, ◌*◌, ◌/◌, ◌%◌, ◌<◌, ◌≤◌, Bool, true, false, cond, List, [], ◌∷◌, ◌++◌, length, get_or, take, drop, Result, Ok, Err, refl, sym, ap, subst, ◌∙◌, append_assoc, arith}
 use Rattle.std.specs.Prelude.{nat_lt, nat_eq}
 use Rattle.std.proofs.lemmas.Bool.{eqb-true, ltb-false, le-ltb, ne_eqb}
@@ -16,17 +16,17 @@ IsBytes b = (i : ℕ) → get_or b i 0 < 256
 IsBytes-drop : (n : ℕ) (b : List ℕ) → IsBytes b → IsBytes (drop n b)
 IsBytes-drop n b h i = rw get_or-drop (h (n + i))
 
--- the value of a step that did not fail
+-- a step that succeeded before a sequence that succeeded
 bind_ok : {A B : Type 0} (r : Result A UnitRefusal) (f : A → Result B UnitRefusal) (y : B) → (r >>= f) ≡ Ok y → (x : A) × (r ≡ Ok x) × (f x ≡ Ok y)
 bind_ok (Ok x) f y e = (x, refl, e)
 bind_ok (Err d) f y e = absurd cc
 
--- a test that did not fail
+-- a test that had to be false for a sequence that succeeded
 guard_ok : {A : Type 0} (b : Bool) (d : UnitRefusal) (r : Result A UnitRefusal) (y : A) → cond b (Err d) r ≡ Ok y → (b ≡ false) × (r ≡ Ok y)
 guard_ok true d r y e = absurd cc
 guard_ok false d r y e = (refl, e)
 
--- a test that held
+-- a test that had to hold for a sequence that succeeded
 test_ok : {A : Type 0} (b : Bool) (d : UnitRefusal) (r : Result A UnitRefusal) (y : A) → cond b r (Err d) ≡ Ok y → (b ≡ true) × (r ≡ Ok y)
 test_ok true d r y e = (refl, e)
 test_ok false d r y e = absurd cc
@@ -37,7 +37,7 @@ done x = Ok x
 ok_is : {A : Type 0} (x y : A) → done x ≡ done y → x ≡ y
 ok_is x y e = cc
 
--- what a reader took from the front
+-- a reader took `text` from the front of `bytes` and left `rest`
 record Takes (bytes text rest : List ℕ) : Type 0 where
   parts : bytes ≡ text ++ rest
   rest_fits : IsBytes rest
@@ -178,7 +178,7 @@ read_steps : (b : List ℕ) → unit_read b ≡ (bytes_at 8 b >>= after_number)
 unfolding unit_read code_at field_at empty_at name_of
 read_steps b = refl
 
--- what is read is in the grammar
+-- a unit that is read is in the grammar
 pub unit_takes : (b : List ℕ) (u : UnitParts) → IsBytes b → unit_read b ≡ Ok u → IsUnit b u
 unit_takes b u fits e =
     let number = bind_ok (bytes_at 8 b) after_number u (sym (read_steps b) ∙ e) in
@@ -217,11 +217,11 @@ unit_takes b u fits e =
     } in
     subst (IsUnit b) (ok_is (made number.0 code.0 init.0 dir.0 fci.0 aid.0) u aid.2) is
 
--- the fields, one after the other
+-- the fields of a unit, one after another
 regrouped : (number code init dir fci : List ℕ) → unit_text number code init dir fci ≡ number ++ (field code ++ (field init ++ (field dir ++ (field fci ++ (zeros 2 ++ (zeros 2 ++ []))))))
 regrouped number code init dir fci = simp append_assoc
 
--- what is in the grammar is read
+-- a unit in the grammar is read, with its fields
 pub unit_again : (b : List ℕ) (u : UnitParts) → IsUnit b u → unit_read b ≡ Ok u
 unit_again b u is =
     let r6 = zeros 2 ++ [] in
@@ -245,7 +245,7 @@ unit_again b u is =
 pub unit_is : (b : List ℕ) (u : UnitParts) → IsBytes b → (unit_read b ≡ Ok u → IsUnit b u) × (IsUnit b u → unit_read b ≡ Ok u)
 unit_is b u fits = (unit_takes b u fits, unit_again b u)
 
--- what is written of four fields is read with these fields
+-- the unit that is written from four fields is read with these fields
 pub written_again : (code init dir fci v : List ℕ) → FitsUnit code init dir fci → v ≡ unit_bytes code init dir fci → (aid : List ℕ) → name_of dir ≡ Ok aid
     → unit_read v ≡ Ok (record { number = zeros 8; code = code; init = init; dir = dir; fci = fci; aid = aid })
 written_again code init dir fci v fits is aid name =

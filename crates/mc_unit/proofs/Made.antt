@@ -1,11 +1,11 @@
--- The name in a made DIR record.
+-- The name in a DIR record that is made from it.
 use Rattle.std.proofs.Common.{◌≡◌, ℕ, suc, ◌≤◌, ◌<◌, ◌%◌, List, [], ◌∷◌, length, Some, Ok, true, false, refl, arith, ◌∙◌}
 use Rattle.std.specs.Prelude.{nat_lt, nat_le, nat_eq, option_and_then}
 use Rattle.std.proofs.lemmas.Bool.{le-ltb, lt-ltb, le-leb}
 use Rattle.std.proofs.lemmas.List.{take_all, drop_all}
 use Rattle.mc_model_card.specs.Units.{made_dir, name_of, name_among, object, object_at, template_of, checked_name}
 
--- an object of a tag of one byte, whose length is one byte, at the end of some bytes
+-- an object with a tag of one byte and a length of one byte is read, with no bytes after it
 object_is : (t : ℕ) (v : List ℕ) → nat_eq (t % 32) 31 ≡ false → length v < 128 → object_at (object t v) ≡ Some (record { tag = t ∷ []; value = v; rest = [] })
 unfolding object_at
 object_is t v one small =

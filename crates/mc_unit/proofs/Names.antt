@@ -7,7 +7,7 @@ use Rattle.std.proofs.lemmas.Bool.Decides.{nat_tests}
 some_is : {A : Type 0} {x y : A} → Some x ≡ Some y → x ≡ y
 some_is e = cc
 
--- both steps of a step that gave something
+-- the two steps of a sequence that is `Some`
 then_some : {A B : Type 0} (f : A → Option B) (o : Option A) (y : B) → option_and_then f o ≡ Some y → (x : A) × (o ≡ Some x) × (f x ≡ Some y)
 then_some f None y e = absurd cc
 then_some f (Some x) y e = (x, refl, e)
@@ -21,7 +21,7 @@ size_shorter b s e = grind (arith, nat_tests)
 value_shorter : (t : List ℕ) (s : ℕ × List ℕ) (o : Object) → value_at t s ≡ Some o → length o.rest ≤ length s.1
 value_shorter t s o e = grind (arith, nat_tests, length-drop)
 
--- what stands behind an object is shorter by two bytes at least
+-- the bytes after an object are at least two fewer than those from it on
 pub object_shorter : (b : List ℕ) (o : Object) → object_at b ≡ Some o → length o.rest + 2 ≤ length b
 unfolding object_at
 object_shorter b o e =
@@ -29,13 +29,13 @@ object_shorter b o e =
     let s = then_some (value_at (take n.0 b)) (size_at (drop n.0 b)) o n.2 in
     omega (arith, tag_some b n.0 n.1, size_shorter (drop n.0 b) s.0 s.1, value_shorter (take n.0 b) s.0 o s.2, length-drop n.0 b)
 
--- nothing has no name
+-- no bytes have no name
 pub name_of_nothing : (n : ℕ) → name_among n [] ≡ None
 unfolding name_among object_at
 name_of_nothing zero = refl
 name_of_nothing (suc n) = refl
 
--- one object, where what stands behind it is as said
+-- one object, if the claim holds for the bytes after it
 one_more : (n m : ℕ) (b : List ℕ) (o : Option Object) → object_at b ≡ o → length b ≤ suc n → length b ≤ suc m
     → ((r : List ℕ) → length r ≤ n → length r ≤ m → name_among n r ≡ name_among m r) → name_among (suc n) b ≡ name_among (suc m) b
 unfolding name_among
@@ -44,7 +44,7 @@ one_more n m b (Some o) e h k all =
     let shorter = object_shorter b o e in
     rw (e, all o.rest (omega arith) (omega arith)) refl
 
--- more objects than bytes are never read
+-- any bound on the number of objects that is at least the number of bytes yields the same name
 pub name_enough : (n m : ℕ) (b : List ℕ) → length b ≤ n → length b ≤ m → name_among n b ≡ name_among m b
 name_enough n m [] h k = name_of_nothing n ∙ sym (name_of_nothing m)
 name_enough zero m (x ∷ xs) h k = absurd (omega arith)

@@ -1,4 +1,4 @@
--- What a reader by `unit_read` gives is in the grammar, what it refuses is not, and what is written is read.
+-- Units that `unit_read` reads are in the grammar, bytes that it refuses are not, and units that are written are read.
 use Rattle.std.proofs.Common.{◌≡◌, ℕ, List, Result, Ok, Err}
 use Rattle.std.specs.Prelude.{IfOk, OnErr, MatchResult}
 use Rattle.std.specs.Global.{Vec}

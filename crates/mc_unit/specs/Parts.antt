@@ -1,9 +1,9 @@
--- What the crate's structs are, without where their bytes lie.
+-- The values of the crate's structs, whatever place their bytes are borrowed from.
 use Rattle.mc_model_card.specs.Units.{Object, UnitParts}
 use Rattle.mc_unit.specs.declared.name.Object.{Object as Lent}
 use Rattle.mc_unit.specs.declared.unit.Unit.{Unit as LoadUnit}
 
--- the parts of a unit
+-- the parts of a load unit
 abbrev pub parts_of : LoadUnit → UnitParts
 parts_of u = record { number = u.number.now; code = u.code.now; init = u.init.now; dir = u.dir.now; fci = u.fci.now; aid = u.aid }
 

@@ -5,17 +5,17 @@ ghost use Rattle.mc_unit.specs.Rows.{counter_code, counter_name, counter_unit, s
 
 use mc_model_card::{AidFault, UnitRefusal};
 
-/// What is read is in the grammar, and what is in it is read.
+/// The bytes that are read as a unit are exactly those of the grammar.
 pub fn is_grammar()
     ensures { (b : List ℕ) (u : UnitParts) → ((i : ℕ) → slice_index b i < 256) → (unit_read b ≡ Ok u) ↔ IsUnit b u }
 {}
 
-/// A made DIR record has the name that it was made of.
+/// The DIR record that is made from a name has this name.
 pub fn made_name()
     ensures { (name : List ℕ) → 5 ≤ length name → length name ≤ 16 → name_of (made_dir name) ≡ Ok name }
 {}
 
-/// The unit of a counter: as it is written, as it is read, and cut at every length.
+/// The unit of a counter: written, read, and cut at each length.
 #[tactic(auto, unfolding(mc_model_card::specs::Units::unit_read, crate::specs::Rows::short_below))]
 pub fn counter_rows()
     ensures written { unit_bytes counter_code [] (made_dir counter_name) (made_fci counter_name) ≡ counter_unit }
@@ -34,7 +34,7 @@ pub fn counter_rows()
     ensures tail { unit_read (counter_unit ++ 0 ∷ []) ≡ Err UnitRefusal.Tail }
 {}
 
-/// Units that are refused where a length is read, before the bytes that it counts.
+/// Units that are refused by a length, before the bytes that it counts.
 #[tactic(auto, unfolding(mc_model_card::specs::Units::unit_read))]
 pub fn length_rows()
     ensures no_code { unit_read (zeros 10) ≡ Err UnitRefusal.NoCode }

@@ -1,6 +1,6 @@
 #![tactic(auto)]
 
-//! Load units: what a loader is handed of an application, as bytes.
+//! Application load units: the bytes with which an application is loaded.
 
 mod laws;
 mod name;

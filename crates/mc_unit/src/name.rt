@@ -13,13 +13,14 @@ struct Object<'a> {
     rest: &'a [u8],
 }
 
-/// The name in a DIR record. The record begins with a template, an object with the tag 61, and the
-/// first object in it with the tag 4F holds the name; what follows either of them is not read.
-/// Objects are tag, length and value as in ISO/IEC 7816-4, with lengths of one byte below 80, or of
-/// 81 and a byte.
+/// Returns the name in a DIR record. The record begins with a template, an object with the tag 61, and the
+/// first object in it with the tag 4F holds the name; the bytes after either of them are not read. Objects
+/// are tag, length and value as in ISO/IEC 7816-4, with lengths of one byte below 80, or of 81 and a byte.
 ///
-/// `NoAid` where no such object is reached, or something on the way does not fit, and `AidLength`
-/// where its length is not 5 to 16.
+/// # Errors
+///
+/// Returns `NoAid` if no such object is reached, or an object before it does not fit, and `AidLength` if the
+/// name's length is not 5 to 16.
 #[tactic(auto, unfolding(mc_model_card::specs::Units::name_of))]
 pub fn aid_of(dir: &[u8]) -> Result<Aid, AidFault>
     ensures { MatchResult result (λ a. name_of dir.now ≡ Ok a) (λ e. name_of dir.now ≡ Err e) }
@@ -92,7 +93,7 @@ fn object_at(bytes: &[u8]) -> Option<Object<'_>>
     Some(Object { tag, value, rest })
 }
 
-// How many bytes the tag at the front has.
+// The number of bytes of the tag at the front.
 fn tag_len(bytes: &[u8]) -> Option<usize>
     ensures value { result ≡ tag_len bytes.now }
     ensures low { IfSome result (λ n. 1 ≤ n) }
@@ -110,7 +111,7 @@ fn tag_len(bytes: &[u8]) -> Option<usize>
     }
 }
 
-// The place of the first byte that ends a tag.
+// The index of the first byte that ends a tag.
 fn tag_end(bytes: &[u8]) -> Option<usize>
     ensures value { result ≡ position (λ b. nat_lt b 128) bytes.now }
     ensures bound { IfSome result (λ i. i < length bytes.now) }

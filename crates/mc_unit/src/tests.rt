@@ -13,7 +13,8 @@ const DIR: [u8; 9] = [0x61, 7, 0x4F, 5, 0xA0, 0, 0, 0, 1];
 
 const FCI: [u8; 9] = [0x6F, 7, 0x84, 5, 0xA0, 0, 0, 0, 1];
 
-// The unit of the counter is written of its fields and read with them, and each of its fronts is short.
+// The unit of the counter is written from its fields and read with them, and each of its proper prefixes is
+// too short.
 #[test]
 #[tactic(auto, unfolding(mc_model_card::specs::Units::name_of))]
 fn counter_unit(rt: HostRuntime) -> Result<(), Fail> {

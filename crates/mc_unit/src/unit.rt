@@ -18,18 +18,20 @@ pub struct Unit<'a> {
     pub aid: Aid,
 }
 
-/// Reads a plain load unit: the card number, and then code, data, DIR, FCI, signature and key
-/// transformation unit, each a two-byte length and its bytes. Code has 1 to 8,192 bytes, data have at
-/// most 4,096, DIR and FCI at most 128, signature and key none.
+/// Reads a plain load unit: the card number, and then code, data, DIR, FCI, signature and key transformation
+/// unit, each a two-byte length and its bytes. Code has 1 to 8,192 bytes, data have at most 4,096, DIR and
+/// FCI at most 128, signature and key none.
 ///
-/// The refusal is the first that reading from the front meets: a length is judged before the bytes
-/// that it counts, the bytes behind the last field after it, and the name in the DIR record last.
+/// # Errors
+///
+/// Returns the first refusal that reading from the front meets: a length is tested before the bytes that it
+/// counts, the bytes after the last field next, and the name in the DIR record last.
 #[tactic(auto, using(crate::proofs::Reading::is_found, crate::proofs::Reading::is_only))]
 pub fn read_unit(bytes: &[u8]) -> Result<Unit<'_>, UnitRefusal>
     ensures read { MatchResult result (λ u. unit_read bytes.now ≡ Ok (parts_of u)) (λ e. unit_read bytes.now ≡ Err e) }
-    // What is read is in the grammar.
+    // A unit that is read is in the grammar.
     ensures found { IfOk result (λ u. IsUnit bytes.now (parts_of u)) }
-    // What is refused is not in it.
+    // Bytes that are refused are not in the grammar.
     ensures only { OnErr result ((u : UnitParts) → IsUnit bytes.now u → ⊥) }
 {
     unit_from(bytes)
@@ -70,7 +72,7 @@ fn name_from(dir: &[u8]) -> Result<Aid, UnitRefusal>
     }
 }
 
-// So many bytes, and the bytes after them.
+// The first `count` bytes, and the bytes after them.
 fn bytes_at(bytes: &[u8], count: usize) -> Result<(&[u8], &[u8]), UnitRefusal>
     ensures { MatchResult result (λ x. bytes_at count bytes.now ≡ Ok (x.0.now, x.1.now))
         (λ e. bytes_at count bytes.now ≡ Err e) }
@@ -106,7 +108,7 @@ fn code_at(bytes: &[u8]) -> Result<(&[u8], &[u8]), UnitRefusal>
     bytes_at(rest, count)
 }
 
-// A field of at most so many bytes.
+// A field of at most `most` bytes.
 #[tactic(auto, unfolding(mc_model_card::specs::Units::field_at))]
 fn field_at(bytes: &[u8], most: usize) -> Result<(&[u8], &[u8]), UnitRefusal>
     ensures { MatchResult result (λ x. field_at most bytes.now ≡ Ok (x.0.now, x.1.now))
@@ -119,7 +121,7 @@ fn field_at(bytes: &[u8], most: usize) -> Result<(&[u8], &[u8]), UnitRefusal>
     bytes_at(rest, count)
 }
 
-// The bytes after a field that has to be empty, and else this refusal.
+// The bytes after a field that has to be empty, or the given refusal if it is not.
 #[tactic(auto, unfolding(mc_model_card::specs::Units::empty_at))]
 fn empty_at(bytes: &[u8], refusal: UnitRefusal) -> Result<&[u8], UnitRefusal>
     ensures { MatchResult result (λ rest. empty_at refusal bytes.now ≡ Ok rest.now)
@@ -132,7 +134,7 @@ fn empty_at(bytes: &[u8], refusal: UnitRefusal) -> Result<&[u8], UnitRefusal>
     Ok(rest)
 }
 
-// No bytes follow.
+// A test that no bytes follow.
 fn end_at(bytes: &[u8]) -> Result<(), UnitRefusal>
     ensures { MatchResult result (λ _. end_at bytes.now ≡ Ok tt) (λ e. end_at bytes.now ≡ Err e) }
 {

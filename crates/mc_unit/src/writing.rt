@@ -6,9 +6,13 @@ ghost use Rattle.mc_model_card.specs.Units.{field, name_of, unit_bytes, unit_rea
 use mc_base::NoMemory;
 use std::alloc::Global;
 
-/// The bytes of a load unit with these fields: code, the first bytes of the static segment, DIR and
-/// FCI. They are within the limits of `read_unit`, and the DIR record has a name. The card number is
-/// zero, and signature and key transformation unit are empty.
+/// Returns the bytes of a load unit with these fields: code, the first bytes of the static segment, DIR and
+/// FCI. They are within the limits of `read_unit`, and the DIR record has a name. The card number is zero,
+/// and signature and key transformation unit are empty.
+///
+/// # Errors
+///
+/// Returns `NoMemory` if out of memory.
 #[tactic(auto, using(crate::proofs::Reading::is_written))]
 pub fn write_unit(
     alloc: Global,

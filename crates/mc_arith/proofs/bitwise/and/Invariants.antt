@@ -1,4 +1,4 @@
--- what is done, before the result on what is left, is the result on the whole
+-- the bytes done so far, followed by the result on the others, are the result on the whole
 use Rattle.std.proofs.Common.{◌≡◌, ◌++◌, take, drop}
 use Rattle.mc_model_machine.specs.Blocks.{and_blocks}
 use Rattle.mc_arith.proofs.bitwise.and.Given as goal

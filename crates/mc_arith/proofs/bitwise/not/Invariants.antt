@@ -1,4 +1,4 @@
--- what is done, before the result on what is left, is the result on the whole
+-- the bytes done so far, followed by the result on the others, are the result on the whole
 use Rattle.std.proofs.Common.{◌≡◌, ◌++◌, take, drop}
 use Rattle.mc_model_machine.specs.Blocks.{not_block}
 use Rattle.mc_arith.proofs.bitwise.not.Given as goal

@@ -1,4 +1,4 @@
--- the block is the number 0 exactly where what is left of it is
+-- the block is the number 0 exactly if the bytes that are left are all 0
 use Rattle.std.proofs.Common.{◌≡◌, drop}
 use Rattle.mc_model_machine.specs.Blocks.{is_zero}
 use Rattle.mc_arith.proofs.flags.zero.Given as goal

@@ -1,4 +1,4 @@
--- the block is shifted by the bits so far, and the last bit that left is known
+-- the block is shifted by the bits so far, and `left` is the bit shifted out last
 use Rattle.std.proofs.Common.{◌≡◌, ◌-◌, ◌*◌, ◌%◌, ◌^◌, ◌<◌, length}
 use Rattle.mc_model_device.specs.Bytes.{num, AreBytes}
 use Rattle.mc_model_machine.specs.Blocks.{bit}

@@ -1,4 +1,4 @@
--- the blocks differ as what is left of them
+-- the blocks differ by as much as the bytes that are left of them
 use Rattle.std.proofs.Common.{◌≡◌, ◌+◌, drop}
 use Rattle.mc_model_device.specs.Bytes.{num}
 use Rattle.mc_arith.proofs.subtraction.compare.Given as goal

@@ -3,7 +3,7 @@ use Rattle.mc_model_machine.specs.Text.{lines, numbered}
 use Rattle.mc_asm.specs.Passes.{numbered_lines}
 use Rattle.mc_asm.proofs.coding.lines_of.Given as goal
 
--- the lines so far, and those of the text that is left, are the lines of the whole
+-- the lines so far, followed by those of the text that is left, are the lines of the whole
 abbrev pub invariant-loop-line : goal.invariant-loop-line
 invariant-loop-line l = numbered_lines l.lines.items ++ numbered (vec_len l.lines + 1) (lines l.rest) ≡ numbered 1 (lines l.fn.text)
 

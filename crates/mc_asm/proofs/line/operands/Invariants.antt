@@ -5,7 +5,7 @@ use Rattle.mc_asm.specs.Items.{texts}
 use Rattle.mc_asm.proofs.LineLemmas.{left_of}
 use Rattle.mc_asm.proofs.line.operands.Given as goal
 
--- the operands so far, and those of the text that is left, are those of the whole
+-- the operands so far, followed by those of the text that is left, are those of the whole
 abbrev pub invariant-loop-rest : goal.invariant-loop-rest
 invariant-loop-rest l = record {
   value : texts l.parts.items ++ operands (option_map (λ t. t.now) l.rest) ≡ operands (option_map (λ t. t.now) l.fn.text);

@@ -3,7 +3,7 @@ use Rattle.mc_model_device.specs.Card.{blocks}
 use Rattle.mc_blocks.specs.Blocks.{blocks_at, used_spans, hole_spans}
 use Rattle.mc_blocks.proofs.chain.count_blocks.Given as goal
 
--- those that were counted, and those that are left
+-- the counts so far plus those of the blocks that are left are the counts of all
 abbrev pub invariant-loop-block : goal.invariant-loop-block
 invariant-loop-block g l =
     let m = (g.N.Nvm.state l.device).words in

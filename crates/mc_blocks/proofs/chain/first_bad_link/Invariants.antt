@@ -4,7 +4,7 @@ use Rattle.mc_model_device.specs.Layout.{bad_link}
 use Rattle.mc_blocks.specs.Blocks.{blocks_at}
 use Rattle.mc_blocks.proofs.chain.first_bad_link.Given as goal
 
--- the blocks that are left decide
+-- the first wrong link is that of the blocks that are left
 abbrev pub invariant-loop-block : goal.invariant-loop-block
 invariant-loop-block g l =
     let m = (g.N.Nvm.state l.device).words in

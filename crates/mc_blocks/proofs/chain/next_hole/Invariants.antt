@@ -3,7 +3,7 @@ use Rattle.mc_model_device.specs.Layout.{first_hole}
 use Rattle.mc_blocks.specs.Blocks.{blocks_at}
 use Rattle.mc_blocks.proofs.chain.next_hole.Given as goal
 
--- the first hole is among the blocks that are left
+-- the first hole is that of the blocks that are left
 abbrev pub invariant-loop-block : goal.invariant-loop-block
 invariant-loop-block g l =
     let m = (g.N.Nvm.state l.device).words in

@@ -4,7 +4,7 @@ use Rattle.mc_model_device.specs.Layout.{bad_block}
 use Rattle.mc_blocks.specs.Blocks.{bad_from}
 use Rattle.mc_blocks.proofs.checks.first_bad_header.Given as goal
 
--- the headers that are left decide
+-- the first bad header is that from this place on
 abbrev pub invariant-loop-place : goal.invariant-loop-place
 invariant-loop-place g l =
     let m = (g.N.Nvm.state l.device).words in

@@ -4,7 +4,7 @@ use Rattle.mc_model_device.specs.Layout.{bad_record}
 use Rattle.mc_blocks.proofs.Entries.{RecordsEntered}
 use Rattle.mc_blocks.proofs.checks.first_bad_record.Given as goal
 
--- the blocks that are left decide
+-- the first bad record is that of the blocks that are left
 abbrev pub invariant-loop-block : goal.invariant-loop-block
 invariant-loop-block g l =
     let m = (g.N.Nvm.state l.device).words in

@@ -5,7 +5,7 @@ use Rattle.mc_blocks.proofs.Search.{left_of}
 use Rattle.mc_blocks.proofs.Links.{Trail}
 use Rattle.mc_blocks.proofs.link.link_before.Given as goal
 
--- the links that are left decide
+-- the last link before the place is this one or one of those that are left
 abbrev pub invariant-loop-link : goal.invariant-loop-link
 invariant-loop-link g l =
     let m = (g.N.Nvm.state l.device).words in

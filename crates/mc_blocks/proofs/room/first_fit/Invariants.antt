@@ -5,7 +5,7 @@ use Rattle.mc_nvm.specs.Probe.{probed}
 use Rattle.mc_blocks.proofs.Search.{Search, left_of}
 use Rattle.mc_blocks.proofs.room.first_fit.Given as goal
 
--- the holes that are left decide
+-- the result of the whole search is that over the holes that are left
 abbrev pub invariant-loop-place : goal.invariant-loop-place
 invariant-loop-place g l =
     let m = (g.N.Nvm.state (probed l.device)).words in

@@ -1,4 +1,4 @@
--- What stands at the place follows from the computed answer, since the code consists of bytes.
+-- That the result holds at the place follows from its being the computed one, since the code consists of bytes.
 use Rattle.std.proofs.Common.{arith, ◌≡◌, ℕ, ◌+◌, ◌-◌, ◌≤◌, sym, ◌∙◌, subst, length, take, drop, get_or, length-take, Result, Ok}
 use Rattle.std.proofs.lemmas.Grind.{common_steps}
 use Rattle.mc_model_machine.specs.Code.{decoded, form, DecodesTo}

@@ -1,4 +1,4 @@
--- what the line has with the arguments that are left is what it is to have, and there is room for them
+-- the line so far with the arguments that are left is the whole line, and there is room for them
 use Rattle.std.proofs.Common.{◌≡◌, ◌+◌, ◌*◌, ◌≤◌, ◌++◌, drop}
 use Rattle.arrayvec.specs.ArrayVec.{array_vec_len}
 use Rattle.mc_model_machine.specs.Listing.{arguments_text}

@@ -1,7 +1,7 @@
 use Rattle.std.proofs.Common.{◌≡◌, ◌==◌, ◌<◌, ℕ, false, get_or}
 use Rattle.mc_prims.proofs.memory.first_place.Given as goal
 
--- no byte before this place is the one
+-- the byte is at no index before this one
 abbrev pub invariant-loop-b : goal.invariant-loop-b
 invariant-loop-b l =
     record {

@@ -1,4 +1,4 @@
--- A row that looks at its frame alone acts on the bank.
+-- A row that depends on its frame alone acts as defined on the bank.
 use Rattle.std.proofs.Common.{Ok, Err}
 use Rattle.mc_rows.proofs.FrameLemmas.{frame_acts}
 use Rattle.mc_rows.proofs.stepping.step.Goals as goal

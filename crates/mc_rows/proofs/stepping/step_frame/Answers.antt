@@ -1,4 +1,4 @@
--- An offset in its range is passed on as it is.
+-- An offset in its range is unchanged.
 use Rattle.std.proofs.Common.{ℤ, sym, subst, w16}
 use Rattle.std.proofs.lemmas.Int.{to_z-of_z}
 use Rattle.mc_model_machine.specs.declared.instruction.Ins.{Ins}

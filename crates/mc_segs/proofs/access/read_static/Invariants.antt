@@ -4,7 +4,7 @@ use Rattle.mc_model_device.specs.Pieces.{covered, word_pieces}
 use Rattle.mc_bank.specs.Bank.{app_of}
 use Rattle.mc_segs.proofs.access.read_static.Given as goal
 
--- the words that are left, laid over the bytes as they are, give what all words give over the bank's bytes
+-- writing the words that are left over the bytes so far makes what writing all words over the bank's bytes makes
 abbrev pub invariant-loop-number : goal.invariant-loop-number
 invariant-loop-number g l =
     let fixed = (app_of (g.B.Bank.state l.bank).apps (g.B.Bank.named l.bank l.frame.slot)).fixed in

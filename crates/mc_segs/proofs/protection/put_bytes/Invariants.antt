@@ -5,7 +5,7 @@ use Rattle.mc_segs.specs.Puts.{words_under}
 use Rattle.mc_segs.proofs.PutLemmas.{PutsSome}
 use Rattle.mc_segs.proofs.protection.put_bytes.Given as goal
 
--- the bytes up to this word are put, and as many words are missing as are not yet put
+-- the bytes before this word are put, and the words not yet pending are counted from this word on
 abbrev pub invariant-loop-number : goal.invariant-loop-number
 invariant-loop-number g l =
     let fixed = (app_of (g.B.Bank.state l.bank).apps (g.B.Bank.named l.bank l.slot)).fixed in

@@ -5,7 +5,7 @@ use Rattle.mc_store.specs.Slots.{first_named}
 use Rattle.mc_store.proofs.WalkLemmas.{Walk}
 use Rattle.mc_store.proofs.block.find_block.Given as goal
 
--- the blocks that are left decide
+-- the rest of the blocks decides
 abbrev pub invariant-loop-place : goal.invariant-loop-place
 invariant-loop-place g l =
     let m = (g.N.Nvm.state l.device).words in

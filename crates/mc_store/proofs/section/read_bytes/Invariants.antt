@@ -2,7 +2,7 @@ use Rattle.std.proofs.Common.{◌-◌, ◌≡◌, ◌+◌, ◌*◌, ◌<◌, ◌
 use Rattle.mc_store.specs.Slots.{flat}
 use Rattle.mc_store.proofs.section.read_bytes.Given as goal
 
--- the bytes up to here are copied, and the next one stands at `skip` in word `place`
+-- the bytes up to here are copied, and the next one is at `skip` in word `place`
 abbrev pub invariant-loop-done : goal.invariant-loop-done
 invariant-loop-done g l =
     let m = (g.N.Nvm.state l.device).words in

@@ -2,7 +2,7 @@ use Rattle.std.proofs.Common.{◌≡◌, ◌+◌, ◌*◌, ◌++◌, length, dro
 use Rattle.mc_model_machine.specs.Listing.{hex_text}
 use Rattle.mc_text.proofs.gather.add_hex.Given as goal
 
--- the digits so far and those of what is left are those of all, behind what the text had, and there is room for them
+-- the text so far, followed by the digits of the bytes that are left, is the old text followed by all digits, and there is room for them
 abbrev pub invariant-loop-byte : goal.invariant-loop-byte
 invariant-loop-byte g l =
     record {

@@ -2,7 +2,7 @@ use Rattle.std.proofs.Common.{◌≡◌, length}
 use Rattle.mc_model_machine.specs.Text.{trim_end}
 use Rattle.mc_text.proofs.reading.trim_end.Given as goal
 
--- what is left trims to what the whole trims to
+-- the text that is left is trimmed to the same text as the whole
 abbrev pub invariant-loop-rest : goal.invariant-loop-rest
 invariant-loop-rest l = trim_end l.rest ≡ trim_end l.fn.text
 

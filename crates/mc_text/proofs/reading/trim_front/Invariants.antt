@@ -2,7 +2,7 @@ use Rattle.std.proofs.Common.{◌≡◌, length}
 use Rattle.mc_model_machine.specs.Text.{trim_front}
 use Rattle.mc_text.proofs.reading.trim_front.Given as goal
 
--- what is left trims to what the whole trims to
+-- the text that is left is trimmed to the same text as the whole
 abbrev pub invariant-loop-rest : goal.invariant-loop-rest
 invariant-loop-rest l = trim_front l.rest ≡ trim_front l.fn.text
 

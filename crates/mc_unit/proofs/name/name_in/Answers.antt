@@ -1,4 +1,4 @@
--- An object with the tag 4F ends the search, and any other leaves what stands behind it.
+-- An object with the tag 4F ends the search, and after any other the bytes after it are left.
 use Rattle.std.proofs.Common.{sym, ◌∙◌}
 use Rattle.mc_unit.specs.Parts.{object_of}
 use Rattle.mc_unit.proofs.Names.{name_here, name_behind}

@@ -2,7 +2,7 @@ use Rattle.std.proofs.Common.{◌≡◌, length}
 use Rattle.mc_model_card.specs.Units.{name_among}
 use Rattle.mc_unit.proofs.name.name_in.Given as goal
 
--- what is left has the name of the whole
+-- the bytes that are left have the name of the whole
 abbrev pub invariant-loop-tag : goal.invariant-loop-tag
 invariant-loop-tag l = name_among (length l.rest) l.rest ≡ name_among (length l.fn.template) l.fn.template
 

@@ -3,7 +3,7 @@ use Rattle.mc_model_machine.specs.Modes.{ecb, each, blocks_of}
 use Rattle.mc_prims.specs.Table.{cipher_of, turned}
 use Rattle.mc_prims.proofs.table.Cipher.turn_each.Given as goal
 
--- what is turned, and the blocks that are left turned, are the whole turned
+-- the blocks done so far, followed by the other blocks enciphered or deciphered, are the whole message so
 abbrev pub invariant-loop-i : goal.invariant-loop-i
 invariant-loop-i l =
     let turn = turned l.way (cipher_of l.self) l.key in

@@ -1,4 +1,4 @@
--- Words that ascend still ascend with one more.
+-- Words that ascend still ascend after a put.
 use Rattle.mc_trans.proofs.Words.{there_pending, between_pending}
 use Rattle.mc_trans.proofs.pending.Pending.put.Goals as goal
 
